@@ -1,0 +1,3 @@
+pub mod FixedLemmas
+pub mod LineLemmas
+pub mod Computing

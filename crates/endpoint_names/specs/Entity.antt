@@ -1,0 +1,68 @@
+-- Names of call agents (RFC 3435, 2.1.4 and 3.2.1.3): `[local@]host[:port]`.
+use Rattle.std.specs.Prelude.{ℕ, ◌-◌, nat_le, Bool, ◌&&◌, not, ◌==◌, if◌then◌else◌, List, length, slice_index, take, drop, Option, Some, None, option_map}
+use Rattle.std.specs.List.{list_any}
+use Rattle.std.specs.declared.net.ipv4_addr.Ipv4Addr.{Ipv4Addr}
+use Rattle.std.specs.declared.net.socket_addr.SocketAddrV4.{SocketAddrV4}
+use Rattle.mg_bytes.specs.Option.{◌>>=◌}
+use Rattle.mg_bytes.specs.Blanks.{is_blank}
+use Rattle.mg_bytes.specs.Numbers.{decimal_of}
+use Rattle.mg_bytes.specs.Words.{split_once}
+use Rattle.mg_bytes.specs.Address.{ipv4_of}
+use Rattle.endpoint_names.specs.declared.table.Host.{Host}
+use Rattle.endpoint_names.specs.declared.entity.Entity.{Entity}
+use Rattle.endpoint_names.specs.Table.{address_of}
+
+-- 1 to 64 bytes, none of them a blank (that none is an `@` is where the text is split)
+abbrev pub is_local : List ℕ → Bool
+is_local local = nat_le 1 (length local) && nat_le (length local) 64 && not (list_any is_blank local)
+
+-- what stands between `[` and `]`
+abbrev pub in_brackets : List ℕ → Option (List ℕ)
+in_brackets text =
+    if nat_le 2 (length text) && slice_index text 0 == 91 && slice_index text (length text - 1) == 93
+    then Some (drop 1 (take (length text - 1) text)) else None
+
+abbrev pub host_from : List Host → List ℕ → Option (List ℕ) → Option Ipv4Addr
+host_from hosts host None = address_of hosts host
+host_from hosts host (Some literal) = ipv4_of literal
+
+-- the address of a host: `[a.b.c.d]`, or a name of the table
+abbrev pub host_of : List Host → List ℕ → Option Ipv4Addr
+host_of hosts host = host_from hosts host (in_brackets host)
+
+abbrev pub port_from : ℕ → Option ℕ
+port_from n = if nat_le 1 n && nat_le n 65535 then Some n else None
+
+-- a port from 1 to 65535
+abbrev pub port_of : List ℕ → Option ℕ
+port_of text = decimal_of text >>= port_from
+
+-- the port where none is written (RFC 3435, 3.5)
+abbrev pub agent_port : ℕ
+agent_port = 2727
+
+-- `host` or `host:port`
+abbrev pub place_from : List Host → List ℕ → Option (List ℕ × List ℕ) → Option SocketAddrV4
+place_from hosts text None = do
+  ip ← host_of hosts text
+  Some (record { ip = ip; port = agent_port })
+place_from hosts text (Some sides) = do
+  ip ← host_of hosts sides.0
+  port ← port_of sides.1
+  Some (record { ip = ip; port = port })
+
+unfoldable pub place_of : List Host → List ℕ → Option SocketAddrV4
+place_of hosts text = place_from hosts text (split_once 58 text)
+
+-- the same, with a local name and `@` before it where there is an `@`
+abbrev pub agent_from : List Host → List ℕ → Option (List ℕ × List ℕ) → Option SocketAddrV4
+agent_from hosts text None = place_of hosts text
+agent_from hosts text (Some sides) = if is_local sides.0 then place_of hosts sides.1 else None
+
+unfoldable pub agent_of : List Host → List ℕ → Option SocketAddrV4
+agent_of hosts text = agent_from hosts text (split_once 64 text)
+
+-- the entity that a text names: the text as it is given, at most 128 bytes, and its address
+unfoldable pub entity_of : List Host → List ℕ → Option Entity
+entity_of hosts text =
+    if nat_le (length text) 128 then option_map (λ address. record { text = text; address = address }) (agent_of hosts text) else None

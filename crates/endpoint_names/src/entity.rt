@@ -1,0 +1,102 @@
+ghost use Rattle.std.specs.Prelude.{◌≡◌, option_map};
+ghost use Rattle.std.specs.List.{list_any};
+ghost use Rattle.mg_bytes.specs.Blanks.{is_blank};
+ghost use Rattle.endpoint_names.specs.Entity.{is_local, in_brackets, host_of, port_of, place_of, agent_of, entity_of};
+
+use crate::fixed::FixedText;
+use crate::table::Table;
+use mg_bytes::{decimal, ipv4_address, split_once};
+use std::net::{Ipv4Addr, SocketAddrV4};
+
+// The port of a call agent where its name gives none (RFC 3435, 3.5).
+const AGENT_PORT: u16 = 2727;
+
+/// An entity that notifications go to (RFC 3435, 2.1.4): its name as it was given, and its address.
+#[derive(Clone, Copy)]
+pub struct Entity {
+    pub text: FixedText<128>,
+    pub address: SocketAddrV4,
+}
+
+fn any_blank(text: &[u8]) -> bool
+    ensures { result ≡ list_any is_blank text.now }
+{
+    text.iter().any(|byte| *byte == b' ' || *byte == b'\t')
+}
+
+fn is_local(local: &[u8]) -> bool
+    ensures { result ≡ is_local local.now }
+{
+    local.len() >= 1 && local.len() <= 64 && !any_blank(local)
+}
+
+fn in_brackets(text: &[u8]) -> Option<&[u8]>
+    ensures { option_map (λ inner. inner.now) result ≡ in_brackets text.now }
+{
+    match text {
+        [b'[', inner @ .., b']'] => Some(inner),
+        _ => None,
+    }
+}
+
+fn host_of(table: &Table, host: &[u8]) -> Option<Ipv4Addr>
+    ensures { result ≡ host_of table.now host.now }
+{
+    match in_brackets(host) {
+        Some(literal) => ipv4_address(literal),
+        None => table.address_of(host),
+    }
+}
+
+fn port_of(text: &[u8]) -> Option<u16>
+    ensures { result ≡ port_of text.now }
+{
+    let number = decimal(text)?;
+    if number < 1 || number > 65535 {
+        return None;
+    }
+    Some(number as u16)
+}
+
+#[tactic(auto, unfolding(crate::specs::Entity::place_of))]
+fn place_of(table: &Table, text: &[u8]) -> Option<SocketAddrV4>
+    ensures { result ≡ place_of table.now text.now }
+{
+    match split_once(text, b':') {
+        Some((host, port)) => Some(SocketAddrV4::new(host_of(table, host)?, port_of(port)?)),
+        None => Some(SocketAddrV4::new(host_of(table, text)?, AGENT_PORT)),
+    }
+}
+
+#[tactic(auto, unfolding(crate::specs::Entity::agent_of))]
+fn agent_of(table: &Table, text: &[u8]) -> Option<SocketAddrV4>
+    ensures { result ≡ agent_of table.now text.now }
+{
+    match split_once(text, b'@') {
+        Some((local, place)) => {
+            if !is_local(local) {
+                return None;
+            }
+            place_of(table, place)
+        }
+        None => place_of(table, text),
+    }
+}
+
+/// The entity that a text names: `[local@]host[:port]` (RFC 3435, 2.1.4 and 3.2.1.3), at most 128 bytes.
+///
+/// The local name is 1 to 64 bytes without blanks. The host is `[a.b.c.d]` or a name of the table.
+/// The port is 1 to 65535, or 2727 where none is given (RFC 3435, 3.5). Any other text is `None`.
+#[tactic(auto, unfolding(crate::specs::Entity::entity_of))]
+pub fn read_entity(text: &[u8], table: &Table) -> Option<Entity>
+    ensures { result ≡ entity_of table.now text.now }
+{
+    if text.len() > 128 {
+        return None;
+    }
+    let address = agent_of(table, text)?;
+    Some(Entity {
+        text: FixedText::of(text),
+        address,
+    })
+}

@@ -1,0 +1,17 @@
+//! Endpoint names and the names of call agents (RFC 3435, 2.1.2, 2.1.4 and 3.2.1.3). Nothing here takes memory.
+#![tactic(auto)]
+
+mod domain;
+mod entity;
+pub mod examples;
+mod fixed;
+mod name;
+mod table;
+#[cfg(test)]
+mod tests;
+
+pub use crate::domain::is_domain;
+pub use crate::entity::{Entity, read_entity};
+pub use crate::fixed::FixedText;
+pub use crate::name::{NameFault, Pattern, read_name};
+pub use crate::table::{Host, Table, TableFault};

@@ -1,0 +1,128 @@
+ghost use Rattle.std.specs.Prelude.{◌≡◌, ◌++◌, ◌∷◌, [], Some, None, OnOk, OnErr, IfErr, IsOk};
+ghost use Rattle.endpoint_names.specs.Table.{address_of, has_name, fault_of};
+
+use crate::domain::is_domain;
+use crate::fixed::FixedText;
+use arrayvec::ArrayVec;
+use mg_bytes::same_no_case;
+use std::marker::Model;
+use std::net::Ipv4Addr;
+
+/// A host's configured name and its address.
+#[derive(Clone, Copy)]
+pub struct Host {
+    pub name: FixedText<64>,
+    pub address: Ipv4Addr,
+}
+
+// What stands in a place of the table that has no host yet.
+impl Default for Host {
+    ghost is_default = { λ host. host ≡ record { name = []; address = record { octets = 0 ∷ 0 ∷ 0 ∷ 0 ∷ [] } } };
+
+    fn default() -> Self {
+        Host {
+            name: FixedText::of(b""),
+            address: Ipv4Addr::new(0, 0, 0, 0),
+        }
+    }
+}
+
+/// Why a name was not added to the table.
+#[derive(Clone, Copy, Debug, PartialEq, Eq)]
+pub enum TableFault {
+    /// The name isn't 1 to 64 letters, digits, `-` and `.`.
+    NotADomain,
+    /// The table has the name already, in some case.
+    Twice,
+    /// The table has 64 names.
+    Full,
+}
+
+fn has_name(hosts: &[Host], name: &[u8]) -> bool
+    ensures { result ≡ has_name hosts.now name.now }
+{
+    hosts
+        .iter()
+        .any(|host| same_no_case(host.name.as_bytes(), name))
+}
+
+#[tactic(auto, unfolding(crate::specs::Table::address_of))]
+fn address_of(hosts: &[Host], name: &[u8]) -> Option<Ipv4Addr>
+    ensures { result ≡ address_of hosts.now name.now }
+{
+    let mut rest = hosts;
+    while let [host, after @ ..] = rest {
+        if same_no_case(host.name.as_bytes(), name) {
+            return Some(host.address);
+        }
+        rest = after;
+    }
+    None
+}
+
+/// The configured names of hosts (RFC 3435, 2.1.4), in the order in which they were added. They stand for DNS.
+///
+/// A contract sees the list of hosts: at most 64, each with a domain name.
+#[derive(Drop)]
+pub struct Table {
+    hosts: ArrayVec<Host, 64>,
+}
+
+impl Model for Table {
+    ghost use Rattle.std.specs.Prelude.{◌≡◌, ◌≤◌, true, List, length};
+    ghost use Rattle.std.specs.List.{list_all};
+    ghost use Rattle.endpoint_names.specs.declared.table.Host.{Host};
+
+    ghost Value = { List Host };
+
+    ghost use Rattle.endpoint_names.specs.Table.{is_domain};
+
+    ghost view = { λ t. t.hosts.items };
+
+    ghost invariant = { λ t. (length t.hosts.items ≤ 64) × (list_all (λ host. is_domain host.name) t.hosts.items ≡ true) };
+}
+
+impl Table {
+    /// A table without names.
+    pub fn new() -> Self
+        ensures { result ≡ [] }
+    {
+        Table {
+            hosts: ArrayVec::new(),
+        }
+    }
+
+    /// Adds a host (RFC 3435, 2.1.4) behind the others. After an error the table is as it was.
+    ///
+    /// `NotADomain` where the name isn't 1 to 64 letters, digits, `-` and `.`; else `Twice` where the table has the name
+    /// in some case; else `Full` where it has 64 names.
+    pub fn add(&mut self, name: &[u8], address: Ipv4Addr) -> Result<(), TableFault>
+        ensures ok { OnOk result (self.new ≡ self.old ++ (record { name = name.now; address = address }) ∷ []) }
+        ensures err { OnErr result (self.new ≡ self.old) }
+        ensures fault { IfErr result (λ fault. fault_of self.old name.now ≡ Some fault) }
+        ensures taken { fault_of self.old name.now ≡ None → IsOk result }
+        ensures faultless { OnOk result (fault_of self.old name.now ≡ None) }
+    {
+        if !is_domain(name) {
+            return Err(TableFault::NotADomain);
+        }
+        if has_name(self.hosts.as_slice(), name) {
+            return Err(TableFault::Twice);
+        }
+        if self.hosts.is_full() {
+            return Err(TableFault::Full);
+        }
+        self.hosts.push(Host {
+            name: FixedText::of(name),
+            address,
+        });
+        Ok(())
+    }
+
+    /// The address of the host with this name (RFC 3435, 2.1.4), in any case; `None` where the table has none.
+    pub fn address_of(&self, name: &[u8]) -> Option<Ipv4Addr>
+        ensures { result ≡ address_of self.now name.now }
+    {
+        address_of(self.hosts.as_slice(), name)
+    }
+}

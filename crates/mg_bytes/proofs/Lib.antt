@@ -1,0 +1,6 @@
+pub mod PieceLemmas
+pub mod DigitLemmas
+pub mod WordLemmas
+pub mod ItemLemmas
+pub mod TextLaws
+pub mod Computing

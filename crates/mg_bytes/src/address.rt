@@ -1,0 +1,27 @@
+ghost use Rattle.std.specs.Prelude.{◌≡◌};
+ghost use Rattle.mg_bytes.specs.Address.{octet_of, ipv4_of};
+
+use crate::number::decimal;
+use crate::split::split_once;
+use std::net::Ipv4Addr;
+
+fn octet(text: &[u8]) -> Option<u8>
+    ensures { result ≡ octet_of text.now }
+{
+    let number = decimal(text)?;
+    if number > 255 {
+        return None;
+    }
+    Some(number as u8)
+}
+
+/// The address that `a.b.c.d` spells: four decimal numbers from 0 to 255 with dots between them.
+#[tactic(auto, unfolding(crate::specs::Address::ipv4_of))]
+pub fn ipv4_address(text: &[u8]) -> Option<Ipv4Addr>
+    ensures { result ≡ ipv4_of text.now }
+{
+    let (a, rest) = split_once(text, b'.')?;
+    let (b, rest) = split_once(rest, b'.')?;
+    let (c, d) = split_once(rest, b'.')?;
+    Some(Ipv4Addr::new(octet(a)?, octet(b)?, octet(c)?, octet(d)?))
+}

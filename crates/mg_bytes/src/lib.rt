@@ -1,0 +1,27 @@
+//! The bytes of a text: its lines, the words of a line, numbers as digits, comparison without case, and owned text.
+//!
+//! Nothing here knows of messages. What only reads takes no memory and gives slices of what it read.
+#![tactic(auto)]
+
+mod address;
+mod blank;
+pub mod examples;
+mod item;
+mod letter_case;
+mod line;
+mod number;
+mod owned;
+mod split;
+#[cfg(test)]
+mod tests;
+mod word;
+
+pub use crate::address::ipv4_address;
+pub use crate::blank::trimmed;
+pub use crate::item::ListItems;
+pub use crate::letter_case::same_no_case;
+pub use crate::line::Lines;
+pub use crate::number::{decimal, hex_text, put_decimal};
+pub use crate::owned::{OutOfMemory, Text};
+pub use crate::split::{has_dot_line, lines, list_items, split_once, words};
+pub use crate::word::Words;

@@ -1,0 +1,42 @@
+//! What no clause says: that a call can succeed, and that it reads what others wrote.
+use crate::{
+    Text, decimal, has_dot_line, hex_text, ipv4_address, lines, list_items, put_decimal, same_no_case,
+    split_once, trimmed, words,
+};
+use std::net::Ipv4Addr;
+use std::test::Fail;
+
+#[test]
+fn each_call_reads_and_writes(rt: HostRuntime) -> Result<(), Fail> {
+    let text = b" AUEP 1200\taaln/1@rgw.example.net MGCP 1.0\r\n\nK: 1-3 , 7\n.";
+    assert!(rt; has_dot_line(text) && !has_dot_line(b".."));
+    let mut rest = lines(text);
+    let header = rest.next().ok_or("a header")?;
+    assert_eq!(rt; words(header).nth(4), Some(b"1.0".as_slice()));
+    assert_eq!(rt;
+        words(header).nth(1).and_then(|word| decimal(word)),
+        Some(1200)
+    );
+    assert_eq!(rt; rest.next(), Some(b"".as_slice()));
+    let (code, value) = split_once(rest.next().ok_or("a parameter")?, b':').ok_or("a colon")?;
+    assert!(rt; same_no_case(code, b"k"));
+    assert_eq!(rt; list_items(trimmed(value)).nth(1), Some(b"7".as_slice()));
+    assert_eq!(rt; rest.rest(), b".".as_slice());
+    assert_eq!(rt; rest.next(), Some(b".".as_slice()));
+    assert_eq!(rt; rest.next(), None);
+    assert!(rt; hex_text(b"1aF") && !hex_text(b""));
+    assert!(rt; ipv4_address(b"127.0.0.1") == Some(Ipv4Addr::LOCALHOST));
+
+    let mut out = Vec::new(rt.alloc());
+    for number in [0, 7, 1200, u64::MAX] {
+        put_decimal(&mut out, number)?;
+        out.push(b' ')?;
+    }
+    let written = Text::of(out);
+    assert_eq!(rt;
+        written.as_bytes(),
+        b"0 7 1200 18446744073709551615 ".as_slice()
+    );
+    assert_eq!(rt; written.into_bytes().len(), 30);
+    Ok(())
+}

@@ -1,0 +1,3 @@
+pub mod SpellingLaws
+pub mod EndedLemmas
+pub mod Computing

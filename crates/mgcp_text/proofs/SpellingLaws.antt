@@ -1,0 +1,264 @@
+-- Each text is read as one outcome: the function and the relation say the same.
+use Rattle.std.proofs.Common.{◌≡◌, ℕ, ◌<◌, inl, inr, true, false, List, [], ◌∷◌, ◌++◌, length, Option, Some, None, refl, sym, ap, ◌∙◌, arith, ⊎_elim, ◌⊎◌, append-nil}
+use Rattle.std.specs.Prelude.{IfSome, option_map}
+use Rattle.std.specs.List.{AllByRecursion}
+use Rattle.std.proofs.lemmas.Bool.{cases_Bool}
+use Rattle.mg_bytes.specs.Lines.{cut, line_of}
+use Rattle.mg_bytes.specs.Words.{words, split_once}
+use Rattle.mgcp_text.specs.declared.message.Verb.{Verb}
+use Rattle.mgcp_text.specs.declared.message.Param.{Param}
+use Rattle.mgcp_text.specs.declared.message.Message.TheVariants.{Command, Response}
+use Rattle.mgcp_text.specs.declared.header.Header.{Header}
+use Rattle.mgcp_text.specs.Header.{header_of, is_version}
+use Rattle.mgcp_text.specs.Parameter.{param_of}
+use Rattle.mgcp_text.specs.Reading.{Outcome, message, no_header, bad_version, bad_body, is_empty, is_empty_line, skip_empty, put_front, params_of, description_of, with_params, command_from, read_text}
+use Rattle.mgcp_text.specs.Spelling.{IsEmptyLine, IsFullLine, BeginsWith, HasHeader, AreParams, EndsParams, HasParams, HasStray, HasName, HasOtherVersion, Reads}
+
+-- ---- the first line that isn't empty
+
+skip_front : (front : List (List ℕ)) (piece : List ℕ) (behind : List (List ℕ)) → AllByRecursion IsEmptyLine front → IsFullLine piece
+    → skip_empty (front ++ (piece ∷ behind)) ≡ piece ∷ behind
+unfolding skip_empty
+skip_front [] piece behind skipped full = rw full refl
+skip_front (p ∷ ps) piece behind skipped full = rw (skipped.0) (skip_front ps piece behind skipped.1 full)
+
+-- what is left of the pieces is found behind empty lines
+record Skips (pieces : List (List ℕ)) (piece : List ℕ) (behind : List (List ℕ)) : Type 0 where
+  front : List (List ℕ)
+  parts : pieces ≡ front ++ (piece ∷ behind)
+  skipped : AllByRecursion IsEmptyLine front
+  full : IsFullLine piece
+
+skips : (pieces : List (List ℕ)) (piece : List ℕ) (behind : List (List ℕ)) → skip_empty pieces ≡ piece ∷ behind → Skips pieces piece behind
+unfolding skip_empty
+skips [] piece behind e = absurd cc
+skips (p ∷ ps) piece behind e =
+    ⊎_elim
+    (λ (h : is_empty_line p ≡ true).
+    let rest = skips ps piece behind (rw h at e) in
+    record { front = p ∷ rest.front; parts = ap (λ (x : List (List ℕ)). p ∷ x) rest.parts; skipped = (h, rest.skipped); full = rest.full })
+    (λ (h : is_empty_line p ≡ false).
+    let same : (p ∷ ps) ≡ (piece ∷ behind) = (rw h at e) in
+    let first : p ≡ piece = cc in
+    record { front = []; parts = same; skipped = tt; full = rw (← first) h })
+    (cases_Bool (is_empty_line p))
+
+skip_is : (text line : List ℕ) (behind : List (List ℕ)) (b : BeginsWith text line behind) → skip_empty (cut text) ≡ b.piece ∷ behind
+skip_is text line behind b = ap skip_empty b.pieces ∙ skip_front b.front b.piece behind b.skipped b.full
+
+-- what is read of a text with this header
+header_is : (text : List ℕ) (h : Header) (behind : List (List ℕ)) → HasHeader text h behind → read_text text ≡ command_from h.verb h.id h.rest behind
+unfolding read_text
+header_is text h behind has =
+    rw (skip_is text has.line behind has.first, ← has.first.is_line, has.header) refl
+
+-- ---- the parameters
+
+full_param : (line : List ℕ) (param : Param) → param_of line ≡ Some param → is_empty line ≡ false
+unfolding param_of split_once
+full_param [] param e = absurd cc
+full_param (b ∷ bs) param e = refl
+
+front_none : (read : Option (List Param × List (List ℕ))) → read ≡ option_map (put_front []) read
+front_none None = refl
+front_none (Some read) = refl
+
+front_more : (param : Param) (params : List Param) (read : Option (List Param × List (List ℕ)))
+    → option_map (put_front (param ∷ [])) (option_map (put_front params) read) ≡ option_map (put_front (param ∷ params)) read
+front_more param params None = refl
+front_more param params (Some read) = refl
+
+-- parameters in front
+params_front : (lines : List (List ℕ)) (params : List Param) (after : List (List ℕ)) → AreParams lines params
+    → params_of (lines ++ after) ≡ option_map (put_front params) (params_of after)
+unfolding params_of
+params_front [] [] after each = front_none (params_of after)
+params_front [] (p ∷ ps) after each = absurd cc
+params_front (l ∷ ls) [] after each = absurd cc
+params_front (l ∷ ls) (p ∷ ps) after each =
+    let first : param_of (line_of l) ≡ Some p = cc in
+    let others : AreParams ls ps = cc in
+    rw (full_param (line_of l) p first, first, params_front ls ps after others) (front_more p ps (params_of after))
+
+params_end : (after rest : List (List ℕ)) → EndsParams after rest → params_of after ≡ Some ([], rest)
+unfolding params_of
+params_end [] rest ends = rw ends refl
+params_end (piece ∷ pieces) rest ends = rw (ends.0, ends.1) refl
+
+params_are : (pieces : List (List ℕ)) (params : List Param) (rest : List (List ℕ)) → HasParams pieces params rest → params_of pieces ≡ Some (params, rest)
+params_are pieces params rest has =
+    ap params_of has.parts ∙ params_front has.lines params has.after has.each ∙ ap (option_map (put_front params)) (params_end has.after rest has.ends)
+    ∙ rw (append-nil params) refl
+
+stray_at : (stray : List ℕ) (after : List (List ℕ)) → IsFullLine stray → param_of (line_of stray) ≡ None → params_of (stray ∷ after) ≡ None
+unfolding params_of
+stray_at stray after full no_param = rw (full, no_param) refl
+
+stray_is : (pieces : List (List ℕ)) → HasStray pieces → params_of pieces ≡ None
+stray_is pieces has =
+    ap params_of has.parts ∙ params_front has.lines has.params (has.stray ∷ has.after) has.each
+    ∙ ap (option_map (put_front has.params)) (stray_at has.stray has.after has.full has.no_param)
+
+abbrev Found : List (List ℕ) → Type 0
+Found pieces = ((params : List Param) × (rest : List (List ℕ)) × HasParams pieces params rest) ⊎ HasStray pieces
+
+each_more : (line : List ℕ) (param : Param) (lines : List (List ℕ)) (params : List Param) → param_of (line_of line) ≡ Some param → AreParams lines params → AreParams (line ∷ lines) (param ∷ params)
+each_more line param lines params first others = rw first (ap (λ (x : List (Option Param)). Some param ∷ x) others)
+
+found_more : (piece : List ℕ) (pieces : List (List ℕ)) (param : Param) → param_of (line_of piece) ≡ Some param → Found pieces → Found (piece ∷ pieces)
+found_more piece pieces param first (inl (params, rest, has)) =
+    inl (
+      param ∷ params,
+      rest,
+      record {
+        lines = piece ∷ has.lines;
+        after = has.after;
+        parts = ap (λ (x : List (List ℕ)). piece ∷ x) has.parts;
+        each = each_more piece param has.lines params first has.each;
+        ends = has.ends;
+      },
+    )
+found_more piece pieces param first (inr has) =
+    inr (record {
+      lines = piece ∷ has.lines;
+      params = param ∷ has.params;
+      stray = has.stray;
+      after = has.after;
+      parts = ap (λ (x : List (List ℕ)). piece ∷ x) has.parts;
+      each = each_more piece param has.lines has.params first has.each;
+      full = has.full;
+      no_param = has.no_param;
+    })
+
+found_at : (piece : List ℕ) (pieces : List (List ℕ)) → IsFullLine piece → (read : Option Param) → param_of (line_of piece) ≡ read → Found pieces → Found (piece ∷ pieces)
+found_at piece pieces full None e others =
+    inr (record { lines = []; params = []; stray = piece; after = pieces; parts = refl; each = refl; full = full; no_param = e })
+found_at piece pieces full (Some param) e others = found_more piece pieces param e others
+
+-- pieces begin with parameters, or with a stray line among them
+found : (pieces : List (List ℕ)) → Found pieces
+found [] = inl ([], [], record { lines = []; after = []; parts = refl; each = refl; ends = refl })
+found (piece ∷ pieces) =
+    ⊎_elim
+    (λ (h : is_empty_line piece ≡ true). inl ([], pieces, record { lines = []; after = piece ∷ pieces; parts = refl; each = refl; ends = (h, refl) }))
+    (λ (h : is_empty_line piece ≡ false). found_at piece pieces h (param_of (line_of piece)) refl (found pieces))
+    (cases_Bool (is_empty_line piece))
+
+-- ---- the header's words
+
+short_is : (verb : Verb) (id : ℕ) (rest pieces : List (List ℕ)) → length rest < 3 → command_from verb id rest pieces ≡ bad_body id
+unfolding command_from
+short_is verb id [] pieces short = refl
+short_is verb id (a ∷ []) pieces short = refl
+short_is verb id (a ∷ b ∷ []) pieces short = refl
+short_is verb id (a ∷ b ∷ c ∷ more) pieces short = absurd (omega arith)
+
+named_is : (verb : Verb) (id : ℕ) (rest pieces : List (List ℕ)) (name : List ℕ) → HasName rest name → command_from verb id rest pieces ≡ with_params verb id name (params_of pieces)
+unfolding command_from
+named_is verb id rest pieces name has = rw (has.words, has.spoken) refl
+
+other_is : (verb : Verb) (id : ℕ) (rest pieces : List (List ℕ)) → HasOtherVersion rest → command_from verb id rest pieces ≡ bad_version id
+unfolding command_from
+other_is verb id rest pieces has = rw (has.words, has.other) refl
+
+-- ---- the text
+
+data Top (text : List ℕ) : Type 0 where
+  without : read_text text ≡ no_header → ((h : Header) (behind : List (List ℕ)) → HasHeader text h behind → ⊥) → Top text
+  with : (h : Header) (behind : List (List ℕ)) → HasHeader text h behind → Top text
+
+module _ (text : List ℕ) where
+  top_header : (piece : List ℕ) (behind : List (List ℕ)) → skip_empty (cut text) ≡ piece ∷ behind → (h : Option Header) → header_of (words (line_of piece)) ≡ h → Top text
+  unfolding read_text
+  top_header piece behind e None none =
+      without (rw (e, none) refl) (λ h other has.
+      let same : (has.first.piece ∷ other) ≡ (piece ∷ behind) = sym (skip_is text has.line other has.first) ∙ e in
+      let first : has.first.piece ≡ piece = cc in
+      let read : None ≡ Some h = sym none ∙ sym (ap (λ (p : List ℕ). header_of (words (line_of p))) first) ∙ sym (ap (λ (l : List ℕ). header_of (words l)) has.first.is_line) ∙ has.header in
+      absurd cc)
+  top_header piece behind e (Some h) some =
+      let s = skips (cut text) piece behind e in
+      with h behind (record {
+        line = line_of piece;
+        first = record { front = s.front; piece = piece; pieces = s.parts; skipped = s.skipped; full = s.full; is_line = refl };
+        header = some;
+      })
+
+  top_pieces : (pieces : List (List ℕ)) → skip_empty (cut text) ≡ pieces → Top text
+  unfolding read_text
+  top_pieces [] e = without (rw e refl) (λ h behind has. let none : [] ≡ has.first.piece ∷ behind = sym e ∙ skip_is text has.line behind has.first in absurd cc)
+  top_pieces (piece ∷ behind) e = top_header piece behind e (header_of (words (line_of piece))) refl
+
+  top : Top text
+  top = top_pieces (skip_empty (cut text)) refl
+
+-- three words at least are a name, a protocol and a version
+record HasThree (rest : List (List ℕ)) : Type 0 where
+  name : List ℕ
+  protocol : List ℕ
+  version : List ℕ
+  more : List (List ℕ)
+  words : rest ≡ name ∷ protocol ∷ version ∷ more
+
+three : (rest : List (List ℕ)) → (length rest < 3) ⊎ HasThree rest
+three [] = inl (omega arith)
+three (a ∷ []) = inl (omega arith)
+three (a ∷ b ∷ []) = inl (omega arith)
+three (a ∷ b ∷ c ∷ more) = inr (record { name = a; protocol = b; version = c; more = more; words = refl })
+
+module _ (text : List ℕ) (h : Header) (behind : List (List ℕ)) (has : HasHeader text h behind) where
+  reads_as : (outcome : Outcome) → command_from h.verb h.id h.rest behind ≡ outcome → Reads text outcome → Reads text (read_text text)
+  reads_as outcome e r = rw (header_is text h behind has, e) r
+
+  reads_named : (name : List ℕ) → HasName h.rest name → Found behind → Reads text (read_text text)
+  reads_named name named (inl (params, rest, lines)) =
+      reads_as (message (Command h.verb h.id name params (description_of rest)))
+      (named_is h.verb h.id h.rest behind name named ∙ ap (with_params h.verb h.id name) (params_are behind params rest lines))
+      (record { rest = h.rest; behind = behind; after = rest; header = has; named = named; lines = lines; description = refl })
+  reads_named name named (inr stray) =
+      reads_as (bad_body h.id) (named_is h.verb h.id h.rest behind name named ∙ ap (with_params h.verb h.id name) (stray_is behind stray))
+      (h, behind, has, refl, inr (name, named, stray))
+
+  reads_three : HasThree h.rest → Reads text (read_text text)
+  reads_three t =
+      ⊎_elim
+      (λ (e : is_version t.protocol t.version ≡ true).
+      reads_named t.name (record { protocol = t.protocol; version = t.version; more = t.more; words = t.words; spoken = e }) (found behind))
+      (λ (e : is_version t.protocol t.version ≡ false).
+      let other : HasOtherVersion h.rest = record { name = t.name; protocol = t.protocol; version = t.version; more = t.more; words = t.words; other = e } in
+      reads_as (bad_version h.id) (other_is h.verb h.id h.rest behind other) (h, behind, has, refl, other))
+      (cases_Bool (is_version t.protocol t.version))
+
+  reads_header : (length h.rest < 3) ⊎ HasThree h.rest → Reads text (read_text text)
+  reads_header (inl short) = reads_as (bad_body h.id) (short_is h.verb h.id h.rest behind short) (h, behind, has, refl, inl short)
+  reads_header (inr t) = reads_three t
+
+reads_top : (text : List ℕ) → Top text → Reads text (read_text text)
+reads_top text (without e none) = rw e none
+reads_top text (with h behind has) = reads_header text h behind has (three h.rest)
+
+-- each text is read as this outcome
+pub reads_some : (text : List ℕ) → Reads text (read_text text)
+reads_some text = reads_top text (top text)
+
+no_header_top : (text : List ℕ) → Top text → ((h : Header) (behind : List (List ℕ)) → HasHeader text h behind → ⊥) → no_header ≡ read_text text
+no_header_top text (without e none) never = sym e
+no_header_top text (with h behind has) never = absurd (never h behind has)
+
+-- and as no other
+pub reads_only : (text : List ℕ) (outcome : Outcome) → Reads text outcome → outcome ≡ read_text text
+reads_only text (message (Command verb id name params body)) s =
+    sym (header_is text (record { verb = verb; id = id; rest = s.rest }) s.behind s.header ∙ named_is verb id s.rest s.behind name s.named
+    ∙ ap (with_params verb id name) (params_are s.behind params s.after s.lines) ∙ rw (← s.description) refl)
+reads_only text (message (Response code id params body)) r = absurd r
+reads_only text no_header never = no_header_top text (top text) never
+reads_only text (bad_version id) (h, behind, has, e, other) =
+    sym (header_is text h behind has ∙ other_is h.verb h.id h.rest behind other ∙ ap bad_version e)
+reads_only text (bad_body id) (h, behind, has, e, inl short) =
+    sym (header_is text h behind has ∙ short_is h.verb h.id h.rest behind short ∙ ap bad_body e)
+reads_only text (bad_body id) (h, behind, has, e, inr (name, named, stray)) =
+    sym (header_is text h behind has ∙ named_is h.verb h.id h.rest behind name named ∙ ap (with_params h.verb h.id name) (stray_is behind stray) ∙ ap bad_body e)
+
+pub reads_from_value : (text : List ℕ) (read : Option Outcome) → IfSome read (λ outcome. outcome ≡ read_text text) → IfSome read (Reads text)
+reads_from_value text None e = tt
+reads_from_value text (Some outcome) e = rw e (reads_some text)

@@ -1,0 +1,7 @@
+use Rattle.std.proofs.Common.{◌≡◌}
+use Rattle.std.specs.Prelude.{option_map}
+use Rattle.mgcp_text.specs.Reading.{put_front, params_of}
+use Rattle.mgcp_text.proofs.parameter.params_of.Given as goal
+
+abbrev pub invariant-loop-line : goal.invariant-loop-line
+invariant-loop-line l = option_map (put_front l.params) (params_of l.lines) ≡ params_of l.initial.lines

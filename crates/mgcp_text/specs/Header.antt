@@ -1,0 +1,51 @@
+-- The command header (RFC 3435, 3.2.1): verb, transaction id, endpoint name, `MGCP` and version.
+use Rattle.std.specs.Prelude.{ℕ, ◌&&◌, ◌==◌, nat_le, Bool, codes, if◌then◌else◌, List, [], ◌∷◌, length, Option, Some, None}
+use Rattle.std.specs.List.{list_all}
+use Rattle.std.specs.Char.{is_ascii_alphanumeric}
+use Rattle.std.specs.Str.{bytes_eq}
+use Rattle.mg_bytes.specs.Option.{◌>>=◌}
+use Rattle.mg_bytes.specs.Case.{same_but_case}
+use Rattle.mg_bytes.specs.Numbers.{decimal_of}
+use Rattle.mgcp_text.specs.declared.message.Verb.{Verb}
+use Rattle.mgcp_text.specs.declared.message.Verb.TheVariants.{Epcf, Rqnt, Ntfy, Crcx, Mdcx, Dlcx, Auep, Aucx, Rsip, Other}
+use Rattle.mgcp_text.specs.declared.header.Header.{Header}
+
+-- four letters or digits (RFC 3435, 3.2.1.1)
+abbrev pub is_verb_word : List ℕ → Bool
+is_verb_word word = length word == 4 && list_all is_ascii_alphanumeric word
+
+-- the verb that a word is, without case
+unfoldable pub verb_of : List ℕ → Verb
+verb_of word =
+    if same_but_case word (codes "EPCF") then Epcf else
+    (if same_but_case word (codes "RQNT") then Rqnt else
+    (if same_but_case word (codes "NTFY") then Ntfy else
+    (if same_but_case word (codes "CRCX") then Crcx else
+    (if same_but_case word (codes "MDCX") then Mdcx else
+    (if same_but_case word (codes "DLCX") then Dlcx else
+    (if same_but_case word (codes "AUEP") then Auep else
+    (if same_but_case word (codes "AUCX") then Aucx else
+    (if same_but_case word (codes "RSIP") then Rsip else Other))))))))
+
+abbrev pub command_verb : List ℕ → Option Verb
+command_verb word = if is_verb_word word then Some (verb_of word) else None
+
+abbrev pub id_from : ℕ → Option ℕ
+id_from n = if n == 0 then None else Some n
+
+-- a transaction id: 1 to 9 digits with a value of at least 1 (RFC 3435, 3.2.1.2)
+unfoldable pub id_of : List ℕ → Option ℕ
+id_of word = if nat_le (length word) 9 then decimal_of word >>= id_from else None
+
+-- the verb and the id that the words of a line begin with, and the words behind them
+unfoldable pub header_of : List (List ℕ) → Option Header
+header_of [] = None
+header_of (kind ∷ []) = None
+header_of (kind ∷ number ∷ rest) = do
+  verb ← command_verb kind
+  id ← id_of number
+  Some (record { verb = verb; id = id; rest = rest })
+
+-- the protocol that this gateway speaks: `MGCP`, without case, and `1.0` (RFC 3435, 3.2.1.4)
+abbrev pub is_version : List ℕ → List ℕ → Bool
+is_version protocol version = same_but_case protocol (codes "MGCP") && bytes_eq version (codes "1.0")

@@ -1,0 +1,67 @@
+-- What is written of a message (RFC 3435, 3.3): single spaces, each line with CRLF. So far responses are written.
+use Rattle.std.specs.Prelude.{ℕ, ◌+◌, ◌/◌, ◌%◌, ◌&&◌, ◌||◌, ◌==◌, not, nat_le, Bool, true, false, codes, decimal, if◌then◌else◌, List, [], ◌∷◌, ◌++◌}
+use Rattle.std.specs.List.{list_all, list_any, flat_map}
+use Rattle.std.specs.Str.{bytes_eq}
+use Rattle.mg_bytes.specs.Blanks.{trimmed}
+use Rattle.mg_bytes.specs.Lines.{cut, lines_of, is_line_feed, is_dot_line}
+use Rattle.mgcp_text.specs.declared.message.Param.{Param}
+use Rattle.mgcp_text.specs.declared.message.Message.{Message}
+use Rattle.mgcp_text.specs.declared.message.Message.TheVariants.{Command, Response}
+use Rattle.mgcp_text.specs.Parameter.{is_code}
+use Rattle.mgcp_text.specs.Reading.{is_empty_line}
+
+abbrev pub crlf : List ℕ
+crlf = 13 ∷ 10 ∷ []
+
+-- a return code in its three digits
+abbrev pub code_text : ℕ → List ℕ
+code_text code = (48 + code / 100) ∷ (48 + code / 10 % 10) ∷ (48 + code % 10) ∷ []
+
+-- the comment behind a code
+abbrev pub comment : ℕ → List ℕ
+comment code = if code == 200 || code == 250 then codes " OK" else []
+
+-- `code id`, with ` OK` behind 200 and 250
+unfoldable pub response_line : ℕ → ℕ → List ℕ
+response_line code id = code_text code ++ (32 ∷ decimal id) ++ comment code
+
+abbrev pub value_text : List ℕ → List ℕ
+value_text [] = []
+value_text (b ∷ bs) = 32 ∷ b ∷ bs
+
+-- `code: value`, or `code:` where the value is empty
+unfoldable pub param_line : Param → List ℕ
+param_line param = param.code ++ (58 ∷ value_text param.value)
+
+-- an empty line and the description, where there is one
+abbrev pub body_text : List ℕ → List ℕ
+body_text [] = []
+body_text (b ∷ bs) = crlf ++ (b ∷ bs)
+
+-- a line with its end
+abbrev pub ended : List ℕ → List ℕ
+ended line = line ++ crlf
+
+-- the text of a message
+unfoldable pub written : Message → List ℕ
+written (Command verb id name params body) = []
+written (Response code id params body) = ended (response_line code id) ++ flat_map (λ param. ended (param_line param)) params ++ body_text body
+
+-- What can be written
+
+-- a code, and a value of one line without blanks round it
+abbrev pub is_writable_param : Param → Bool
+is_writable_param param = is_code param.code && not (list_any is_line_feed param.value) && bytes_eq (trimmed param.value) param.value
+
+-- a description: none, or lines with their ends that aren't all empty, none of which is a single dot (RFC 3435, 3.5.5)
+unfoldable pub is_writable_body : List ℕ → Bool
+is_writable_body [] = true
+is_writable_body (b ∷ bs) =
+    bytes_eq (flat_map ended (lines_of (b ∷ bs))) (b ∷ bs)
+    && not (list_all is_empty_line (cut (b ∷ bs))) && not (list_any is_dot_line (cut (b ∷ bs)))
+
+-- a response with a code of three digits and an id of nine at most
+unfoldable pub is_writable : Message → Bool
+is_writable (Command verb id name params body) = false
+is_writable (Response code id params body) =
+    nat_le code 999 && nat_le 1 id && nat_le id 999999999 && list_all is_writable_param params && is_writable_body body

@@ -1,0 +1,65 @@
+ghost use Rattle.std.specs.Prelude.{◌≡◌, None, Some, MatchOption, IfOk};
+ghost use Rattle.std.specs.List.{list_all};
+ghost use Rattle.mgcp_text.specs.Parameter.{is_code_byte, is_code, param_of};
+ghost use Rattle.mgcp_text.specs.Reading.{params_of};
+
+use crate::message::{Bytes, Param, Params};
+use mg_bytes::{Lines, OutOfMemory, split_once, trimmed};
+use std::alloc::Global;
+
+fn is_code_byte(byte: u8) -> bool
+    ensures { result ≡ is_code_byte byte }
+{
+    byte.is_ascii_alphanumeric() || byte == b'+' || byte == b'-' || byte == b'/'
+}
+
+fn all_code_bytes(code: &[u8]) -> bool
+    ensures { result ≡ list_all is_code_byte code.now }
+{
+    code.iter().all(|byte| is_code_byte(*byte))
+}
+
+/// Whether a text is a parameter's code: one or more letters, digits, `+`, `-` or `/`.
+pub fn is_code(code: &[u8]) -> bool
+    ensures { result ≡ is_code code.now }
+{
+    code.len() >= 1 && all_code_bytes(code)
+}
+
+/// The parameter that a line is: `code: value`.
+#[tactic(auto, unfolding(crate::specs::Parameter::param_of))]
+fn param_of(line: &[u8]) -> Option<Param<'_>>
+    ensures { result ≡ param_of line.now }
+{
+    let (left, right) = split_once(line, b':')?;
+    let code = trimmed(left);
+    if !is_code(code) {
+        return None;
+    }
+    Some(Param {
+        code: Bytes::of(code),
+        value: Bytes::of(trimmed(right)),
+    })
+}
+
+/// The parameters up to the first empty line; `None` where another line stands there.
+#[tactic(auto, unfolding(crate::specs::Reading::params_of))]
+pub fn params_of<'a>(
+    alloc: Global,
+    lines: &mut Lines<'a>,
+) -> Result<Option<Params<'a>>, OutOfMemory>
+    ensures { IfOk result (λ found.
+        MatchOption found (params_of lines.old ≡ None) (λ params. params_of lines.old ≡ Some (params, lines.new))) }
+{
+    let mut params = Params::new(alloc);
+    while let Some(line) = lines.next() {
+        if line.is_empty() {
+            break;
+        }
+        match param_of(line) {
+            Some(param) => params.push(param)?,
+            None => return Ok(None),
+        }
+    }
+    Ok(Some(params))
+}

@@ -1,0 +1,106 @@
+ghost use Rattle.std.specs.Prelude.{◌≡◌, ◌≤◌, IfSome, List, ℕ};
+ghost use Rattle.mg_bytes.specs.Lines.{cut, TakesLine};
+ghost use Rattle.mgcp_text.specs.Reading.{skip_empty, description_of, Outcome, outcome_of, HasTransactionId, command_from, header_from, read_text};
+ghost use Rattle.mgcp_text.specs.Spelling.{Reads};
+
+use crate::header::{Header, header_of, is_version};
+use crate::message::{Bytes, Message, TextFault};
+use crate::parameter::params_of;
+use mg_bytes::{Lines, lines};
+use std::alloc::Global;
+
+// The next line that is not empty.
+#[tactic(auto, unfolding(crate::specs::Reading::skip_empty))]
+fn first_full<'a>(lines: &mut Lines<'a>) -> Option<&'a [u8]>
+    ensures { TakesLine (skip_empty lines.old) result lines.new }
+{
+    while let Some(line) = lines.next() {
+        if !line.is_empty() {
+            return Some(line);
+        }
+    }
+    None
+}
+
+#[tactic(auto, unfolding(crate::specs::Reading::description_of))]
+fn description_of(text: &[u8]) -> &[u8]
+    ensures { result.now ≡ description_of (cut text.now) }
+{
+    for line in lines(text) {
+        if !line.is_empty() {
+            return text;
+        }
+    }
+    &[]
+}
+
+// The command of a header, whose parameters and description are the lines behind it.
+#[tactic(auto, unfolding(crate::specs::Reading::command_from))]
+fn read_command<'a>(
+    alloc: Global,
+    header: Header<'a>,
+    mut lines: Lines<'a>,
+) -> Result<Message<'a>, TextFault>
+    requires some_id { 1 ≤ header.id }
+    requires short_id { header.id ≤ 999999999 }
+    ensures value { IfSome (outcome_of result) (λ outcome. outcome ≡ command_from header.entry.verb header.entry.id header.entry.rest lines.entry) }
+    ensures ids { IfSome (outcome_of result) HasTransactionId }
+{
+    let (verb, id) = (header.verb, header.id);
+    let mut words = header.rest;
+    let (Some(name), Some(protocol), Some(version)) = (words.next(), words.next(), words.next())
+    else {
+        return Err(TextFault::BadBody { id });
+    };
+    if !is_version(protocol, version) {
+        return Err(TextFault::BadVersion { id });
+    }
+    let Ok(found) = params_of(alloc, &mut lines) else {
+        return Err(TextFault::OutOfMemory);
+    };
+    let Some(params) = found else {
+        return Err(TextFault::BadBody { id });
+    };
+    Ok(Message::Command {
+        verb,
+        id,
+        name: Bytes::of(name),
+        params,
+        body: Bytes::of(description_of(lines.rest())),
+    })
+}
+
+#[tactic(auto, unfolding(crate::specs::Reading::read_text))]
+fn read_first(alloc: Global, text: &[u8]) -> Result<Message<'_>, TextFault>
+    ensures value { IfSome (outcome_of result) (λ outcome. outcome ≡ read_text text.now) }
+    ensures ids { IfSome (outcome_of result) HasTransactionId }
+{
+    let mut rest = lines(text);
+    let Some(line) = first_full(&mut rest) else {
+        return Err(TextFault::NoHeader);
+    };
+    let Some(header) = header_of(line) else {
+        return Err(TextFault::NoHeader);
+    };
+    read_command(alloc, header, rest)
+}
+
+/// Reads the message that a text spells (RFC 3435, 3.2).
+///
+/// Empty lines in front are skipped, the next line is the header, then come parameter lines, and behind an
+/// empty line the description. So far a text that begins as a response has no header.
+pub fn read_message(alloc: Global, text: &[u8]) -> Result<Message<'_>, TextFault>
+    // A message exactly where the text spells it, and each fault exactly where the text is read so.
+    ensures reads { IfSome (outcome_of result) (Reads text.now) }
+    ensures value { IfSome (outcome_of result) (λ outcome. outcome ≡ read_text text.now) }
+    // An id is from 1 to 999,999,999.
+    ensures ids { IfSome (outcome_of result) HasTransactionId }
+{
+    read_first(alloc, text)
+}
+
+/// Each text is read as one outcome, and as no other.
+pub fn one_reading()
+    ensures some { (text : List ℕ) → Reads text (read_text text) }
+    ensures only { (text : List ℕ) (outcome : Outcome) → Reads text outcome → outcome ≡ read_text text }
+{}

@@ -1,0 +1,198 @@
+ghost use Rattle.std.specs.Prelude.{◌≡◌, ◌++◌, ◌≤◌, List, ℕ, ◌≢◌, IsTrue, IfOk, OnOk, MatchOption};
+ghost use Rattle.std.specs.Str.{bytes_eq};
+ghost use Rattle.std.specs.List.{list_all, list_any, flat_map};
+ghost use Rattle.mg_bytes.specs.Lines.{cut, lines_of, is_line_feed};
+ghost use Rattle.mgcp_text.specs.Reading.{is_empty_line};
+ghost use Rattle.mgcp_text.specs.Writing.{code_text, comment, response_line, param_line, ended, body_text, written, is_writable_param, is_writable_body, is_writable};
+
+use crate::message::{Message, Param};
+use crate::parameter::is_code;
+use mg_bytes::{OutOfMemory, Text, has_dot_line, lines, put_decimal, trimmed};
+use std::alloc::Global;
+
+fn put_code(out: &mut Vec<u8>, code: u16) -> Result<(), OutOfMemory>
+    requires { code ≤ 999 }
+    ensures { OnOk result (out.new.items ≡ out.old.items ++ code_text code) }
+{
+    let digits = [
+        b'0' + (code / 100) as u8,
+        b'0' + (code / 10 % 10) as u8,
+        b'0' + (code % 10) as u8,
+    ];
+    out.extend_from_slice(&digits)?;
+    Ok(())
+}
+
+fn comment(code: u16) -> &'static [u8]
+    ensures { result.now ≡ comment code }
+{
+    if code == 200 || code == 250 {
+        b" OK"
+    } else {
+        b""
+    }
+}
+
+#[tactic(auto, unfolding(crate::specs::Writing::response_line))]
+fn put_response_line(out: &mut Vec<u8>, code: u16, id: u32) -> Result<(), OutOfMemory>
+    requires { code ≤ 999 }
+    ensures { OnOk result (out.new.items ≡ out.old.items ++ ended (response_line code id)) }
+{
+    put_code(out, code)?;
+    out.push(b' ')?;
+    put_decimal(out, u64::from(id))?;
+    out.extend_from_slice(comment(code))?;
+    out.extend_from_slice(b"\r\n")?;
+    Ok(())
+}
+
+#[tactic(auto, unfolding(crate::specs::Writing::param_line))]
+fn put_param_line(out: &mut Vec<u8>, param: &Param<'_>) -> Result<(), OutOfMemory>
+    ensures { OnOk result (out.new.items ≡ out.old.items ++ ended (param_line param.now)) }
+{
+    out.extend_from_slice(param.code.as_slice())?;
+    out.push(b':')?;
+    let value = param.value.as_slice();
+    if !value.is_empty() {
+        out.push(b' ')?;
+        out.extend_from_slice(value)?;
+    }
+    out.extend_from_slice(b"\r\n")?;
+    Ok(())
+}
+
+fn put_params(out: &mut Vec<u8>, params: &[Param<'_>]) -> Result<(), OutOfMemory>
+    ensures { OnOk result (out.new.items ≡ out.old.items ++ flat_map (λ param. ended (param_line param)) params.now) }
+{
+    for param in params {
+        put_param_line(out, param)?;
+    }
+    Ok(())
+}
+
+fn put_body(out: &mut Vec<u8>, body: &[u8]) -> Result<(), OutOfMemory>
+    ensures { OnOk result (out.new.items ≡ out.old.items ++ body_text body.now) }
+{
+    if !body.is_empty() {
+        out.extend_from_slice(b"\r\n")?;
+        out.extend_from_slice(body)?;
+    }
+    Ok(())
+}
+
+/// The text of a message (RFC 3435, 3.3): single spaces, and each line with CRLF. So far it writes responses.
+#[tactic(auto, unfolding(crate::specs::Writing::written, crate::specs::Writing::is_writable))]
+pub fn write_message(alloc: Global, said: &Message<'_>) -> Result<Text, OutOfMemory>
+    requires { IsTrue (is_writable said.now) }
+    ensures { IfOk result (λ text. text ≡ written said.now) }
+{
+    let mut out = Vec::new(alloc);
+    match said {
+        Message::Response {
+            code,
+            id,
+            params,
+            body,
+        } => {
+            put_response_line(&mut out, *code, *id)?;
+            put_params(&mut out, params.as_slice())?;
+            put_body(&mut out, body.as_slice())?;
+        }
+        Message::Command { .. } => {}
+    }
+    Ok(Text::of(out))
+}
+
+fn has_line_feed(text: &[u8]) -> bool
+    ensures { result ≡ list_any is_line_feed text.now }
+{
+    text.iter().any(|byte| *byte == b'\n')
+}
+
+fn is_writable_param(param: &Param<'_>) -> bool
+    ensures { result ≡ is_writable_param param.now }
+{
+    let value = param.value.as_slice();
+    is_code(param.code.as_slice()) && !has_line_feed(value) && trimmed(value) == value
+}
+
+fn all_writable(params: &[Param<'_>]) -> bool
+    ensures { result ≡ list_all is_writable_param params.now }
+{
+    params.iter().all(|param| is_writable_param(param))
+}
+
+// What follows a prefix in a text.
+fn after_prefix<'a>(text: &'a [u8], prefix: &[u8]) -> Option<&'a [u8]>
+    ensures { MatchOption result ((rest : List ℕ) → text.now ≢ prefix.now ++ rest) (λ rest. text.now ≡ prefix.now ++ rest.now) }
+{
+    text.strip_prefix(prefix)
+}
+
+// What follows a line and its CRLF in a text.
+fn after_line<'a>(text: &'a [u8], line: &[u8]) -> Option<&'a [u8]>
+    ensures { MatchOption result ((rest : List ℕ) → text.now ≢ ended line.now ++ rest) (λ rest. text.now ≡ ended line.now ++ rest.now) }
+{
+    match after_prefix(text, line) {
+        Some(rest) => after_prefix(rest, b"\r\n"),
+        None => None,
+    }
+}
+
+// Whether a text is its own lines, each with CRLF and nothing else.
+fn is_ended_lines(text: &[u8]) -> bool
+    ensures { result ≡ bytes_eq (flat_map ended (lines_of text.now)) text.now }
+{
+    let mut rest = text;
+    for line in lines(text) {
+        let Some(after) = after_line(rest, line) else {
+            return false;
+        };
+        rest = after;
+    }
+    rest.is_empty()
+}
+
+fn has_only_empty_lines(text: &[u8]) -> bool
+    ensures { result ≡ list_all is_empty_line (cut text.now) }
+{
+    for line in lines(text) {
+        if !line.is_empty() {
+            return false;
+        }
+    }
+    true
+}
+
+#[tactic(auto, unfolding(crate::specs::Writing::is_writable_body))]
+fn is_writable_body(body: &[u8]) -> bool
+    ensures { result ≡ is_writable_body body.now }
+{
+    if body.is_empty() {
+        return true;
+    }
+    is_ended_lines(body) && !has_only_empty_lines(body) && !has_dot_line(body)
+}
+
+/// Whether a message can be written: a response with a code up to 999 and an id from 1 to 999,999,999, whose
+/// parameters are each one line, and whose description is lines with CRLF, none of them a single dot.
+#[tactic(auto, unfolding(crate::specs::Writing::is_writable))]
+pub fn is_writable(said: &Message<'_>) -> bool
+    ensures { result ≡ is_writable said.now }
+{
+    match said {
+        Message::Command { .. } => false,
+        Message::Response {
+            code,
+            id,
+            params,
+            body,
+        } => {
+            *code <= 999
+                && *id >= 1
+                && *id <= 999_999_999
+                && all_writable(params.as_slice())
+                && is_writable_body(body.as_slice())
+        }
+    }
+}
