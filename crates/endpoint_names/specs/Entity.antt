@@ -1,4 +1,5 @@
--- Names of call agents (RFC 3435, 2.1.4 and 3.2.1.3): `[local@]host[:port]`.
+-- Names of call agents (RFC 3435, 2.1.4 and 3.2.1.3): `[local@]host[:port]`. The greatest lengths, and that leading
+-- zeros of numbers are taken, are this gateway's profile.
 use Rattle.std.specs.Prelude.{ℕ, ◌-◌, nat_le, Bool, ◌&&◌, not, ◌==◌, if◌then◌else◌, List, length, slice_index, take, drop, Option, Some, None, option_map}
 use Rattle.std.specs.List.{list_any}
 use Rattle.std.specs.declared.net.ipv4_addr.Ipv4Addr.{Ipv4Addr}

@@ -1,4 +1,5 @@
--- Endpoint names (RFC 3435, 2.1.2 and 3.2.1.3): `local@domain`. The local names of lines are this gateway's profile.
+-- Endpoint names (RFC 3435, 2.1.2, 3.2.1.3 and appendix E.1): `local@domain`. How lines are numbered, and which
+-- wildcards are taken, is this gateway's profile.
 use Rattle.std.specs.Prelude.{ℕ, zero, suc, Bool, ◌||◌, ◌==◌, if◌then◌else◌, List, [], ◌∷◌, ◌++◌, codes, decimal, Option, Some, None, Result, Ok, Err}
 use Rattle.std.specs.List.{list_any, slice_split}
 use Rattle.std.specs.Str.{bytes_eq}

@@ -14,7 +14,8 @@ fn all_domain_bytes(text: &[u8]) -> bool
     text.iter().all(|byte| is_domain_byte(*byte))
 }
 
-/// Whether a text is a domain name (RFC 3435, 2.1.4) as the table takes it: 1 to 64 letters, digits, `-` and `.`.
+/// Whether a text is a domain name (RFC 3435, appendix A) of at most 64 bytes, which is this gateway's limit:
+/// letters, digits, `-` and `.`.
 pub fn is_domain(text: &[u8]) -> bool
     ensures { result ≡ is_domain text.now }
 {

@@ -21,7 +21,7 @@ pub enum Pattern {
 pub enum NameFault {
     /// No endpoint has it, or it is of another domain.
     Unknown,
-    /// A wildcard in a place where this gateway takes none.
+    /// A term of the local name is `*` or `$`, in a place where this gateway takes none.
     TooComplicated,
 }
 
@@ -106,7 +106,7 @@ fn pattern_of(local: &[u8], lines: u16) -> Result<Pattern, NameFault>
 ///
 /// The name is split at its first `@`. The local name is `aaln/` and a line's number without leading zeros,
 /// `*` or `$` for all lines or any one, or one of the two behind `aaln/`, or in both places. Case does not matter.
-/// A name without `@`, of another domain or of no line is `Unknown`; one with a wildcard elsewhere is `TooComplicated`.
+/// A name without `@`, of another domain or of no line is `Unknown`; another one with a term `*` or `$` is `TooComplicated`.
 #[tactic(auto, unfolding(crate::specs::Name::name_of))]
 pub fn read_name(name: &[u8], domain: &[u8], lines: u16) -> Result<Pattern, NameFault>
     ensures { result ≡ name_of name.now domain.now lines }

@@ -1,4 +1,4 @@
--- Numbers as text: decimal and hexadecimal digits.
+-- Numbers as text: decimal and hexadecimal digits. That a decimal number has at most 18 is this gateway's profile.
 use Rattle.std.specs.Prelude.{ℕ, ◌&&◌, nat_le, Bool, if◌then◌else◌, List, length, Option, Some, None}
 use Rattle.std.specs.List.{list_all}
 use Rattle.std.specs.Char.{is_ascii_digit, is_ascii_hexdigit}

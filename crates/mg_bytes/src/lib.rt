@@ -1,6 +1,6 @@
 //! The bytes of a text: its lines, the words of a line, numbers as digits, comparison without case, and owned text.
 //!
-//! Nothing here knows of messages. What only reads takes no memory and gives slices of what it read.
+//! Nothing here knows what a message is. What only reads takes no memory and gives slices of what it read.
 #![tactic(auto)]
 
 mod address;

@@ -155,11 +155,11 @@ short_is verb id (a ∷ b ∷ c ∷ more) pieces short = absurd (omega arith)
 
 named_is : (verb : Verb) (id : ℕ) (rest pieces : List (List ℕ)) (name : List ℕ) → HasName rest name → command_from verb id rest pieces ≡ with_params verb id name (params_of pieces)
 unfolding command_from
-named_is verb id rest pieces name has = rw (has.words, has.spoken) refl
+named_is verb id rest pieces name has = rw (has.parts, has.spoken) refl
 
 other_is : (verb : Verb) (id : ℕ) (rest pieces : List (List ℕ)) → HasOtherVersion rest → command_from verb id rest pieces ≡ bad_version id
 unfolding command_from
-other_is verb id rest pieces has = rw (has.words, has.other) refl
+other_is verb id rest pieces has = rw (has.parts, has.other) refl
 
 -- ---- the text
 
@@ -223,9 +223,9 @@ module _ (text : List ℕ) (h : Header) (behind : List (List ℕ)) (has : HasHea
   reads_three t =
       ⊎_elim
       (λ (e : is_version t.protocol t.version ≡ true).
-      reads_named t.name (record { protocol = t.protocol; version = t.version; more = t.more; words = t.words; spoken = e }) (found behind))
+      reads_named t.name (record { protocol = t.protocol; version = t.version; more = t.more; parts = t.words; spoken = e }) (found behind))
       (λ (e : is_version t.protocol t.version ≡ false).
-      let other : HasOtherVersion h.rest = record { name = t.name; protocol = t.protocol; version = t.version; more = t.more; words = t.words; other = e } in
+      let other : HasOtherVersion h.rest = record { name = t.name; protocol = t.protocol; version = t.version; more = t.more; parts = t.words; other = e } in
       reads_as (bad_version h.id) (other_is h.verb h.id h.rest behind other) (h, behind, has, refl, other))
       (cases_Bool (is_version t.protocol t.version))
 

@@ -10,7 +10,7 @@ use Rattle.mgcp_text.specs.declared.message.Verb.{Verb}
 use Rattle.mgcp_text.specs.declared.message.Verb.TheVariants.{Epcf, Rqnt, Ntfy, Crcx, Mdcx, Dlcx, Auep, Aucx, Rsip, Other}
 use Rattle.mgcp_text.specs.declared.header.Header.{Header}
 
--- four letters or digits (RFC 3435, 3.2.1.1)
+-- four letters or digits (RFC 3435, 3.2.1.1; that a digit may come first is this gateway's profile)
 abbrev pub is_verb_word : List ℕ → Bool
 is_verb_word word = length word == 4 && list_all is_ascii_alphanumeric word
 

@@ -68,7 +68,7 @@ pub record HasName (rest : List (List ℕ)) (name : List ℕ) : Type 0 where
   pub protocol : List ℕ
   pub version : List ℕ
   pub more : List (List ℕ)
-  pub words : rest ≡ name ∷ protocol ∷ version ∷ more
+  pub parts : rest ≡ name ∷ protocol ∷ version ∷ more
   pub spoken : is_version protocol version ≡ true
 
 -- they are a name, a protocol and a version, but others
@@ -77,7 +77,7 @@ pub record HasOtherVersion (rest : List (List ℕ)) : Type 0 where
   pub protocol : List ℕ
   pub version : List ℕ
   pub more : List (List ℕ)
-  pub words : rest ≡ name ∷ protocol ∷ version ∷ more
+  pub parts : rest ≡ name ∷ protocol ∷ version ∷ more
   pub other : is_version protocol version ≡ false
 
 -- the text spells this message

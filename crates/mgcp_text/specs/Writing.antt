@@ -42,7 +42,7 @@ body_text (b ∷ bs) = crlf ++ (b ∷ bs)
 abbrev pub ended : List ℕ → List ℕ
 ended line = line ++ crlf
 
--- the text of a message
+-- the text of a response; commands are not written so far
 unfoldable pub written : Message → List ℕ
 written (Command verb id name params body) = []
 written (Response code id params body) = ended (response_line code id) ++ flat_map (λ param. ended (param_line param)) params ++ body_text body
@@ -53,14 +53,15 @@ written (Response code id params body) = ended (response_line code id) ++ flat_m
 abbrev pub is_writable_param : Param → Bool
 is_writable_param param = is_code param.code && not (list_any is_line_feed param.value) && bytes_eq (trimmed param.value) param.value
 
--- a description: none, or lines with their ends that aren't all empty, none of which is a single dot (RFC 3435, 3.5.5)
+-- a description: none, or lines that aren't all empty, each with CRLF and without blanks at its ends, none of which
+-- is a single dot (RFC 3435, 3.5.5)
 unfoldable pub is_writable_body : List ℕ → Bool
 is_writable_body [] = true
 is_writable_body (b ∷ bs) =
     bytes_eq (flat_map ended (lines_of (b ∷ bs))) (b ∷ bs)
     && not (list_all is_empty_line (cut (b ∷ bs))) && not (list_any is_dot_line (cut (b ∷ bs)))
 
--- a response with a code of three digits and an id of nine at most
+-- a response with a code up to 999 and an id from 1 to 999,999,999
 unfoldable pub is_writable : Message → Bool
 is_writable (Command verb id name params body) = false
 is_writable (Response code id params body) =

@@ -15,7 +15,7 @@ pub fn an_audit_is_read()
         ≡ message (messages.Command verbs.Auep 1200 (codes "aaln/1@rgw.example.net") [] []) }
 {}
 
-/// What has no verb of four characters and no id of 1 to 9 digits, not all 0, has no header.
+/// What lacks a verb of four characters, or an id of 1 to 9 digits that aren't all 0, has no header.
 pub fn some_texts_have_no_header()
     ensures empty { read_text [] ≡ no_header }
     ensures blanks { read_text (codes " \t\r\n\n") ≡ no_header }

@@ -1,6 +1,6 @@
 //! Messages of the Media Gateway Control Protocol as text (RFC 3435, section 3): read from a datagram's bytes, and written.
 //!
-//! A message borrows the text that it was read from. Which verbs, parameters and values mean what is not known here.
+//! A message borrows the text that it was read from. Of the parameters only K, which confirms responses, is read here.
 #![tactic(auto)]
 
 mod confirmation;

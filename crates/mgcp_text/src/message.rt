@@ -133,10 +133,10 @@ pub enum Message<'a> {
 pub enum TextFault {
     /// Memory was refused.
     OutOfMemory,
-    /// It has no header, so there is nobody to answer.
+    /// It has no header, so there is no transaction to answer.
     NoHeader,
     /// Its header has this id, and another protocol or version than this gateway's.
     BadVersion { id: u32 },
-    /// Its header has this id and lacks words, or a line isn't a parameter.
+    /// Its header has this id and lacks words, or a line before the first empty one isn't a parameter.
     BadBody { id: u32 },
 }

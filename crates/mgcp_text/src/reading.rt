@@ -1,6 +1,7 @@
 ghost use Rattle.std.specs.Prelude.{◌≡◌, ◌≤◌, IfSome, List, ℕ};
 ghost use Rattle.mg_bytes.specs.Lines.{cut, TakesLine};
-ghost use Rattle.mgcp_text.specs.Reading.{skip_empty, description_of, Outcome, outcome_of, HasTransactionId, command_from, header_from, read_text};
+ghost use Rattle.std.specs.List.{list_all};
+ghost use Rattle.mgcp_text.specs.Reading.{is_empty_line, skip_empty, description_of, Outcome, outcome_of, HasTransactionId, command_from, header_from, read_text};
 ghost use Rattle.mgcp_text.specs.Spelling.{Reads};
 
 use crate::header::{Header, header_of, is_version};
@@ -22,16 +23,26 @@ fn first_full<'a>(lines: &mut Lines<'a>) -> Option<&'a [u8]>
     None
 }
 
+/// Whether each line of a text is empty, or of blanks.
+pub(crate) fn has_only_empty_lines(text: &[u8]) -> bool
+    ensures { result ≡ list_all is_empty_line (cut text.now) }
+{
+    for line in lines(text) {
+        if !line.is_empty() {
+            return false;
+        }
+    }
+    true
+}
+
 #[tactic(auto, unfolding(crate::specs::Reading::description_of))]
 fn description_of(text: &[u8]) -> &[u8]
     ensures { result.now ≡ description_of (cut text.now) }
 {
-    for line in lines(text) {
-        if !line.is_empty() {
-            return text;
-        }
+    if has_only_empty_lines(text) {
+        return &[];
     }
-    &[]
+    text
 }
 
 // The command of a header, whose parameters and description are the lines behind it.
@@ -90,8 +101,9 @@ fn read_first(alloc: Global, text: &[u8]) -> Result<Message<'_>, TextFault>
 /// Empty lines in front are skipped, the next line is the header, then come parameter lines, and behind an
 /// empty line the description. So far a text that begins as a response has no header.
 pub fn read_message(alloc: Global, text: &[u8]) -> Result<Message<'_>, TextFault>
-    // A message exactly where the text spells it, and each fault exactly where the text is read so.
+    // Unless memory is refused: a message exactly where the text spells it, each fault exactly where it is read so.
     ensures reads { IfSome (outcome_of result) (Reads text.now) }
+    // The same, as a function that computes (`one_reading` joins them).
     ensures value { IfSome (outcome_of result) (λ outcome. outcome ≡ read_text text.now) }
     // An id is from 1 to 999,999,999.
     ensures ids { IfSome (outcome_of result) HasTransactionId }

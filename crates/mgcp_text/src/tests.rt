@@ -1,4 +1,4 @@
-//! What no clause says: that calls succeed with memory at hand, what bad input is read as, and how long reading takes.
+//! That calls succeed with memory at hand, how long reading takes, and outside values for what bad input is read as.
 use crate::{
     Bytes, IdRange, KValue, Message, Param, Params, TextFault, Verb, is_writable, read_k,
     read_message, write_message,

@@ -7,6 +7,7 @@ ghost use Rattle.mgcp_text.specs.Writing.{code_text, comment, response_line, par
 
 use crate::message::{Message, Param};
 use crate::parameter::is_code;
+use crate::reading::has_only_empty_lines;
 use mg_bytes::{OutOfMemory, Text, has_dot_line, lines, put_decimal, trimmed};
 use std::alloc::Global;
 
@@ -80,7 +81,8 @@ fn put_body(out: &mut Vec<u8>, body: &[u8]) -> Result<(), OutOfMemory>
     Ok(())
 }
 
-/// The text of a message (RFC 3435, 3.3): single spaces, and each line with CRLF. So far it writes responses.
+/// The text of a message (RFC 3435, 3.3): each line with CRLF, single spaces between the words of its own. So far it
+/// writes responses.
 #[tactic(auto, unfolding(crate::specs::Writing::written, crate::specs::Writing::is_writable))]
 pub fn write_message(alloc: Global, said: &Message<'_>) -> Result<Text, OutOfMemory>
     requires { IsTrue (is_writable said.now) }
@@ -153,17 +155,6 @@ fn is_ended_lines(text: &[u8]) -> bool
     rest.is_empty()
 }
 
-fn has_only_empty_lines(text: &[u8]) -> bool
-    ensures { result ≡ list_all is_empty_line (cut text.now) }
-{
-    for line in lines(text) {
-        if !line.is_empty() {
-            return false;
-        }
-    }
-    true
-}
-
 #[tactic(auto, unfolding(crate::specs::Writing::is_writable_body))]
 fn is_writable_body(body: &[u8]) -> bool
     ensures { result ≡ is_writable_body body.now }
@@ -175,7 +166,8 @@ fn is_writable_body(body: &[u8]) -> bool
 }
 
 /// Whether a message can be written: a response with a code up to 999 and an id from 1 to 999,999,999, whose
-/// parameters are each one line, and whose description is lines with CRLF, none of them a single dot.
+/// parameters have a code and a value of one line without blanks round it, and whose description is nothing, or lines
+/// with CRLF without blanks at their ends, not all of them empty and none of them a single dot.
 #[tactic(auto, unfolding(crate::specs::Writing::is_writable))]
 pub fn is_writable(said: &Message<'_>) -> bool
     ensures { result ≡ is_writable said.now }
