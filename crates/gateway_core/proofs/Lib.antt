@@ -1,0 +1,3 @@
+pub mod StandLemmas
+pub mod SetupLemmas
+pub mod Computing
