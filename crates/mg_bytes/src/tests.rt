@@ -1,7 +1,7 @@
 //! What no clause says: that a call can succeed, and that it reads what others wrote.
 use crate::{
-    Text, decimal, has_dot_line, hex_text, ipv4_address, lines, list_items, put_decimal, same_no_case,
-    split_once, trimmed, words,
+    Text, decimal, has_dot_line, hex_text, ipv4_address, lines, list_items, put_decimal,
+    same_no_case, split_once, trimmed, words,
 };
 use std::net::Ipv4Addr;
 use std::test::Fail;
