@@ -6,9 +6,8 @@ use Rattle.std.specs.declared.net.ipv4_addr.Ipv4Addr.{Ipv4Addr}
 use Rattle.std.specs.declared.net.socket_addr.SocketAddrV4.{SocketAddrV4}
 use Rattle.mg_bytes.specs.Option.{◌>>=◌}
 use Rattle.mg_bytes.specs.Blanks.{is_blank}
-use Rattle.mg_bytes.specs.Numbers.{decimal_of}
 use Rattle.mg_bytes.specs.Words.{split_once}
-use Rattle.mg_bytes.specs.Address.{ipv4_of}
+use Rattle.mg_bytes.specs.Address.{ipv4_of, port_of}
 use Rattle.endpoint_names.specs.declared.table.Host.{Host}
 use Rattle.endpoint_names.specs.declared.entity.Entity.{Entity}
 use Rattle.endpoint_names.specs.Table.{address_of}
@@ -30,13 +29,6 @@ host_from hosts host (Some literal) = ipv4_of literal
 -- the address of a host: `[a.b.c.d]`, or a name of the table
 abbrev pub host_of : List Host → List ℕ → Option Ipv4Addr
 host_of hosts host = host_from hosts host (in_brackets host)
-
-abbrev pub port_from : ℕ → Option ℕ
-port_from n = if nat_le 1 n && nat_le n 65535 then Some n else None
-
--- a port from 1 to 65535
-abbrev pub port_of : List ℕ → Option ℕ
-port_of text = decimal_of text >>= port_from
 
 -- the port where none is written (RFC 3435, 3.5)
 abbrev pub agent_port : ℕ

@@ -1,11 +1,11 @@
 ghost use Rattle.std.specs.Prelude.{◌≡◌, option_map};
 ghost use Rattle.std.specs.List.{list_any};
 ghost use Rattle.mg_bytes.specs.Blanks.{is_blank};
-ghost use Rattle.endpoint_names.specs.Entity.{is_local, in_brackets, host_of, port_of, place_of, agent_of, entity_of};
+ghost use Rattle.endpoint_names.specs.Entity.{is_local, in_brackets, host_of, place_of, agent_of, entity_of};
 
 use crate::fixed::FixedText;
 use crate::table::Table;
-use mg_bytes::{decimal, ipv4_address, split_once};
+use mg_bytes::{ipv4_address, port_number, split_once};
 use std::net::{Ipv4Addr, SocketAddrV4};
 
 // The port of a call agent where its name gives none (RFC 3435, 3.5).
@@ -48,22 +48,12 @@ fn host_of(table: &Table, host: &[u8]) -> Option<Ipv4Addr>
     }
 }
 
-fn port_of(text: &[u8]) -> Option<u16>
-    ensures { result ≡ port_of text.now }
-{
-    let number = decimal(text)?;
-    if number < 1 || number > 65535 {
-        return None;
-    }
-    Some(number as u16)
-}
-
 #[tactic(auto, unfolding(crate::specs::Entity::place_of))]
 fn place_of(table: &Table, text: &[u8]) -> Option<SocketAddrV4>
     ensures { result ≡ place_of table.now text.now }
 {
     match split_once(text, b':') {
-        Some((host, port)) => Some(SocketAddrV4::new(host_of(table, host)?, port_of(port)?)),
+        Some((host, port)) => Some(SocketAddrV4::new(host_of(table, host)?, port_number(port)?)),
         None => Some(SocketAddrV4::new(host_of(table, text)?, AGENT_PORT)),
     }
 }

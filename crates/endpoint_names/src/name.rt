@@ -20,9 +20,9 @@ pub enum Pattern {
 #[derive(Clone, Copy, Debug, PartialEq, Eq)]
 pub enum NameFault {
     /// No endpoint has it, or it is of another domain.
-    Unknown,
+    Unknown = 1,
     /// A term of the local name is `*` or `$`, in a place where this gateway takes none.
-    TooComplicated,
+    TooComplicated = 2,
 }
 
 fn is_wildcard(term: &[u8]) -> bool

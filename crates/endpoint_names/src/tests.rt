@@ -7,6 +7,11 @@ use std::test::Fail;
 const DOMAIN: &[u8] = b"rgw.example.net";
 
 #[test]
+fn faults_have_their_numbers(rt: HostRuntime) {
+    assert!(rt; NameFault::Unknown as u8 == 1 && NameFault::TooComplicated as u8 == 2);
+}
+
+#[test]
 fn names_of_lines_are_read(rt: HostRuntime) {
     for (name, lines, want) in [
         (b"aaln/1@rgw.example.net".as_slice(), 1, Ok(Pattern::One(1))),

@@ -1,5 +1,5 @@
--- An IPv4 address as text (RFC 3435, appendix A: literal addresses; RFC 1123, 2.1: dotted-decimal form).
-use Rattle.std.specs.Prelude.{ℕ, nat_le, if◌then◌else◌, List, [], ◌∷◌, Option, Some, None}
+-- An IPv4 address and a port as text (RFC 3435, appendix A: literal addresses; RFC 1123, 2.1: dotted-decimal form).
+use Rattle.std.specs.Prelude.{ℕ, ◌&&◌, nat_le, if◌then◌else◌, List, [], ◌∷◌, Option, Some, None}
 use Rattle.std.specs.declared.net.ipv4_addr.Ipv4Addr.{Ipv4Addr}
 use Rattle.mg_bytes.specs.Option.{◌>>=◌}
 use Rattle.mg_bytes.specs.Numbers.{decimal_of}
@@ -23,3 +23,10 @@ ipv4_of text = do
   c ← octet_of third.0
   d ← octet_of third.1
   Some (record { octets = a ∷ b ∷ c ∷ d ∷ [] })
+
+abbrev pub port_from : ℕ → Option ℕ
+port_from n = if nat_le 1 n && nat_le n 65535 then Some n else None
+
+-- a port from 1 to 65535
+abbrev pub port_of : List ℕ → Option ℕ
+port_of text = decimal_of text >>= port_from

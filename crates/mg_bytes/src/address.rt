@@ -1,5 +1,5 @@
 ghost use Rattle.std.specs.Prelude.{◌≡◌};
-ghost use Rattle.mg_bytes.specs.Address.{octet_of, ipv4_of};
+ghost use Rattle.mg_bytes.specs.Address.{octet_of, ipv4_of, port_of};
 
 use crate::number::decimal;
 use crate::split::split_once;
@@ -24,4 +24,15 @@ pub fn ipv4_address(text: &[u8]) -> Option<Ipv4Addr>
     let (b, rest) = split_once(rest, b'.')?;
     let (c, d) = split_once(rest, b'.')?;
     Some(Ipv4Addr::new(octet(a)?, octet(b)?, octet(c)?, octet(d)?))
+}
+
+/// The port that a decimal number from 1 to 65535 is.
+pub fn port_number(text: &[u8]) -> Option<u16>
+    ensures { result ≡ port_of text.now }
+{
+    let number = decimal(text)?;
+    if number < 1 || number > 65535 {
+        return None;
+    }
+    Some(number as u16)
 }

@@ -7,7 +7,7 @@ ghost use Rattle.mg_bytes.specs.Words.{words, split_once};
 ghost use Rattle.mg_bytes.specs.Items.{items_of};
 ghost use Rattle.mg_bytes.specs.Numbers.{decimal_of, is_hex_text};
 ghost use Rattle.mg_bytes.specs.Case.{same_but_case};
-ghost use Rattle.mg_bytes.specs.Address.{ipv4_of};
+ghost use Rattle.mg_bytes.specs.Address.{ipv4_of, port_of};
 
 /// CRLF and LF end a line, blanks round it are dropped, and bytes behind the last end are a line.
 pub fn lines_end_in_crlf_or_lf()
@@ -62,7 +62,16 @@ pub fn letters_are_compared_without_case()
 /// An address is four numbers up to 255; leading zeros are taken.
 pub fn addresses_are_four_numbers()
     ensures zeros { ipv4_of (codes "127.000.0.01") ≡ Some (record { octets = 127 ∷ 0 ∷ 0 ∷ 1 ∷ [] }) }
+    ensures greatest { ipv4_of (codes "255.255.255.255") ≡ Some (record { octets = 255 ∷ 255 ∷ 255 ∷ 255 ∷ [] }) }
     ensures too_great { ipv4_of (codes "127.0.0.256") ≡ None }
     ensures three { ipv4_of (codes "127.0.1") ≡ None }
     ensures five { ipv4_of (codes "127.0.0.0.1") ≡ None }
+{}
+
+/// A port is a number from 1 to 65535; leading zeros are taken.
+pub fn ports_are_numbers_from_1_to_65535()
+    ensures least { port_of (codes "1") ≡ Some 1 }
+    ensures greatest { port_of (codes "065535") ≡ Some 65535 }
+    ensures zero { port_of (codes "0") ≡ None }
+    ensures too_great { port_of (codes "65536") ≡ None }
 {}

@@ -16,7 +16,7 @@ mod split;
 mod tests;
 mod word;
 
-pub use crate::address::ipv4_address;
+pub use crate::address::{ipv4_address, port_number};
 pub use crate::blank::trimmed;
 pub use crate::item::ListItems;
 pub use crate::letter_case::same_no_case;

@@ -1,7 +1,7 @@
 //! What no clause says: that a call can succeed, and that it reads what others wrote.
 use crate::{
-    Text, decimal, has_dot_line, hex_text, ipv4_address, lines, list_items, put_decimal,
-    same_no_case, split_once, trimmed, words,
+    Text, decimal, has_dot_line, hex_text, ipv4_address, lines, list_items, port_number,
+    put_decimal, same_no_case, split_once, trimmed, words,
 };
 use std::net::Ipv4Addr;
 use std::test::Fail;
@@ -26,6 +26,7 @@ fn each_call_reads_and_writes(rt: HostRuntime) -> Result<(), Fail> {
     assert_eq!(rt; rest.next(), None);
     assert!(rt; hex_text(b"1aF") && !hex_text(b""));
     assert!(rt; ipv4_address(b"127.0.0.1") == Some(Ipv4Addr::LOCALHOST));
+    assert!(rt; port_number(b"02727") == Some(2727) && port_number(b"65536").is_none());
 
     let mut out = Vec::new(rt.alloc());
     for number in [0, 7, 1200, u64::MAX] {

@@ -32,7 +32,7 @@ impl Model for IdRanges {
 
 impl IdRanges {
     /// No ranges. This takes no memory yet.
-    pub fn new(alloc: Global) -> Self
+    pub(crate) fn new(alloc: Global) -> Self
         ensures { result ≡ [] }
     {
         IdRanges {
@@ -41,7 +41,7 @@ impl IdRanges {
     }
 
     /// Adds a range at the end. After an error the ranges are as they were.
-    pub fn push(&mut self, range: IdRange) -> Result<(), OutOfMemory>
+    pub(crate) fn push(&mut self, range: IdRange) -> Result<(), OutOfMemory>
         ensures ok { OnOk result (self.new ≡ self.old ++ range ∷ []) }
         ensures err { OnErr result (self.new ≡ self.old) }
     {

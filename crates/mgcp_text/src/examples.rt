@@ -72,6 +72,8 @@ pub fn the_first_k_line_counts()
     ensures downwards { k_of (record { code = codes "K"; value = codes "3-1" } ∷ []) ≡ values.Unreadable }
     ensures blanks { k_of (record { code = codes "K"; value = codes "1 - 3" } ∷ []) ≡ values.Unreadable }
     ensures zero { k_of (record { code = codes "K"; value = codes "0" } ∷ []) ≡ values.Unreadable }
+    ensures greatest { k_of (record { code = codes "K"; value = codes "999999999" } ∷ []) ≡ values.Items (record { first = 999999999; last = 999999999 } ∷ []) }
+    ensures ten_digits { k_of (record { code = codes "K"; value = codes "1000000000" } ∷ []) ≡ values.Unreadable }
     ensures trailing { k_of (record { code = codes "K"; value = codes "1," } ∷ []) ≡ values.Unreadable }
 {}
 
@@ -90,6 +92,7 @@ pub fn some_messages_cannot_be_written()
     ensures described { is_writable (messages.Response 200 1 [] (codes "v=0\r\n\r\nv=0\r\n")) ≡ true }
     ensures feed { is_writable (messages.Response 200 1 (record { code = codes "X"; value = codes "a\nb" } ∷ []) []) ≡ false }
     ensures dot { is_writable (messages.Response 200 1 [] (codes "v=0\r\n.\r\n")) ≡ false }
+    ensures blanks { is_writable (messages.Response 200 1 [] (codes "v=0 \r\n")) ≡ false }
     ensures no_return { is_writable (messages.Response 200 1 [] (codes "v=0\n")) ≡ false }
     ensures code { is_writable (messages.Response 1000 1 [] []) ≡ false }
     ensures id { is_writable (messages.Response 200 0 [] []) ≡ false }
