@@ -1,7 +1,10 @@
 pub mod Setup
 pub mod Event
+pub mod Lines
 pub mod Sent
-pub mod Audit
+pub mod Checking
+pub mod Report
+pub mod Commands
 pub mod Machine
 pub mod GatewayState
 pub mod Stands

@@ -1,5 +1,5 @@
 -- The plain machine: what each event does and sends. It keeps all that ever arrived.
-use Rattle.std.specs.Prelude.{ℕ, ◌<◌, nat_lt, if◌then◌else◌, List, [], ◌∷◌, ◌++◌, length, Option, Some, None, Result, Ok, Err}
+use Rattle.std.specs.Prelude.{ℕ, Bool, true, ◌+◌, ◌^◌, ◌<◌, ◌&&◌, ◌||◌, nat_lt, nat_le, if◌then◌else◌, List, [], ◌∷◌, ◌++◌, length, replicate, Option, Some, None, is_none, Result, Ok, Err}
 use Rattle.std.specs.List.{list_any}
 use Rattle.std.specs.declared.net.socket_addr.SocketAddrV4.{SocketAddrV4}
 use Rattle.mg_bytes.specs.Lines.{cut, is_dot_line}
@@ -11,10 +11,15 @@ use Rattle.endpoint_names.specs.declared.name.NameFault.{NameFault}
 use Rattle.endpoint_names.specs.Name.{name_of}
 use Rattle.gateway_core.specs.declared.event.OutDatagram.{OutDatagram}
 use Rattle.gateway_core.specs.declared.event.Refusal.{Refusal}
+use Rattle.gateway_core.specs.declared.event.Refusal.TheVariants.{TickTooFar, ClockBack}
 use Rattle.gateway_core.specs.Setup.{Setup}
-use Rattle.gateway_core.specs.Event.{GatewayEvent, datagram}
+use Rattle.mg_line.specs.declared.phone.Hook.{Hook}
+use Rattle.mg_line.specs.Line.{LineState, opening_line}
+use Rattle.gateway_core.specs.Lines.{acted, phone_refusal, hook_at}
+use Rattle.gateway_core.specs.Event.{GatewayEvent, datagram, phone, tick}
 use Rattle.gateway_core.specs.Sent.{answer_of, answer, Sent, packed}
-use Rattle.gateway_core.specs.Audit.{command_code}
+use Rattle.gateway_core.specs.declared.command.Answer.{Answer}
+use Rattle.gateway_core.specs.Commands.{plain_code, command_answer}
 
 -- a text that came in a datagram, and what it was read as
 pub record Arrival : Type 0 where
@@ -24,18 +29,20 @@ pub record Arrival : Type 0 where
 
 pub record Machine : Type 0 where
   pub now : ℕ
+  pub lines : List LineState
   pub arrivals : List Arrival
 
 pub record Effect : Type 0 where
   pub machine : Machine
   pub sent : List Sent
 
--- at this moment, where nothing arrived that still matters
-abbrev pub machine_of : ℕ → Machine
-machine_of now = record { now = now; arrivals = [] }
+-- at this moment, with these lines, where nothing arrived that still matters
+abbrev pub machine_of : ℕ → List LineState → Machine
+machine_of now lines = record { now = now; lines = lines; arrivals = [] }
 
-abbrev pub opening : Machine
-opening = machine_of 0
+-- every line is on hook
+abbrev pub opening : Setup → Machine
+opening setup = machine_of 0 (replicate setup.lines opening_line)
 
 -- the greatest datagram that is taken (RFC 3435, 3.5.4)
 abbrev pub greatest_datagram : ℕ
@@ -54,24 +61,24 @@ line_of_name (Ok All) = None
 line_of_name (Ok Any) = None
 line_of_name (Err fault) = None
 
-abbrev pub plain_answer : SocketAddrV4 → ℕ → Option ℕ → ℕ → ℕ → List Sent
-plain_answer source moment line id code =
-    (record { to = source; moment = moment; owner = answer_of line; said = answer (Response code id [] []) }) ∷ []
+abbrev pub answered : SocketAddrV4 → ℕ → Option ℕ → ℕ → Answer → List Sent
+answered source moment line id given =
+    (record { to = source; moment = moment; owner = answer_of line; said = answer (Response given.code id given.params []) }) ∷ []
 
 -- the answer to what came, to its source; what has no header gets none (RFC 3435, 3.5)
-unfoldable pub answers : Setup → ℕ → SocketAddrV4 → Outcome → List Sent
-answers setup moment source no_header = []
-answers setup moment source (bad_version id) = plain_answer source moment None id 528
-answers setup moment source (bad_body id) = plain_answer source moment None id 510
-answers setup moment source (message (Command verb id name params body)) =
-    plain_answer source moment (line_of_name (name_of name setup.domain setup.lines)) id (command_code setup verb name params)
-answers setup moment source (message (Response code id params body)) = []
+unfoldable pub answers : Setup → Machine → SocketAddrV4 → Outcome → List Sent
+answers setup m source no_header = []
+answers setup m source (bad_version id) = answered source m.now None id (plain_code 528)
+answers setup m source (bad_body id) = answered source m.now None id (plain_code 510)
+answers setup m source (message (Command verb id name params body)) =
+    answered source m.now (line_of_name (name_of name setup.domain setup.lines)) id (command_answer setup m.lines verb name params)
+answers setup m source (message (Response code id params body)) = []
 
 -- one text: it has arrived, and it is answered. So far every command is the first with its id
 abbrev pub took : Setup → Machine → SocketAddrV4 → List ℕ → Effect
 took setup m source text = record {
   machine = record m { arrivals = m.arrivals ++ (record { moment = m.now; source = source; outcome = read_text text }) ∷ [] };
-  sent = answers setup m.now source (read_text text);
+  sent = answers setup m source (read_text text);
 }
 
 abbrev pub after : Effect → (Machine → Effect) → Effect
@@ -82,9 +89,22 @@ unfoldable pub took_all : Setup → Machine → SocketAddrV4 → List (List ℕ)
 took_all setup m source [] = record { machine = m; sent = [] }
 took_all setup m source (text ∷ texts) = after (took setup m source text) (λ next. took_all setup next source texts)
 
+abbrev pub idle : Machine → Effect
+idle m = record { machine = m; sent = [] }
+
+-- what falls due up to this moment, the least first, each at its own moment: nothing does so far
+abbrev pub pass : Machine → ℕ → Effect
+pass m moment = idle m
+
+-- the clock is set behind all that fell due
+abbrev pub ticked : Effect → ℕ → Effect
+ticked passed moment = record passed { machine = record passed.machine { now = moment } }
+
 -- what an event does, and what it sends
 unfoldable pub effect : Setup → Machine → GatewayEvent → Effect
 effect setup m (datagram source bytes) = took_all setup m source (texts_of bytes)
+effect setup m (phone line act) = idle (record m { lines = acted m.lines line act })
+effect setup m (tick moment) = ticked (pass m moment) moment
 
 -- Whole lists of events
 
@@ -102,19 +122,44 @@ outputs_from setup m (event ∷ events) = packed (effect setup m event).sent ++ 
 
 -- the machine after these events, from the opening on
 abbrev pub plain : Setup → List GatewayEvent → Machine
-plain setup events = machine_after setup opening events
+plain setup events = machine_after setup (opening setup) events
 
 -- all messages of these events, and the datagrams that they go out in, event by event
 abbrev pub sent_of : Setup → List GatewayEvent → List Sent
-sent_of setup events = sent_from setup opening events
+sent_of setup events = sent_from setup (opening setup) events
 
 abbrev pub outputs_of : Setup → List GatewayEvent → List OutDatagram
-outputs_of setup events = outputs_from setup opening events
+outputs_of setup events = outputs_from setup (opening setup) events
 
--- why an event is refused, but for want of memory: a datagram never is
-abbrev pub refusal_of : ℕ → GatewayEvent → Option Refusal
-refusal_of now (datagram source bytes) = None
+-- Refusals
 
--- a step with this event takes no memory: the datagram is too long
+-- a tick goes on by 1,000 ms at most, and stays below 2^62; it never goes back
+abbrev pub tick_refusal : ℕ → ℕ → Option Refusal
+tick_refusal now moment =
+    if nat_lt (now + 1000) moment || nat_le (2 ^ 62) moment then Some TickTooFar else
+    (if nat_lt moment now then Some ClockBack else None)
+
+-- why an event is refused, but for want of memory; a datagram never is
+unfoldable pub refusal_of : ℕ → List LineState → GatewayEvent → Option Refusal
+refusal_of now lines (datagram source bytes) = None
+refusal_of now lines (phone line act) = phone_refusal lines line act
+refusal_of now lines (tick moment) = tick_refusal now moment
+
+-- the same behind these events
+abbrev pub refusal_at : Setup → List GatewayEvent → GatewayEvent → Option Refusal
+refusal_at setup before event = refusal_of (plain setup before).now (plain setup before).lines event
+
+-- none of these events is refused, each behind those before it
+unfoldable pub are_taken : Setup → List GatewayEvent → List GatewayEvent → Bool
+are_taken setup before [] = true
+are_taken setup before (event ∷ events) = is_none (refusal_at setup before event) && are_taken setup (before ++ event ∷ []) events
+
+-- a step with this event takes no memory: the datagram is too long, or nothing is due up to the tick
 abbrev pub TakesNoMemory : GatewayEvent → Type 0
 TakesNoMemory (datagram source bytes) = greatest_datagram < length bytes
+TakesNoMemory (phone line act) = ⊥
+TakesNoMemory (tick moment) = Unit {0}
+
+-- the hook state of a line, if there is one
+abbrev pub hook_of : Machine → ℕ → Option Hook
+hook_of m number = hook_at m.lines number

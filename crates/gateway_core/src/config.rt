@@ -1,4 +1,4 @@
-ghost use Rattle.std.specs.Prelude.{◌≡◌, ◌++◌, ◌∷◌, [], Some, None, OnOk, OnErr, MatchOption, MatchResult, ◌≤◌};
+ghost use Rattle.std.specs.Prelude.{◌≡◌, ◌++◌, ◌∷◌, [], Some, None, OnOk, OnErr, MatchResult, IfOk, ◌≤◌};
 ghost use Rattle.std.specs.Bool.{OnTrue};
 ghost use Rattle.gateway_core.specs.Setup.{table_from, is_agent_in, are_lines, is_wait, is_media_base, config_fault};
 
@@ -141,7 +141,8 @@ fn is_media_base(port: u32) -> bool
 /// The number of lines of a configuration, or its first fault, in the order of their numbers.
 #[tactic(auto, unfolding(crate::specs::Setup::config_fault))]
 pub(crate) fn judged(config: &Config) -> Result<u16, ConfigFault>
-    ensures { MatchResult result (λ lines. (config_fault config.now ≡ None) × (lines ≡ config.now.lines)) (λ fault. config_fault config.now ≡ Some fault) }
+    ensures value { MatchResult result (λ lines. (config_fault config.now ≡ None) × (lines ≡ config.now.lines)) (λ fault. config_fault config.now ≡ Some fault) }
+    ensures few { IfOk result (λ lines. lines ≤ 16) }
 {
     if !is_domain(config.domain.as_bytes()) {
         return Err(ConfigFault::BadDomain);

@@ -1,17 +1,27 @@
 ghost use Rattle.std.specs.Prelude.{◌≡◌, ◌++◌, ◌∷◌, [], OnOk, OnErr};
 
 use mg_bytes::{OutOfMemory, Text};
+use mg_line::Act;
 use std::alloc::Global;
 use std::marker::Model;
 use std::net::SocketAddrV4;
 
-/// What comes to a gateway. So far these are datagrams.
+/// What comes to a gateway.
 #[derive(Clone, Copy)]
 pub enum Event<'a> {
     /// A datagram from this address. One of more than 4,000 bytes does nothing.
     Datagram {
         source: SocketAddrV4,
         bytes: &'a [u8],
+    },
+    /// An act of the telephone of this line, from 1.
+    Phone {
+        line: u16,
+        act: Act,
+    },
+    /// The clock: it is this moment, in ms from 0.
+    Tick {
+        moment: u64,
     },
 }
 

@@ -6,10 +6,14 @@
 
 mod answering;
 mod checking;
+mod command;
 mod config;
 mod event;
 pub mod examples;
 mod gateway;
+pub mod laws;
+mod lines;
+mod report;
 #[cfg(test)]
 mod tests;
 
