@@ -1,0 +1,173 @@
+ghost use Rattle.std.specs.Prelude.{◌≡◌, IfOk};
+
+use gateway_core::{Config, ConfigFault, Event, Gateway, NamedAddress, Names, Outputs, Refusal};
+use mg_bytes::{OutOfMemory, Text};
+use mg_line::{Act, Hook};
+use rgw_play::{PlayFault, play};
+use std::alloc::Global;
+use std::io::{self, Write};
+use std::net::{Ipv4Addr, SocketAddrV4};
+
+const AUDITS: [&[u8]; 4] = [
+    b"AUEP 30 aaln/1@rgw.example.net MGCP 1.0\r\nF: ES\r\nK: 1-2, 4\r\n",
+    b"AUEP 31 aaln/1@rgw.example.net MGCP 1.0\r\nF: ES\r\nK: 1-2, 4\r\n",
+    b"AUEP 32 aaln/1@rgw.example.net MGCP 1.0\r\nF: ES\r\nK: 1-2, 4\r\n",
+    b"AUEP 33 aaln/1@rgw.example.net MGCP 1.0\r\nF: ES\r\nK: 1-2, 4\r\n",
+];
+
+const INPUT: &[u8] = b"domain = \"rgw.example.net\"
+lines = 16
+agent = \"ca@ca.example.net\"
+restart_wait = 1
+disconnected_wait = 5000
+media_address = \"127.0.0.1\"
+media_base = 3000
+[names]
+\"ca.example.net\" = \"127.0.0.1\"
+%%
+from 127.0.0.1:2727
+AUEP 1200 aaln/1@rgw.example.net MGCP 1.0
+--
+phone 17 off
+raw 127.0.0.1:2727 41554550203132
+show 1
+";
+
+fn text(alloc: Global, bytes: &[u8]) -> Result<Text, OutOfMemory> {
+    Ok(Text::of(Vec::from_slice(alloc, bytes)?))
+}
+
+// The configuration of the examples.
+fn example(alloc: Global) -> Result<Config, OutOfMemory>
+    ensures { IfOk result (λ config. config.lines ≡ 16) }
+{
+    let mut names = Names::new(alloc);
+    names.push(NamedAddress {
+        name: text(alloc, b"ca.example.net")?,
+        address: Ipv4Addr::LOCALHOST,
+    })?;
+    Ok(Config {
+        domain: text(alloc, b"rgw.example.net")?,
+        lines: 16,
+        agent: text(alloc, b"ca@ca.example.net")?,
+        restart_wait: 1,
+        disconnected_wait: 5000,
+        media_address: Ipv4Addr::LOCALHOST,
+        media_base: 3000,
+        names,
+    })
+}
+
+fn opened(alloc: Global) -> Result<Gateway, ConfigFault>
+    ensures { IfOk result (λ gateway. gateway.setup.lines ≡ 16) }
+{
+    match example(alloc) {
+        Ok(config) => Gateway::new(alloc, config),
+        Err(_) => Err(ConfigFault::OutOfMemory),
+    }
+}
+
+// What can be read of a gateway: its clock, and its first line.
+fn seen(gateway: &Gateway) -> (u64, Hook)
+    requires { gateway.now.setup.lines ≡ 16 }
+{
+    (gateway.now(), gateway.hook(1))
+}
+
+fn show<R: Print>(rt: &R, outputs: &Outputs) -> io::Result<()> {
+    for datagram in outputs.as_slice() {
+        println!(rt; "> {} {}", datagram.moment, datagram.to)?;
+        io::writer(rt).write_all(datagram.bytes.as_bytes())?;
+    }
+    Ok(())
+}
+
+// One event. Where memory is refused the gateway must be as it was, and takes the event again.
+fn stepped<R: Print>(rt: &R, gateway: &mut Gateway, event: Event<'_>) -> io::Result<()>
+    requires { gateway.old.setup.lines ≡ 16 }
+    ensures { gateway.new.setup.lines ≡ 16 }
+{
+    let before = seen(gateway);
+    let mut outcome = gateway.step(event);
+    if let Err(Refusal::OutOfMemory) = outcome {
+        if seen(gateway) != before {
+            println!(rt; "a refused step changed the gateway")?;
+        }
+        outcome = gateway.step(event);
+    }
+    match outcome {
+        Ok(outputs) => show(rt, &outputs),
+        Err(refusal) => println!(rt; "{refusal:?}"),
+    }
+}
+
+// All events. Where memory is refused the run goes on at its place.
+fn ran<R: Print>(rt: &R, gateway: &mut Gateway, events: &[Event<'_>]) -> io::Result<()> {
+    let stopped = match gateway.run(events) {
+        Ok(outputs) => return show(rt, &outputs),
+        Err(stopped) => stopped,
+    };
+    show(rt, &stopped.outputs)?;
+    if stopped.refusal != Refusal::OutOfMemory {
+        return println!(rt; "{:?}", stopped.refusal);
+    }
+    match gateway.run(&events[stopped.place..]) {
+        Ok(outputs) => show(rt, &outputs),
+        Err(_) => println!(rt; "refused again"),
+    }
+}
+
+// The input is played, and once more where memory is refused, also to the writer.
+fn played<R: Print>(rt: &R, alloc: Global) -> io::Result<()> {
+    let mut output = Vec::new(alloc);
+    let mut reader = INPUT;
+    let mut outcome = play(alloc, &mut reader, &mut output);
+    if let Err(PlayFault::OutOfMemory | PlayFault::Write) = outcome {
+        output = Vec::new(alloc);
+        reader = INPUT;
+        outcome = play(alloc, &mut reader, &mut output);
+    }
+    io::writer(rt).write_all(&output)?;
+    match outcome {
+        Ok(played) => println!(rt; "{} steps, {} refused", played.commands, played.refused),
+        Err(fault) => println!(rt; "{fault:?}"),
+    }
+}
+
+fn gateway_calls<R: Print>(rt: &R, gateway: &mut Gateway) -> io::Result<()>
+    requires { gateway.old.setup.lines ≡ 16 }
+{
+    let source = SocketAddrV4::new(Ipv4Addr::LOCALHOST, 2727);
+    let [first, second, third, fourth] = AUDITS.map(|bytes| Event::Datagram { source, bytes });
+    let off = Event::Phone {
+        line: 1,
+        act: Act::OffHook,
+    };
+    stepped(rt, gateway, first)?;
+    stepped(rt, gateway, off)?;
+    stepped(rt, gateway, off)?;
+    stepped(rt, gateway, second)?;
+    let flash = Event::Phone {
+        line: 1,
+        act: Act::Flash,
+    };
+    ran(
+        rt,
+        gateway,
+        &[Event::Tick { moment: 5 }, third, flash, fourth],
+    )
+}
+
+/// All calls, each again where memory was refused.
+pub fn all<R: AllocGlobal + Print>(rt: &R) -> io::Result<()> {
+    let alloc = rt.alloc();
+    let mut opening = opened(alloc);
+    if let Err(ConfigFault::OutOfMemory) = opening {
+        opening = opened(alloc);
+    }
+    match opening {
+        Ok(mut gateway) => gateway_calls(rt, &mut gateway)?,
+        Err(fault) => println!(rt; "{fault:?}")?,
+    }
+    played(rt, alloc)
+}

@@ -1,0 +1,6 @@
+pub mod WholeInput
+pub mod PartLemmas
+pub mod ConfigLemmas
+pub mod PlayLemmas
+pub mod JudgedLemmas
+pub mod HexLemmas

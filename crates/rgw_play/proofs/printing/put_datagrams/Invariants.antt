@@ -1,0 +1,8 @@
+use Rattle.std.proofs.Common.{◌≡◌, ◌++◌, drop}
+use Rattle.std.specs.List.{flat_map}
+use Rattle.rgw_play.specs.Printing.{printed_datagram}
+use Rattle.rgw_play.proofs.printing.put_datagrams.Given as goal
+
+abbrev pub invariant-loop-datagram : goal.invariant-loop-datagram
+invariant-loop-datagram l =
+    l.out.items ++ flat_map printed_datagram (drop l.datagram-index l.datagrams) ≡ l.fn.out.items ++ flat_map printed_datagram l.datagrams

@@ -1,0 +1,73 @@
+-- A configuration: a TOML text with these eight keys and no others.
+use Rattle.std.specs.Prelude.{ℕ, suc, ℤ, pos, negsuc, ◌==◌, nat_le, codes, if◌then◌else◌, List, [], ◌∷◌, Option, Some, None, option_and_then}
+use Rattle.std.specs.Str.{is_utf8}
+use Rattle.std.specs.declared.net.ipv4_addr.Ipv4Addr.{Ipv4Addr}
+use Rattle.toml.specs.Data.{Data, Members, no_members, member, get_member, as_integer, as_str, as_table}
+use Rattle.toml.specs.Parse.{parse_document}
+use Rattle.mg_bytes.specs.Option.{◌>>=◌}
+use Rattle.mg_bytes.specs.Address.{ipv4_of}
+use Rattle.gateway_core.specs.declared.config.Config.{Config}
+use Rattle.gateway_core.specs.declared.config.NamedAddress.{NamedAddress}
+
+abbrev pub count_of : Members → ℕ
+count_of no_members = 0
+count_of (member key value members) = suc (count_of members)
+
+abbrev pub text_at : List ℕ → Members → Option (List ℕ)
+text_at key members = option_and_then as_str (get_member key members)
+
+-- a number from 0 to 4,294,967,295
+abbrev pub number_from : ℤ → Option ℕ
+number_from (pos n) = if nat_le n 4294967295 then Some n else None
+number_from (negsuc n) = None
+
+abbrev pub number_in : Data → Option ℕ
+number_in value = option_and_then number_from (as_integer value)
+
+abbrev pub number_at : List ℕ → Members → Option ℕ
+number_at key members = option_and_then number_in (get_member key members)
+
+-- an address as text, `a.b.c.d`
+abbrev pub address_in : Data → Option Ipv4Addr
+address_in value = as_str value >>= ipv4_of
+
+abbrev pub address_at : List ℕ → Members → Option Ipv4Addr
+address_at key members = option_and_then address_in (get_member key members)
+
+-- names, each with its address
+unfoldable pub names_from : Members → Option (List NamedAddress)
+names_from no_members = Some []
+names_from (member name value members) = do
+  address ← address_in value
+  others ← names_from members
+  Some ((record { name = name; address = address }) ∷ others)
+
+abbrev pub names_at : Members → Option Members
+names_at members = option_and_then as_table (get_member (codes "names") members)
+
+-- the settings of a document: each of the eight keys, and no ninth
+unfoldable pub config_of : Members → Option Config
+config_of members = if count_of members == 8 then (do
+  domain ← text_at (codes "domain") members
+  lines ← number_at (codes "lines") members
+  agent ← text_at (codes "agent") members
+  restart_wait ← number_at (codes "restart_wait") members
+  disconnected_wait ← number_at (codes "disconnected_wait") members
+  media_address ← address_at (codes "media_address") members
+  media_base ← number_at (codes "media_base") members
+  table ← names_at members
+  names ← names_from table
+  Some (record {
+    domain = domain;
+    lines = lines;
+    agent = agent;
+    restart_wait = restart_wait;
+    disconnected_wait = disconnected_wait;
+    media_address = media_address;
+    media_base = media_base;
+    names = names;
+  })) else None
+
+-- the configuration that a text writes, if it is UTF-8, TOML and has such settings
+unfoldable pub config_in : List ℕ → Option Config
+config_in text = if is_utf8 text then parse_document text >>= config_of else None

@@ -1,0 +1,165 @@
+ghost use Rattle.std.specs.Prelude.{◌≡◌, IfOk, MatchOption, Some, None, option_map, string_bytes};
+ghost use Rattle.toml.specs.View.{table_view, view};
+ghost use Rattle.toml.specs.Data.{get_member, as_str};
+ghost use Rattle.rgw_play.specs.Configuration.{count_of, text_at, number_in, number_at, address_in, address_at, names_from, names_at, config_of, config_in};
+
+use gateway_core::{Config, NamedAddress, Names};
+use mg_bytes::{OutOfMemory, Text, ipv4_address};
+use std::alloc::{AllocError, Global};
+use std::net::Ipv4Addr;
+use toml::{Table, Value};
+
+fn key_count(table: &Table) -> usize
+    ensures { result ≡ count_of (table_view table.now) }
+{
+    table.len()
+}
+
+fn value_at<'a>(table: &'a Table, key: &str) -> Option<&'a Value>
+    ensures { option_map (λ v. view v.now) result ≡ get_member key.now (table_view table.now) }
+{
+    table.get(key)
+}
+
+fn text_at<'a>(table: &'a Table, key: &str) -> Option<&'a str>
+    ensures { option_map (λ s. s.now) result ≡ text_at key.now (table_view table.now) }
+{
+    match value_at(table, key) {
+        Some(value) => value.as_str(),
+        None => None,
+    }
+}
+
+// The number that a value is, from 0 to 4,294,967,295.
+fn number_in(value: &Value) -> Option<u32>
+    ensures { result ≡ number_in (view value.now) }
+{
+    match value.as_integer() {
+        Some(integer) => u32::try_from(integer).ok(),
+        None => None,
+    }
+}
+
+fn number_at(table: &Table, key: &str) -> Option<u32>
+    ensures { result ≡ number_at key.now (table_view table.now) }
+{
+    match value_at(table, key) {
+        Some(value) => number_in(value),
+        None => None,
+    }
+}
+
+// The address that a value is the text of.
+fn address_in(value: &Value) -> Option<Ipv4Addr>
+    ensures { result ≡ address_in (view value.now) }
+{
+    match value.as_str() {
+        Some(text) => ipv4_address(text.as_bytes()),
+        None => None,
+    }
+}
+
+fn address_at(table: &Table, key: &str) -> Option<Ipv4Addr>
+    ensures { result ≡ address_at key.now (table_view table.now) }
+{
+    match value_at(table, key) {
+        Some(value) => address_in(value),
+        None => None,
+    }
+}
+
+fn names_at(table: &Table) -> Option<&Table>
+    ensures { option_map (λ t. table_view t.now) result ≡ names_at (table_view table.now) }
+{
+    match value_at(table, "names") {
+        Some(value) => value.as_table(),
+        None => None,
+    }
+}
+
+fn owned(alloc: Global, text: &str) -> Result<Text, OutOfMemory>
+    ensures { IfOk result (λ t. t ≡ text.now) }
+{
+    Ok(Text::of(Vec::from_slice(alloc, text.as_bytes())?))
+}
+
+// The names of a table with their addresses, if each has one.
+#[tactic(auto, unfolding(crate::specs::Configuration::names_from))]
+fn names_of(alloc: Global, table: &Table) -> Result<Option<Names>, OutOfMemory>
+    ensures { IfOk result (λ found.
+        MatchOption found (names_from (table_view table.now) ≡ None) (λ names. names_from (table_view table.now) ≡ Some names)) }
+{
+    let mut names = Names::new(alloc);
+    for (name, value) in table.iter() {
+        let Some(address) = address_in(value) else {
+            return Ok(None);
+        };
+        let name = owned(alloc, name.as_str())?;
+        names.push(NamedAddress { name, address })?;
+    }
+    Ok(Some(names))
+}
+
+// The configuration of a document, if it has each of the eight keys and no ninth.
+#[tactic(auto, unfolding(crate::specs::Configuration::config_of))]
+fn config_of(alloc: Global, table: &Table) -> Result<Option<Config>, OutOfMemory>
+    ensures { IfOk result (λ found.
+        MatchOption found (config_of (table_view table.now) ≡ None) (λ config. config_of (table_view table.now) ≡ Some config)) }
+{
+    if key_count(table) != 8 {
+        return Ok(None);
+    }
+    let Some(domain) = text_at(table, "domain") else {
+        return Ok(None);
+    };
+    let Some(lines) = number_at(table, "lines") else {
+        return Ok(None);
+    };
+    let Some(agent) = text_at(table, "agent") else {
+        return Ok(None);
+    };
+    let Some(restart_wait) = number_at(table, "restart_wait") else {
+        return Ok(None);
+    };
+    let Some(disconnected_wait) = number_at(table, "disconnected_wait") else {
+        return Ok(None);
+    };
+    let Some(media_address) = address_at(table, "media_address") else {
+        return Ok(None);
+    };
+    let Some(media_base) = number_at(table, "media_base") else {
+        return Ok(None);
+    };
+    let Some(hosts) = names_at(table) else {
+        return Ok(None);
+    };
+    let Some(names) = names_of(alloc, hosts)? else {
+        return Ok(None);
+    };
+    Ok(Some(Config {
+        domain: owned(alloc, domain)?,
+        lines,
+        agent: owned(alloc, agent)?,
+        restart_wait,
+        disconnected_wait,
+        media_address,
+        media_base,
+        names,
+    }))
+}
+
+/// The configuration that a text writes; `None` where it isn't one (7, BadToml).
+#[tactic(auto, unfolding(crate::specs::Configuration::config_in))]
+pub fn read_config(alloc: Global, text: &[u8]) -> Result<Option<Config>, OutOfMemory>
+    ensures { IfOk result (λ found.
+        MatchOption found (config_in text.now ≡ None) (λ config. config_in text.now ≡ Some config)) }
+{
+    let Ok(text) = std::str::from_utf8(text) else {
+        return Ok(None);
+    };
+    match toml::table_from_str(alloc, text) {
+        Ok(table) => config_of(alloc, &table),
+        Err(e) if e.is_memory() => Err(AllocError),
+        Err(_) => Ok(None),
+    }
+}
