@@ -207,6 +207,10 @@ impl Gateway {
         ensures told { (before : List GatewayEvent) (refusal : Refusal) → Stands self.old before → IfErr result (λ stopped.
             IfSome (slice_get events.now stopped.place) (λ event.
             refusal_at self.old.setup (before ++ map event_of (take stopped.place events.now)) (event_of event) ≡ Some refusal → stopped.refusal ≡ refusal)) }
+        // It never stops for want of memory at an event that takes none.
+        ensures no_memory { (before : List GatewayEvent) → Stands self.old before → IfErr result (λ stopped.
+            IfSome (slice_get events.now stopped.place) (λ event. TakesNoMemory (event_of event) →
+            refusal_at self.old.setup (before ++ map event_of (take stopped.place events.now)) (event_of event) ≢ None)) }
         ensures setup { self.new.setup ≡ self.old.setup }
     {
         let mut outputs = Outputs::new(self.alloc);

@@ -204,8 +204,32 @@ fn datagrams_are_answered(rt: HostRuntime) -> Result<(), Fail> {
         outputs.as_slice()[1].bytes.as_bytes(),
         b"500 1201\r\n".as_slice()
     );
-    assert!(rt; Refusal::PhoneState as u8 == 5 && ConfigFault::BadMedia as u8 == 6);
+    assert_eq!(rt;
+        outputs.as_slice()[0].bytes.as_bytes(),
+        b"200 1200 OK\r\n".as_slice()
+    );
     Ok(())
+}
+
+#[test]
+fn refusals_and_faults_have_their_numbers(rt: HostRuntime) {
+    let refusals = [
+        Refusal::OutOfMemory as u8,
+        Refusal::TickTooFar as u8,
+        Refusal::ClockBack as u8,
+        Refusal::NoSuchLine as u8,
+        Refusal::PhoneState as u8,
+    ];
+    assert!(rt; refusals == [1, 2, 3, 4, 5]);
+    let faults = [
+        ConfigFault::OutOfMemory as u8,
+        ConfigFault::BadDomain as u8,
+        ConfigFault::BadLines as u8,
+        ConfigFault::BadAgent as u8,
+        ConfigFault::BadWait as u8,
+        ConfigFault::BadMedia as u8,
+    ];
+    assert!(rt; faults == [1, 2, 3, 4, 5, 6]);
 }
 
 #[test]

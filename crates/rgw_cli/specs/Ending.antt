@@ -1,6 +1,12 @@
--- How the program ends: its exit status, and what it says on standard error.
-use Rattle.std.specs.Prelude.{ℕ, ◌==◌, codes, decimal, if◌then◌else◌, List, [], ◌++◌}
+-- How the program ends: its exit status, and what it writes on standard error.
+use Rattle.std.specs.Prelude.{ℕ, ◌≡◌, ◌==◌, codes, decimal, if◌then◌else◌, List, [], ◌++◌, Option, Result, Ok, Err, IfSome}
 use Rattle.rgw_play.specs.declared.played.PlayFault.TheVariants.{OutOfMemory, Read, Write, Config, Script}
+use Rattle.rgw_play.specs.Printing.{printed_line}
+use Rattle.rgw_play.specs.Play.{judged, PlaysInto, Explains}
+use Rattle.rgw_cli.specs.declared.words.Task.{Task}
+use Rattle.rgw_cli.specs.declared.words.Task.TheVariants.{Simulate, Loopback}
+use Rattle.rgw_cli.specs.declared.words.WordFault.{WordFault}
+use Rattle.rgw_cli.specs.declared.words.WordFault.TheVariants as word_fault
 use Rattle.rgw_cli.specs.declared.ending.Ending.{Ending}
 use Rattle.rgw_cli.specs.declared.ending.Ending.TheVariants.{Played, Usage, Fault}
 
@@ -23,11 +29,25 @@ config_fault_name number =
     (if number == 5 then codes "BadWait" else
     (if number == 6 then codes "BadMedia" else codes "BadToml"))))
 
-unfoldable pub ending_text : Ending → List ℕ
-ending_text Played = []
-ending_text Usage = codes "usage: rgw simulate | rgw loopback [--port N]"
-ending_text (Fault OutOfMemory) = codes "out of memory"
-ending_text (Fault Read) = codes "read fault"
-ending_text (Fault Write) = codes "write fault"
-ending_text (Fault (Config number)) = codes "config " ++ decimal number ++ codes " " ++ config_fault_name number
-ending_text (Fault (Script line)) = codes "script line " ++ decimal line
+-- one line, or nothing where the script was played
+unfoldable pub error_text : Ending → List ℕ
+error_text Played = []
+error_text Usage = printed_line (codes "usage: rgw simulate | rgw loopback [--port N]")
+error_text (Fault OutOfMemory) = printed_line (codes "out of memory")
+error_text (Fault Read) = printed_line (codes "read fault")
+error_text (Fault Write) = printed_line (codes "write fault")
+error_text (Fault (Config number)) = printed_line (codes "config " ++ decimal number ++ codes " " ++ config_fault_name number)
+error_text (Fault (Script line)) = printed_line (codes "script line " ++ decimal line)
+
+-- the input was played into the writer, or the fault is the input's
+abbrev pub Simulates : Ending → Option (List ℕ) → Option (List ℕ) → Option (List ℕ) → Type 0
+Simulates Played remaining before after = IfSome remaining (λ input. (commands : ℕ) × (refused : ℕ) × PlaysInto (judged input) commands refused before after)
+Simulates Usage remaining before after = ⊥
+Simulates (Fault fault) remaining before after = IfSome remaining (λ input. Explains fault (judged input))
+
+-- how the program ends that was asked for this. So far there are no sockets, and `loopback` counts as other words
+abbrev pub Ends : Result Task WordFault → Ending → Option (List ℕ) → Option (List ℕ) → Option (List ℕ) → Type 0
+Ends (Ok Simulate) ending remaining before after = Simulates ending remaining before after
+Ends (Ok (Loopback port)) ending remaining before after = ending ≡ Usage
+Ends (Err word_fault.Usage) ending remaining before after = ending ≡ Usage
+Ends (Err word_fault.OutOfMemory) ending remaining before after = ending ≡ Fault OutOfMemory

@@ -1,7 +1,10 @@
-use crate::ending::Ending;
+ghost use Rattle.rgw_cli.specs.Ending.{Ends};
+
+use crate::ending::{Ending, ending_of};
 use crate::words::{Task, WordFault, read_words};
 use rgw_play::{PlayFault, play};
-use std::io::ErrorKind;
+use std::alloc::Global;
+use std::io::{ErrorKind, Read, Write};
 use std::rt::Env;
 use std::{env, io};
 
@@ -18,13 +21,18 @@ fn asked<R: AllocGlobal + Env>(rt: &R) -> Result<Task, WordFault> {
     }
 }
 
-// Does what the program's words say. So far there are no sockets, and `loopback` counts as other words.
-fn performed<R: AllocGlobal + Env + Input + Print>(rt: &R) -> Ending {
-    match asked(rt) {
-        Ok(Task::Simulate) => match play(rt.alloc(), &mut rt.reader(), &mut io::writer(rt)) {
-            Ok(_) => Ending::Played,
-            Err(fault) => Ending::Fault(fault),
-        },
+// Does what the program's words say.
+fn perform<R: Read, W: Write>(
+    alloc: Global,
+    asked: Result<Task, WordFault>,
+    reader: &mut R,
+    writer: &mut W,
+) -> Ending
+    ensures { Ends asked result (R.remaining reader.old) (W.contents writer.old) (W.contents writer.new) }
+{
+    match asked {
+        Ok(Task::Simulate) => ending_of(play(alloc, reader, writer)),
+        // There are no sockets yet.
         Ok(Task::Loopback { .. }) | Err(WordFault::Usage) => Ending::Usage,
         Err(WordFault::OutOfMemory) => Ending::Fault(PlayFault::OutOfMemory),
     }
@@ -32,10 +40,8 @@ fn performed<R: AllocGlobal + Env + Input + Print>(rt: &R) -> Ending {
 
 /// Runs the program, says on standard error how it ended unless all went well, and gives its exit status.
 pub fn run<R: AllocGlobal + Env + Input + Print + Eprint>(rt: &R) -> u8 {
-    let ending = performed(rt);
-    if ending != Ending::Played {
-        // Nobody is left who could be told that standard error failed.
-        let _ = eprintln!(rt; "{ending}");
-    }
+    let ending = perform(rt.alloc(), asked(rt), &mut rt.reader(), &mut io::writer(rt));
+    // Nobody is left who could be told that standard error failed.
+    let _ = eprint!(rt; "{ending}");
     ending.status()
 }

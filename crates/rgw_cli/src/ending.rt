@@ -1,7 +1,7 @@
-ghost use Rattle.std.specs.Prelude.{◌≡◌};
+ghost use Rattle.std.specs.Prelude.{◌≡◌, MatchResult};
 ghost use Rattle.rgw_cli.specs.Ending.{status_of, config_fault_name};
 
-use rgw_play::PlayFault;
+use rgw_play::{PlayFault, Played};
 use std::fmt;
 
 /// How the program ends.
@@ -42,26 +42,36 @@ impl Ending {
     }
 }
 
-// What is said on standard error.
+/// How a play ends the program.
+pub fn ending_of(outcome: Result<Played, PlayFault>) -> Ending
+    ensures { MatchResult outcome (λ played. result ≡ Ending.Played) (λ fault. result ≡ Ending.Fault fault) }
+{
+    match outcome {
+        Ok(_) => Ending::Played,
+        Err(fault) => Ending::Fault(fault),
+    }
+}
+
+// What is written on standard error: a line, or nothing where the script was played.
 impl fmt::Display for Ending {
     ghost use Rattle.std.specs.Prelude.{Some};
-    ghost use Rattle.rgw_cli.specs.Ending.{ending_text};
+    ghost use Rattle.rgw_cli.specs.Ending.{error_text};
 
-    ghost output = { λ ending. Some (ending_text ending) };
+    ghost output = { λ ending. Some (error_text ending) };
 
-    #[tactic(auto, unfolding(crate::specs::Ending::ending_text))]
+    #[tactic(auto, unfolding(crate::specs::Ending::error_text))]
     fn fmt<W: fmt::Write>(&self, f: &mut fmt::Formatter<W>) -> fmt::Result {
         match *self {
             Ending::Played => Ok(()),
-            Ending::Usage => write!(f, "usage: rgw simulate | rgw loopback [--port N]"),
+            Ending::Usage => writeln!(f, "usage: rgw simulate | rgw loopback [--port N]"),
             Ending::Fault(PlayFault::Config { number }) => {
                 let name = config_fault_name(number);
-                write!(f, "config {number} {name}")
+                writeln!(f, "config {number} {name}")
             }
-            Ending::Fault(PlayFault::Script { line }) => write!(f, "script line {line}"),
-            Ending::Fault(PlayFault::OutOfMemory) => write!(f, "out of memory"),
-            Ending::Fault(PlayFault::Read) => write!(f, "read fault"),
-            Ending::Fault(PlayFault::Write) => write!(f, "write fault"),
+            Ending::Fault(PlayFault::Script { line }) => writeln!(f, "script line {line}"),
+            Ending::Fault(PlayFault::OutOfMemory) => writeln!(f, "out of memory"),
+            Ending::Fault(PlayFault::Read) => writeln!(f, "read fault"),
+            Ending::Fault(PlayFault::Write) => writeln!(f, "write fault"),
         }
     }
 }
@@ -79,46 +89,46 @@ mod tests {
             (
                 Ending::Usage,
                 2,
-                "usage: rgw simulate | rgw loopback [--port N]",
+                "usage: rgw simulate | rgw loopback [--port N]\n",
             ),
             (
                 Ending::Fault(PlayFault::Config { number: 2 }),
                 1,
-                "config 2 BadDomain",
+                "config 2 BadDomain\n",
             ),
             (
                 Ending::Fault(PlayFault::Config { number: 3 }),
                 1,
-                "config 3 BadLines",
+                "config 3 BadLines\n",
             ),
             (
                 Ending::Fault(PlayFault::Config { number: 4 }),
                 1,
-                "config 4 BadAgent",
+                "config 4 BadAgent\n",
             ),
             (
                 Ending::Fault(PlayFault::Config { number: 5 }),
                 1,
-                "config 5 BadWait",
+                "config 5 BadWait\n",
             ),
             (
                 Ending::Fault(PlayFault::Config { number: 6 }),
                 1,
-                "config 6 BadMedia",
+                "config 6 BadMedia\n",
             ),
             (
                 Ending::Fault(PlayFault::Config { number: 7 }),
                 1,
-                "config 7 BadToml",
+                "config 7 BadToml\n",
             ),
             (
                 Ending::Fault(PlayFault::Script { line: 0 }),
                 1,
-                "script line 0",
+                "script line 0\n",
             ),
-            (Ending::Fault(PlayFault::Read), 3, "read fault"),
-            (Ending::Fault(PlayFault::Write), 3, "write fault"),
-            (Ending::Fault(PlayFault::OutOfMemory), 3, "out of memory"),
+            (Ending::Fault(PlayFault::Read), 3, "read fault\n"),
+            (Ending::Fault(PlayFault::Write), 3, "write fault\n"),
+            (Ending::Fault(PlayFault::OutOfMemory), 3, "out of memory\n"),
         ];
         for (ending, status, text) in rows {
             assert_eq!(rt; ending.status(), status, "at {text}");

@@ -183,11 +183,3 @@ Explains play_fault.Read scene = ⊤
 Explains play_fault.Write scene = IsOk scene
 Explains (play_fault.Config number) scene = scene ≡ Err (play_fault.Config number)
 Explains (play_fault.Script line) scene = scene ≡ Err (play_fault.Script line)
-
--- a fault before which nothing is written
-abbrev pub IsQuiet : PlayFault → Type 0
-IsQuiet play_fault.OutOfMemory = ⊥
-IsQuiet play_fault.Write = ⊥
-IsQuiet play_fault.Read = ⊤
-IsQuiet (play_fault.Config number) = ⊤
-IsQuiet (play_fault.Script line) = ⊤

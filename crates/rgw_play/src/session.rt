@@ -1,9 +1,9 @@
-ghost use Rattle.std.specs.Prelude.{◌≡◌, ◌++◌, ◌≤◌, ◌+◌, [], List, replicate, if◌then◌else◌, IfOk, IfErr, IfSome, OnOk, length, count_by};
+ghost use Rattle.std.specs.Prelude.{◌≡◌, ◌≢◌, ◌++◌, ◌≤◌, ◌+◌, [], List, replicate, if◌then◌else◌, IfOk, IfErr, IfSome, OnOk, length, count_by};
 ghost use Rattle.std.specs.List.{flat_map};
 ghost use Rattle.std.specs.Io.KnownBytes.{Appends};
 ghost use Rattle.gateway_core.specs.Event.{GatewayEvent, event_of};
 ghost use Rattle.gateway_core.specs.Stands.{Stands};
-ghost use Rattle.rgw_play.specs.Play.{event_shown, event_taken, line_shown, tick_past, ticks_shown, ticks_taken, rest_of_wait, ticks_of_wait, shown_at, taken_at, shown_from, Went, printed, is_refused, judged, PlaysInto, Explains, IsQuiet};
+ghost use Rattle.rgw_play.specs.Play.{event_shown, event_taken, line_shown, tick_past, ticks_shown, ticks_taken, rest_of_wait, ticks_of_wait, shown_at, taken_at, shown_from, Went, printed, is_refused, judged, PlaysInto, Explains};
 
 use crate::input::read_limited;
 use crate::printing::{put_datagrams, put_line, put_refusal};
@@ -213,7 +213,8 @@ fn render(
 fn perform<W: Write>(alloc: Global, input: &[u8], writer: &mut W) -> Result<Played, PlayFault>
     ensures written { IfOk result (λ played. PlaysInto (judged input.now) played.commands played.refused (W.contents writer.old) (W.contents writer.new)) }
     ensures explained { IfErr result (λ fault. Explains fault (judged input.now)) }
-    ensures nothing_written { IfErr result (λ fault. IsQuiet fault → writer.new ≡ writer.old) }
+    ensures nothing_written { IfErr result (λ fault. fault ≢ PlayFault.Write → writer.new ≡ writer.old) }
+    ensures no_read { IfErr result (λ fault. fault ≢ PlayFault.Read) }
 {
     let Scene {
         gateway,
@@ -249,8 +250,8 @@ pub fn play<R: Read, W: Write>(
         PlaysInto (judged input) played.commands played.refused (W.contents writer.old) (W.contents writer.new))) }
     // A fault of the configuration or of the script is the input's first.
     ensures explained { IfErr result (λ fault. IfSome (R.remaining reader.old) (λ input. Explains fault (judged input))) }
-    // All is judged before anything is written.
-    ensures nothing_written { IfErr result (λ fault. IsQuiet fault → writer.new ≡ writer.old) }
+    // Whatever fails but the writing itself, nothing was written.
+    ensures nothing_written { IfErr result (λ fault. fault ≢ PlayFault.Write → writer.new ≡ writer.old) }
 {
     let input = match read_limited(alloc, reader) {
         Ok(input) => input,

@@ -331,8 +331,10 @@ fn configurations_are_judged(rt: HostRuntime) -> Result<(), Fail> {
 #[test]
 fn scripts_are_judged(rt: HostRuntime) -> Result<(), Fail> {
     let alloc = rt.alloc();
-    let cases: [(u64, &str); 37] = [
+    let cases: [(u64, &str); 38] = [
         (1, "hello"),
+        // A step in front of the bad line isn't played.
+        (2, "show 1\nhello"),
         (3, "\n\t\nphone 1 up"),
         (1, "phone 1"),
         (1, "phone one off"),
@@ -458,13 +460,24 @@ impl Read for FailingReader<'_> {
     }
 }
 
-// Fails at the first call.
+// Takes seven bytes at a call, so many times, and fails from then on.
 #[derive(Drop)]
-struct FailingWriter;
+struct FailingWriter {
+    text: Vec<u8>,
+    calls_left: u64,
+}
 
 impl Write for FailingWriter {
-    fn write(&mut self, _buf: &[u8]) -> io::Result<usize> {
-        Err(io::Error::from(io::ErrorKind::Other))
+    fn write(&mut self, buf: &[u8]) -> io::Result<usize> {
+        if self.calls_left == 0 {
+            return Err(io::Error::from(io::ErrorKind::Other));
+        }
+        self.calls_left -= 1;
+        let n = buf.len().min(7);
+        if self.text.extend_from_slice(&buf[..n]).is_err() {
+            return Err(io::Error::from(io::ErrorKind::OutOfMemory));
+        }
+        Ok(n)
     }
 
     fn flush(&mut self) -> io::Result<()> {
@@ -490,8 +503,52 @@ fn failed_reads_and_writes_are_told(rt: HostRuntime) -> Result<(), Fail> {
         assert_eq!(rt; outcome, Err(PlayFault::Read), "at {fails_at}");
         assert!(rt; output.is_empty());
     }
-    let mut reader = input.as_slice();
-    let outcome = play(alloc, &mut reader, &mut FailingWriter);
-    assert_eq!(rt; outcome, Err(PlayFault::Write));
+    // 30 bytes are written: at the fifth call all is done.
+    let want = b"> 0 127.0.0.1:2727\n200 1 OK\n--\n".as_slice();
+    for calls in 0..6u64 {
+        let mut writer = FailingWriter {
+            text: Vec::new(alloc),
+            calls_left: calls,
+        };
+        let mut reader = input.as_slice();
+        let failed = play(alloc, &mut reader, &mut writer).is_err();
+        assert!(rt; failed == (calls < 5), "at {calls}");
+        assert!(rt; want.starts_with(&writer.text), "at {calls}");
+    }
+    Ok(())
+}
+
+#[test]
+fn reading_ends_behind_the_limit(rt: HostRuntime) -> Result<(), Fail> {
+    let alloc = rt.alloc();
+    let input = input_of(alloc, b"show 1\n")?;
+    // The call behind the last bytes gives none, and there is no further call.
+    let calls = input.len().div_ceil(7) as u64;
+    for (fails_at, fine) in [(calls, false), (calls + 1, false), (calls + 2, true)] {
+        let mut output = Vec::new(alloc);
+        let mut reader = FailingReader {
+            text: &input,
+            calls: 0,
+            fails_at,
+        };
+        let played = play(alloc, &mut reader, &mut output).is_ok();
+        assert!(rt;
+            played == fine && output.is_empty() != fine,
+            "at {fails_at}"
+        );
+    }
+    // One byte more than is taken; 149,797 calls give 1,048,577 bytes and more.
+    let mut long = Vec::new(alloc);
+    for _ in 0..1_048_600u32 {
+        long.push(b'\n')?;
+    }
+    let mut output = Vec::new(alloc);
+    let mut reader = FailingReader {
+        text: &long,
+        calls: 0,
+        fails_at: 149_798,
+    };
+    let outcome = play(alloc, &mut reader, &mut output);
+    assert_eq!(rt; outcome, Err(PlayFault::Script { line: 0 }));
     Ok(())
 }
