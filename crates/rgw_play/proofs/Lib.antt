@@ -4,3 +4,4 @@ pub mod ConfigLemmas
 pub mod PlayLemmas
 pub mod JudgedLemmas
 pub mod HexLemmas
+pub mod ScriptLaws

@@ -1,5 +1,5 @@
 -- A script: its steps, or the number of its first line that is none.
-use Rattle.std.specs.Prelude.{ℕ, ◌+◌, ◌*◌, nat_lt, nat_le, codes, if◌then◌else◌, List, [], ◌∷◌, ◌++◌, Option, Some, None, Result, Ok, Err, option_map}
+use Rattle.std.specs.Prelude.{ℕ, Bool, ◌+◌, ◌*◌, nat_lt, nat_le, codes, if◌then◌else◌, List, [], ◌∷◌, ◌++◌, Option, Some, None, Result, Ok, Err, option_map}
 use Rattle.std.specs.Char.{digit_value}
 use Rattle.std.specs.Str.{bytes_eq}
 use Rattle.std.specs.declared.net.socket_addr.SocketAddrV4.{SocketAddrV4}
@@ -140,10 +140,13 @@ begun number steps (Some Empty) = Some (record { steps = steps; waiting = None }
 begun number steps (Some (From source)) = Some (record { steps = steps; waiting = Some (record { line = number; source = source; text = [] }) })
 begun number steps (Some (Whole step)) = Some (record { steps = steps ++ step ∷ []; waiting = None })
 
--- `--` ends a `from`
+-- the line that ends a `from`
+abbrev pub is_end : List ℕ → Bool
+is_end line = bytes_eq line (codes "--")
+
 abbrev pub continued : List Step → Waiting → List ℕ → Reading
 continued steps from line =
-    if bytes_eq line (codes "--") then record { steps = steps ++ Datagram from.source from.text ∷ []; waiting = None }
+    if is_end line then record { steps = steps ++ Datagram from.source from.text ∷ []; waiting = None }
     else record { steps = steps; waiting = Some (record { line = from.line; source = from.source; text = from.text ++ ended line }) }
 
 abbrev pub next_from : ℕ → List Step → List ℕ → Option Waiting → Option Reading
@@ -169,6 +172,10 @@ read_from number reading [] = closed reading.steps reading.waiting
 read_from number reading (line ∷ lines) =
     unless_bad number (λ next. read_from (number + 1) next lines) (next_reading number line reading)
 
+-- what lines say from this number on, behind these steps, where no `from` is open
+abbrev pub steps_behind : ℕ → List Step → List (List ℕ) → Result (List Step) ℕ
+steps_behind number steps lines = read_from number (record { steps = steps; waiting = None }) lines
+
 -- the steps of a script's lines, or the number of the first bad one
 abbrev pub steps_of : List (List ℕ) → Result (List Step) ℕ
-steps_of lines = read_from 1 (record { steps = []; waiting = None }) lines
+steps_of lines = steps_behind 1 [] lines

@@ -5,6 +5,7 @@
 
 mod acts;
 mod input;
+pub mod laws;
 mod played;
 mod printing;
 mod scene;
