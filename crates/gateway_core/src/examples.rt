@@ -52,6 +52,7 @@ pub fn commands_are_checked_in_order()
     ensures critical { outputs_of example (from_agent (codes "AUEP 3 aaln/1@rgw.example.net MGCP 1.0\r\nX+Y: 1\r\nM: x\r\n") ∷ []) ≡ to_agent (codes "511 3\r\n") ∷ [] }
     ensures package { outputs_of example (from_agent (codes "AUEP 3 aaln/1@rgw.example.net MGCP 1.0\r\nX-a/b: 1\r\n") ∷ []) ≡ to_agent (codes "511 3\r\n") ∷ [] }
     ensures ignored { outputs_of example (from_agent (codes "AUEP 3 aaln/1@rgw.example.net MGCP 1.0\r\nX-Y: 1\r\nx-y: 2\r\n") ∷ []) ≡ to_agent (codes "200 3 OK\r\n") ∷ [] }
+    ensures ignored_before_items { outputs_of example (from_agent (codes "AUEP 3 aaln/1@rgw.example.net MGCP 1.0\r\nX-Y: 1\r\nx-y: 2\r\nF: ES\r\n") ∷ []) ≡ to_agent (codes "200 3 OK\r\nES: L/hu\r\n") ∷ [] }
     ensures ignored_sign { outputs_of example (from_agent (codes "AUEP 3 aaln/1@rgw.example.net MGCP 1.0\r\nX-: 1\r\n") ∷ []) ≡ to_agent (codes "200 3 OK\r\n") ∷ [] }
     ensures foreign { outputs_of example (from_agent (codes "AUEP 3 aaln/1@rgw.example.net MGCP 1.0\r\nM: x\r\n") ∷ []) ≡ to_agent (codes "539 3\r\n") ∷ [] }
     ensures twice { outputs_of example (from_agent (codes "AUEP 3 aaln/1@rgw.example.net MGCP 1.0\r\nF:\r\nf:\r\n") ∷ []) ≡ to_agent (codes "510 3\r\n") ∷ [] }
