@@ -117,9 +117,9 @@ written ds n read plain =
     (λ (no : is_decimal ds ≡ false). let e = (rw no at read) in absurd cc)
     (cases_Bool (is_decimal ds))
 
--- as the code reads it: what stands behind `aaln/`, its number, and whether there are so many lines
-abbrev pub behind_aaln : List ℕ → Option (List ℕ)
-behind_aaln local = cond (same_but_case (take 5 local) (codes "aaln/")) (Some (drop 5 local)) None
+-- as the code reads it: what stands after `aaln/`, its number, and whether there are so many lines
+abbrev pub after_aaln : List ℕ → Option (List ℕ)
+after_aaln local = cond (same_but_case (take 5 local) (codes "aaln/")) (Some (drop 5 local)) None
 
 abbrev pub plain_number : List ℕ → Option ℕ
 plain_number digits = cond (eqb (get_or digits 0 0) 48) None (decimal_of digits)
@@ -145,7 +145,7 @@ read_of local lines (Some number) small front plain read =
     rw beyond (none_of local lines small (λ n low high same. let again = decimal_of-decimal n (omega arith) in let equal : number ≡ n = (cc (ap decimal_of same)) in absurd (omega arith))))
     (cases_Bool (leb number lines))
 
-pub line_named_is : (local : List ℕ) (lines : ℕ) → lines < 2 ^ 16 → line_named local lines ≡ (behind_aaln local >>= plain_number >>= up_to lines)
+pub line_named_is : (local : List ℕ) (lines : ℕ) → lines < 2 ^ 16 → line_named local lines ≡ (after_aaln local >>= plain_number >>= up_to lines)
 line_named_is local lines small =
     ⊎_elim
     (λ (front : same_but_case (take 5 local) (codes "aaln/") ≡ true).

@@ -1,25 +1,28 @@
--- Names of call agents (RFC 3435, 2.1.4 and 3.2.1.3): `[local@]host[:port]`. The greatest lengths, and that leading
+-- Names of call agents (RFC 3435, 2.1.4 and 3.2.1.3): `[local@]host[:port]`. The largest lengths, and that leading
 -- zeros of numbers are taken, are this gateway's profile.
 use Rattle.std.specs.Prelude.{ℕ, ◌-◌, nat_le, Bool, ◌&&◌, not, ◌==◌, if◌then◌else◌, List, length, slice_index, take, drop, Option, Some, None, option_map}
 use Rattle.std.specs.List.{list_any}
 use Rattle.std.specs.declared.net.ipv4_addr.Ipv4Addr.{Ipv4Addr}
 use Rattle.std.specs.declared.net.socket_addr.SocketAddrV4.{SocketAddrV4}
 use Rattle.mg_bytes.specs.Option.{◌>>=◌}
+use Rattle.mg_bytes.specs.Bytes.{colon, at_sign, left_bracket, right_bracket}
 use Rattle.mg_bytes.specs.Blanks.{is_blank}
+use Rattle.mg_bytes.specs.Lines.{is_line_feed}
 use Rattle.mg_bytes.specs.Words.{split_once}
 use Rattle.mg_bytes.specs.Address.{ipv4_of, port_of}
 use Rattle.endpoint_names.specs.declared.table.Host.{Host}
 use Rattle.endpoint_names.specs.declared.entity.Entity.{Entity}
 use Rattle.endpoint_names.specs.Table.{address_of}
 
--- 1 to 64 bytes, none of them a blank (that none is an `@` is where the text is split)
+-- 1 to 64 bytes (that none is an `@` is where the text is split)
 abbrev pub is_local : List ℕ → Bool
-is_local local = nat_le 1 (length local) && nat_le (length local) 64 && not (list_any is_blank local)
+is_local local = nat_le 1 (length local) && nat_le (length local) 64
 
 -- what stands between `[` and `]`
 abbrev pub in_brackets : List ℕ → Option (List ℕ)
 in_brackets text =
-    if nat_le 2 (length text) && slice_index text 0 == 91 && slice_index text (length text - 1) == 93
+    if nat_le 2 (length text) && slice_index text 0 == left_bracket
+    && slice_index text (length text - 1) == right_bracket
     then Some (drop 1 (take (length text - 1) text)) else None
 
 abbrev pub host_from : List Host → List ℕ → Option (List ℕ) → Option Ipv4Addr
@@ -45,7 +48,7 @@ place_from hosts text (Some sides) = do
   Some (record { ip = ip; port = port })
 
 unfoldable pub place_of : List Host → List ℕ → Option SocketAddrV4
-place_of hosts text = place_from hosts text (split_once 58 text)
+place_of hosts text = place_from hosts text (split_once colon text)
 
 -- the same, with a local name and `@` before it where there is an `@`
 abbrev pub agent_from : List Host → List ℕ → Option (List ℕ × List ℕ) → Option SocketAddrV4
@@ -53,9 +56,15 @@ agent_from hosts text None = place_of hosts text
 agent_from hosts text (Some sides) = if is_local sides.0 then place_of hosts sides.1 else None
 
 unfoldable pub agent_of : List Host → List ℕ → Option SocketAddrV4
-agent_of hosts text = agent_from hosts text (split_once 64 text)
+agent_of hosts text = agent_from hosts text (split_once at_sign text)
 
--- the entity that a text names: the text as it is given, at most 128 bytes, and its address
+-- at most 128 bytes, none of them a blank, and no line feed, since it is written as a word of a line
+abbrev pub is_entity_text : List ℕ → Bool
+is_entity_text text =
+    nat_le (length text) 128 && not (list_any is_blank text) && not (list_any is_line_feed text)
+
+-- the entity that a text names: the text as it is given, and its address
 unfoldable pub entity_of : List Host → List ℕ → Option Entity
 entity_of hosts text =
-    if nat_le (length text) 128 then option_map (λ address. record { text = text; address = address }) (agent_of hosts text) else None
+    if is_entity_text text
+    then option_map (λ address. record { text = text; address = address }) (agent_of hosts text) else None

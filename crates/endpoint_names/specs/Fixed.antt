@@ -8,7 +8,7 @@ use Rattle.endpoint_names.specs.declared.fixed.FixedText.TheInside.{Inside}
 abbrev pub fields_of : (N : ℕ) → List ℕ → Inside N
 fields_of N text = record { bytes = text ++ replicate (N - length text) 0; len = length text }
 
--- where zeros stand behind the text, the text gives the fields back
+-- where zeros stand after the text, the text gives the fields back
 pub fields_again : (N : ℕ) (bytes : List ℕ) (len : ℕ) → len ≤ N → length bytes ≡ N → drop len bytes ≡ replicate (N - len) 0
     → fields_of N (take len bytes) ≡ record { bytes = bytes; len = len }
 fields_again N bytes len inside size zeros =

@@ -3,6 +3,7 @@
 use Rattle.std.specs.Prelude.{ℕ, zero, suc, Bool, ◌||◌, ◌==◌, if◌then◌else◌, List, [], ◌∷◌, ◌++◌, codes, decimal, Option, Some, None, Result, Ok, Err}
 use Rattle.std.specs.List.{list_any, slice_split}
 use Rattle.std.specs.Str.{bytes_eq}
+use Rattle.mg_bytes.specs.Bytes.{slash, at_sign}
 use Rattle.mg_bytes.specs.Case.{same_but_case}
 use Rattle.mg_bytes.specs.Words.{split_once}
 use Rattle.endpoint_names.specs.declared.name.Pattern.{Pattern}
@@ -17,7 +18,8 @@ local_name line = codes "aaln/" ++ decimal line
 -- the line, up to so many, that has this local name, without case
 unfoldable pub line_named : List ℕ → ℕ → Option ℕ
 line_named local zero = None
-line_named local (suc n) = if same_but_case local (local_name (suc n)) then Some (suc n) else line_named local n
+line_named local (suc n) =
+    if same_but_case local (local_name (suc n)) then Some (suc n) else line_named local n
 
 -- one of these spellings, without case
 abbrev pub is_one_of : List (List ℕ) → List ℕ → Bool
@@ -36,7 +38,7 @@ abbrev pub is_wildcard : List ℕ → Bool
 is_wildcard term = bytes_eq term (codes "*") || bytes_eq term (codes "$")
 
 abbrev pub is_slash : ℕ → Bool
-is_slash b = b == 47
+is_slash b = b == slash
 
 -- one of its terms, which `/` parts, is a wildcard
 unfoldable pub has_wildcard : List ℕ → Bool
@@ -55,8 +57,9 @@ pattern_of local lines =
 
 abbrev pub name_from : Option (List ℕ × List ℕ) → List ℕ → ℕ → Result Pattern NameFault
 name_from None domain lines = Err Unknown
-name_from (Some sides) domain lines = if same_but_case sides.1 domain then pattern_of sides.0 lines else Err Unknown
+name_from (Some sides) domain lines =
+    if same_but_case sides.1 domain then pattern_of sides.0 lines else Err Unknown
 
 -- what a name means on the gateway with this domain and so many lines; it is split at its first `@`
 unfoldable pub name_of : List ℕ → List ℕ → ℕ → Result Pattern NameFault
-name_of name domain lines = name_from (split_once 64 name) domain lines
+name_of name domain lines = name_from (split_once at_sign name) domain lines

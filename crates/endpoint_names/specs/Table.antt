@@ -1,8 +1,10 @@
 -- The configured names of hosts, each with its address. They stand for DNS (this gateway's profile).
-use Rattle.std.specs.Prelude.{ℕ, nat_le, Bool, ◌&&◌, ◌||◌, ◌==◌, if◌then◌else◌, List, [], ◌∷◌, length, Option, Some, None}
+use Rattle.std.specs.Prelude.{ℕ, nat_le, Bool, ◌&&◌, ◌||◌, ◌==◌, if◌then◌else◌, List, [], ◌∷◌, length, not, nat_lt, Option, Some, None}
 use Rattle.std.specs.List.{list_all, list_any}
 use Rattle.std.specs.Char.{is_ascii_alphanumeric}
 use Rattle.std.specs.declared.net.ipv4_addr.Ipv4Addr.{Ipv4Addr}
+use Rattle.mg_bytes.specs.Bytes.{hyphen, full_stop}
+use Rattle.mg_bytes.specs.Checks.{unless, first_fault}
 use Rattle.mg_bytes.specs.Case.{same_but_case}
 use Rattle.endpoint_names.specs.declared.table.Host.{Host}
 use Rattle.endpoint_names.specs.declared.table.TableFault.{TableFault}
@@ -10,7 +12,7 @@ use Rattle.endpoint_names.specs.declared.table.TableFault.TheVariants.{NotADomai
 
 -- a letter, a digit, `-` or `.`
 abbrev pub is_domain_byte : ℕ → Bool
-is_domain_byte b = is_ascii_alphanumeric b || b == 45 || b == 46
+is_domain_byte b = is_ascii_alphanumeric b || b == hyphen || b == full_stop
 
 -- 1 to 64 of these
 abbrev pub is_domain : List ℕ → Bool
@@ -19,7 +21,8 @@ is_domain text = nat_le 1 (length text) && nat_le (length text) 64 && list_all i
 -- the address of the first host with this name, without case
 unfoldable pub address_of : List Host → List ℕ → Option Ipv4Addr
 address_of [] name = None
-address_of (host ∷ hosts) name = if same_but_case host.name name then Some host.address else address_of hosts name
+address_of (host ∷ hosts) name =
+    if same_but_case host.name name then Some host.address else address_of hosts name
 
 -- a host of the table has this name, without case
 abbrev pub has_name : List Host → List ℕ → Bool
@@ -27,6 +30,8 @@ has_name hosts name = list_any (λ host. same_but_case host.name name) hosts
 
 -- why a name can't be added
 abbrev pub fault_of : List Host → List ℕ → Option TableFault
-fault_of hosts name =
-    if is_domain name then (if has_name hosts name then Some Twice else (if nat_le 64 (length hosts) then Some Full else None))
-    else Some NotADomain
+fault_of hosts name = first_fault
+    (unless (is_domain name) NotADomain
+    ∷ unless (not (has_name hosts name)) Twice
+    ∷ unless (nat_lt (length hosts) 64) Full
+    ∷ [])

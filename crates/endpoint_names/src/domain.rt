@@ -1,3 +1,4 @@
+//! Domain names (RFC 3435, 2.1.2 and appendix A).
 ghost use Rattle.std.specs.Prelude.{◌≡◌};
 ghost use Rattle.std.specs.List.{list_all};
 ghost use Rattle.endpoint_names.specs.Table.{is_domain_byte, is_domain};

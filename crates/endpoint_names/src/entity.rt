@@ -1,7 +1,9 @@
-ghost use Rattle.std.specs.Prelude.{◌≡◌, option_map};
+//! The names of call agents (RFC 3435, 2.1.4 and 3.2.1.3).
+ghost use Rattle.std.specs.Prelude.{◌≡◌, false, IfSome, option_map};
 ghost use Rattle.std.specs.List.{list_any};
 ghost use Rattle.mg_bytes.specs.Blanks.{is_blank};
-ghost use Rattle.endpoint_names.specs.Entity.{is_local, in_brackets, host_of, place_of, agent_of, entity_of};
+ghost use Rattle.mg_bytes.specs.Lines.{is_line_feed};
+ghost use Rattle.endpoint_names.specs.Entity.{is_entity_text, is_local, in_brackets, host_of, place_of, agent_of, entity_of};
 
 use crate::fixed::FixedText;
 use crate::table::Table;
@@ -24,10 +26,22 @@ fn any_blank(text: &[u8]) -> bool
     text.iter().any(|byte| *byte == b' ' || *byte == b'\t')
 }
 
+fn any_line_feed(text: &[u8]) -> bool
+    ensures { result ≡ list_any is_line_feed text.now }
+{
+    text.iter().any(|byte| *byte == b'\n')
+}
+
+fn is_entity_text(text: &[u8]) -> bool
+    ensures { result ≡ is_entity_text text.now }
+{
+    text.len() <= 128 && !any_blank(text) && !any_line_feed(text)
+}
+
 fn is_local(local: &[u8]) -> bool
     ensures { result ≡ is_local local.now }
 {
-    local.len() >= 1 && local.len() <= 64 && !any_blank(local)
+    local.len() >= 1 && local.len() <= 64
 }
 
 fn in_brackets(text: &[u8]) -> Option<&[u8]>
@@ -73,15 +87,19 @@ fn agent_of(table: &Table, text: &[u8]) -> Option<SocketAddrV4>
     }
 }
 
-/// The entity that a text names: `[local@]host[:port]` (RFC 3435, 2.1.4 and 3.2.1.3), at most 128 bytes.
+/// The entity that a text names: `[local@]host[:port]` (RFC 3435, 2.1.4 and 3.2.1.3), at most 128 bytes without
+/// blanks and line feeds.
 ///
-/// The local name is 1 to 64 bytes without blanks. The host is `[a.b.c.d]` or a name of the table.
+/// The local name is 1 to 64 bytes. The host is `[a.b.c.d]` or a name of the table.
 /// The port is 1 to 65535, or 2727 where none is given (RFC 3435, 3.5). Any other text is `None`.
 #[tactic(auto, unfolding(crate::specs::Entity::entity_of))]
 pub fn read_entity(text: &[u8], table: &Table) -> Option<Entity>
-    ensures { result ≡ entity_of table.now text.now }
+    ensures value { result ≡ entity_of table.now text.now }
+    // It is a word of one line, so a parameter may have it as its value.
+    ensures blankless { IfSome result (λ entity. list_any is_blank entity.text ≡ false) }
+    ensures one_line { IfSome result (λ entity. list_any is_line_feed entity.text ≡ false) }
 {
-    if text.len() > 128 {
+    if !is_entity_text(text) {
         return None;
     }
     let address = agent_of(table, text)?;

@@ -1,12 +1,14 @@
 //! Worked examples of the definitions, as theorems.
 #![tactic(auto, unfolding(crate::proofs::Computing::on_examples))]
 
-ghost use Rattle.std.specs.Prelude.{◌≡◌, ◌++◌, ◌∷◌, codes, replicate, true, false, Ok, Err, None};
-ghost use Rattle.endpoint_names.specs.Table.{is_domain};
+ghost use Rattle.std.specs.Prelude.{◌≡◌, ◌++◌, ◌∷◌, codes, replicate, true, false, Ok, Err, Some, None};
+ghost use Rattle.mg_bytes.specs.Bytes.{at_sign};
+ghost use Rattle.endpoint_names.specs.Table.{is_domain, fault_of};
 ghost use Rattle.endpoint_names.specs.Entity.{entity_of};
-ghost use Rattle.endpoint_names.specs.Examples.{meaning, agents, table_of, read_at};
+ghost use Rattle.endpoint_names.specs.Examples.{meaning, table_of, hosts_named, read_at, IsAt, IsNoEntity};
 
 use crate::name::{NameFault, Pattern};
+use crate::table::TableFault;
 
 /// `aaln/` and the line's number is a line, in any case.
 pub fn lines_are_named_by_number()
@@ -15,27 +17,29 @@ pub fn lines_are_named_by_number()
     ensures beyond { meaning (codes "aaln/17@rgw.example.net") ≡ Err NameFault.Unknown }
     ensures zero { meaning (codes "aaln/0@rgw.example.net") ≡ Err NameFault.Unknown }
     ensures leading_zero { meaning (codes "aaln/01@rgw.example.net") ≡ Err NameFault.Unknown }
-    ensures star_behind { meaning (codes "aaln/1*@rgw.example.net") ≡ Err NameFault.Unknown }
+    ensures star_after { meaning (codes "aaln/1*@rgw.example.net") ≡ Err NameFault.Unknown }
 {}
 
-/// A name has this gateway's domain behind its first `@`.
+/// A name has this gateway's domain after its first `@`.
 pub fn names_are_of_one_domain()
     ensures other { meaning (codes "aaln/1@other.example.net") ≡ Err NameFault.Unknown }
     ensures two { meaning (codes "aaln/1@rgw.example.net@x") ≡ Err NameFault.Unknown }
+    // Split at its last `@`, it would be a wildcard in another place.
+    ensures first_at { meaning (codes "*/x@y@rgw.example.net") ≡ Err NameFault.Unknown }
     ensures none { meaning (codes "aaln/1") ≡ Err NameFault.Unknown }
 {}
 
-/// `*` is all lines, alone, behind `aaln/` or in both places.
+/// `*` is all lines, alone, after `aaln/` or in both places.
 pub fn a_star_is_all_lines()
     ensures alone { meaning (codes "*@rgw.example.net") ≡ Ok Pattern.All }
-    ensures behind { meaning (codes "aaln/*@rgw.example.net") ≡ Ok Pattern.All }
+    ensures after { meaning (codes "aaln/*@rgw.example.net") ≡ Ok Pattern.All }
     ensures both { meaning (codes "*/*@rgw.example.net") ≡ Ok Pattern.All }
 {}
 
 /// `$` is any one line, in the same places.
 pub fn a_dollar_is_any_line()
     ensures alone { meaning (codes "$@rgw.example.net") ≡ Ok Pattern.Any }
-    ensures behind { meaning (codes "aaln/$@rgw.example.net") ≡ Ok Pattern.Any }
+    ensures after { meaning (codes "aaln/$@rgw.example.net") ≡ Ok Pattern.Any }
     ensures both { meaning (codes "$/$@rgw.example.net") ≡ Ok Pattern.Any }
 {}
 
@@ -43,6 +47,13 @@ pub fn a_dollar_is_any_line()
 pub fn other_wildcards_are_too_complicated()
     ensures further { meaning (codes "aaln/*/1@rgw.example.net") ≡ Err NameFault.TooComplicated }
     ensures front { meaning (codes "*/aaln@rgw.example.net") ≡ Err NameFault.TooComplicated }
+    ensures dollar_front { meaning (codes "$/aaln@rgw.example.net") ≡ Err NameFault.TooComplicated }
+    ensures star_dollar { meaning (codes "*/$@rgw.example.net") ≡ Err NameFault.TooComplicated }
+    ensures dollar_star { meaning (codes "$/*@rgw.example.net") ≡ Err NameFault.TooComplicated }
+    ensures other_domain { meaning (codes "*/aaln@other.example.net") ≡ Err NameFault.Unknown }
+    // Only `/` parts the terms.
+    ensures hyphen { meaning (codes "aaln-*@rgw.example.net") ≡ Err NameFault.Unknown }
+    ensures dot { meaning (codes "aaln.$@rgw.example.net") ≡ Err NameFault.Unknown }
 {}
 
 /// A domain is 1 to 64 letters, digits, `-` and `.`.
@@ -50,40 +61,67 @@ pub fn domains_have_1_to_64_bytes()
     ensures taken { is_domain (codes "Ca-1.example.net") ≡ true }
     ensures empty { is_domain (codes "") ≡ false }
     ensures other { is_domain (codes "ca_1") ≡ false }
+    ensures star { is_domain (codes "*.example.net") ≡ false }
+    ensures port { is_domain (codes "ca:2727") ≡ false }
+    ensures brackets { is_domain (codes "[127.0.0.1]") ≡ false }
+    ensures shortest { is_domain (codes "a") ≡ true }
+    ensures signs { is_domain (codes "-.") ≡ true }
     ensures longest { is_domain (replicate 64 97) ≡ true }
     ensures too_long { is_domain (replicate 65 97) ≡ false }
 {}
 
 /// A host is a name of the table, in any case, or an address in brackets, with or without a port.
 pub fn entities_are_local_host_and_port()
-    ensures no_port { entity_of agents (codes "ca@ca.example.net") ≡ read_at (codes "ca@ca.example.net") 1 2727 }
-    ensures no_local { entity_of agents (codes "CA.EXAMPLE.NET:2728") ≡ read_at (codes "CA.EXAMPLE.NET:2728") 1 2728 }
-    ensures literal { entity_of agents (codes "ca2@[127.0.0.2]:2727") ≡ read_at (codes "ca2@[127.0.0.2]:2727") 2 2727 }
-    ensures zeros { entity_of agents (codes "[127.000.0.1]:02727") ≡ read_at (codes "[127.000.0.1]:02727") 1 2727 }
-    ensures greatest_port { entity_of agents (codes "ca.example.net:65535") ≡ read_at (codes "ca.example.net:65535") 1 65535 }
+    ensures no_port { IsAt (codes "ca@ca.example.net") 1 2727 }
+    ensures no_local { IsAt (codes "CA.EXAMPLE.NET:2728") 1 2728 }
+    ensures literal { IsAt (codes "ca2@[127.0.0.2]:2727") 2 2727 }
+    ensures zeros { IsAt (codes "[127.000.0.1]:02727") 1 2727 }
+    ensures carriage_return { IsAt (codes "a\rb@ca.example.net") 1 2727 }
+    ensures smallest_port { IsAt (codes "ca.example.net:1") 1 1 }
+    ensures largest_port { IsAt (codes "ca.example.net:65535") 1 65535 }
 {}
 
 /// Any other text is no entity.
 pub fn other_texts_are_no_entities()
-    ensures port_0 { entity_of agents (codes "ca.example.net:0") ≡ None }
-    ensures port_65536 { entity_of agents (codes "ca.example.net:65536") ≡ None }
-    ensures no_digits { entity_of agents (codes "ca@ca.example.net:") ≡ None }
-    ensures octet { entity_of agents (codes "[127.0.0.256]") ≡ None }
-    ensures unknown { entity_of agents (codes "other.example.net") ≡ None }
-    ensures no_local { entity_of agents (codes "@ca.example.net") ≡ None }
-    ensures blank { entity_of agents (codes "a b@ca.example.net") ≡ None }
-    ensures empty { entity_of agents (codes "") ≡ None }
+    ensures port_0 { IsNoEntity (codes "ca.example.net:0") }
+    ensures port_65536 { IsNoEntity (codes "ca.example.net:65536") }
+    ensures no_digits { IsNoEntity (codes "ca@ca.example.net:") }
+    ensures octet { IsNoEntity (codes "[127.0.0.256]") }
+    ensures unknown { IsNoEntity (codes "other.example.net") }
+    ensures bare_address { IsNoEntity (codes "127.0.0.1") }
+    ensures name_in_brackets { IsNoEntity (codes "[ca.example.net]") }
+    ensures open_bracket { IsNoEntity (codes "[127.0.0.1") }
+    ensures first_at { IsNoEntity (codes "a@b@ca.example.net") }
+    ensures tab { IsNoEntity (codes "a\tb@ca.example.net") }
+    ensures line_feed { IsNoEntity (codes "a\nb@ca.example.net") }
+    ensures no_local { IsNoEntity (codes "@ca.example.net") }
+    ensures blank { IsNoEntity (codes "a b@ca.example.net") }
+    ensures empty { IsNoEntity (codes "") }
 {}
 
 /// A local name has at most 64 bytes.
 pub fn local_names_have_64_bytes()
-    ensures longest { let text = replicate 64 97 ++ codes "@ca.example.net" in entity_of agents text ≡ read_at text 1 2727 }
-    ensures too_long { entity_of agents (replicate 65 97 ++ codes "@ca.example.net") ≡ None }
+    ensures longest { let text = replicate 64 97 ++ codes "@ca.example.net" in IsAt text 1 2727 }
+    ensures too_long { IsNoEntity (replicate 65 97 ++ codes "@ca.example.net") }
 {}
 
 /// An entity's name has at most 128 bytes: 64, an `@`, and the host.
 pub fn entities_have_128_bytes()
-    ensures longest { let host = replicate 63 97 in let text = replicate 64 97 ++ 64 ∷ host in
+    ensures longest { let host = replicate 63 97 in let text = replicate 64 97 ++ at_sign ∷ host in
         entity_of (table_of host) text ≡ read_at text 1 2727 }
-    ensures too_long { let host = replicate 64 97 in entity_of (table_of host) (replicate 64 97 ++ 64 ∷ host) ≡ None }
+    ensures too_long { let host = replicate 64 97 in
+        entity_of (table_of host) (replicate 64 97 ++ at_sign ∷ host) ≡ None }
+{}
+
+/// A table has 64 names. A name that is no domain is refused as such, also where it stands in the table or the
+/// table is full; a name that stands there is refused as such, also where the table is full.
+pub fn tables_have_64_names()
+    ensures taken { fault_of (hosts_named (codes "a") 63) (codes "b") ≡ None }
+    ensures full { fault_of (hosts_named (codes "a") 64) (codes "b") ≡ Some TableFault.Full }
+    ensures twice { fault_of (hosts_named (codes "a") 64) (codes "A") ≡ Some TableFault.Twice }
+    ensures twice_in_one { fault_of (hosts_named (codes "a") 1) (codes "a") ≡ Some TableFault.Twice }
+    ensures no_domain { fault_of (hosts_named (codes "a") 64) (codes "b_")
+        ≡ Some TableFault.NotADomain }
+    ensures no_domain_twice { fault_of (hosts_named (codes "b_") 64) (codes "b_")
+        ≡ Some TableFault.NotADomain }
 {}

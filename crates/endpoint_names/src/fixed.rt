@@ -1,8 +1,10 @@
+//! Texts in places of fixed size, which can be copied.
 ghost use Rattle.std.specs.Prelude.{◌≡◌, ◌≤◌, length};
 
 use std::marker::Model;
 
-/// A text of at most N bytes in a place of fixed size, so that it can be copied. A contract sees the list of its bytes.
+/// A text of at most N bytes in a place of fixed size, so that it can be copied. A contract sees the list of its
+/// bytes.
 #[derive(Clone, Copy)]
 pub struct FixedText<const N: usize> {
     bytes: [u8; N],
@@ -18,8 +20,9 @@ impl<const N: usize> Model for FixedText<N> {
 
     ghost view = { λ t. take t.len t.bytes };
 
-    // The bytes behind the text are 0, so that equal texts have equal fields.
-    ghost invariant = { λ t. (t.len ≤ N) × (length t.bytes ≡ N) × (drop t.len t.bytes ≡ replicate (N - t.len) 0) };
+    // The bytes after the text are 0, so that equal texts have equal fields.
+    ghost invariant = { λ t. (t.len ≤ N) × (length t.bytes ≡ N)
+        × (drop t.len t.bytes ≡ replicate (N - t.len) 0) };
 
     ghost inverse = { fields_of N };
 

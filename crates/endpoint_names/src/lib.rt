@@ -6,12 +6,12 @@ mod entity;
 pub mod examples;
 mod fixed;
 mod name;
+mod names;
 mod table;
-#[cfg(test)]
-mod tests;
 
 pub use crate::domain::is_domain;
 pub use crate::entity::{Entity, read_entity};
 pub use crate::fixed::FixedText;
 pub use crate::name::{NameFault, Pattern, read_name};
+pub use crate::names::Names;
 pub use crate::table::{Host, Table, TableFault};

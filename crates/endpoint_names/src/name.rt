@@ -1,4 +1,6 @@
+//! Endpoint names (RFC 3435, 2.1.2 and 3.2.1.3).
 ghost use Rattle.std.specs.Prelude.{◌≡◌, ◌==◌, if◌then◌else◌, slice_index, take, drop, codes, option_map};
+ghost use Rattle.mg_bytes.specs.Bytes.{digit_zero};
 ghost use Rattle.mg_bytes.specs.Case.{same_but_case};
 ghost use Rattle.mg_bytes.specs.Numbers.{decimal_of};
 ghost use Rattle.endpoint_names.specs.Name.{line_named, names_all, names_any, has_wildcard, is_wildcard, pattern_of, name_of};
@@ -54,8 +56,8 @@ fn names_any(local: &[u8]) -> bool
     same_no_case(local, b"$") || same_no_case(local, b"aaln/$") || same_no_case(local, b"$/$")
 }
 
-// What stands behind `aaln/`, in any case.
-fn behind_aaln(local: &[u8]) -> Option<&[u8]>
+// What stands after `aaln/`, in any case.
+fn after_aaln(local: &[u8]) -> Option<&[u8]>
     ensures { option_map (λ rest. rest.now) result ≡
         (if same_but_case (take 5 local.now) (codes "aaln/") then Some (drop 5 local.now) else None) }
 {
@@ -67,7 +69,8 @@ fn behind_aaln(local: &[u8]) -> Option<&[u8]>
 
 // The number that decimal digits without a leading zero spell.
 fn plain_number(digits: &[u8]) -> Option<u64>
-    ensures { result ≡ (if slice_index digits.now 0 == 48 then None else decimal_of digits.now) }
+    ensures { result ≡
+        (if slice_index digits.now 0 == digit_zero then None else decimal_of digits.now) }
 {
     if let [b'0', ..] = digits {
         return None;
@@ -79,7 +82,7 @@ fn plain_number(digits: &[u8]) -> Option<u64>
 fn line_named(local: &[u8], lines: u16) -> Option<u16>
     ensures { result ≡ line_named local.now lines }
 {
-    let number = plain_number(behind_aaln(local)?)?;
+    let number = plain_number(after_aaln(local)?)?;
     if number > u64::from(lines) {
         return None;
     }
@@ -105,8 +108,9 @@ fn pattern_of(local: &[u8], lines: u16) -> Result<Pattern, NameFault>
 /// What an endpoint's name means on the gateway with this domain and so many lines (RFC 3435, 2.1.2 and 3.2.1.3).
 ///
 /// The name is split at its first `@`. The local name is `aaln/` and a line's number without leading zeros,
-/// `*` or `$` for all lines or any one, or one of the two behind `aaln/`, or in both places. Case does not matter.
-/// A name without `@`, of another domain or of no line is `Unknown`; another one with a term `*` or `$` is `TooComplicated`.
+/// `*` or `$` for all lines or any one, or one of the two after `aaln/`, or in both places. Case does not matter.
+/// A name without `@`, of another domain or of no line is `Unknown`; another one with a term `*` or `$` is
+/// `TooComplicated`.
 #[tactic(auto, unfolding(crate::specs::Name::name_of))]
 pub fn read_name(name: &[u8], domain: &[u8], lines: u16) -> Result<Pattern, NameFault>
     ensures { result ≡ name_of name.now domain.now lines }

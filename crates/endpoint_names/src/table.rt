@@ -1,3 +1,4 @@
+//! The configured names of hosts, which stand for DNS (RFC 3435, 2.1.4).
 ghost use Rattle.std.specs.Prelude.{◌≡◌, ◌++◌, ◌∷◌, [], Some, None, OnOk, OnErr, IfErr, IsOk};
 ghost use Rattle.endpoint_names.specs.Table.{address_of, has_name, fault_of};
 
@@ -31,11 +32,11 @@ impl Default for Host {
 #[derive(Clone, Copy, Debug, PartialEq, Eq)]
 pub enum TableFault {
     /// The name isn't 1 to 64 letters, digits, `-` and `.`.
-    NotADomain,
+    NotADomain = 1,
     /// The table has the name already, in some case.
-    Twice,
+    Twice = 2,
     /// The table has 64 names.
-    Full,
+    Full = 3,
 }
 
 fn has_name(hosts: &[Host], name: &[u8]) -> bool
@@ -79,7 +80,8 @@ impl Model for Table {
 
     ghost view = { λ t. t.hosts.items };
 
-    ghost invariant = { λ t. (length t.hosts.items ≤ 64) × (list_all (λ host. is_domain host.name) t.hosts.items ≡ true) };
+    ghost invariant = { λ t. (length t.hosts.items ≤ 64)
+        × (list_all (λ host. is_domain host.name) t.hosts.items ≡ true) };
 }
 
 impl Table {
@@ -92,12 +94,13 @@ impl Table {
         }
     }
 
-    /// Adds a host (RFC 3435, 2.1.4) behind the others. After an error the table is as it was.
+    /// Adds a host (RFC 3435, 2.1.4) after the others. After an error the table is as it was.
     ///
-    /// `NotADomain` where the name isn't 1 to 64 letters, digits, `-` and `.`; else `Twice` where the table has the name
-    /// in some case; else `Full` where it has 64 names.
+    /// `NotADomain` where the name is not 1 to 64 letters, digits, `-` and `.`; else `Twice` where the table has
+    /// the name in some case; else `Full` where it has 64 names.
     pub fn add(&mut self, name: &[u8], address: Ipv4Addr) -> Result<(), TableFault>
-        ensures ok { OnOk result (self.new ≡ self.old ++ (record { name = name.now; address = address }) ∷ []) }
+        ensures ok { OnOk result (self.new
+            ≡ self.old ++ (record { name = name.now; address = address }) ∷ []) }
         ensures err { OnErr result (self.new ≡ self.old) }
         ensures fault { IfErr result (λ fault. fault_of self.old name.now ≡ Some fault) }
         ensures taken { fault_of self.old name.now ≡ None → IsOk result }

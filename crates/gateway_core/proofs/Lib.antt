@@ -1,3 +1,3 @@
+pub mod SavedLemmas
 pub mod SetupLemmas
 pub mod StandLemmas
-pub mod Computing

@@ -1,202 +1,154 @@
--- What a gateway stands for, one event later.
-use Rattle.std.proofs.Common.{◌≡◌, ℕ, ◌+◌, ◌<◌, true, false, ⊎_elim, Bool, ◌&&◌, List, [], ◌∷◌, ◌++◌, length, get_or, take, map, Some, None, refl, sym, ◌∙◌, ap, subst, append_assoc, append-nil}
+-- What a gateway stands for, some events later.
+use Rattle.std.proofs.Common.{◌≡◌, ℕ, ◌+◌, ◌<◌, ◌^◌, List, [], ◌∷◌, ◌++◌, length, get_or, take, map, Option, None, refl, sym, ◌∙◌, ap, append_assoc, append-nil, arith}
+use Rattle.std.specs.Prelude.{slice_get, IfSome, Result, Ok, Err, OnOk, OnErr}
 use Rattle.std.proofs.lemmas.List.{take_more, map-append}
-use Rattle.std.proofs.lemmas.Bool.{cases_Bool}
 use Rattle.std.proofs.lemmas.Option.{slice_get-get_or}
-use Rattle.std.specs.Prelude.{slice_get, IfSome, is_none, Result, Err}
-use Rattle.gateway_core.specs.declared.event.Refusal.{Refusal}
-use Rattle.std.specs.Cmp.Derive.{both_true}
-use Rattle.std.specs.declared.net.socket_addr.SocketAddrV4.{SocketAddrV4}
-use Rattle.mgcp_text.specs.declared.message.Message.TheVariants as messages
-use Rattle.mgcp_text.specs.Reading.{Outcome, message, no_header, bad_version, bad_body, read_text}
-use Rattle.mg_line.specs.declared.phone.Act.{Act}
-use Rattle.mg_line.specs.Line.{LineState, is_possible}
-use Rattle.gateway_core.specs.declared.event.Event.{Event}
-use Rattle.gateway_core.specs.declared.event.Refusal.TheVariants.{PhoneState}
-use Rattle.gateway_core.specs.declared.event.OutDatagram.{OutDatagram}
-use Rattle.gateway_core.specs.Setup.{Setup}
-use Rattle.gateway_core.specs.Event.{GatewayEvent, datagram, phone, tick, event_of}
-use Rattle.gateway_core.specs.Sent.{Sent, datagram_of, packed}
-use Rattle.gateway_core.specs.Machine.{Machine, Effect, machine_of, opening, texts_of, answers, took, took_all, effect, machine_after, sent_from, outputs_from, plain, outputs_of, refusal_of, refusal_at, are_taken}
-use Rattle.gateway_core.specs.Lines.{acted, act_refusal}
+use Rattle.std.proofs.lemmas.Bool.Decides.{nat_tests}
+use Rattle.plain_machine.specs.declared.event.Event.{Event}
+use Rattle.plain_machine.specs.declared.refusal.Refusal.{Refusal}
+use Rattle.plain_machine.specs.declared.output.OutDatagram.{OutDatagram}
+use Rattle.plain_machine.specs.declared.setup.Setup.{Setup}
+use Rattle.plain_machine.specs.Event.{GatewayEvent, datagram, phone, tick, event_of}
+use Rattle.plain_machine.specs.Packing.{put_out}
+use Rattle.plain_machine.specs.Machine.{Endpoints, Machine, Told, told, told_in, opening}
+use Rattle.plain_machine.specs.Happening.{effect}
+use Rattle.plain_machine.specs.Refusing.{refusal_of, tick_refusal, Ends, refused_by}
+use Rattle.plain_machine.specs.Lists.{machine_after, outputs_from, plain, are_taken}
+use Rattle.plain_machine.proofs.EndLaws.{ends_fine}
+use Rattle.plain_machine.proofs.EffectLaws.{effect_lines, effect_now}
+use Rattle.plain_machine.proofs.ListLaws.{machine_on, outputs_on, taken_on}
+use Rattle.gateway_core.specs.declared.state.State.{State}
+use Rattle.gateway_core.specs.Sound.{IsSound}
+use Rattle.gateway_core.specs.State.{endpoints_in, machine_in, Does, PutsOut}
+use Rattle.gateway_core.specs.Alike.{Alike, GoesOn}
 use Rattle.gateway_core.specs.GatewayState.{GatewayState}
-use Rattle.gateway_core.specs.Stands.{kept_of, Does, Stands}
+use Rattle.gateway_core.specs.Stands.{Stands, Took, before_place}
 
--- one event more
-pub machine_more : (setup : Setup) (m : Machine) (events : List GatewayEvent) (event : GatewayEvent)
-    → machine_after setup m (events ++ event ∷ []) ≡ (effect setup (machine_after setup m events) event).machine
-unfolding machine_after
-machine_more setup m [] event = refl
-machine_more setup m (e ∷ es) event = machine_more setup (effect setup m e).machine es event
+-- ---- one event, beside the plain machine
 
-pub outputs_more : (setup : Setup) (m : Machine) (events : List GatewayEvent) (event : GatewayEvent)
-    → outputs_from setup m (events ++ event ∷ []) ≡ outputs_from setup m events ++ packed (effect setup (machine_after setup m events) event).sent
+-- nothing changes, and nothing is sent
+pub does_nothing : (state : State) (change : Told) → change ≡ told (endpoints_in state) [] → Does (told_in (machine_in state) change) state state
+does_nothing state change none = rw none (record { machine = refl; outbox = sym (append-nil state.outbox.items) })
+
+-- so far what is kept is the whole machine
+same_machine : (k m : Machine) → Alike k m → k ≡ m
+same_machine k m a =
+    let by_now : ◌≡◌ {A = Machine} (record { now = k.now; endpoints = k.endpoints }) (record { now = m.now; endpoints = k.endpoints }) =
+    ap (λ (x : ℕ). let n : Machine = record { now = x; endpoints = k.endpoints } in n) a.now in
+    by_now ∙ ap (λ (x : Endpoints). let n : Machine = record { now = m.now; endpoints = x } in n) a.endpoints
+
+pub goes_on : (setup : Setup) (k m : Machine) (is : State) (event : GatewayEvent) (were are : List OutDatagram) → Alike k m
+    → PutsOut (effect setup k event) is were are → GoesOn setup m event (machine_in is) were are
+goes_on setup k m is event were are a p =
+    let same = same_machine k m a in
+    record {
+      alike = rw (p.machine, same) (record { now = refl; endpoints = refl });
+      outputs = p.outputs ∙ ap (λ (x : Machine). were ++ put_out (effect setup x event).sent) same;
+    }
+
+pub alike_after : (k k' m : Machine) → k' ≡ k → Alike k m → Alike k' m
+alike_after k k' m is a = rw is a
+
+refusal_alike : (k m : Machine) (event : GatewayEvent) → Alike k m → refusal_of k event ≡ refusal_of m event
+refusal_alike k m event a = ap (λ (x : Machine). refusal_of x event) (same_machine k m a)
+
+-- ---- what holds of every gateway
+
+ticks_below : (now moment : ℕ) → tick_refusal now moment ≡ None → moment < 2 ^ 62
+ticks_below now moment none = grind (arith, nat_tests)
+
+now_below : (setup : Setup) (m : Machine) (event : GatewayEvent) → m.now < 2 ^ 62 → refusal_of m event ≡ None → (effect setup m event).machine.now < 2 ^ 62
+unfolding refusal_of
+now_below setup m (datagram source bytes) lt none = rw (effect_now setup m (datagram source bytes)) lt
+now_below setup m (phone line act) lt none = rw (effect_now setup m (phone line act)) lt
+now_below setup m (tick moment) lt none = rw (effect_now setup m (tick moment)) (ticks_below m.now moment none)
+
+pub sound_after : (setup : Setup) (m : Machine) (is : State) (event : GatewayEvent) (were are : List OutDatagram) → IsSound setup m → refusal_of m event ≡ None
+    → PutsOut (effect setup m event) is were are → IsSound setup (machine_in is)
+sound_after setup m is event were are s none p = rw p.machine (record {
+  all = effect_lines setup m event ∙ s.all;
+  moment = now_below setup m event s.moment none;
+})
+
+-- ---- lists of events
+
+pub took_one : (g g' : GatewayState) (event : GatewayEvent) (were are : List OutDatagram) → g'.setup ≡ g.setup → refusal_of g.machine event ≡ None
+    → ((m : Machine) → Alike g.machine m → GoesOn g.setup m event g'.machine were are) → Took g (event ∷ []) g' were are
 unfolding machine_after outputs_from
-outputs_more setup m [] event = append-nil (packed (effect setup m event).sent)
-outputs_more setup m (e ∷ es) event =
-    ap (λ (rest : List OutDatagram). packed (effect setup m e).sent ++ rest) (outputs_more setup (effect setup m e).machine es event)
-    ∙ sym (append_assoc (packed (effect setup m e).sent) (outputs_from setup (effect setup m e).machine es) (packed (effect setup (machine_after setup (effect setup m e).machine es) event).sent))
+took_one g g' event were are same none goes = record {
+  setup = same;
+  stands = λ before s. rw same (record {
+    taken = taken_on g.setup (opening g.setup) before event s.taken (sym (refusal_alike g.machine (plain g.setup before) event s.alike) ∙ none);
+    alike = rw (machine_on g.setup (opening g.setup) before (event ∷ [])) (goes (plain g.setup before) s.alike).alike;
+  });
+  sent = λ before s. (goes (plain g.setup before) s.alike).outputs
+      ∙ ap (λ (x : List OutDatagram). were ++ x) (sym (append-nil (put_out (effect g.setup (plain g.setup before) event).sent)));
+}
 
--- each message has a datagram of its own
-pub datagrams_of_messages : (setup : Setup) (m : Machine) (events : List GatewayEvent) → outputs_from setup m events ≡ map datagram_of (sent_from setup m events)
-unfolding outputs_from sent_from
-datagrams_of_messages setup m [] = refl
-datagrams_of_messages setup m (e ∷ es) =
-    let now = (effect setup m e).sent in
-    let later = (effect setup m e).machine in
-    ap (λ (rest : List OutDatagram). packed now ++ rest) (datagrams_of_messages setup later es) ∙ sym (map-append datagram_of now (sent_from setup later es))
+pub took_none : (g g' : GatewayState) (were are : List OutDatagram) → g'.setup ≡ g.setup → are ≡ were
+    → ((m : Machine) → Alike g.machine m → Alike g'.machine m) → Took g [] g' were are
+unfolding outputs_from
+took_none g g' were are same sent keeps = record {
+  setup = same;
+  stands = λ before s. rw (same, append-nil before) (record { taken = s.taken; alike = keeps (plain g.setup before) s.alike });
+  sent = λ before s. sent ∙ sym (append-nil were);
+}
 
--- machines that are alike but for what arrived
-pub record Alike (m n : Machine) : Type 0 where
-  pub now : m.now ≡ n.now
-  pub lines : m.lines ≡ n.lines
+-- events, and then more
+took_on : (g h k : GatewayState) (es fs : List GatewayEvent) (were are then : List OutDatagram) → Took g es h were are → Took h fs k are then → Took g (es ++ fs) k were then
+took_on g h k es fs were are then a b = record {
+  setup = b.setup ∙ a.setup;
+  stands = λ before s. rw (← (append_assoc before es fs)) (b.stands (before ++ es) (a.stands before s));
+  sent = λ before s.
+      b.sent (before ++ es) (a.stands before s)
+      ∙ ap (λ (x : Setup). are ++ outputs_from x (plain x (before ++ es)) fs) a.setup
+      ∙ ap (λ (x : List OutDatagram). x ++ outputs_from g.setup (plain g.setup (before ++ es)) fs) (a.sent before s)
+      ∙ append_assoc were (outputs_from g.setup (plain g.setup before) es) (outputs_from g.setup (plain g.setup (before ++ es)) fs)
+      ∙ ap (λ (m : Machine). were ++ (outputs_from g.setup (plain g.setup before) es ++ outputs_from g.setup m fs)) (machine_on g.setup (opening g.setup) before es)
+      ∙ ap (λ (x : List OutDatagram). were ++ x) (sym (outputs_on g.setup (plain g.setup before) es fs));
+}
 
-pub record AlikeEffects (v w : Effect) : Type 0 where
-  pub machine : Alike v.machine w.machine
-  pub sent : v.sent ≡ w.sent
+-- no event more
+pub took_end : (g h k : GatewayState) (es : List GatewayEvent) (were are then : List OutDatagram) → Took g es h were are → Took h [] k are then → Took g es k were then
+took_end g h k es were are then a b = rw (append-nil es) at (took_on g h k es [] were are then a b)
 
-answers_alike : (setup : Setup) (m n : Machine) (source : SocketAddrV4) (outcome : Outcome) → Alike m n → answers setup m source outcome ≡ answers setup n source outcome
-unfolding answers
-answers_alike setup m n source no_header a = refl
-answers_alike setup m n source (bad_version id) a = rw (a.now) refl
-answers_alike setup m n source (bad_body id) a = rw (a.now) refl
-answers_alike setup m n source (message (messages.Command verb id name params body)) a = rw (a.now, a.lines) refl
-answers_alike setup m n source (message (messages.Response code id params body)) a = refl
+pub took_nothing : (g g' : GatewayState) (were are : List OutDatagram) → Took g [] g' were are → Took g [] g' [] []
+unfolding outputs_from
+took_nothing g g' were are t = record { setup = t.setup; stands = t.stands; sent = λ before s. refl }
 
-took_alike : (setup : Setup) (m n : Machine) (source : SocketAddrV4) (texts : List (List ℕ)) → Alike m n → AlikeEffects (took_all setup m source texts) (took_all setup n source texts)
-unfolding took_all
-took_alike setup m n source [] a = record { machine = a; sent = refl }
-took_alike setup m n source (text ∷ texts) a =
-    let m' : Machine = (took setup m source text).machine in
-    let n' : Machine = (took setup n source text).machine in
-    let rest = took_alike setup m' n' source texts (record { now = a.now; lines = a.lines }) in
-    record {
-      machine = rest.machine;
-      sent = ap (λ (sent : List Sent). sent ++ (took_all setup m' source texts).sent) (answers_alike setup m n source (read_text text) a)
-          ∙ ap (λ (sent : List Sent). answers setup n source (read_text text) ++ sent) rest.sent;
-    }
+events_more : (events : List Event) (place : ℕ) (d : Event) → place < length events
+    → before_place events (place + 1) ≡ before_place events place ++ event_of (get_or events place d) ∷ []
+events_more events place d inside = ap (map event_of) (take_more events place d inside) ∙ map-append event_of (take place events) (get_or events place d ∷ [])
 
-effect_alike : (setup : Setup) (m n : Machine) (event : GatewayEvent) → Alike m n → AlikeEffects (effect setup m event) (effect setup n event)
-unfolding effect
-effect_alike setup m n (datagram source bytes) a = took_alike setup m n source (texts_of bytes) a
-effect_alike setup m n (phone line act) a = record { machine = record { now = a.now; lines = ap (λ (lines : List LineState). acted lines line act) a.lines }; sent = refl }
-effect_alike setup m n (tick moment) a = record { machine = record { now = refl; lines = a.lines }; sent = refl }
+-- the event at a place more
+pub took_next : (g h k : GatewayState) (events : List Event) (place : ℕ) (d : Event) (were are then : List OutDatagram) → place < length events
+    → Took g (before_place events place) h were are → Took h (event_of (get_or events place d) ∷ []) k are then → Took g (before_place events (place + 1)) k were then
+took_next g h k events place d were are then inside a b =
+    rw (events_more events place d inside) (took_on g h k (before_place events place) (event_of (get_or events place d) ∷ []) were are then a b)
 
--- texts move neither the clock nor a line
-pub took_same : (setup : Setup) (m : Machine) (source : SocketAddrV4) (texts : List (List ℕ)) → Alike (took_all setup m source texts).machine m
-unfolding took_all
-took_same setup m source [] = record { now = refl; lines = refl }
-took_same setup m source (text ∷ texts) =
-    let rest = took_same setup (took setup m source text).machine source texts in record { now = rest.now; lines = rest.lines }
-
-both_parts : (x y : Bool) → (x && y) ≡ true → (x ≡ true) × (y ≡ true)
-both_parts true y both = (refl, both)
-both_parts false y both = absurd cc
-
-pub taken_more : (setup : Setup) (before events : List GatewayEvent) (event : GatewayEvent)
-    → are_taken setup before events ≡ true → refusal_at setup (before ++ events) event ≡ None → are_taken setup before (events ++ event ∷ []) ≡ true
-unfolding are_taken
-taken_more setup before [] event taken none =
-    let here : refusal_at setup before event ≡ None = ap (λ (x : List GatewayEvent). refusal_at setup x event) (sym (append-nil before)) ∙ none in
-    rw here refl
-taken_more setup before (e ∷ es) event taken none =
-    let parts = both_parts (is_none (refusal_at setup before e)) (are_taken setup (before ++ e ∷ []) es) taken in
-    let later = taken_more setup (before ++ e ∷ []) es event parts.1 (ap (λ (x : List GatewayEvent). refusal_at setup x event) (append_assoc before (e ∷ []) es) ∙ none) in
-    both_true parts.0 later
-
--- a gateway refuses what the plain machine that it stands for would
-pub refused_alike : (g : GatewayState) (setup : Setup) (events : List GatewayEvent) (event : GatewayEvent)
-    → g.setup ≡ setup → Stands g events → refusal_at setup events event ≡ refusal_of g.clock g.lines event
-refused_alike g setup events event is s =
-    sym (ap (λ (clock : ℕ). refusal_of clock g.lines event) s.clock
-    ∙ ap (λ (lines : List LineState). refusal_of (plain g.setup events).now lines event) s.lines
-    ∙ ap (λ (x : Setup). refusal_at x events event) is)
-
--- a gateway that did an event stands for one more, and sent what the plain machine sends
-pub record Stepped (g g' : GatewayState) (events : List GatewayEvent) (event : GatewayEvent) (outputs outputs' : List OutDatagram) : Type 0 where
-  pub stands : Stands g' (events ++ event ∷ [])
-  pub sent : outputs' ≡ outputs ++ packed (effect g.setup (plain g.setup events) event).sent
-
-pub stepped : (g g' : GatewayState) (events : List GatewayEvent) (event : GatewayEvent) (outputs outputs' : List OutDatagram)
-    → Stands g events → refusal_of g.clock g.lines event ≡ None → Does g event g' outputs outputs' → Stepped g g' events event outputs outputs'
-stepped g g' events event outputs outputs' s none does =
-    let h = effect_alike g.setup (kept_of g) (plain g.setup events) event (record { now = s.clock; lines = s.lines }) in
-    let after : plain g.setup (events ++ event ∷ []) ≡ (effect g.setup (plain g.setup events) event).machine = machine_more g.setup (opening g.setup) events event in
-    record {
-      stands = record {
-        taken = rw does.setup (taken_more g.setup [] events event s.taken (refused_alike g g.setup events event refl s ∙ none));
-        clock = rw does.setup (does.clock ∙ h.machine.now ∙ sym (ap (λ (m : Machine). m.now) after));
-        lines = rw does.setup (does.lines ∙ h.machine.lines ∙ sym (ap (λ (m : Machine). m.lines) after));
-      };
-      sent = does.sent ∙ ap (λ (sent : List Sent). outputs ++ packed sent) h.sent;
-    }
-
-pub stands_for_nothing : (g : GatewayState) → g.clock ≡ 0 → g.lines ≡ (opening g.setup).lines → Stands g []
+pub stands_for_nothing : (g : GatewayState) → g.machine ≡ opening g.setup → Stands g []
 unfolding machine_after are_taken
-stands_for_nothing g clock lines = record { taken = refl; clock = clock; lines = lines }
-
--- the events up to one place more
-pub events_more : (events : List Event) (place : ℕ) (d : Event) (event : GatewayEvent) → place < length events → event ≡ event_of (get_or events place d)
-    → map event_of (take (place + 1) events) ≡ map event_of (take place events) ++ event ∷ []
-events_more events place d event inside is =
-    ap (map event_of) (take_more events place d inside) ∙ map-append event_of (take place events) (get_or events place d ∷ [])
-    ∙ ap (λ (x : GatewayEvent). map event_of (take place events) ++ x ∷ []) (sym is)
-
-pub stands_on : (g : GatewayState) (before events events' : List GatewayEvent) (event : GatewayEvent) → events' ≡ events ++ event ∷ []
-    → Stands g ((before ++ events) ++ event ∷ []) → Stands g (before ++ events')
-stands_on g before events events' event is s = rw is (rw (append_assoc before events (event ∷ [])) at s)
-
-pub outputs_grow : (setup : Setup) (before events events' : List GatewayEvent) (event : GatewayEvent) (outputs outputs' : List OutDatagram)
-    → events' ≡ events ++ event ∷ [] → outputs' ≡ outputs ++ packed (effect setup (plain setup (before ++ events)) event).sent
-    → outputs_of setup (before ++ events) ≡ outputs_of setup before ++ outputs → outputs_of setup (before ++ events') ≡ outputs_of setup before ++ outputs'
-outputs_grow setup before events events' event outputs outputs' is new old =
-    ap (λ (x : List GatewayEvent). outputs_of setup (before ++ x)) is
-    ∙ ap (outputs_of setup) (sym (append_assoc before events (event ∷ [])))
-    ∙ outputs_more setup (opening setup) (before ++ events) event
-    ∙ ap (λ (x : List OutDatagram). x ++ packed (effect setup (plain setup (before ++ events)) event).sent) old
-    ∙ append_assoc (outputs_of setup before) outputs (packed (effect setup (plain setup (before ++ events)) event).sent)
-    ∙ ap (λ (x : List OutDatagram). outputs_of setup before ++ x) (sym new)
-
-pub same_refusal : (given refusal : Refusal) → ◌≡◌ {A = Result (Unit {0}) Refusal} (Err given) (Err refusal) → given ≡ refusal
-same_refusal given refusal same = cc
+stands_for_nothing g is = record { taken = refl; alike = rw is (record { now = refl; endpoints = refl }) }
 
 -- the event at a place
 pub at_place : (P : Event → Type 0) (events : List Event) (place : ℕ) (d : Event) → place < length events → P (get_or events place d) → IfSome (slice_get events place) P
 at_place P events place d inside p = rw (slice_get-get_or events place d inside) p
 
--- ---- what each event does to a gateway
+-- ---- how a step ends
 
-pub does_datagram : (g : GatewayState) (source : SocketAddrV4) (bytes : List ℕ) (outputs outputs' : List OutDatagram)
-    → outputs' ≡ outputs ++ packed (effect g.setup (kept_of g) (datagram source bytes)).sent → Does g (datagram source bytes) g outputs outputs'
-unfolding effect
-does_datagram g source bytes outputs outputs' sent =
-    let same = took_same g.setup (kept_of g) source (texts_of bytes) in
-    record { setup = refl; clock = sym same.now; lines = sym same.lines; sent = sent }
+-- a gateway ends a step as the plain machine that it stands for says
+pub ends_alike : (g : GatewayState) (setup : Setup) (events : List GatewayEvent) (event : GatewayEvent) (given : Option Refusal) → g.setup ≡ setup → Stands g events
+    → Ends g.setup g.machine event given → Ends setup (plain setup events) event given
+ends_alike g setup events event given is s e =
+    rw (← is) (rw (same_machine g.machine (plain g.setup events) s.alike) at e)
 
--- the fields of a gateway are what a contract sees of it
-pub sent_by : (g : GatewayState) (domain text : List ℕ) (count clock : ℕ) (lines slice : List LineState) (event : GatewayEvent) (outputs outputs' : List OutDatagram)
-    → ◌≡◌ {A = GatewayState} (record { setup = record { domain = domain; lines = count }; clock = clock; lines = lines }) g
-    → text ≡ domain → slice ≡ lines → length lines ≡ count
-    → outputs' ≡ outputs ++ packed (effect (record { domain = text; lines = length slice }) (machine_of clock slice) event).sent
-    → outputs' ≡ outputs ++ packed (effect g.setup (kept_of g) event).sent
-sent_by g domain text count clock lines slice event outputs outputs' view is_text is_slice all sent =
-    let fields : outputs' ≡ outputs ++ packed (effect (record { domain = domain; lines = count }) (machine_of clock lines) event).sent = (rw (is_text, is_slice, all) at sent) in
-    subst (λ (x : GatewayState). outputs' ≡ outputs ++ packed (effect x.setup (kept_of x) event).sent) view fields
+pub took_ok : (g g' : GatewayState) (event : GatewayEvent) (were are : List OutDatagram) (result : Result (Unit {0}) Refusal) → g'.setup ≡ g.setup
+    → Ends g.setup g.machine event (refused_by result)
+    → ((m : Machine) → Alike g.machine m → OnOk result (GoesOn g.setup m event g'.machine were are)) → OnOk result (Took g (event ∷ []) g' were are)
+took_ok g g' event were are (Ok x) same e goes = took_one g g' event were are same (ends_fine g.setup g.machine event e) goes
+took_ok g g' event were are (Err refusal) same e goes = tt
 
--- an act that isn't refused is possible
-pub act_taken : (state : LineState) (act : Act) → act_refusal (Some state) act ≡ None → is_possible state.hook act ≡ true
-act_taken state act free =
-    ⊎_elim (λ (p : is_possible state.hook act ≡ true). p) (λ (p : is_possible state.hook act ≡ false). let none : Some PhoneState ≡ None = (rw p at free) in absurd cc)
-    (cases_Bool (is_possible state.hook act))
-
-pub does_phone : (g g' : GatewayState) (line : ℕ) (act : Act) (outputs : List OutDatagram) → g' ≡ record g { lines = acted g.lines line act } → Does g (phone line act) g' outputs outputs
-unfolding effect
-does_phone g g' line act outputs after =
-    rw after (record { setup = refl; clock = refl; lines = refl; sent = sym (append-nil outputs) })
-
--- the fields of a gateway whose lines changed
-pub lines_after : (domain : List ℕ) (count clock : ℕ) (lines lines' : List LineState) (g : GatewayState) (line : ℕ) (act : Act)
-    → ◌≡◌ {A = GatewayState} (record { setup = record { domain = domain; lines = count }; clock = clock; lines = lines }) g
-    → lines' ≡ acted lines line act
-    → ◌≡◌ {A = GatewayState} (record { setup = record { domain = domain; lines = count }; clock = clock; lines = lines' }) (record g { lines = acted g.lines line act })
-lines_after domain count clock lines lines' g line act view is = rw (is, ← view) refl
+pub took_err : (g g' : GatewayState) (were are : List OutDatagram) (result : Result (Unit {0}) Refusal) → g'.setup ≡ g.setup → OnErr result (are ≡ were)
+    → ((m : Machine) → Alike g.machine m → OnErr result (Alike g'.machine m)) → OnErr result (Took g [] g' were are)
+took_err g g' were are (Ok x) same sent keeps = tt
+took_err g g' were are (Err refusal) same sent keeps = took_none g g' were are same sent keeps

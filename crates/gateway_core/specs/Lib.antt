@@ -1,11 +1,6 @@
-pub mod Setup
-pub mod Event
-pub mod Lines
-pub mod Sent
-pub mod Checking
-pub mod Report
-pub mod Commands
-pub mod Machine
+pub mod State
+pub mod Sound
+pub mod CodeFault
 pub mod GatewayState
+pub mod Alike
 pub mod Stands
-pub mod Example

@@ -1,143 +1,138 @@
-//! What is answered to a text that came in a datagram.
-ghost use Rattle.std.specs.Prelude.{◌≡◌, ◌≤◌, ◌++◌, ◌∷◌, [], true, IfOk, OnOk, OnErr, IsOk, length};
+//! What is done at a text that came in a datagram.
+ghost use Rattle.std.specs.Prelude.{◌≡◌, ◌≤◌, ◌∷◌, [], OnOk, length};
 ghost use Rattle.std.specs.Bool.{MatchBool, OnTrue};
-ghost use Rattle.std.specs.List.{list_all};
-ghost use Rattle.mgcp_text.specs.Reading.{read_text, message, HasTransactionId};
-ghost use Rattle.mgcp_text.specs.Writing.{written, is_writable_param};
-ghost use Rattle.mgcp_text.specs.declared.message.Message.TheVariants as messages;
-ghost use Rattle.gateway_core.specs.Event.{datagram};
-ghost use Rattle.gateway_core.specs.Sent.{packed};
-ghost use Rattle.gateway_core.specs.Machine.{answers, texts_of, effect, machine_of, TakesNoMemory};
+ghost use Rattle.mgcp_text.specs.Reading.{message, read_text};
+ghost use Rattle.plain_machine.specs.Arriving.{texts_of};
+ghost use Rattle.plain_machine.specs.Commanding.{only_answer};
+ghost use Rattle.plain_machine.specs.Answering.{executed, refused, handled, took_all};
+ghost use Rattle.gateway_core.specs.State.{endpoints_in, machine_in, stations_before, Does};
 
-use crate::command::{Answer, command_answer, plain_code};
-use crate::event::{OutDatagram, Outputs};
-use mg_bytes::{OutOfMemory, Text, has_dot_line};
-use mg_line::Line;
-use mgcp_text::{Bytes, Message, TextFault, read_message, write_message};
-use std::alloc::{AllocError, Global};
+use crate::commanding::{Command, commanded};
+use crate::context::Context;
+use crate::state::State;
+use mg_bytes::{OutOfMemory, has_dot_line};
+use mgcp_text::{Answer, Message, TextFault, TransactionId, read_message};
+use plain_machine::OutDatagram;
+use std::alloc::AllocError;
 use std::net::SocketAddrV4;
 
-/// The greatest datagram that is taken, in bytes (RFC 3435, 3.5.4).
-const GREATEST_DATAGRAM: usize = 4000;
+/// The largest datagram that is taken, in bytes (RFC 3435, 3.5.4).
+pub(crate) const LARGEST_DATAGRAM: usize = 4000;
+
+/// Where a command came from, and its transaction id.
+#[derive(Clone, Copy)]
+pub(crate) struct Request {
+    pub source: SocketAddrV4,
+    pub id: TransactionId,
+}
 
 // Whether a datagram holds a text: so far the whole of it, or none.
-#[tactic(auto, unfolding(crate::specs::Machine::texts_of))]
+#[tactic(auto, unfolding(plain_machine::specs::Arriving::texts_of))]
 fn is_one_text(bytes: &[u8]) -> bool
-    ensures value { MatchBool result (texts_of bytes.now ≡ bytes.now ∷ []) (texts_of bytes.now ≡ []) }
-    ensures short { OnTrue result (length bytes.now ≤ 4000) }
+    ensures { MatchBool result (texts_of bytes.now ≡ bytes.now ∷ []) (texts_of bytes.now ≡ []) }
 {
-    bytes.len() <= GREATEST_DATAGRAM && !has_dot_line(bytes)
+    bytes.len() <= LARGEST_DATAGRAM && !has_dot_line(bytes)
 }
 
-#[tactic(auto, unfolding(mgcp_text::specs::Writing::is_writable, mgcp_text::specs::Writing::is_writable_body))]
-fn response_text(alloc: Global, answer: Answer, id: u32) -> Result<Text, OutOfMemory>
-    requires code { answer.code ≤ 999 }
-    requires writable { list_all is_writable_param answer.params ≡ true }
-    requires some_id { 1 ≤ id }
-    requires short_id { id ≤ 999999999 }
-    ensures { IfOk result (λ text. text ≡ written (messages.Response answer.code id answer.params [])) }
-{
-    let Answer { code, params } = answer;
-    let response = Message::Response {
-        code,
-        id,
-        params,
-        body: Bytes::of(b""),
-    };
-    write_message(alloc, &response)
-}
-
-// Puts a response to a command behind the outputs. After an error they are as they were.
-fn put_response(
-    alloc: Global,
-    to: SocketAddrV4,
-    moment: u64,
-    answer: Answer,
-    id: u32,
-    outputs: &mut Outputs,
+// A command is executed: its answer goes to its source.
+#[tactic(auto, unfolding(plain_machine::specs::Answering::executed))]
+fn execute(
+    context: Context<'_>,
+    state: &mut State,
+    request: Request,
+    answer: &Answer,
 ) -> Result<(), OutOfMemory>
-    requires code { answer.code ≤ 999 }
-    requires writable { list_all is_writable_param answer.params ≡ true }
-    requires some_id { 1 ≤ id }
-    requires short_id { id ≤ 999999999 }
-    ensures ok { OnOk result (outputs.new ≡ outputs.old ++ (record { to = to; moment = moment; bytes = written (messages.Response answer.code id answer.params []) }) ∷ []) }
-    ensures err { OnErr result (outputs.new ≡ outputs.old) }
+    ensures ok { (line : _) → OnOk result (Does (executed (machine_in state.old) request.source line request.id
+        (only_answer (endpoints_in state.old) answer.now)) state.old state.new) }
+    ensures before { stations_before state.new ≡ stations_before state.old }
 {
-    let bytes = response_text(alloc, answer, id)?;
-    outputs.push(OutDatagram { to, moment, bytes })
+    let bytes = answer.text(context.alloc, request.id)?;
+    state.outbox.push(OutDatagram {
+        to: request.source,
+        moment: state.clock,
+        bytes,
+    })?;
+    Ok(())
 }
 
-// The same for a message that was read.
-#[tactic(auto, unfolding(crate::specs::Machine::answers))]
-fn answer_message(
-    alloc: Global,
-    domain: &[u8],
-    lines: &[Line],
+// A command that this code answers.
+fn refuse(
+    context: Context<'_>,
+    state: &mut State,
+    request: Request,
+    code: u16,
+) -> Result<(), OutOfMemory>
+    requires { code ≤ 999 }
+    ensures ok { OnOk result (Does (refused (machine_in state.old) request.source request.id code) state.old state.new) }
+    ensures before { stations_before state.new ≡ stations_before state.old }
+{
+    execute(context, state, request, &Answer::plain(context.alloc, code))
+}
+
+// A message that was read.
+#[tactic(auto, unfolding(plain_machine::specs::Answering::handled))]
+fn handle_message(
+    context: Context<'_>,
+    state: &mut State,
     source: SocketAddrV4,
-    moment: u64,
     said: &Message<'_>,
-    outputs: &mut Outputs,
 ) -> Result<(), OutOfMemory>
-    requires id { HasTransactionId (message said.now) }
-    requires few { length lines.now ≤ 16 }
-    ensures ok { OnOk result (outputs.new ≡ outputs.old ++ packed (answers (record { domain = domain.now; lines = length lines.now }) (machine_of moment lines.now) source (message said.now))) }
-    ensures err { OnErr result (outputs.new ≡ outputs.old) }
+    ensures ok { OnOk result (Does (handled context.entry.setup.now (machine_in state.old) source (message said.now))
+        state.old state.new) }
+    ensures before { stations_before state.new ≡ stations_before state.old }
 {
     match said {
         Message::Command { verb, id, name, .. } => {
-            let answer = command_answer(alloc, domain, lines, *verb, name.as_slice(), said)?;
-            put_response(alloc, source, moment, answer, *id, outputs)
+            let command = Command {
+                verb: *verb,
+                name: name.as_slice(),
+                said,
+            };
+            let answer = commanded(context, state, &command)?;
+            let request = Request { source, id: *id };
+            execute(context, state, request, &answer)
         }
         Message::Response { .. } => Ok(()),
     }
 }
 
-// Puts the answer to a text behind the outputs, if it gets one. After an error they are as they were.
-#[tactic(auto, unfolding(crate::specs::Machine::answers))]
-fn answer_text(
-    alloc: Global,
-    domain: &[u8],
-    lines: &[Line],
+// A text.
+#[tactic(auto, unfolding(plain_machine::specs::Answering::handled))]
+fn take(
+    context: Context<'_>,
+    state: &mut State,
     source: SocketAddrV4,
-    moment: u64,
     text: &[u8],
-    outputs: &mut Outputs,
 ) -> Result<(), OutOfMemory>
-    requires { length lines.now ≤ 16 }
-    ensures ok { OnOk result (outputs.new ≡ outputs.old ++ packed (answers (record { domain = domain.now; lines = length lines.now }) (machine_of moment lines.now) source (read_text text.now))) }
-    ensures err { OnErr result (outputs.new ≡ outputs.old) }
+    ensures ok { OnOk result (Does (handled context.entry.setup.now (machine_in state.old) source (read_text text.now))
+        state.old state.new) }
+    ensures before { stations_before state.new ≡ stations_before state.old }
 {
-    match &read_message(alloc, text) {
+    match &read_message(context.alloc, text) {
         Err(TextFault::OutOfMemory) => Err(AllocError),
         Err(TextFault::NoHeader) => Ok(()),
         Err(TextFault::BadVersion { id }) => {
-            put_response(alloc, source, moment, plain_code(alloc, 528), *id, outputs)
-        },
-        Err(TextFault::BadBody { id }) => {
-            put_response(alloc, source, moment, plain_code(alloc, 510), *id, outputs)
-        },
-        Ok(said) => answer_message(alloc, domain, lines, source, moment, said, outputs),
+            refuse(context, state, Request { source, id: *id }, 528)
+        }
+        Err(TextFault::BadBody { id }) => refuse(context, state, Request { source, id: *id }, 510),
+        Ok(said) => handle_message(context, state, source, said),
     }
 }
 
-/// Puts the answers to a datagram behind the outputs, to its source. After an error they are as they were.
-#[tactic(auto, unfolding(crate::specs::Machine::effect, crate::specs::Machine::took_all))]
-pub(crate) fn answer(
-    alloc: Global,
-    domain: &[u8],
-    lines: &[Line],
+/// A datagram: its texts in order, each completely.
+#[tactic(auto, unfolding(plain_machine::specs::Answering::took_all))]
+pub(crate) fn take_datagram(
+    context: Context<'_>,
+    state: &mut State,
     source: SocketAddrV4,
-    moment: u64,
     bytes: &[u8],
-    outputs: &mut Outputs,
 ) -> Result<(), OutOfMemory>
-    requires { length lines.now ≤ 16 }
-    ensures ok { OnOk result (outputs.new ≡ outputs.old ++ packed (effect (record { domain = domain.now; lines = length lines.now }) (machine_of moment lines.now) (datagram source bytes.now)).sent) }
-    ensures err { OnErr result (outputs.new ≡ outputs.old) }
-    ensures no_memory { TakesNoMemory (datagram source bytes.now) → IsOk result }
+    ensures ok { OnOk result (Does (took_all context.entry.setup.now (machine_in state.old) source (texts_of bytes.now))
+        state.old state.new) }
+    ensures before { stations_before state.new ≡ stations_before state.old }
 {
-    if !is_one_text(bytes) {
-        return Ok(());
+    if is_one_text(bytes) {
+        take(context, state, source, bytes)?;
     }
-    answer_text(alloc, domain, lines, source, moment, bytes, outputs)
+    Ok(())
 }

@@ -1,22 +1,25 @@
 //! The residential gateway: fully deterministic, with no network and no clock inside.
 //!
-//! A gateway is given one event at a time and answers with the datagrams that it sends (RFC 3435). What it must do
-//! for every list of events is said by the plain machine in `specs/`, and proved of `step` and `run`.
+//! A gateway is given one event at a time and answers with the datagrams that it sends (RFC 3435). What it must do for
+//! every list of events is said by the plain machine (`plain_machine`), and proved of `step` and `run`.
 #![tactic(auto)]
 
+mod acting;
 mod answering;
+mod changing;
 mod checking;
-mod command;
-mod config;
-mod event;
-pub mod examples;
+mod commanding;
+mod context;
+mod falling;
 mod gateway;
 pub mod laws;
-mod lines;
-mod report;
-#[cfg(test)]
-mod tests;
+mod opening;
+mod refusing;
+mod reporting;
+mod state;
+mod stopped;
+mod working;
 
-pub use crate::config::{Config, ConfigFault, NamedAddress, Names};
-pub use crate::event::{Event, OutDatagram, Outputs, Refusal, Stopped};
 pub use crate::gateway::Gateway;
+pub use crate::stopped::Stopped;
+pub use plain_machine::{Config, ConfigFault, Event, NamedAddress, OutDatagram, Outputs, Refusal};

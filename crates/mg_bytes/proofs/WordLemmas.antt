@@ -14,7 +14,7 @@ some parts = filter is_word parts
 one_more : (n : ℕ) → 1 + n ≡ suc n
 one_more n = omega arith
 
--- the first part is the leading word, and what is behind it has the other words
+-- the first part is the leading word, and what is after it has the other words
 record Fronts (text : List ℕ) : Type 0 where
   more : List (List ℕ)
   parts : slice_split is_blank text ≡ leading_word text ∷ more

@@ -2,6 +2,7 @@
 use Rattle.std.specs.Prelude.{ℕ, ◌&&◌, nat_le, if◌then◌else◌, List, [], ◌∷◌, Option, Some, None}
 use Rattle.std.specs.declared.net.ipv4_addr.Ipv4Addr.{Ipv4Addr}
 use Rattle.mg_bytes.specs.Option.{◌>>=◌}
+use Rattle.mg_bytes.specs.Bytes.{full_stop}
 use Rattle.mg_bytes.specs.Numbers.{decimal_of}
 use Rattle.mg_bytes.specs.Words.{split_once}
 
@@ -15,9 +16,9 @@ octet_of text = decimal_of text >>= octet_from
 -- four such numbers with dots between them
 unfoldable pub ipv4_of : List ℕ → Option Ipv4Addr
 ipv4_of text = do
-  first ← split_once 46 text
-  second ← split_once 46 first.1
-  third ← split_once 46 second.1
+  first ← split_once full_stop text
+  second ← split_once full_stop first.1
+  third ← split_once full_stop second.1
   a ← octet_of first.0
   b ← octet_of second.0
   c ← octet_of third.0

@@ -1,10 +1,11 @@
 -- Blanks, which are spaces and tabs (RFC 3435, appendix A: WSP).
 use Rattle.std.specs.Prelude.{ℕ, ◌-◌, Bool, ◌||◌, ◌==◌, if◌then◌else◌, List, [], ◌∷◌, length, take}
 use Rattle.std.specs.List.{suffix_len}
+use Rattle.mg_bytes.specs.Bytes.{space, tab}
 
 -- a space or a tab
 abbrev pub is_blank : ℕ → Bool
-is_blank b = b == 32 || b == 9
+is_blank b = b == space || b == tab
 
 -- the bytes without the blanks in front
 abbrev pub trimmed_start : List ℕ → List ℕ

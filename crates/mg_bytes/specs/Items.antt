@@ -2,10 +2,11 @@
 use Rattle.std.specs.Prelude.{ℕ, Bool, ◌==◌, List, [], map, Option, Some, None}
 use Rattle.std.specs.List.{slice_split}
 use Rattle.std.specs.Borrow.{Bor}
+use Rattle.mg_bytes.specs.Bytes.{comma}
 use Rattle.mg_bytes.specs.Blanks.{trimmed}
 
 abbrev pub is_comma : ℕ → Bool
-is_comma b = b == 44
+is_comma b = b == comma
 
 -- what stands between commas, without the blanks round it; an empty text is one empty item
 unfoldable pub items_of : List ℕ → List (List ℕ)

@@ -1,4 +1,6 @@
 pub mod Option
+pub mod Bytes
+pub mod Checks
 pub mod Blanks
 pub mod Lines
 pub mod Words

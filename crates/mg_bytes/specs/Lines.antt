@@ -4,19 +4,22 @@ use Rattle.std.specs.List.{onto_first}
 use Rattle.std.specs.Borrow.{Bor}
 use Rattle.std.specs.Str.{bytes_eq}
 use Rattle.std.specs.Str.Lines.{strip_carriage_return}
+use Rattle.mg_bytes.specs.Bytes.{line_feed}
 use Rattle.mg_bytes.specs.Blanks.{trimmed}
 
 abbrev pub is_line_feed : ℕ → Bool
-is_line_feed b = b == 10
+is_line_feed b = b == line_feed
 
--- the text cut behind each line feed; bytes after the last one are a piece too
+-- the text cut after each line feed; bytes after the last one are a piece too
 unfoldable pub cut : List ℕ → List (List ℕ)
 cut [] = []
 cut (b ∷ bs) = if is_line_feed b then (b ∷ []) ∷ cut bs else onto_first b (cut bs)
 
 -- a piece without the LF or CRLF at its end
 abbrev pub without_end : List ℕ → List ℕ
-without_end piece = if is_line_feed (slice_index piece (length piece - 1)) then strip_carriage_return (take (length piece - 1) piece) else piece
+without_end piece =
+    if is_line_feed (slice_index piece (length piece - 1))
+    then strip_carriage_return (take (length piece - 1) piece) else piece
 
 -- the line that a piece is: without its end, and without blanks round it
 abbrev pub line_of : List ℕ → List ℕ
@@ -33,4 +36,5 @@ is_dot_line piece = bytes_eq (line_of piece) (codes ".")
 -- what a call of `next` does to the pieces that are left: the first is given as its line
 abbrev pub TakesLine : List (List ℕ) → Option (Bor (List ℕ)) → List (List ℕ) → Type 0
 TakesLine old given new =
-    MatchOption given ((old ≡ []) × (new ≡ [])) (λ line. (piece : List ℕ) × (old ≡ piece ∷ new) × (line.now ≡ line_of piece))
+    MatchOption given ((old ≡ []) × (new ≡ []))
+    (λ line. (piece : List ℕ) × (old ≡ piece ∷ new) × (line.now ≡ line_of piece))

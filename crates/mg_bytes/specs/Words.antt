@@ -22,4 +22,5 @@ after_word text = drop (position_or_len is_blank text) text
 -- what stands before the first byte c, and what stands after it
 unfoldable pub split_once : ℕ → List ℕ → Option (List ℕ × List ℕ)
 split_once c [] = None
-split_once c (b ∷ bs) = if b == c then Some ([], bs) else option_map (λ sides. (b ∷ sides.0, sides.1)) (split_once c bs)
+split_once c (b ∷ bs) =
+    if b == c then Some ([], bs) else option_map (λ sides. (b ∷ sides.0, sides.1)) (split_once c bs)

@@ -1,3 +1,4 @@
+//! Addresses and ports as text.
 ghost use Rattle.std.specs.Prelude.{◌≡◌};
 ghost use Rattle.mg_bytes.specs.Address.{octet_of, ipv4_of, port_of};
 

@@ -1,3 +1,4 @@
+//! Blanks, which are spaces and tabs.
 ghost use Rattle.std.specs.Prelude.{◌≡◌};
 ghost use Rattle.mg_bytes.specs.Blanks.{is_blank, trimmed_start, trimmed_end, trimmed};
 

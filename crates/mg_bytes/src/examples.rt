@@ -1,32 +1,85 @@
 //! Worked examples of the definitions, as theorems.
 #![tactic(auto, unfolding(crate::proofs::Computing::on_examples))]
 
-ghost use Rattle.std.specs.Prelude.{◌≡◌, codes, [], ◌∷◌, Some, None, true, false};
-ghost use Rattle.mg_bytes.specs.Lines.{lines_of};
+ghost use Rattle.std.specs.Prelude.{◌≡◌, ◌++◌, codes, [], ◌∷◌, Some, None, Ok, Err, true, false};
+ghost use Rattle.mg_bytes.specs.Bytes.{tab, line_feed, vertical_tab, form_feed, carriage_return, space, dollar, star};
+ghost use Rattle.mg_bytes.specs.Bytes.{plus, comma, hyphen, full_stop, slash, digit_zero, colon, at_sign};
+ghost use Rattle.mg_bytes.specs.Bytes.{left_bracket, right_bracket};
+ghost use Rattle.mg_bytes.specs.Checks.{unless, first_fault, checked, given};
+ghost use Rattle.mg_bytes.specs.Lines.{lines_of, is_dot_line};
+ghost use Rattle.mg_bytes.specs.Blanks.{trimmed};
 ghost use Rattle.mg_bytes.specs.Words.{words, split_once};
 ghost use Rattle.mg_bytes.specs.Items.{items_of};
 ghost use Rattle.mg_bytes.specs.Numbers.{decimal_of, is_hex_text};
 ghost use Rattle.mg_bytes.specs.Case.{same_but_case};
 ghost use Rattle.mg_bytes.specs.Address.{ipv4_of, port_of};
 
-/// CRLF and LF end a line, blanks round it are dropped, and bytes behind the last end are a line.
+/// The names of bytes stand for what is written.
+pub fn bytes_have_names()
+    ensures ends { codes "\r\n" ≡ carriage_return ∷ line_feed ∷ [] }
+    ensures blanks { codes " \t" ≡ space ∷ tab ∷ [] }
+    ensures signs { codes "$*+,-./" ≡ dollar ∷ star ∷ plus ∷ comma ∷ hyphen ∷ full_stop ∷ slash ∷ [] }
+    ensures others { codes "0:@[]" ≡ digit_zero ∷ colon ∷ at_sign ∷ left_bracket ∷ right_bracket ∷ [] }
+{}
+
+/// Of several checks, the first that finds a fault gives it.
+pub fn the_first_fault_counts()
+    ensures second { first_fault (unless true (codes "a") ∷ unless false (codes "b") ∷ unless false (codes "c") ∷ [])
+        ≡ Some (codes "b") }
+    ensures none { first_fault (unless true (codes "a") ∷ unless true (codes "b") ∷ []) ≡ None }
+    ensures found { given (Some (codes "x")) (codes "a") (λ found. checked (unless true (codes "b")) (Ok found))
+        ≡ Ok (codes "x") }
+    ensures fault { given (Some (codes "x")) (codes "a") (λ found. checked (unless false (codes "b")) (Ok found))
+        ≡ Err (codes "b") }
+    ensures missing { given None (codes "a") (λ found. checked (unless false (codes "b")) (Ok (codes "y" ++ found)))
+        ≡ Err (codes "a") }
+{}
+
+/// CRLF and LF end a line, blanks round it are dropped, and bytes after the last end are a line.
 pub fn lines_end_in_crlf_or_lf()
-    ensures both { lines_of (codes " a b\t\r\nc\n \n\r\nd") ≡ codes "a b" ∷ codes "c" ∷ [] ∷ [] ∷ codes "d" ∷ [] }
+    ensures both { lines_of (codes " a b\t\r\nc\n \n\r\nd")
+        ≡ codes "a b" ∷ codes "c" ∷ [] ∷ [] ∷ codes "d" ∷ [] }
     ensures none { lines_of [] ≡ [] }
     ensures ended { lines_of (codes "a\r\n") ≡ codes "a" ∷ [] }
     // Only one carriage return before a line feed belongs to the end.
     ensures lone_return { lines_of (codes "a\r\r\nb\r") ≡ codes "a\r" ∷ codes "b\r" ∷ [] }
+    ensures vertical_tab { let line = 97 ∷ vertical_tab ∷ 98 ∷ [] in lines_of line ≡ line ∷ [] }
+    ensures form_feed { let line = 97 ∷ form_feed ∷ 98 ∷ [] in lines_of line ≡ line ∷ [] }
+{}
+
+/// A line is a single dot whatever its end and the blanks round it.
+pub fn a_dot_alone_is_a_dot_line()
+    ensures crlf { is_dot_line (codes ".\r\n") ≡ true }
+    ensures feed { is_dot_line (codes ".\n") ≡ true }
+    ensures no_end { is_dot_line (codes ".") ≡ true }
+    ensures blanks { is_dot_line (codes " .\t \r\n") ≡ true }
+    ensures two { is_dot_line (codes "..\r\n") ≡ false }
+    ensures apart { is_dot_line (codes ". .\r\n") ≡ false }
+    ensures empty { is_dot_line (codes "\r\n") ≡ false }
+{}
+
+/// Blanks are spaces and tabs, and no other byte is.
+pub fn blanks_are_spaces_and_tabs()
+    ensures both { trimmed (codes "\t a \tb\t ") ≡ codes "a \tb" }
+    ensures form_feed { let text = form_feed ∷ 97 ∷ form_feed ∷ [] in trimmed text ≡ text }
+    ensures vertical_tab { let text = vertical_tab ∷ 97 ∷ vertical_tab ∷ [] in trimmed text ≡ text }
+    ensures ends { let text = codes "\r\na\r\n" in trimmed text ≡ text }
+    ensures only { trimmed (codes " \t ") ≡ [] }
 {}
 
 /// Spaces and tabs part words, however many there are.
 pub fn blanks_part_words()
-    ensures { words (codes "AUEP  12\taaln/1 ") ≡ codes "AUEP" ∷ codes "12" ∷ codes "aaln/1" ∷ [] }
+    ensures three { words (codes "AUEP  12\taaln/1 ")
+        ≡ codes "AUEP" ∷ codes "12" ∷ codes "aaln/1" ∷ [] }
+    ensures form_feed { let word = 97 ∷ form_feed ∷ 98 ∷ [] in words word ≡ word ∷ [] }
+    ensures none { words (codes " \t") ≡ [] }
 {}
 
 /// A text is split at the first such byte.
 pub fn the_first_colon_splits()
-    ensures first { split_once 58 (codes "K:1:2") ≡ Some (codes "K", codes "1:2") }
-    ensures none { split_once 58 (codes "K") ≡ None }
+    ensures first { split_once colon (codes "K:1:2") ≡ Some (codes "K", codes "1:2") }
+    ensures none { split_once colon (codes "K") ≡ None }
+    ensures ends { split_once colon (codes ":") ≡ Some ([], []) }
 {}
 
 /// Commas part the items of a list, and blanks round an item are dropped.
@@ -34,12 +87,13 @@ pub fn commas_part_items()
     ensures three { items_of (codes "1-3 , 7,\t9") ≡ codes "1-3" ∷ codes "7" ∷ codes "9" ∷ [] }
     ensures empty { items_of [] ≡ [] ∷ [] }
     ensures trailing { items_of (codes "7,") ≡ codes "7" ∷ [] ∷ [] }
+    ensures others { items_of (codes "1;2 3") ≡ codes "1;2 3" ∷ [] }
 {}
 
 /// A number has 1 to 18 digits, and leading zeros count.
 pub fn numbers_have_1_to_18_digits()
     ensures zeros { decimal_of (codes "000000000000000042") ≡ Some 42 }
-    ensures greatest { decimal_of (codes "999999999999999999") ≡ Some 999999999999999999 }
+    ensures largest { decimal_of (codes "999999999999999999") ≡ Some 999999999999999999 }
     ensures too_long { decimal_of (codes "0000000000000000042") ≡ None }
     ensures empty { decimal_of [] ≡ None }
     ensures sign { decimal_of (codes "+1") ≡ None }
@@ -62,8 +116,9 @@ pub fn letters_are_compared_without_case()
 /// An address is four numbers up to 255; leading zeros are taken.
 pub fn addresses_are_four_numbers()
     ensures zeros { ipv4_of (codes "127.000.0.01") ≡ Some (record { octets = 127 ∷ 0 ∷ 0 ∷ 1 ∷ [] }) }
-    ensures greatest { ipv4_of (codes "255.255.255.255") ≡ Some (record { octets = 255 ∷ 255 ∷ 255 ∷ 255 ∷ [] }) }
-    ensures too_great { ipv4_of (codes "127.0.0.256") ≡ None }
+    ensures largest { ipv4_of (codes "255.255.255.255")
+        ≡ Some (record { octets = 255 ∷ 255 ∷ 255 ∷ 255 ∷ [] }) }
+    ensures too_large { ipv4_of (codes "127.0.0.256") ≡ None }
     ensures three { ipv4_of (codes "127.0.1") ≡ None }
     ensures five { ipv4_of (codes "127.0.0.0.1") ≡ None }
 {}
@@ -71,7 +126,7 @@ pub fn addresses_are_four_numbers()
 /// A port is a number from 1 to 65535; leading zeros are taken.
 pub fn ports_are_numbers_from_1_to_65535()
     ensures least { port_of (codes "1") ≡ Some 1 }
-    ensures greatest { port_of (codes "065535") ≡ Some 65535 }
+    ensures largest { port_of (codes "065535") ≡ Some 65535 }
     ensures zero { port_of (codes "0") ≡ None }
-    ensures too_great { port_of (codes "65536") ≡ None }
+    ensures too_large { port_of (codes "65536") ≡ None }
 {}

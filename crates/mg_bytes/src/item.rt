@@ -1,3 +1,4 @@
+//! The items of a list, which commas part.
 use crate::blank::trimmed;
 use crate::split::split_once;
 use std::marker::Model;

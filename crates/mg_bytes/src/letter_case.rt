@@ -1,3 +1,4 @@
+//! Comparison without the case of letters.
 ghost use Rattle.std.specs.Prelude.{◌≡◌};
 ghost use Rattle.mg_bytes.specs.Case.{same_but_case};
 

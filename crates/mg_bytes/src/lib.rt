@@ -1,4 +1,5 @@
-//! The bytes of a text: its lines, the words of a line, numbers as digits, comparison without case, and owned text.
+//! The bytes of a text: its lines, the words of a line, numbers as digits, comparison without case, owned text,
+//! and lists that own their values.
 //!
 //! Nothing here knows what a message is. What only reads takes no memory and gives slices of what it read.
 #![tactic(auto)]
@@ -11,9 +12,8 @@ mod letter_case;
 mod line;
 mod number;
 mod owned;
+mod sequence;
 mod split;
-#[cfg(test)]
-mod tests;
 mod word;
 
 pub use crate::address::{ipv4_address, port_number};
@@ -23,5 +23,6 @@ pub use crate::letter_case::same_no_case;
 pub use crate::line::Lines;
 pub use crate::number::{decimal, hex_text, put_decimal};
 pub use crate::owned::{OutOfMemory, Text};
+pub use crate::sequence::Sequence;
 pub use crate::split::{has_dot_line, lines, list_items, split_once, words};
 pub use crate::word::Words;

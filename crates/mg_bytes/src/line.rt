@@ -1,3 +1,4 @@
+//! The lines of a text.
 ghost use Rattle.std.specs.Prelude.{◌≡◌, ◌≢◌, ◌++◌, ◌∷◌, []};
 ghost use Rattle.std.specs.List.{concat};
 ghost use Rattle.mg_bytes.specs.Lines.{cut, without_end};

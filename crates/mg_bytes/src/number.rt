@@ -1,3 +1,4 @@
+//! Numbers as digits.
 ghost use Rattle.std.specs.Prelude.{◌≡◌, ◌++◌, OnOk, OnErr, decimal as decimal_text, IfSome, ◌<◌, ◌^◌, length};
 ghost use Rattle.std.specs.List.{list_all};
 ghost use Rattle.std.specs.Char.{is_ascii_digit, is_ascii_hexdigit};
@@ -5,6 +6,7 @@ ghost use Rattle.mg_bytes.specs.Numbers.{is_decimal, decimal_of, is_hex_text};
 
 use crate::owned::OutOfMemory;
 use itoa::Buffer;
+use std::alloc::Global;
 
 fn all_digits(text: &[u8]) -> bool
     ensures { result ≡ list_all is_ascii_digit text.now }
@@ -48,7 +50,7 @@ pub fn hex_text(text: &[u8]) -> bool
 }
 
 /// Appends a number in decimal digits, without leading zeros. After an error `out` is as it was.
-pub fn put_decimal(out: &mut Vec<u8>, number: u64) -> Result<(), OutOfMemory>
+pub fn put_decimal(_alloc: Global, out: &mut Vec<u8>, number: u64) -> Result<(), OutOfMemory>
     ensures ok { OnOk result (out.new.items ≡ out.old.items ++ decimal_text number) }
     ensures err { OnErr result (out.new.items ≡ out.old.items) }
 {

@@ -1,3 +1,4 @@
+//! Bytes that are owned.
 ghost use Rattle.std.specs.Prelude.{◌≡◌};
 
 use std::alloc::AllocError;

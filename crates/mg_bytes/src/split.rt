@@ -1,3 +1,4 @@
+//! A text taken apart: into lines, words, items, or at a byte.
 ghost use Rattle.std.specs.Prelude.{◌≡◌, ◌≤◌, length, option_map};
 ghost use Rattle.std.specs.List.{concat, list_any};
 ghost use Rattle.mg_bytes.specs.Lines.{cut, is_dot_line};
@@ -9,7 +10,7 @@ use crate::line::Lines;
 use crate::word::Words;
 use memchr::memchr;
 
-/// The lines of a text, from the first: each ends in CRLF or LF, and bytes behind the last end are a line too.
+/// The lines of a text, from the first: each ends in CRLF or LF, and bytes after the last end are a line too.
 /// A line is given without its end and without the blanks round it.
 pub fn lines(text: &[u8]) -> Lines<'_>
     ensures pieces { result ≡ cut text.now }

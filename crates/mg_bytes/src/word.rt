@@ -1,3 +1,4 @@
+//! The words of a line.
 ghost use Rattle.std.specs.Prelude.{◌≡◌, position};
 ghost use Rattle.mg_bytes.specs.Blanks.{is_blank};
 ghost use Rattle.mg_bytes.specs.Words.{leading_word, after_word};
@@ -26,7 +27,7 @@ fn first_blank(text: &[u8]) -> Option<usize>
     text.iter().position(|byte| is_blank(*byte))
 }
 
-// The word in front, and the blank behind it with all that follows.
+// The word in front, and the blank after it with all that follows.
 fn split_word(text: &[u8]) -> (&[u8], &[u8])
     ensures front { result.0.now ≡ leading_word text.now }
     ensures rest { result.1.now ≡ after_word text.now }

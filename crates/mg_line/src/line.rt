@@ -1,13 +1,18 @@
-ghost use Rattle.std.specs.Prelude.{◌≡◌, IsTrue, IfOk};
-ghost use Rattle.mg_line.specs.Line.{opening_line, is_possible, hook_after, phoned};
+//! The line, and what an act at its telephone makes of it.
+ghost use Rattle.std.specs.Prelude.{◌≡◌, ℕ, None, IsTrue, IfOk, OnErr};
+ghost use Rattle.std.specs.Bool.{OnFalse};
+ghost use Rattle.mg_line.specs.Line.{opening_line, is_possible, hook_after, is_heeded, phoned};
 
+use crate::notice::Notice;
 use crate::phone::{Act, Hook};
-use std::alloc::{AllocError, Global};
+use mg_bytes::OutOfMemory;
+use std::alloc::Global;
 use std::marker::Model;
 
 /// A line. A contract sees what it is.
 #[derive(Drop)]
 pub struct Line {
+    alloc: Global,
     hook: Hook,
 }
 
@@ -41,18 +46,24 @@ fn hook_after(hook: Hook, act: Act) -> Hook
 }
 
 impl Line {
-    /// A line on hook.
-    pub fn new(_alloc: Global) -> Result<Line, AllocError>
-        ensures { IfOk result (λ line. line ≡ opening_line) }
+    /// A line on hook (RFC 3660, 2.4). This takes no memory; what it keeps later grows in this allocator.
+    pub fn new(alloc: Global) -> Line
+        ensures { result ≡ opening_line }
     {
-        Ok(Line { hook: Hook::OnHook })
+        Line {
+            alloc,
+            hook: Hook::OnHook,
+        }
     }
 
     /// An equal line.
-    pub fn try_copy(&self) -> Result<Line, AllocError>
+    pub fn try_copy(&self) -> Result<Line, OutOfMemory>
         ensures { IfOk result (λ line. line ≡ self.now) }
     {
-        Ok(Line { hook: self.hook })
+        Ok(Line {
+            alloc: self.alloc,
+            hook: self.hook,
+        })
     }
 
     /// The hook state.
@@ -69,12 +80,29 @@ impl Line {
         is_possible(self.hook, act)
     }
 
-    /// An act of the telephone.
+    /// Whether an act, which the hook state allows, changes the line or makes it tell something.
     #[tactic(auto, unfolding(crate::specs::Line::phoned))]
-    pub fn phone(&mut self, act: Act)
-        requires { IsTrue (is_possible self.old.hook act) }
-        ensures { self.new ≡ phoned self.old act }
+    pub fn heeds(&self, act: Act) -> bool
+        ensures value { result ≡ is_heeded act }
+        ensures unheeded { OnFalse result ((moment : ℕ) →
+            phoned self.now act moment ≡ record { line = self.now; notice = None }) }
     {
+        match act {
+            Act::OffHook | Act::OnHook => true,
+            Act::Flash | Act::Key(_) => false,
+        }
+    }
+
+    /// An act of its telephone at this moment (ms): what the line has to tell. After an error it is as it was.
+    #[tactic(auto, unfolding(crate::specs::Line::phoned))]
+    pub fn phone(&mut self, act: Act, moment: u64) -> Result<Option<Notice>, OutOfMemory>
+        requires { IsTrue (is_possible self.old.hook act) }
+        ensures ok { IfOk result (λ notice.
+            record { line = self.new; notice = notice } ≡ phoned self.old act moment) }
+        ensures err { OnErr result (self.new ≡ self.old) }
+    {
+        let _ = moment;
         self.hook = hook_after(self.hook, act);
+        Ok(None)
     }
 }

@@ -11,7 +11,7 @@ use Rattle.std.proofs.lemmas.Bool.Decides.{Decides-eqb}
 use Rattle.std.proofs.lemmas.Slice.Eq.{bytes_eq-Decides}
 use Rattle.mgcp_text.specs.Writing.{ended, crlf}
 
--- what doesn't begin with the line, or behind it with CRLF, doesn't begin with both
+-- what doesn't begin with the line, or after it with CRLF, doesn't begin with both
 pub no_line : (text line : List ℕ) → ((rest : List ℕ) → text ≢ line ++ rest) → (rest : List ℕ) → text ≢ ended line ++ rest
 no_line text line none rest e = none (crlf ++ rest) (e ∙ append_assoc line crlf rest)
 

@@ -1,3 +1,6 @@
 pub mod SpellingLaws
 pub mod EndedLemmas
+pub mod IdLemmas
+pub mod AnswerLemmas
+pub mod ValueLaws
 pub mod Computing

@@ -1,8 +1,9 @@
 -- Each text is read as one outcome: the function and the relation say the same.
 use Rattle.std.proofs.Common.{◌≡◌, ℕ, ◌<◌, inl, inr, true, false, List, [], ◌∷◌, ◌++◌, length, Option, Some, None, refl, sym, ap, ◌∙◌, arith, ⊎_elim, ◌⊎◌, append-nil}
-use Rattle.std.specs.Prelude.{IfSome, option_map}
+use Rattle.std.specs.Prelude.{Ok, IfSome, option_map}
 use Rattle.std.specs.List.{AllByRecursion}
 use Rattle.std.proofs.lemmas.Bool.{cases_Bool}
+use Rattle.mg_bytes.specs.Checks.{given}
 use Rattle.mg_bytes.specs.Lines.{cut, line_of}
 use Rattle.mg_bytes.specs.Words.{words, split_once}
 use Rattle.mgcp_text.specs.declared.message.Verb.{Verb}
@@ -11,46 +12,46 @@ use Rattle.mgcp_text.specs.declared.message.Message.TheVariants.{Command, Respon
 use Rattle.mgcp_text.specs.declared.header.Header.{Header}
 use Rattle.mgcp_text.specs.Header.{header_of, is_version}
 use Rattle.mgcp_text.specs.Parameter.{param_of}
-use Rattle.mgcp_text.specs.Reading.{Outcome, message, no_header, bad_version, bad_body, is_empty, is_empty_line, skip_empty, put_front, params_of, description_of, with_params, command_from, read_text}
+use Rattle.mgcp_text.specs.Reading.{Outcome, message, no_header, bad_version, bad_body, is_empty, is_empty_line, skip_empty, put_front, params_of, description_of, read_as, command_from, read_text}
 use Rattle.mgcp_text.specs.Spelling.{IsEmptyLine, IsFullLine, BeginsWith, HasHeader, AreParams, EndsParams, HasParams, HasStray, HasName, HasOtherVersion, Reads}
 
 -- ---- the first line that isn't empty
 
-skip_front : (front : List (List ℕ)) (piece : List ℕ) (behind : List (List ℕ)) → AllByRecursion IsEmptyLine front → IsFullLine piece
-    → skip_empty (front ++ (piece ∷ behind)) ≡ piece ∷ behind
+skip_front : (front : List (List ℕ)) (piece : List ℕ) (following : List (List ℕ)) → AllByRecursion IsEmptyLine front → IsFullLine piece
+    → skip_empty (front ++ (piece ∷ following)) ≡ piece ∷ following
 unfolding skip_empty
-skip_front [] piece behind skipped full = rw full refl
-skip_front (p ∷ ps) piece behind skipped full = rw (skipped.0) (skip_front ps piece behind skipped.1 full)
+skip_front [] piece following skipped full = rw full refl
+skip_front (p ∷ ps) piece following skipped full = rw (skipped.0) (skip_front ps piece following skipped.1 full)
 
--- what is left of the pieces is found behind empty lines
-record Skips (pieces : List (List ℕ)) (piece : List ℕ) (behind : List (List ℕ)) : Type 0 where
+-- what is left of the pieces is found after empty lines
+record Skips (pieces : List (List ℕ)) (piece : List ℕ) (following : List (List ℕ)) : Type 0 where
   front : List (List ℕ)
-  parts : pieces ≡ front ++ (piece ∷ behind)
+  parts : pieces ≡ front ++ (piece ∷ following)
   skipped : AllByRecursion IsEmptyLine front
   full : IsFullLine piece
 
-skips : (pieces : List (List ℕ)) (piece : List ℕ) (behind : List (List ℕ)) → skip_empty pieces ≡ piece ∷ behind → Skips pieces piece behind
+skips : (pieces : List (List ℕ)) (piece : List ℕ) (following : List (List ℕ)) → skip_empty pieces ≡ piece ∷ following → Skips pieces piece following
 unfolding skip_empty
-skips [] piece behind e = absurd cc
-skips (p ∷ ps) piece behind e =
+skips [] piece following e = absurd cc
+skips (p ∷ ps) piece following e =
     ⊎_elim
     (λ (h : is_empty_line p ≡ true).
-    let rest = skips ps piece behind (rw h at e) in
+    let rest = skips ps piece following (rw h at e) in
     record { front = p ∷ rest.front; parts = ap (λ (x : List (List ℕ)). p ∷ x) rest.parts; skipped = (h, rest.skipped); full = rest.full })
     (λ (h : is_empty_line p ≡ false).
-    let same : (p ∷ ps) ≡ (piece ∷ behind) = (rw h at e) in
+    let same : (p ∷ ps) ≡ (piece ∷ following) = (rw h at e) in
     let first : p ≡ piece = cc in
     record { front = []; parts = same; skipped = tt; full = rw (← first) h })
     (cases_Bool (is_empty_line p))
 
-skip_is : (text line : List ℕ) (behind : List (List ℕ)) (b : BeginsWith text line behind) → skip_empty (cut text) ≡ b.piece ∷ behind
-skip_is text line behind b = ap skip_empty b.pieces ∙ skip_front b.front b.piece behind b.skipped b.full
+skip_is : (text line : List ℕ) (following : List (List ℕ)) (b : BeginsWith text line following) → skip_empty (cut text) ≡ b.piece ∷ following
+skip_is text line following b = ap skip_empty b.pieces ∙ skip_front b.front b.piece following b.skipped b.full
 
 -- what is read of a text with this header
-header_is : (text : List ℕ) (h : Header) (behind : List (List ℕ)) → HasHeader text h behind → read_text text ≡ command_from h.verb h.id h.rest behind
+header_is : (text : List ℕ) (h : Header) (following : List (List ℕ)) → HasHeader text h following → read_text text ≡ command_from h.verb h.id h.rest following
 unfolding read_text
-header_is text h behind has =
-    rw (skip_is text has.line behind has.first, ← has.first.is_line, has.header) refl
+header_is text h following has =
+    rw (skip_is text has.line following has.first, ← has.first.is_line, has.header) refl
 
 -- ---- the parameters
 
@@ -144,7 +145,12 @@ found (piece ∷ pieces) =
     (λ (h : is_empty_line piece ≡ false). found_at piece pieces h (param_of (line_of piece)) refl (found pieces))
     (cases_Bool (is_empty_line piece))
 
--- ---- the header's words
+-- ---- the words after the id
+
+-- a command with this name, and what was read of its parameters
+abbrev with_params : Verb → ℕ → List ℕ → Option (List Param × List (List ℕ)) → Outcome
+with_params verb id name params =
+    read_as (given params (bad_body id) (λ read. Ok (Command verb id name read.0 (description_of read.1))))
 
 short_is : (verb : Verb) (id : ℕ) (rest pieces : List (List ℕ)) → length rest < 3 → command_from verb id rest pieces ≡ bad_body id
 unfolding command_from
@@ -164,21 +170,21 @@ other_is verb id rest pieces has = rw (has.parts, has.other) refl
 -- ---- the text
 
 data Top (text : List ℕ) : Type 0 where
-  without : read_text text ≡ no_header → ((h : Header) (behind : List (List ℕ)) → HasHeader text h behind → ⊥) → Top text
-  with : (h : Header) (behind : List (List ℕ)) → HasHeader text h behind → Top text
+  without : read_text text ≡ no_header → ((h : Header) (following : List (List ℕ)) → HasHeader text h following → ⊥) → Top text
+  with : (h : Header) (following : List (List ℕ)) → HasHeader text h following → Top text
 
 module _ (text : List ℕ) where
-  top_header : (piece : List ℕ) (behind : List (List ℕ)) → skip_empty (cut text) ≡ piece ∷ behind → (h : Option Header) → header_of (words (line_of piece)) ≡ h → Top text
+  top_header : (piece : List ℕ) (following : List (List ℕ)) → skip_empty (cut text) ≡ piece ∷ following → (h : Option Header) → header_of (words (line_of piece)) ≡ h → Top text
   unfolding read_text
-  top_header piece behind e None none =
+  top_header piece following e None none =
       without (rw (e, none) refl) (λ h other has.
-      let same : (has.first.piece ∷ other) ≡ (piece ∷ behind) = sym (skip_is text has.line other has.first) ∙ e in
+      let same : (has.first.piece ∷ other) ≡ (piece ∷ following) = sym (skip_is text has.line other has.first) ∙ e in
       let first : has.first.piece ≡ piece = cc in
       let read : None ≡ Some h = sym none ∙ sym (ap (λ (p : List ℕ). header_of (words (line_of p))) first) ∙ sym (ap (λ (l : List ℕ). header_of (words l)) has.first.is_line) ∙ has.header in
       absurd cc)
-  top_header piece behind e (Some h) some =
-      let s = skips (cut text) piece behind e in
-      with h behind (record {
+  top_header piece following e (Some h) some =
+      let s = skips (cut text) piece following e in
+      with h following (record {
         line = line_of piece;
         first = record { front = s.front; piece = piece; pieces = s.parts; skipped = s.skipped; full = s.full; is_line = refl };
         header = some;
@@ -186,8 +192,8 @@ module _ (text : List ℕ) where
 
   top_pieces : (pieces : List (List ℕ)) → skip_empty (cut text) ≡ pieces → Top text
   unfolding read_text
-  top_pieces [] e = without (rw e refl) (λ h behind has. let none : [] ≡ has.first.piece ∷ behind = sym e ∙ skip_is text has.line behind has.first in absurd cc)
-  top_pieces (piece ∷ behind) e = top_header piece behind e (header_of (words (line_of piece))) refl
+  top_pieces [] e = without (rw e refl) (λ h following has. let none : [] ≡ has.first.piece ∷ following = sym e ∙ skip_is text has.line following has.first in absurd cc)
+  top_pieces (piece ∷ following) e = top_header piece following e (header_of (words (line_of piece))) refl
 
   top : Top text
   top = top_pieces (skip_empty (cut text)) refl
@@ -206,58 +212,58 @@ three (a ∷ []) = inl (omega arith)
 three (a ∷ b ∷ []) = inl (omega arith)
 three (a ∷ b ∷ c ∷ more) = inr (record { name = a; protocol = b; version = c; more = more; words = refl })
 
-module _ (text : List ℕ) (h : Header) (behind : List (List ℕ)) (has : HasHeader text h behind) where
-  reads_as : (outcome : Outcome) → command_from h.verb h.id h.rest behind ≡ outcome → Reads text outcome → Reads text (read_text text)
-  reads_as outcome e r = rw (header_is text h behind has, e) r
+module _ (text : List ℕ) (h : Header) (following : List (List ℕ)) (has : HasHeader text h following) where
+  reads_as : (outcome : Outcome) → command_from h.verb h.id h.rest following ≡ outcome → Reads text outcome → Reads text (read_text text)
+  reads_as outcome e r = rw (header_is text h following has, e) r
 
-  reads_named : (name : List ℕ) → HasName h.rest name → Found behind → Reads text (read_text text)
+  reads_named : (name : List ℕ) → HasName h.rest name → Found following → Reads text (read_text text)
   reads_named name named (inl (params, rest, lines)) =
       reads_as (message (Command h.verb h.id name params (description_of rest)))
-      (named_is h.verb h.id h.rest behind name named ∙ ap (with_params h.verb h.id name) (params_are behind params rest lines))
-      (record { rest = h.rest; behind = behind; after = rest; header = has; named = named; lines = lines; description = refl })
+      (named_is h.verb h.id h.rest following name named ∙ ap (with_params h.verb h.id name) (params_are following params rest lines))
+      (record { rest = h.rest; following = following; after = rest; header = has; named = named; lines = lines; description = refl })
   reads_named name named (inr stray) =
-      reads_as (bad_body h.id) (named_is h.verb h.id h.rest behind name named ∙ ap (with_params h.verb h.id name) (stray_is behind stray))
-      (h, behind, has, refl, inr (name, named, stray))
+      reads_as (bad_body h.id) (named_is h.verb h.id h.rest following name named ∙ ap (with_params h.verb h.id name) (stray_is following stray))
+      (h, following, has, refl, inr (name, named, stray))
 
   reads_three : HasThree h.rest → Reads text (read_text text)
   reads_three t =
       ⊎_elim
       (λ (e : is_version t.protocol t.version ≡ true).
-      reads_named t.name (record { protocol = t.protocol; version = t.version; more = t.more; parts = t.words; spoken = e }) (found behind))
+      reads_named t.name (record { protocol = t.protocol; version = t.version; more = t.more; parts = t.words; spoken = e }) (found following))
       (λ (e : is_version t.protocol t.version ≡ false).
       let other : HasOtherVersion h.rest = record { name = t.name; protocol = t.protocol; version = t.version; more = t.more; parts = t.words; other = e } in
-      reads_as (bad_version h.id) (other_is h.verb h.id h.rest behind other) (h, behind, has, refl, other))
+      reads_as (bad_version h.id) (other_is h.verb h.id h.rest following other) (h, following, has, refl, other))
       (cases_Bool (is_version t.protocol t.version))
 
   reads_header : (length h.rest < 3) ⊎ HasThree h.rest → Reads text (read_text text)
-  reads_header (inl short) = reads_as (bad_body h.id) (short_is h.verb h.id h.rest behind short) (h, behind, has, refl, inl short)
+  reads_header (inl short) = reads_as (bad_body h.id) (short_is h.verb h.id h.rest following short) (h, following, has, refl, inl short)
   reads_header (inr t) = reads_three t
 
 reads_top : (text : List ℕ) → Top text → Reads text (read_text text)
 reads_top text (without e none) = rw e none
-reads_top text (with h behind has) = reads_header text h behind has (three h.rest)
+reads_top text (with h following has) = reads_header text h following has (three h.rest)
 
 -- each text is read as this outcome
 pub reads_some : (text : List ℕ) → Reads text (read_text text)
 reads_some text = reads_top text (top text)
 
-no_header_top : (text : List ℕ) → Top text → ((h : Header) (behind : List (List ℕ)) → HasHeader text h behind → ⊥) → no_header ≡ read_text text
+no_header_top : (text : List ℕ) → Top text → ((h : Header) (following : List (List ℕ)) → HasHeader text h following → ⊥) → no_header ≡ read_text text
 no_header_top text (without e none) never = sym e
-no_header_top text (with h behind has) never = absurd (never h behind has)
+no_header_top text (with h following has) never = absurd (never h following has)
 
 -- and as no other
 pub reads_only : (text : List ℕ) (outcome : Outcome) → Reads text outcome → outcome ≡ read_text text
 reads_only text (message (Command verb id name params body)) s =
-    sym (header_is text (record { verb = verb; id = id; rest = s.rest }) s.behind s.header ∙ named_is verb id s.rest s.behind name s.named
-    ∙ ap (with_params verb id name) (params_are s.behind params s.after s.lines) ∙ rw (← s.description) refl)
+    sym (header_is text (record { verb = verb; id = id; rest = s.rest }) s.following s.header ∙ named_is verb id s.rest s.following name s.named
+    ∙ ap (with_params verb id name) (params_are s.following params s.after s.lines) ∙ rw (← s.description) refl)
 reads_only text (message (Response code id params body)) r = absurd r
 reads_only text no_header never = no_header_top text (top text) never
-reads_only text (bad_version id) (h, behind, has, e, other) =
-    sym (header_is text h behind has ∙ other_is h.verb h.id h.rest behind other ∙ ap bad_version e)
-reads_only text (bad_body id) (h, behind, has, e, inl short) =
-    sym (header_is text h behind has ∙ short_is h.verb h.id h.rest behind short ∙ ap bad_body e)
-reads_only text (bad_body id) (h, behind, has, e, inr (name, named, stray)) =
-    sym (header_is text h behind has ∙ named_is h.verb h.id h.rest behind name named ∙ ap (with_params h.verb h.id name) (stray_is behind stray) ∙ ap bad_body e)
+reads_only text (bad_version id) (h, following, has, e, other) =
+    sym (header_is text h following has ∙ other_is h.verb h.id h.rest following other ∙ ap bad_version e)
+reads_only text (bad_body id) (h, following, has, e, inl short) =
+    sym (header_is text h following has ∙ short_is h.verb h.id h.rest following short ∙ ap bad_body e)
+reads_only text (bad_body id) (h, following, has, e, inr (name, named, stray)) =
+    sym (header_is text h following has ∙ named_is h.verb h.id h.rest following name named ∙ ap (with_params h.verb h.id name) (stray_is following stray) ∙ ap bad_body e)
 
 pub reads_from_value : (text : List ℕ) (read : Option Outcome) → IfSome read (λ outcome. outcome ≡ read_text text) → IfSome read (Reads text)
 reads_from_value text None e = tt

@@ -1,19 +1,19 @@
 -- What a K parameter confirms (RFC 3435, 3.2.2.1 and 3.5.1): `K: 6234-6255, 6257`.
-use Rattle.std.specs.Prelude.{ℕ, nat_le, Bool, if◌then◌else◌, List, [], ◌∷◌, find, codes, Option, Some, None}
+use Rattle.std.specs.Prelude.{ℕ, nat_le, if◌then◌else◌, List, [], ◌∷◌, codes, Option, Some, None}
 use Rattle.mg_bytes.specs.Option.{◌>>=◌}
-use Rattle.mg_bytes.specs.Case.{same_but_case}
+use Rattle.mg_bytes.specs.Bytes.{hyphen}
 use Rattle.mg_bytes.specs.Items.{items_of}
 use Rattle.mg_bytes.specs.Words.{split_once}
 use Rattle.mgcp_text.specs.declared.message.Param.{Param}
-use Rattle.mgcp_text.specs.declared.message.Message.{Message}
-use Rattle.mgcp_text.specs.declared.message.Message.TheVariants.{Command, Response}
 use Rattle.mgcp_text.specs.declared.confirmation.IdRange.{IdRange}
 use Rattle.mgcp_text.specs.declared.confirmation.KValue.{KValue}
 use Rattle.mgcp_text.specs.declared.confirmation.KValue.TheVariants.{Absent, Unreadable, Items}
+use Rattle.mgcp_text.specs.Message.{param_at}
 use Rattle.mgcp_text.specs.Header.{id_of}
 
 abbrev pub range_of : ℕ → ℕ → Option IdRange
-range_of first last = if nat_le first last then Some (record { first = first; last = last }) else None
+range_of first last =
+    if nat_le first last then Some (record { first = first; last = last }) else None
 
 abbrev pub span_from : List ℕ → Option (List ℕ × List ℕ) → Option IdRange
 span_from item None = do
@@ -26,7 +26,7 @@ span_from item (Some sides) = do
 
 -- an id, or two with `-` between them that don't go downwards
 unfoldable pub span_of : List ℕ → Option IdRange
-span_of item = span_from item (split_once 45 item)
+span_of item = span_from item (split_once hyphen item)
 
 abbrev pub put_first : Option IdRange → Option (List IdRange) → Option (List IdRange)
 put_first span others = do
@@ -48,17 +48,10 @@ abbrev pub value_of : List ℕ → KValue
 value_of [] = Items []
 value_of (b ∷ bs) = k_from (spans_of (items_of (b ∷ bs)))
 
-abbrev pub is_k : Param → Bool
-is_k param = same_but_case param.code (codes "K")
-
 abbrev pub first_value : Option Param → KValue
 first_value None = Absent
 first_value (Some param) = value_of param.value
 
--- the value of the first K line
+-- the value of the first K parameter
 unfoldable pub k_of : List Param → KValue
-k_of params = first_value (find is_k params)
-
-abbrev pub params_in : Message → List Param
-params_in (Command verb id name params body) = params
-params_in (Response code id params body) = params
+k_of params = first_value (param_at (codes "K") params)

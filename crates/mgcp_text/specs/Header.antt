@@ -14,18 +14,27 @@ use Rattle.mgcp_text.specs.declared.header.Header.{Header}
 abbrev pub is_verb_word : List ℕ → Bool
 is_verb_word word = length word == 4 && list_all is_ascii_alphanumeric word
 
--- the verb that a word is, without case
+-- the verbs, one a row (RFC 3435, 3.2.1.1)
+abbrev pub verbs : List (List ℕ × Verb)
+verbs =
+    (codes "EPCF", Epcf)
+    ∷ (codes "RQNT", Rqnt)
+    ∷ (codes "NTFY", Ntfy)
+    ∷ (codes "CRCX", Crcx)
+    ∷ (codes "MDCX", Mdcx)
+    ∷ (codes "DLCX", Dlcx)
+    ∷ (codes "AUEP", Auep)
+    ∷ (codes "AUCX", Aucx)
+    ∷ (codes "RSIP", Rsip)
+    ∷ []
+
+-- the verb of the first row with this word, without case; a word in no row is another verb
+abbrev pub verb_in : List (List ℕ × Verb) → List ℕ → Verb
+verb_in [] word = Other
+verb_in (row ∷ rows) word = if same_but_case word row.0 then row.1 else verb_in rows word
+
 unfoldable pub verb_of : List ℕ → Verb
-verb_of word =
-    if same_but_case word (codes "EPCF") then Epcf else
-    (if same_but_case word (codes "RQNT") then Rqnt else
-    (if same_but_case word (codes "NTFY") then Ntfy else
-    (if same_but_case word (codes "CRCX") then Crcx else
-    (if same_but_case word (codes "MDCX") then Mdcx else
-    (if same_but_case word (codes "DLCX") then Dlcx else
-    (if same_but_case word (codes "AUEP") then Auep else
-    (if same_but_case word (codes "AUCX") then Aucx else
-    (if same_but_case word (codes "RSIP") then Rsip else Other))))))))
+verb_of word = verb_in verbs word
 
 abbrev pub command_verb : List ℕ → Option Verb
 command_verb word = if is_verb_word word then Some (verb_of word) else None
@@ -37,7 +46,7 @@ id_from n = if n == 0 then None else Some n
 unfoldable pub id_of : List ℕ → Option ℕ
 id_of word = if nat_le (length word) 9 then decimal_of word >>= id_from else None
 
--- the verb and the id that the words of a line begin with, and the words behind them
+-- the verb and the id that the words of a line begin with, and the words after them
 unfoldable pub header_of : List (List ℕ) → Option Header
 header_of [] = None
 header_of (kind ∷ []) = None
@@ -46,6 +55,19 @@ header_of (kind ∷ number ∷ rest) = do
   id ← id_of number
   Some (record { verb = verb; id = id; rest = rest })
 
+-- the words after the id: an endpoint name, a protocol and its version
+pub record HeaderTail : Type 0 where
+  pub name : List ℕ
+  pub protocol : List ℕ
+  pub version : List ℕ
+
+-- the first three of the words after the id, where there are three; later ones are ignored
+abbrev pub tail_of : List (List ℕ) → Option HeaderTail
+tail_of (name ∷ protocol ∷ version ∷ more) =
+    Some (record { name = name; protocol = protocol; version = version })
+tail_of _ = None
+
 -- the protocol that this gateway speaks: `MGCP`, without case, and `1.0` (RFC 3435, 3.2.1.4)
 abbrev pub is_version : List ℕ → List ℕ → Bool
-is_version protocol version = same_but_case protocol (codes "MGCP") && bytes_eq version (codes "1.0")
+is_version protocol version =
+    same_but_case protocol (codes "MGCP") && bytes_eq version (codes "1.0")

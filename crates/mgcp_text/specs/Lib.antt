@@ -1,6 +1,10 @@
+pub mod Held
+pub mod Message
 pub mod Header
 pub mod Parameter
 pub mod Reading
 pub mod Spelling
 pub mod Confirmation
 pub mod Writing
+pub mod Answer
+pub mod Examples

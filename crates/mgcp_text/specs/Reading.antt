@@ -1,16 +1,17 @@
 -- What a text is read as, as a function, so that it computes. `Spelling` says the same as a relation.
-use Rattle.std.specs.Prelude.{ℕ, Bool, ◌++◌, true, false, if◌then◌else◌, List, [], ◌∷◌, Option, Some, None, Result, Ok, Err, option_and_then, option_map, IfSome, ◌≤◌}
+use Rattle.std.specs.Prelude.{ℕ, Bool, ◌++◌, true, false, if◌then◌else◌, List, [], ◌∷◌, Option, Some, None, Result, Ok, Err, option_and_then, option_map}
 use Rattle.std.specs.List.{concat, list_all}
+use Rattle.mg_bytes.specs.Checks.{unless, checked, given}
 use Rattle.mg_bytes.specs.Lines.{cut, line_of}
 use Rattle.mg_bytes.specs.Words.{words}
 use Rattle.mgcp_text.specs.declared.message.Verb.{Verb}
 use Rattle.mgcp_text.specs.declared.message.Param.{Param}
 use Rattle.mgcp_text.specs.declared.message.Message.{Message}
-use Rattle.mgcp_text.specs.declared.message.Message.TheVariants.{Command, Response}
+use Rattle.mgcp_text.specs.declared.message.Message.TheVariants.{Command}
 use Rattle.mgcp_text.specs.declared.message.TextFault.{TextFault}
 use Rattle.mgcp_text.specs.declared.message.TextFault.TheVariants.{OutOfMemory, NoHeader, BadVersion, BadBody}
 use Rattle.mgcp_text.specs.declared.header.Header.{Header}
-use Rattle.mgcp_text.specs.Header.{header_of, is_version}
+use Rattle.mgcp_text.specs.Header.{tail_of, header_of, is_version}
 use Rattle.mgcp_text.specs.Parameter.{param_of}
 
 -- what a text can be read as
@@ -28,18 +29,6 @@ outcome_of (Err NoHeader) = Some no_header
 outcome_of (Err (BadVersion id)) = Some (bad_version id)
 outcome_of (Err (BadBody id)) = Some (bad_body id)
 
--- the transaction id that an outcome has
-abbrev pub id_in : Outcome → Option ℕ
-id_in (message (Command verb id name params body)) = Some id
-id_in (message (Response code id params body)) = Some id
-id_in no_header = None
-id_in (bad_version id) = Some id
-id_in (bad_body id) = Some id
-
--- a transaction id is from 1 to 999,999,999 (RFC 3435, 3.2.1.2)
-abbrev pub HasTransactionId : Outcome → Type 0
-HasTransactionId outcome = IfSome (id_in outcome) (λ id. (1 ≤ id) × (id ≤ 999999999))
-
 abbrev pub is_empty : List ℕ → Bool
 is_empty [] = true
 is_empty (b ∷ bs) = false
@@ -56,28 +45,31 @@ skip_empty (piece ∷ pieces) = if is_empty_line piece then skip_empty pieces el
 abbrev pub put_front : List Param → List Param × List (List ℕ) → List Param × List (List ℕ)
 put_front front read = (front ++ read.0, read.1)
 
--- the parameters up to the first empty line, and the pieces behind it; none where another line stands there
+-- the parameters up to the first empty line, and the pieces after it; none where another line stands there
 unfoldable pub params_of : List (List ℕ) → Option (List Param × List (List ℕ))
 params_of [] = Some ([], [])
 params_of (piece ∷ pieces) =
     if is_empty_line piece then Some ([], pieces) else
-    option_and_then (λ param. option_map (put_front (param ∷ [])) (params_of pieces)) (param_of (line_of piece))
+    option_and_then (λ param. option_map (put_front (param ∷ [])) (params_of pieces))
+    (param_of (line_of piece))
 
 -- the text of the pieces, or none where each is an empty line
 unfoldable pub description_of : List (List ℕ) → List ℕ
 description_of pieces = if list_all is_empty_line pieces then [] else concat pieces
 
-abbrev pub with_params : Verb → ℕ → List ℕ → Option (List Param × List (List ℕ)) → Outcome
-with_params verb id name None = bad_body id
-with_params verb id name (Some read) = message (Command verb id name read.0 (description_of read.1))
+-- the message, or what is read in its place
+abbrev pub read_as : Result Message Outcome → Outcome
+read_as (Ok said) = message said
+read_as (Err fault) = fault
 
--- a command with this verb and id, where these words and then these pieces follow
+-- a command whose header begins with this verb and id, goes on with these words, and has these pieces after it.
+-- The first of its faults counts: too few words, another protocol or version, a line that is no parameter.
 unfoldable pub command_from : Verb → ℕ → List (List ℕ) → List (List ℕ) → Outcome
-command_from verb id (name ∷ protocol ∷ version ∷ more) pieces =
-    if is_version protocol version then with_params verb id name (params_of pieces) else bad_version id
-command_from verb id (name ∷ protocol ∷ []) pieces = bad_body id
-command_from verb id (name ∷ []) pieces = bad_body id
-command_from verb id [] pieces = bad_body id
+command_from verb id rest pieces = read_as
+    (given (tail_of rest) (bad_body id) (λ tail.
+    checked (unless (is_version tail.protocol tail.version) (bad_version id))
+    (given (params_of pieces) (bad_body id) (λ read.
+    Ok (Command verb id tail.name read.0 (description_of read.1))))))
 
 abbrev pub header_from : Option Header → List (List ℕ) → Outcome
 header_from None pieces = no_header

@@ -20,19 +20,19 @@ IsEmptyLine piece = is_empty_line piece ≡ true
 abbrev pub IsFullLine : List ℕ → Type 0
 IsFullLine piece = is_empty_line piece ≡ false
 
--- the first line of the text that isn't empty, and the pieces behind it
-pub record BeginsWith (text line : List ℕ) (behind : List (List ℕ)) : Type 0 where
+-- the first line of the text that isn't empty, and the pieces following it
+pub record BeginsWith (text line : List ℕ) (following : List (List ℕ)) : Type 0 where
   pub front : List (List ℕ)
   pub piece : List ℕ
-  pub pieces : cut text ≡ front ++ (piece ∷ behind)
+  pub pieces : cut text ≡ front ++ (piece ∷ following)
   pub skipped : AllByRecursion IsEmptyLine front
   pub full : IsFullLine piece
   pub is_line : line ≡ line_of piece
 
 -- the text begins with a header, whose verb, id and further words are h's
-pub record HasHeader (text : List ℕ) (h : Header) (behind : List (List ℕ)) : Type 0 where
+pub record HasHeader (text : List ℕ) (h : Header) (following : List (List ℕ)) : Type 0 where
   pub line : List ℕ
-  pub first : BeginsWith text line behind
+  pub first : BeginsWith text line following
   pub header : header_of (words line) ≡ Some h
 
 -- these lines are these parameters, one each
@@ -81,32 +81,35 @@ pub record HasOtherVersion (rest : List (List ℕ)) : Type 0 where
   pub other : is_version protocol version ≡ false
 
 -- the text spells this message
-pub record SpellsCommand (text : List ℕ) (verb : Verb) (id : ℕ) (name : List ℕ) (params : List Param) (body : List ℕ) : Type 0 where
+pub record SpellsCommand (text : List ℕ) (verb : Verb) (id : ℕ) (name : List ℕ) (params : List Param)
+    (body : List ℕ) : Type 0 where
   pub rest : List (List ℕ)
-  pub behind : List (List ℕ)
+  pub following : List (List ℕ)
   pub after : List (List ℕ)
-  pub header : HasHeader text (record { verb = verb; id = id; rest = rest }) behind
+  pub header : HasHeader text (record { verb = verb; id = id; rest = rest }) following
   pub named : HasName rest name
-  pub lines : HasParams behind params after
+  pub lines : HasParams following params after
   pub description : body ≡ description_of after
 
 abbrev pub Spells : List ℕ → Message → Type 0
 Spells text (Command verb id name params body) = SpellsCommand text verb id name params body
 Spells text (Response code id params body) = ⊥
 
--- a header with this id, and fewer than three words behind it, or a line that is no parameter
+-- a header with this id, and fewer than three words following it, or a line that is no parameter
 abbrev pub IsBadBody : List ℕ → ℕ → Type 0
 IsBadBody text id =
-    (h : Header) × (behind : List (List ℕ)) × HasHeader text h behind × (h.id ≡ id)
-    × ((length h.rest < 3) ⊎ ((name : List ℕ) × HasName h.rest name × HasStray behind))
+    (h : Header) × (following : List (List ℕ)) × HasHeader text h following × (h.id ≡ id)
+    × ((length h.rest < 3) ⊎ ((name : List ℕ) × HasName h.rest name × HasStray following))
 
 -- a header with this id, of another protocol or version
 abbrev pub IsBadVersion : List ℕ → ℕ → Type 0
-IsBadVersion text id = (h : Header) × (behind : List (List ℕ)) × HasHeader text h behind × (h.id ≡ id) × HasOtherVersion h.rest
+IsBadVersion text id =
+    (h : Header) × (following : List (List ℕ)) × HasHeader text h following × (h.id ≡ id)
+    × HasOtherVersion h.rest
 
 -- a text is read as this outcome
 abbrev pub Reads : List ℕ → Outcome → Type 0
 Reads text (message m) = Spells text m
-Reads text no_header = (h : Header) (behind : List (List ℕ)) → HasHeader text h behind → ⊥
+Reads text no_header = (h : Header) (following : List (List ℕ)) → HasHeader text h following → ⊥
 Reads text (bad_version id) = IsBadVersion text id
 Reads text (bad_body id) = IsBadBody text id

@@ -1,17 +1,19 @@
-ghost use Rattle.std.specs.Prelude.{◌≡◌, ◌≤◌, IfSome};
+//! The header line of a command (RFC 3435, 3.2.1).
+ghost use Rattle.std.specs.Prelude.{◌≡◌, map};
 ghost use Rattle.std.specs.List.{list_all};
 ghost use Rattle.std.specs.Char.{is_ascii_alphanumeric};
-ghost use Rattle.mgcp_text.specs.Header.{is_verb_word, verb_of, command_verb, id_of, header_of, is_version};
+ghost use Rattle.mgcp_text.specs.Header.{is_verb_word, verb_in, verb_of, command_verb, header_of, is_version};
 ghost use Rattle.mg_bytes.specs.Words.{words as words_of};
 
+use crate::id::{TransactionId, id_of};
 use crate::message::Verb;
-use mg_bytes::{Words, decimal, same_no_case, words};
+use mg_bytes::{Words, same_no_case, words};
 
-/// How a command's header begins, and the words behind the id.
+/// How a command's header begins, and the words after the id.
 #[derive(Drop)]
 pub struct Header<'a> {
     pub verb: Verb,
-    pub id: u32,
+    pub id: TransactionId,
     pub rest: Words<'a>,
 }
 
@@ -27,31 +29,37 @@ fn is_verb_word(word: &[u8]) -> bool
     word.len() == 4 && all_alphanumeric(word)
 }
 
+// The verbs, one a row (RFC 3435, 3.2.1.1).
+const VERBS: [(&[u8], Verb); 9] = [
+    (b"EPCF", Verb::Epcf),
+    (b"RQNT", Verb::Rqnt),
+    (b"NTFY", Verb::Ntfy),
+    (b"CRCX", Verb::Crcx),
+    (b"MDCX", Verb::Mdcx),
+    (b"DLCX", Verb::Dlcx),
+    (b"AUEP", Verb::Auep),
+    (b"AUCX", Verb::Aucx),
+    (b"RSIP", Verb::Rsip),
+];
+
+fn verb_in(rows: &[(&[u8], Verb)], word: &[u8]) -> Verb
+    ensures { result ≡ verb_in (map (λ row. (row.0.now, row.1)) rows.entry.now) word.now }
+{
+    let mut rows = rows;
+    while let [row, others @ ..] = rows {
+        if same_no_case(word, row.0) {
+            return row.1;
+        }
+        rows = others;
+    }
+    Verb::Other
+}
+
 #[tactic(auto, unfolding(crate::specs::Header::verb_of))]
 fn verb_of(word: &[u8]) -> Verb
     ensures { result ≡ verb_of word.now }
 {
-    if same_no_case(word, b"EPCF") {
-        Verb::Epcf
-    } else if same_no_case(word, b"RQNT") {
-        Verb::Rqnt
-    } else if same_no_case(word, b"NTFY") {
-        Verb::Ntfy
-    } else if same_no_case(word, b"CRCX") {
-        Verb::Crcx
-    } else if same_no_case(word, b"MDCX") {
-        Verb::Mdcx
-    } else if same_no_case(word, b"DLCX") {
-        Verb::Dlcx
-    } else if same_no_case(word, b"AUEP") {
-        Verb::Auep
-    } else if same_no_case(word, b"AUCX") {
-        Verb::Aucx
-    } else if same_no_case(word, b"RSIP") {
-        Verb::Rsip
-    } else {
-        Verb::Other
-    }
+    verb_in(&VERBS, word)
 }
 
 fn command_verb(word: &[u8]) -> Option<Verb>
@@ -63,29 +71,10 @@ fn command_verb(word: &[u8]) -> Option<Verb>
     Some(verb_of(word))
 }
 
-/// The transaction id that a word is: 1 to 9 digits with a value of at least 1 (RFC 3435, 3.2.1.2).
-#[tactic(auto, unfolding(crate::specs::Header::id_of))]
-pub fn id_of(word: &[u8]) -> Option<u32>
-    ensures value { result ≡ id_of word.now }
-    ensures some { IfSome result (λ id. 1 ≤ id) }
-    ensures short { IfSome result (λ id. id ≤ 999999999) }
-{
-    if word.len() > 9 {
-        return None;
-    }
-    let number = decimal(word)?;
-    if number == 0 {
-        return None;
-    }
-    Some(number as u32)
-}
-
 /// The header that a line is.
 #[tactic(auto, unfolding(crate::specs::Header::header_of))]
 pub fn header_of(line: &[u8]) -> Option<Header<'_>>
-    ensures value { result ≡ header_of (words_of line.now) }
-    ensures some_id { IfSome result (λ h. 1 ≤ h.id) }
-    ensures short_id { IfSome result (λ h. h.id ≤ 999999999) }
+    ensures { result ≡ header_of (words_of line.now) }
 {
     let mut rest = words(line);
     let verb = command_verb(rest.next()?)?;

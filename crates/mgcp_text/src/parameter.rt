@@ -1,10 +1,13 @@
-ghost use Rattle.std.specs.Prelude.{◌≡◌, None, Some, MatchOption, IfOk};
+//! Parameters as lines of a text: `code: value` (RFC 3435, 3.2.2).
+ghost use Rattle.std.specs.Prelude.{◌≡◌, None, Some, MatchOption, IfOk, option_copied};
 ghost use Rattle.std.specs.List.{list_all};
+ghost use Rattle.mgcp_text.specs.Message.{has_code, param_at};
 ghost use Rattle.mgcp_text.specs.Parameter.{is_code_byte, is_code, param_of};
 ghost use Rattle.mgcp_text.specs.Reading.{params_of};
 
-use crate::message::{Bytes, Param, Params};
-use mg_bytes::{Lines, OutOfMemory, split_once, trimmed};
+use crate::bytes::Bytes;
+use crate::message::{Param, Params};
+use mg_bytes::{Lines, OutOfMemory, Sequence, same_no_case, split_once, trimmed};
 use std::alloc::Global;
 
 fn is_code_byte(byte: u8) -> bool
@@ -49,9 +52,10 @@ pub fn params_of<'a>(
     lines: &mut Lines<'a>,
 ) -> Result<Option<Params<'a>>, OutOfMemory>
     ensures { IfOk result (λ found.
-        MatchOption found (params_of lines.old ≡ None) (λ params. params_of lines.old ≡ Some (params, lines.new))) }
+        MatchOption found (params_of lines.old ≡ None)
+        (λ params. params_of lines.old ≡ Some (params, lines.new))) }
 {
-    let mut params = Params::new(alloc);
+    let mut params = Sequence::new(alloc);
     while let Some(line) = lines.next() {
         if line.is_empty() {
             break;
@@ -62,4 +66,17 @@ pub fn params_of<'a>(
         }
     }
     Ok(Some(params))
+}
+
+fn has_code(param: &Param<'_>, code: &[u8]) -> bool
+    ensures { result ≡ has_code code.now param.now }
+{
+    same_no_case(param.code.as_slice(), code)
+}
+
+/// The first parameter with this code, which is compared without case (RFC 3435, 3.2.2).
+pub fn param_at<'p, 'a>(code: &[u8], params: &'p [Param<'a>]) -> Option<&'p Param<'a>>
+    ensures { option_copied result ≡ param_at code.now params.now }
+{
+    params.iter().find(|param| has_code(param, code))
 }

@@ -1,11 +1,13 @@
-ghost use Rattle.std.specs.Prelude.{◌≡◌, ◌≤◌, IfSome, List, ℕ};
+//! What a text is read as (RFC 3435, 3.2).
+ghost use Rattle.std.specs.Prelude.{◌≡◌, IfSome, List, ℕ};
 ghost use Rattle.mg_bytes.specs.Lines.{cut, TakesLine};
 ghost use Rattle.std.specs.List.{list_all};
-ghost use Rattle.mgcp_text.specs.Reading.{is_empty_line, skip_empty, description_of, Outcome, outcome_of, HasTransactionId, command_from, header_from, read_text};
+ghost use Rattle.mgcp_text.specs.Reading.{is_empty_line, skip_empty, description_of, Outcome, outcome_of, command_from, header_from, read_text};
 ghost use Rattle.mgcp_text.specs.Spelling.{Reads};
 
+use crate::bytes::Bytes;
 use crate::header::{Header, header_of, is_version};
-use crate::message::{Bytes, Message, TextFault};
+use crate::message::{Message, TextFault};
 use crate::parameter::params_of;
 use mg_bytes::{Lines, lines};
 use std::alloc::Global;
@@ -45,17 +47,15 @@ fn description_of(text: &[u8]) -> &[u8]
     text
 }
 
-// The command of a header, whose parameters and description are the lines behind it.
+// The command of a header, whose parameters and description are the lines after it.
 #[tactic(auto, unfolding(crate::specs::Reading::command_from))]
 fn read_command<'a>(
     alloc: Global,
     header: Header<'a>,
     mut lines: Lines<'a>,
 ) -> Result<Message<'a>, TextFault>
-    requires some_id { 1 ≤ header.id }
-    requires short_id { header.id ≤ 999999999 }
-    ensures value { IfSome (outcome_of result) (λ outcome. outcome ≡ command_from header.entry.verb header.entry.id header.entry.rest lines.entry) }
-    ensures ids { IfSome (outcome_of result) HasTransactionId }
+    ensures { IfSome (outcome_of result) (λ outcome.
+        outcome ≡ command_from header.entry.verb header.entry.id header.entry.rest lines.entry) }
 {
     let (verb, id) = (header.verb, header.id);
     let mut words = header.rest;
@@ -66,10 +66,7 @@ fn read_command<'a>(
     if !is_version(protocol, version) {
         return Err(TextFault::BadVersion { id });
     }
-    let Ok(found) = params_of(alloc, &mut lines) else {
-        return Err(TextFault::OutOfMemory);
-    };
-    let Some(params) = found else {
+    let Some(params) = params_of(alloc, &mut lines)? else {
         return Err(TextFault::BadBody { id });
     };
     Ok(Message::Command {
@@ -83,8 +80,7 @@ fn read_command<'a>(
 
 #[tactic(auto, unfolding(crate::specs::Reading::read_text))]
 fn read_first(alloc: Global, text: &[u8]) -> Result<Message<'_>, TextFault>
-    ensures value { IfSome (outcome_of result) (λ outcome. outcome ≡ read_text text.now) }
-    ensures ids { IfSome (outcome_of result) HasTransactionId }
+    ensures { IfSome (outcome_of result) (λ outcome. outcome ≡ read_text text.now) }
 {
     let mut rest = lines(text);
     let Some(line) = first_full(&mut rest) else {
@@ -98,15 +94,13 @@ fn read_first(alloc: Global, text: &[u8]) -> Result<Message<'_>, TextFault>
 
 /// Reads the message that a text spells (RFC 3435, 3.2).
 ///
-/// Empty lines in front are skipped, the next line is the header, then come parameter lines, and behind an
+/// Empty lines before it are skipped, the next line is the header, then come parameter lines, and after an
 /// empty line the description. So far a text that begins as a response has no header.
 pub fn read_message(alloc: Global, text: &[u8]) -> Result<Message<'_>, TextFault>
     // Unless memory is refused: a message exactly where the text spells it, each fault exactly where it is read so.
     ensures reads { IfSome (outcome_of result) (Reads text.now) }
     // The same, as a function that computes (`one_reading` joins them).
     ensures value { IfSome (outcome_of result) (λ outcome. outcome ≡ read_text text.now) }
-    // An id is from 1 to 999,999,999.
-    ensures ids { IfSome (outcome_of result) HasTransactionId }
 {
     read_first(alloc, text)
 }

@@ -1,10 +1,17 @@
-ghost use Rattle.std.specs.Prelude.{◌≡◌, ◌++◌, ◌≤◌, List, ℕ, ◌≢◌, IsTrue, IfOk, OnOk, MatchOption};
+//! How a message is written (RFC 3435, 3.3).
+ghost use Rattle.std.specs.Prelude.{◌≡◌, ◌++◌, ◌≤◌, true, false, List, ℕ, ◌≢◌, IsTrue, IfOk, OnOk, MatchOption};
 ghost use Rattle.std.specs.Str.{bytes_eq};
 ghost use Rattle.std.specs.List.{list_all, list_any, flat_map};
+ghost use Rattle.mg_bytes.specs.Blanks.{is_blank};
 ghost use Rattle.mg_bytes.specs.Lines.{cut, lines_of, is_line_feed};
+ghost use Rattle.mgcp_text.specs.declared.message.Param.{Param};
+ghost use Rattle.mgcp_text.specs.Parameter.{is_code};
+ghost use Rattle.mgcp_text.specs.declared.message.Message.TheVariants as messages;
 ghost use Rattle.mgcp_text.specs.Reading.{is_empty_line};
 ghost use Rattle.mgcp_text.specs.Writing.{code_text, comment, response_line, param_line, ended, body_text, written, is_writable_param, is_writable_body, is_writable};
 
+use crate::bytes::Bytes;
+use crate::id::TransactionId;
 use crate::message::{Message, Param};
 use crate::parameter::is_code;
 use crate::reading::has_only_empty_lines;
@@ -35,13 +42,18 @@ fn comment(code: u16) -> &'static [u8]
 }
 
 #[tactic(auto, unfolding(crate::specs::Writing::response_line))]
-fn put_response_line(out: &mut Vec<u8>, code: u16, id: u32) -> Result<(), OutOfMemory>
+fn put_response_line(
+    alloc: Global,
+    out: &mut Vec<u8>,
+    code: u16,
+    id: TransactionId,
+) -> Result<(), OutOfMemory>
     requires { code ≤ 999 }
     ensures { OnOk result (out.new.items ≡ out.old.items ++ ended (response_line code id)) }
 {
     put_code(out, code)?;
     out.push(b' ')?;
-    put_decimal(out, u64::from(id))?;
+    put_decimal(alloc, out, u64::from(id.number()))?;
     out.extend_from_slice(comment(code))?;
     out.extend_from_slice(b"\r\n")?;
     Ok(())
@@ -63,7 +75,8 @@ fn put_param_line(out: &mut Vec<u8>, param: &Param<'_>) -> Result<(), OutOfMemor
 }
 
 fn put_params(out: &mut Vec<u8>, params: &[Param<'_>]) -> Result<(), OutOfMemory>
-    ensures { OnOk result (out.new.items ≡ out.old.items ++ flat_map (λ param. ended (param_line param)) params.now) }
+    ensures { OnOk result (out.new.items
+        ≡ out.old.items ++ flat_map (λ param. ended (param_line param)) params.now) }
 {
     for param in params {
         put_param_line(out, param)?;
@@ -81,28 +94,41 @@ fn put_body(out: &mut Vec<u8>, body: &[u8]) -> Result<(), OutOfMemory>
     Ok(())
 }
 
-/// The text of a message (RFC 3435, 3.3): each line with CRLF, single spaces between the words of its own. So far it
-/// writes responses.
+/// The text of a response.
+#[tactic(auto, unfolding(crate::specs::Writing::written))]
+pub(crate) fn response_text(
+    alloc: Global,
+    code: u16,
+    id: TransactionId,
+    params: &[Param<'_>],
+    body: &Bytes<'_>,
+) -> Result<Text, OutOfMemory>
+    requires { code ≤ 999 }
+    ensures { IfOk result (λ text. text ≡ written (messages.Response code id params.now body.now)) }
+{
+    let mut out = Vec::new(alloc);
+    put_response_line(alloc, &mut out, code, id)?;
+    put_params(&mut out, params)?;
+    put_body(&mut out, body.as_slice())?;
+    Ok(Text::of(out))
+}
+
+/// The text of a message (RFC 3435, 3.3): each line with CRLF, single spaces between the words of its own.
+/// So far it writes responses.
 #[tactic(auto, unfolding(crate::specs::Writing::written, crate::specs::Writing::is_writable))]
 pub fn write_message(alloc: Global, said: &Message<'_>) -> Result<Text, OutOfMemory>
     requires { IsTrue (is_writable said.now) }
     ensures { IfOk result (λ text. text ≡ written said.now) }
 {
-    let mut out = Vec::new(alloc);
     match said {
         Message::Response {
             code,
             id,
             params,
             body,
-        } => {
-            put_response_line(&mut out, *code, *id)?;
-            put_params(&mut out, params.as_slice())?;
-            put_body(&mut out, body.as_slice())?;
-        }
-        Message::Command { .. } => {}
+        } => response_text(alloc, *code, *id, params.as_slice(), body),
+        Message::Command { .. } => Ok(Text::of(Vec::new(alloc))),
     }
-    Ok(Text::of(out))
 }
 
 fn has_line_feed(text: &[u8]) -> bool
@@ -126,14 +152,16 @@ fn all_writable(params: &[Param<'_>]) -> bool
 
 // What follows a prefix in a text.
 fn after_prefix<'a>(text: &'a [u8], prefix: &[u8]) -> Option<&'a [u8]>
-    ensures { MatchOption result ((rest : List ℕ) → text.now ≢ prefix.now ++ rest) (λ rest. text.now ≡ prefix.now ++ rest.now) }
+    ensures { MatchOption result ((rest : List ℕ) → text.now ≢ prefix.now ++ rest)
+        (λ rest. text.now ≡ prefix.now ++ rest.now) }
 {
     text.strip_prefix(prefix)
 }
 
 // What follows a line and its CRLF in a text.
 fn after_line<'a>(text: &'a [u8], line: &[u8]) -> Option<&'a [u8]>
-    ensures { MatchOption result ((rest : List ℕ) → text.now ≢ ended line.now ++ rest) (λ rest. text.now ≡ ended line.now ++ rest.now) }
+    ensures { MatchOption result ((rest : List ℕ) → text.now ≢ ended line.now ++ rest)
+        (λ rest. text.now ≡ ended line.now ++ rest.now) }
 {
     match after_prefix(text, line) {
         Some(rest) => after_prefix(rest, b"\r\n"),
@@ -165,9 +193,9 @@ fn is_writable_body(body: &[u8]) -> bool
     is_ended_lines(body) && !has_only_empty_lines(body) && !has_dot_line(body)
 }
 
-/// Whether a message can be written: a response with a code up to 999 and an id from 1 to 999,999,999, whose
-/// parameters have a code and a value of one line without blanks round it, and whose description is nothing, or lines
-/// with CRLF without blanks at their ends, not all of them empty and none of them a single dot.
+/// Whether a message can be written: a response with a code up to 999, whose parameters have a code and a value
+/// of one line without blanks round it, and whose description is nothing, or lines with CRLF without blanks at
+/// their ends, not all of them empty and none of them a single dot.
 #[tactic(auto, unfolding(crate::specs::Writing::is_writable))]
 pub fn is_writable(said: &Message<'_>) -> bool
     ensures { result ≡ is_writable said.now }
@@ -180,11 +208,14 @@ pub fn is_writable(said: &Message<'_>) -> bool
             params,
             body,
         } => {
-            *code <= 999
-                && *id >= 1
-                && *id <= 999_999_999
-                && all_writable(params.as_slice())
-                && is_writable_body(body.as_slice())
+            let _number = id.number();
+            *code <= 999 && all_writable(params.as_slice()) && is_writable_body(body.as_slice())
         }
     }
 }
+
+/// A value without blanks and line feeds can be written under each code.
+pub fn words_can_be_written()
+    ensures { (param : Param) → is_code param.code ≡ true → list_any is_blank param.value ≡ false
+        → list_any is_line_feed param.value ≡ false → is_writable_param param ≡ true }
+{}

@@ -1,7 +1,8 @@
 -- How the program ends: its exit status, and what it writes on standard error.
-use Rattle.std.specs.Prelude.{ℕ, ◌≡◌, ◌==◌, codes, decimal, if◌then◌else◌, List, [], ◌++◌, Option, Result, Ok, Err, IfSome}
+use Rattle.std.specs.Prelude.{ℕ, ◌≡◌, codes, decimal, List, [], ◌++◌, Option, Result, Ok, Err, IfSome}
 use Rattle.rgw_play.specs.declared.played.PlayFault.TheVariants.{OutOfMemory, Read, Write, Config, Script}
 use Rattle.rgw_play.specs.Printing.{printed_line}
+use Rattle.rgw_play.specs.Fault.{name_of_config_fault}
 use Rattle.rgw_play.specs.Play.{judged, PlaysInto, Explains}
 use Rattle.rgw_cli.specs.declared.words.Task.{Task}
 use Rattle.rgw_cli.specs.declared.words.Task.TheVariants.{Simulate, Loopback}
@@ -20,15 +21,6 @@ status_of (Fault Write) = 3
 status_of (Fault (Config number)) = 1
 status_of (Fault (Script line)) = 1
 
--- the name of a configuration's fault
-abbrev pub config_fault_name : ℕ → List ℕ
-config_fault_name number =
-    if number == 2 then codes "BadDomain" else
-    (if number == 3 then codes "BadLines" else
-    (if number == 4 then codes "BadAgent" else
-    (if number == 5 then codes "BadWait" else
-    (if number == 6 then codes "BadMedia" else codes "BadToml"))))
-
 -- one line, or nothing where the script was played
 unfoldable pub error_text : Ending → List ℕ
 error_text Played = []
@@ -36,17 +28,22 @@ error_text Usage = printed_line (codes "usage: rgw simulate | rgw loopback [--po
 error_text (Fault OutOfMemory) = printed_line (codes "out of memory")
 error_text (Fault Read) = printed_line (codes "read fault")
 error_text (Fault Write) = printed_line (codes "write fault")
-error_text (Fault (Config number)) = printed_line (codes "config " ++ decimal number ++ codes " " ++ config_fault_name number)
+error_text (Fault (Config number)) =
+    printed_line (codes "config " ++ decimal number ++ codes " " ++ name_of_config_fault number)
 error_text (Fault (Script line)) = printed_line (codes "script line " ++ decimal line)
 
 -- the input was played into the writer, or the fault is the input's
 abbrev pub Simulates : Ending → Option (List ℕ) → Option (List ℕ) → Option (List ℕ) → Type 0
-Simulates Played remaining before after = IfSome remaining (λ input. (commands : ℕ) × (refused : ℕ) × PlaysInto (judged input) commands refused before after)
+Simulates Played remaining before after =
+    IfSome remaining
+    (λ input. (commands : ℕ) × (refused : ℕ) × PlaysInto (judged input) commands refused before after)
 Simulates Usage remaining before after = ⊥
-Simulates (Fault fault) remaining before after = IfSome remaining (λ input. Explains fault (judged input))
+Simulates (Fault fault) remaining before after =
+    IfSome remaining (λ input. Explains fault (judged input))
 
 -- how the program ends that was asked for this. So far there are no sockets, and `loopback` counts as other words
-abbrev pub Ends : Result Task WordFault → Ending → Option (List ℕ) → Option (List ℕ) → Option (List ℕ) → Type 0
+abbrev pub Ends : Result Task WordFault → Ending → Option (List ℕ) → Option (List ℕ) →
+    Option (List ℕ) → Type 0
 Ends (Ok Simulate) ending remaining before after = Simulates ending remaining before after
 Ends (Ok (Loopback port)) ending remaining before after = ending ≡ Usage
 Ends (Err word_fault.Usage) ending remaining before after = ending ≡ Usage

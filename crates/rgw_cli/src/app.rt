@@ -1,6 +1,8 @@
+//! The program: reads its words, does what they ask, and says how it ended.
+ghost use Rattle.std.specs.Prelude.{◌≡◌, ◌≢◌, IfErr, Err};
 ghost use Rattle.rgw_cli.specs.Ending.{Ends};
 
-use crate::ending::{Ending, ending_of};
+use crate::ending::Ending;
 use crate::words::{Task, WordFault, read_words};
 use rgw_play::{PlayFault, play};
 use std::alloc::Global;
@@ -8,12 +10,11 @@ use std::io::{ErrorKind, Read, Write};
 use std::rt::Env;
 use std::{env, io};
 
-// The task that the program's words say.
-fn asked<R: AllocGlobal + Env>(rt: &R) -> Result<Task, WordFault> {
-    let alloc = rt.alloc();
+// The program's words, of which the first is its name.
+fn words_of<R: AllocGlobal + Env>(rt: &R) -> Result<Vec<String>, WordFault> {
     match env::args(rt) {
-        Ok(args) => match args.collect::<Vec<String>>(alloc) {
-            Ok(words) => read_words(alloc, words.as_slice()),
+        Ok(args) => match args.collect::<Vec<String>>(rt.alloc()) {
+            Ok(words) => Ok(words),
             Err(_) => Err(WordFault::OutOfMemory),
         },
         Err(e) if e.kind() == ErrorKind::OutOfMemory => Err(WordFault::OutOfMemory),
@@ -21,17 +22,34 @@ fn asked<R: AllocGlobal + Env>(rt: &R) -> Result<Task, WordFault> {
     }
 }
 
-// Does what the program's words say.
-fn perform<R: Read, W: Write>(
+/// The task that words say, if they could be had.
+pub fn asked(alloc: Global, words: Result<Vec<String>, WordFault>) -> Result<Task, WordFault>
+    ensures { IfErr words (λ fault. result ≡ Err fault) }
+{
+    match words {
+        Ok(words) => read_words(alloc, words.as_slice()),
+        Err(fault) => Err(fault),
+    }
+}
+
+/// Does what is asked.
+pub fn perform<R: Read, W: Write>(
     alloc: Global,
     asked: Result<Task, WordFault>,
     reader: &mut R,
     writer: &mut W,
 ) -> Ending
-    ensures { Ends asked result (R.remaining reader.old) (W.contents writer.old) (W.contents writer.new) }
+    ensures ends { Ends asked result (R.remaining reader.old) (W.contents writer.old)
+        (W.contents writer.new) }
+    // Where nothing is played and no write failed, nothing was written.
+    ensures nothing_written { result ≢ Ending.Played → result ≢ Ending.Fault PlayFault.Write →
+        writer.new ≡ writer.old }
 {
     match asked {
-        Ok(Task::Simulate) => ending_of(play(alloc, reader, writer)),
+        Ok(Task::Simulate) => match play(alloc, reader, writer) {
+            Ok(_) => Ending::Played,
+            Err(fault) => Ending::Fault(fault),
+        },
         // There are no sockets yet.
         Ok(Task::Loopback { .. }) | Err(WordFault::Usage) => Ending::Usage,
         Err(WordFault::OutOfMemory) => Ending::Fault(PlayFault::OutOfMemory),
@@ -40,7 +58,9 @@ fn perform<R: Read, W: Write>(
 
 /// Runs the program, says on standard error how it ended unless all went well, and gives its exit status.
 pub fn run<R: AllocGlobal + Env + Input + Print + Eprint>(rt: &R) -> u8 {
-    let ending = perform(rt.alloc(), asked(rt), &mut rt.reader(), &mut io::writer(rt));
+    let alloc = rt.alloc();
+    let asked = asked(alloc, words_of(rt));
+    let ending = perform(alloc, asked, &mut rt.reader(), &mut io::writer(rt));
     // Nobody is left who could be told that standard error failed.
     let _ = eprint!(rt; "{ending}");
     ending.status()

@@ -3,6 +3,10 @@
 
 mod app;
 mod ending;
+pub mod examples;
+pub mod laws;
 mod words;
 
-pub use crate::app::run;
+pub use crate::app::{asked, perform, run};
+pub use crate::ending::Ending;
+pub use crate::words::{Task, WordFault, read_words};

@@ -1,3 +1,4 @@
+//! Reads the words of the command line.
 use clap::error::ErrorKind;
 use clap::{Arg, ArgAction, Command};
 use std::alloc::{AllocError, Global};
@@ -50,52 +51,5 @@ pub fn read_words(alloc: Global, words: &[String]) -> Result<Task, WordFault> {
             None => Err(WordFault::Usage),
         },
         _ => Err(WordFault::Usage),
-    }
-}
-
-#[cfg(test)]
-mod tests {
-    use super::*;
-    use std::test::Fail;
-
-    #[test]
-    fn words_are_judged(rt: HostRuntime) -> Result<(), Fail> {
-        let alloc = rt.alloc();
-        let simulate = Ok(Task::Simulate);
-        let usage = Err(WordFault::Usage);
-        let cases: [(&str, Result<Task, WordFault>); 18] = [
-            ("rgw simulate", simulate),
-            ("rgw loopback", Ok(Task::Loopback { port: 0 })),
-            (
-                "rgw loopback --port 4000",
-                Ok(Task::Loopback { port: 4000 }),
-            ),
-            (
-                "rgw loopback --port=65535",
-                Ok(Task::Loopback { port: 65535 }),
-            ),
-            ("rgw loopback --port 65536", usage),
-            ("rgw loopback --port", usage),
-            ("rgw loopback --port -1", usage),
-            ("rgw loopback --port 1 --port 2", usage),
-            ("rgw simulate --port 1", usage),
-            ("rgw", usage),
-            ("rgw help", usage),
-            ("rgw --help", usage),
-            ("rgw simulate -h", usage),
-            ("rgw simulate more", usage),
-            ("rgw simulate loopback", usage),
-            ("rgw --version", usage),
-            ("rgw loopback --po 7", usage),
-            ("rgw loop", usage),
-        ];
-        for (line, want) in cases {
-            let mut words = Vec::new(alloc);
-            for word in line.split(' ') {
-                words.push(word.to_string(alloc)?)?;
-            }
-            assert_eq!(rt; read_words(alloc, words.as_slice()), want, "at {line}");
-        }
-        Ok(())
     }
 }

@@ -5,3 +5,4 @@ pub mod PlayLemmas
 pub mod JudgedLemmas
 pub mod HexLemmas
 pub mod ScriptLaws
+pub mod Computing

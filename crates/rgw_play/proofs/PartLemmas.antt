@@ -1,4 +1,4 @@
--- What stands before and behind a piece of an input.
+-- What stands before and after a piece of an input.
 use Rattle.std.proofs.Common.{◌≡◌, ℕ, ◌+◌, ◌-◌, ◌≤◌, false, true, List, [], ◌∷◌, ◌++◌, length, take, drop, refl, sym, ◌∙◌, ap, arith, append_assoc, append-nil, length-append, length-drop, take_all}
 use Rattle.std.specs.List.{concat}
 use Rattle.std.proofs.lemmas.List.{drop-drop}

@@ -1,22 +1,36 @@
--- What the steps played so far have shown.
-use Rattle.std.proofs.Common.{◌≡◌, ℕ, ◌+◌, List, [], ◌∷◌, ◌++◌, refl, sym, ap, subst, Bool, cond, ◌∙◌, append_assoc, append-nil, zero-add, count_by, ◌<◌, length, get_or, take}
-use Rattle.std.specs.Prelude.{replicate}
-use Rattle.std.proofs.lemmas.List.{replicate-append-replicate, take_more}
-use Rattle.std.proofs.lemmas.List.Sums.{sum_by-append}
+-- What the moves made so far have shown.
+use Rattle.std.proofs.Common.{◌≡◌, ℕ, ◌+◌, ◌<◌, ◌≤◌, ◌^◌, ◌/◌, ◌%◌, List, [], ◌∷◌, ◌++◌, length, take, get_or, None, Some, refl, sym, ap, subst, ◌∙◌, cond, arith, append_assoc, append-nil, zero-add, add-zero, add_assoc, count_by, ⊎_elim}
+use Rattle.std.specs.Prelude.{replicate, min, true, false, ◌&&◌, ◌==◌, nat_le, Result, Ok, Err, OnOk}
+use Rattle.std.specs.declared.alloc.AllocError.{AllocError}
 use Rattle.std.specs.List.{flat_map}
-use Rattle.gateway_core.specs.GatewayState.{GatewayState}
-use Rattle.gateway_core.specs.Setup.{Setup}
-use Rattle.gateway_core.specs.Event.{GatewayEvent}
-use Rattle.gateway_core.specs.Stands.{Stands}
-use Rattle.rgw_play.specs.declared.step.Step.{Step}
-use Rattle.std.specs.Prelude.{min}
-use Rattle.std.proofs.Common.{◌≤◌, ◌^◌, Some, ⊎_elim, arith}
+use Rattle.std.proofs.lemmas.List.{append_cancel_left, replicate-append-replicate, take_more}
+use Rattle.std.proofs.lemmas.List.Sums.{sum_by-append}
 use Rattle.std.proofs.Math.Nat.{min-eq_left, min-eq_right}
-use Rattle.std.proofs.lemmas.Bool.{lt-ltb, cases_lt}
-use Rattle.gateway_core.specs.Event.{tick}
-use Rattle.gateway_core.specs.Machine.{plain, tick_refusal, refusal_of}
-use Rattle.gateway_core.specs.declared.event.Refusal.TheVariants.{TickTooFar}
-use Rattle.rgw_play.specs.Play.{Shown, event_shown, event_taken, tick_past, ticks_shown, ticks_taken, shown_at, taken_at, shown_from, taken_from, printed, is_refused, Went}
+use Rattle.std.proofs.lemmas.Bool.{lt-ltb, le-leb, leb-true, cases_lt, cases_Bool}
+use Rattle.std.proofs.lemmas.Bool.Decides.{nat_tests}
+use Rattle.plain_machine.specs.declared.output.OutDatagram.{OutDatagram}
+use Rattle.plain_machine.specs.declared.refusal.Refusal.{Refusal}
+use Rattle.plain_machine.specs.declared.refusal.Refusal.TheVariants.{OutOfMemory, TickTooFar, NoSuchLine}
+use Rattle.plain_machine.specs.declared.setup.Setup.{Setup}
+use Rattle.plain_machine.specs.Event.{GatewayEvent, tick}
+use Rattle.gateway_core.specs.GatewayState.{GatewayState}
+use Rattle.mg_line.specs.declared.phone.Hook.{Hook}
+use Rattle.gateway_core.specs.Stands.{Stands, Took}
+use Rattle.plain_machine.specs.Refusing.{tick_refusal, refusal_of, Ends}
+use Rattle.plain_machine.specs.Lists.{plain, outputs_from, refusal_at, hook_of}
+use Rattle.plain_machine.proofs.EndLaws.{ends_fine, ends_cause}
+use Rattle.rgw_play.specs.declared.step.Step.{Step}
+use Rattle.rgw_play.specs.Moves.{Move, give, pass, ask, moves_of_wait, moves_of, all_moves, Shown, sends, refuses, tells, Went, given, move_went, went, followed, printed, is_refused}
+use Rattle.rgw_play.specs.declared.player.Player.{Player}
+use Rattle.rgw_play.specs.Player.{Prints, Moved}
+
+pub on_ok : {P Q : Type 0} (r : Result (Unit {0}) AllocError) → (P → Q) → OnOk r P → OnOk r Q
+on_ok (Ok done) f p = f p
+on_ok (Err fault) f p = tt
+
+pub on_ok_both : {P Q R : Type 0} (r : Result (Unit {0}) AllocError) → (P → Q → R) → OnOk r P → OnOk r Q → OnOk r R
+on_ok_both (Ok done) f p q = f p q
+on_ok_both (Err fault) f p q = tt
 
 flat_more : (f : Shown → List ℕ) (xs ys : List Shown) → flat_map f (xs ++ ys) ≡ flat_map f xs ++ flat_map f ys
 flat_more f [] ys = refl
@@ -25,86 +39,136 @@ flat_more f (x ∷ xs) ys = ap (λ (s : List ℕ). f x ++ s) (flat_more f xs ys)
 count_more : (xs ys : List Shown) → count_by is_refused (xs ++ ys) ≡ count_by is_refused xs + count_by is_refused ys
 count_more xs ys = sum_by-append (λ (s : Shown). cond (is_refused s) 1 0) xs ys
 
+followed_more : (first : Went) (second third : List GatewayEvent → Went) → followed (followed first second) third ≡ followed first (λ taken. followed (second taken) third)
+followed_more first second third =
+    let middle : Went = second first.taken in
+    let last : Went = third middle.taken in
+    ap (λ (s : List Shown). record { shown = s; taken = last.taken }) (append_assoc first.shown middle.shown last.shown)
+
+-- moves, and then more
+pub went_more : (setup : Setup) (before : List GatewayEvent) (xs ys : List Move) → went setup before (xs ++ ys) ≡ followed (went setup before xs) (λ taken. went setup taken ys)
+unfolding went
+went_more setup before [] ys = refl
+went_more setup before (x ∷ xs) ys =
+    let first : Went = move_went setup before x in
+    ap (λ (next : Went). followed first (λ (taken : List GatewayEvent). next)) (went_more setup first.taken xs ys)
+    ∙ sym (followed_more first (λ taken. went setup taken xs) (λ taken. went setup taken ys))
+
+-- one thing is shown
+pub prints_one : (p q : Player) (shown : Shown) → q.out.items ≡ p.out.items ++ printed shown → q.refused ≡ p.refused + cond (is_refused shown) 1 0 → Prints p (shown ∷ []) q
+prints_one p q shown text counted = record {
+  text = text ∙ ap (λ (t : List ℕ). p.out.items ++ t) (sym (append-nil (printed shown)));
+  counted = counted ∙ ap (λ (k : ℕ). p.refused + k) (sym (zero-add (cond (is_refused shown) 1 0)));
+}
+
+pub prints_nothing : (p : Player) → Prints p [] p
+prints_nothing p = record { text = sym (append-nil p.out.items); counted = sym (add-zero p.refused) }
+
+pub prints_more : (p q r : Player) (xs ys : List Shown) → Prints p xs q → Prints q ys r → Prints p (xs ++ ys) r
+prints_more p q r xs ys first second = record {
+  text = second.text ∙ ap (λ (t : List ℕ). t ++ flat_map printed ys) first.text
+      ∙ append_assoc p.out.items (flat_map printed xs) (flat_map printed ys) ∙ ap (λ (t : List ℕ). p.out.items ++ t) (sym (flat_more printed xs ys));
+  counted = second.counted ∙ ap (λ (k : ℕ). k + count_by is_refused ys) first.counted
+      ∙ add_assoc p.refused (count_by is_refused xs) (count_by is_refused ys) ∙ ap (λ (k : ℕ). p.refused + k) (sym (count_more xs ys));
+}
+
 -- nothing yet
-pub went_nothing : (g : GatewayState) (before : List GatewayEvent) (text : List ℕ) → Stands g before → Went g.setup [] before g text text 0
-went_nothing g before text s = record { stands = s; same_setup = refl; printed_behind = sym (append-nil text); all_refused = refl }
+pub moved_nothing : (p : Player) → Moved p [] p
+unfolding went
+moved_nothing p = record { setup = refl; stands = λ before s. s; prints = λ before s. prints_nothing p }
 
--- one thing was shown
-pub went_one : (setup : Setup) (shown : Shown) (after : List GatewayEvent) (g' : GatewayState) (text text' : List ℕ) (refused : Bool)
-    → g'.setup ≡ setup → Stands g' after → text' ≡ text ++ printed shown → refused ≡ is_refused shown → Went setup (shown ∷ []) after g' text text' (cond refused 1 0)
-went_one setup shown after g' text text' refused same s p r = record {
-  stands = s;
-  same_setup = same;
-  printed_behind = p ∙ ap (λ (t : List ℕ). text ++ t) (sym (append-nil (printed shown)));
-  all_refused = rw r (sym (zero-add (cond (is_refused shown) 1 0)));
+-- one move
+pub moved_one : (p q : Player) (move : Move) → q.gateway.setup ≡ p.gateway.setup
+    → ((before : List GatewayEvent) → Stands p.gateway before → Stands q.gateway (move_went p.gateway.setup before move).taken)
+    → ((before : List GatewayEvent) → Stands p.gateway before → Prints p (move_went p.gateway.setup before move).shown q)
+    → Moved p (move ∷ []) q
+unfolding went
+moved_one p q move same stands prints = record {
+  setup = same;
+  stands = stands;
+  prints = λ before s. subst (λ (shown : List Shown). Prints p shown q) (sym (append-nil (move_went p.gateway.setup before move).shown)) (prints before s);
 }
 
--- and then more
-pub went_more : (setup : Setup) (xs ys : List Shown) (middle after : List GatewayEvent) (g g' : GatewayState) (text text' text'' : List ℕ) (m n : ℕ)
-    → Went setup xs middle g text text' m → Went setup ys after g' text' text'' n → Went setup (xs ++ ys) after g' text text'' (m + n)
-went_more setup xs ys middle after g g' text text' text'' m n first then = record {
-  stands = then.stands;
-  same_setup = then.same_setup;
-  printed_behind = then.printed_behind ∙ ap (λ (t : List ℕ). t ++ flat_map printed ys) first.printed_behind
-      ∙ append_assoc text (flat_map printed xs) (flat_map printed ys) ∙ ap (λ (t : List ℕ). text ++ t) (sym (flat_more printed xs ys));
-  all_refused = ap (λ (k : ℕ). k + n) first.all_refused ∙ ap (λ (k : ℕ). count_by is_refused xs + k) then.all_refused ∙ sym (count_more xs ys);
-}
+-- moves, and then more
+pub moved_more : (p q r : Player) (xs ys : List Move) → Moved p xs q → Moved q ys r → Moved p (xs ++ ys) r
+moved_more p q r xs ys first second =
+    let setup = p.gateway.setup in
+    record {
+      setup = second.setup ∙ first.setup;
+      stands = λ before s.
+          let taken = (went setup before xs).taken in
+          rw (went_more setup before xs ys)
+          (subst (λ (t : Setup). Stands r.gateway (went t taken ys).taken) first.setup (second.stands taken (first.stands before s)));
+      prints = λ before s.
+          let taken = (went setup before xs).taken in
+          rw (went_more setup before xs ys)
+          (prints_more p q r (went setup before xs).shown (went setup taken ys).shown (first.prints before s)
+          (subst (λ (t : Setup). Prints q (went t taken ys).shown r) first.setup (second.prints taken (first.stands before s))));
+    }
+
+pub moved_along : (p q : Player) (xs ys : List Move) → xs ≡ ys → Moved p xs q → Moved p ys q
+moved_along p q xs ys same moved = subst (λ (moves : List Move). Moved p moves q) same moved
+
+-- the same move once more
+pub moved_again : (p q r : Player) (move : Move) (k : ℕ) → Moved p (replicate k move) q → Moved q (move ∷ []) r → Moved p (replicate (k + 1) move) r
+moved_again p q r move k first last =
+    moved_along p r (replicate k move ++ move ∷ []) (replicate (k + 1) move) (replicate-append-replicate k 1 move) (moved_more p q r (replicate k move) (move ∷ []) first last)
+
+flat_moves : (xs ys : List Step) → all_moves (xs ++ ys) ≡ all_moves xs ++ all_moves ys
+flat_moves [] ys = refl
+flat_moves (x ∷ xs) ys = ap (λ (s : List Move). moves_of x ++ s) (flat_moves xs ys) ∙ sym (append_assoc (moves_of x) (all_moves xs) (all_moves ys))
+
+-- the steps up to one place more
+pub moved_step : (p q r : Player) (steps : List Step) (i : ℕ) (step : Step) → i < length steps → step ≡ get_or steps i step
+    → Moved p (all_moves (take i steps)) q → Moved q (moves_of step) r → Moved p (all_moves (take (i + 1) steps)) r
+moved_step p q r steps i step inside is first last =
+    let more : take (i + 1) steps ≡ take i steps ++ step ∷ [] = take_more steps i step inside ∙ ap (λ (s : Step). take i steps ++ s ∷ []) (sym is) in
+    let all : all_moves (take i steps) ++ moves_of step ≡ all_moves (take (i + 1) steps) =
+    ap (λ (m : List Move). all_moves (take i steps) ++ m) (sym (append-nil (moves_of step))) ∙ sym (flat_moves (take i steps) (step ∷ [])) ∙ sym (ap all_moves more) in
+    moved_along p r (all_moves (take i steps) ++ moves_of step) (all_moves (take (i + 1) steps)) all (moved_more p q r (all_moves (take i steps)) (moves_of step) first last)
+
+-- An event
+
+-- an event that is taken
+pub taken_moved : (p q : Player) (g : GatewayState) (event : GatewayEvent) (outputs : List OutDatagram) → q.gateway ≡ g
+    → Took p.gateway (event ∷ []) g [] outputs
+    → ((before : List GatewayEvent) → Stands p.gateway before → Ends p.gateway.setup (plain p.gateway.setup before) event None)
+    → Prints p (sends outputs ∷ []) q → Moved p (give event ∷ []) q
+unfolding move_went
+taken_moved p q g event outputs kept took ends prints =
+    let setup = p.gateway.setup in
+    moved_one p q (give event) (ap (λ (h : GatewayState). h.setup) kept ∙ took.setup)
+    (λ before s. rw (ends_fine setup (plain setup before) event (ends before s)) (subst (λ (h : GatewayState). Stands h (before ++ event ∷ [])) (sym kept) (took.stands before s)))
+    (λ before s. rw (ends_fine setup (plain setup before) event (ends before s), ← took.sent before s) prints)
+
+-- an event that is refused
+pub refused_moved : (p q : Player) (g : GatewayState) (event : GatewayEvent) (refusal : Refusal) → q.gateway ≡ g
+    → Took p.gateway [] g [] [] → (refusal ≡ OutOfMemory → ⊥)
+    → ((before : List GatewayEvent) → Stands p.gateway before → Ends p.gateway.setup (plain p.gateway.setup before) event (Some refusal))
+    → Prints p (refuses refusal ∷ []) q → Moved p (give event ∷ []) q
+unfolding move_went
+refused_moved p q g event refusal kept took other ends prints =
+    let setup = p.gateway.setup in
+    moved_one p q (give event) (ap (λ (h : GatewayState). h.setup) kept ∙ took.setup)
+    (λ before s. rw (ends_cause setup (plain setup before) event refusal other (ends before s))
+    (subst (λ (h : GatewayState). Stands h before) (sym kept) (rw (append-nil before) at (took.stands before s))))
+    (λ before s. rw (ends_cause setup (plain setup before) event refusal other (ends before s)) prints)
 
 -- Ticks
-
-ticks_shown_more : (setup : Setup) (before : List GatewayEvent) (xs ys : List ℕ)
-    → ticks_shown setup before (xs ++ ys) ≡ ticks_shown setup before xs ++ ticks_shown setup (ticks_taken setup before xs) ys
-unfolding ticks_shown ticks_taken
-ticks_shown_more setup before [] ys = refl
-ticks_shown_more setup before (x ∷ xs) ys =
-    ap (λ (s : List Shown). event_shown setup before (tick_past setup before x) ∷ s) (ticks_shown_more setup (event_taken setup before (tick_past setup before x)) xs ys)
-
-ticks_taken_more : (setup : Setup) (before : List GatewayEvent) (xs ys : List ℕ) → ticks_taken setup before (xs ++ ys) ≡ ticks_taken setup (ticks_taken setup before xs) ys
-unfolding ticks_taken
-ticks_taken_more setup before [] ys = refl
-ticks_taken_more setup before (x ∷ xs) ys = ticks_taken_more setup (event_taken setup before (tick_past setup before x)) xs ys
-
--- ticks, and then more
-pub went_ticks : (setup : Setup) (before : List GatewayEvent) (xs ys : List ℕ) (g g' : GatewayState) (text text' text'' : List ℕ) (m n : ℕ)
-    → Went setup (ticks_shown setup before xs) (ticks_taken setup before xs) g text text' m
-    → Went g.setup (ticks_shown g.setup (ticks_taken setup before xs) ys) (ticks_taken g.setup (ticks_taken setup before xs) ys) g' text' text'' n
-    → Went setup (ticks_shown setup before (xs ++ ys)) (ticks_taken setup before (xs ++ ys)) g' text text'' (m + n)
-went_ticks setup before xs ys g g' text text' text'' m n first then =
-    let middle : List GatewayEvent = ticks_taken setup before xs in
-    let next : Went setup (ticks_shown setup middle ys) (ticks_taken setup middle ys) g' text' text'' n =
-    subst (λ (s : Setup). Went s (ticks_shown s middle ys) (ticks_taken s middle ys) g' text' text'' n) first.same_setup then in
-    rw (ticks_shown_more setup before xs ys, ticks_taken_more setup before xs ys)
-    (went_more setup (ticks_shown setup before xs) (ticks_shown setup middle ys) middle (ticks_taken setup middle ys) g g' text text' text'' m n first next)
-
--- the same tick once more
-pub went_again : (setup : Setup) (before : List GatewayEvent) (by k : ℕ) (g g' : GatewayState) (text text' text'' : List ℕ) (m : ℕ) (refused : Bool)
-    → Went setup (ticks_shown setup before (replicate k by)) (ticks_taken setup before (replicate k by)) g text text' m
-    → g'.setup ≡ g.setup → Stands g' (event_taken g.setup (ticks_taken setup before (replicate k by)) (tick_past g.setup (ticks_taken setup before (replicate k by)) by))
-    → text'' ≡ text' ++ printed (event_shown g.setup (ticks_taken setup before (replicate k by)) (tick_past g.setup (ticks_taken setup before (replicate k by)) by))
-    → refused ≡ is_refused (event_shown g.setup (ticks_taken setup before (replicate k by)) (tick_past g.setup (ticks_taken setup before (replicate k by)) by))
-    → Went setup (ticks_shown setup before (replicate (k + 1) by)) (ticks_taken setup before (replicate (k + 1) by)) g' text text'' (m + cond refused 1 0)
-unfolding ticks_shown ticks_taken
-went_again setup before by k g g' text text' text'' m refused first same s p r =
-    let middle : List GatewayEvent = ticks_taken setup before (replicate k by) in
-    let one = went_one g.setup (event_shown g.setup middle (tick_past g.setup middle by)) (event_taken g.setup middle (tick_past g.setup middle by)) g' text' text'' refused same s p r in
-    subst (λ (ticks : List ℕ). Went setup (ticks_shown setup before ticks) (ticks_taken setup before ticks) g' text text'' (m + cond refused 1 0)) (replicate-append-replicate k 1 by)
-    (went_ticks setup before (replicate k by) (by ∷ []) g g' text text' text'' m (cond refused 1 0) first one)
 
 -- a tick too far is refused, however far it would go
 too_far : (now moment : ℕ) → now + 1000 < moment → tick_refusal now moment ≡ Some TickTooFar
 too_far now moment past = rw (lt-ltb (now + 1000) moment past) refl
 
 far_alike : (setup : Setup) (before : List GatewayEvent) (moment moment' : ℕ) → (plain setup before).now + 1000 < moment → (plain setup before).now + 1000 < moment'
-    → (event_shown setup before (tick moment) ≡ event_shown setup before (tick moment')) × (event_taken setup before (tick moment) ≡ event_taken setup before (tick moment'))
+    → given setup before (tick moment) ≡ given setup before (tick moment')
 unfolding refusal_of
-far_alike setup before moment moment' past past' = (
-  rw (too_far (plain setup before).now moment past, too_far (plain setup before).now moment' past') refl,
-  rw (too_far (plain setup before).now moment past, too_far (plain setup before).now moment' past') refl,
-)
+far_alike setup before moment moment' past past' =
+    rw (too_far (plain setup before).now moment past, too_far (plain setup before).now moment' past') refl
 
--- the greatest number of the code is past every clock
+-- the largest number of the code is past every clock
 pub capped_alike : (setup : Setup) (before : List GatewayEvent) (now by moment : ℕ) → now ≡ (plain setup before).now → now < 2 ^ 62 → moment ≡ min (now + by) 18446744073709551615
-    → (event_shown setup before (tick moment) ≡ event_shown setup before (tick_past setup before by)) × (event_taken setup before (tick moment) ≡ event_taken setup before (tick_past setup before by))
+    → given setup before (tick moment) ≡ given setup before (tick ((plain setup before).now + by))
 capped_alike setup before now by moment is small capped =
     ⊎_elim
     (λ (past : 18446744073709551615 < now + by).
@@ -112,39 +176,50 @@ capped_alike setup before now by moment is small capped =
     rw last (far_alike setup before 18446744073709551615 ((plain setup before).now + by) (omega (arith, past, small, is)) (omega (arith, past, small, is))))
     (λ (within : now + by ≤ 18446744073709551615).
     let all : moment ≡ (plain setup before).now + by = capped ∙ min-eq_left within ∙ ap (λ (n : ℕ). n + by) is in
-    rw all (refl, refl))
+    rw all refl)
     (cases_lt 18446744073709551615 (now + by))
 
--- Steps
+-- a tick so many ms past now
+pub passed : (p q : Player) (by now moment : ℕ) → ((before : List GatewayEvent) → Stands p.gateway before → now ≡ (plain p.gateway.setup before).now)
+    → now < 2 ^ 62 → moment ≡ min (now + by) 18446744073709551615 → Moved p (give (tick moment) ∷ []) q → Moved p (pass by ∷ []) q
+unfolding move_went went
+passed p q by now moment is small capped moved = record {
+  setup = moved.setup;
+  stands = λ before s. rw (← capped_alike p.gateway.setup before now by moment (is before s) small capped) (moved.stands before s);
+  prints = λ before s. rw (← capped_alike p.gateway.setup before now by moment (is before s) small capped) (moved.prints before s);
+}
 
-shown_more : (setup : Setup) (before : List GatewayEvent) (xs : List Step) (step : Step)
-    → shown_from setup before (xs ++ step ∷ []) ≡ shown_from setup before xs ++ shown_at setup (taken_from setup before xs) step
-unfolding shown_from taken_from
-shown_more setup before [] step = append-nil (shown_at setup before step)
-shown_more setup before (x ∷ xs) step =
-    ap (λ (s : List Shown). shown_at setup before x ++ s) (shown_more setup (taken_at setup before x) xs step)
-    ∙ sym (append_assoc (shown_at setup before x) (shown_from setup (taken_at setup before x) xs) (shown_at setup (taken_from setup (taken_at setup before x) xs) step))
+not_equal : (m n : ℕ) → (m ≡ n → ⊥) → (m == n) ≡ false
+not_equal m n other = grind (arith, nat_tests)
 
-taken_more : (setup : Setup) (before : List GatewayEvent) (xs : List Step) (step : Step) → taken_from setup before (xs ++ step ∷ []) ≡ taken_at setup (taken_from setup before xs) step
-unfolding taken_from
-taken_more setup before [] step = refl
-taken_more setup before (x ∷ xs) step = taken_more setup (taken_at setup before x) xs step
+-- ticks of a second, and one of the rest
+pub waited : (p q r : Player) (by : ℕ) → (by % 1000 ≡ 0 → ⊥) → Moved p (replicate (by / 1000) (pass 1000)) q → Moved q (pass (by % 1000) ∷ []) r → Moved p (moves_of_wait by) r
+waited p q r by rest first last = rw (not_equal (by % 1000) 0 rest) (moved_more p q r (replicate (by / 1000) (pass 1000)) (pass (by % 1000) ∷ []) first last)
 
--- no step yet
-pub went_no_step : (g : GatewayState) (text : List ℕ) → Stands g [] → Went g.setup (shown_from g.setup [] []) (taken_from g.setup [] []) g text text 0
-unfolding shown_from taken_from
-went_no_step g text s = went_nothing g [] text s
+-- Lines
 
--- the steps up to one place more
-pub went_step : (setup : Setup) (steps : List Step) (i : ℕ) (step : Step) (g g' : GatewayState) (text text' text'' : List ℕ) (m n : ℕ) → i < length steps → step ≡ get_or steps i step
-    → Went setup (shown_from setup [] (take i steps)) (taken_from setup [] (take i steps)) g text text' m
-    → Went g.setup (shown_at g.setup (taken_from setup [] (take i steps)) step) (taken_at g.setup (taken_from setup [] (take i steps)) step) g' text' text'' n
-    → Went setup (shown_from setup [] (take (i + 1) steps)) (taken_from setup [] (take (i + 1) steps)) g' text text'' (m + n)
-went_step setup steps i step g g' text text' text'' m n inside is first then =
-    let done : List Step = take i steps in
-    let middle : List GatewayEvent = taken_from setup [] done in
-    let next : Went setup (shown_at setup middle step) (taken_at setup middle step) g' text' text'' n =
-    subst (λ (s : Setup). Went s (shown_at s middle step) (taken_at s middle step) g' text' text'' n) first.same_setup then in
-    let more : take (i + 1) steps ≡ done ++ step ∷ [] = take_more steps i step inside ∙ ap (λ (s : Step). done ++ s ∷ []) (sym is) in
-    rw (more, shown_more setup [] done step, taken_more setup [] done step)
-    (went_more setup (shown_from setup [] done) (shown_at setup middle step) middle (taken_at setup middle step) g g' text text' text'' m n first next)
+both_not : (line lines : ℕ) → (1 ≤ line → line ≤ lines → ⊥) → (nat_le 1 line && nat_le line lines) ≡ false
+both_not line lines none = ⊎_elim
+    (λ (low : nat_le 1 line ≡ true). ⊎_elim
+    (λ (high : nat_le line lines ≡ true). absurd (none (leb-true 1 line low) (leb-true line lines high)))
+    (λ (high : nat_le line lines ≡ false). rw (low, high) refl)
+    (cases_Bool (nat_le line lines)))
+    (λ (low : nat_le 1 line ≡ false). rw low refl)
+    (cases_Bool (nat_le 1 line))
+
+pub told_moved : (p q : Player) (line : ℕ) (hook : Hook) → q.gateway ≡ p.gateway → 1 ≤ line → line ≤ p.gateway.setup.names.lines
+    → ((before : List GatewayEvent) → Stands p.gateway before → hook_of (plain p.gateway.setup before) line ≡ Some hook)
+    → Prints p (tells line hook ∷ []) q → Moved p (ask line ∷ []) q
+unfolding move_went
+told_moved p q line hook kept low high is prints =
+    moved_one p q (ask line) (ap (λ (g : GatewayState). g.setup) kept)
+    (λ before s. subst (λ (g : GatewayState). Stands g before) (sym kept) s)
+    (λ before s. rw (le-leb 1 line low, le-leb line p.gateway.setup.names.lines high, is before s) prints)
+
+pub untold_moved : (p q : Player) (line : ℕ) → q.gateway ≡ p.gateway → (1 ≤ line → line ≤ p.gateway.setup.names.lines → ⊥)
+    → Prints p (refuses NoSuchLine ∷ []) q → Moved p (ask line ∷ []) q
+unfolding move_went
+untold_moved p q line kept none prints =
+    moved_one p q (ask line) (ap (λ (g : GatewayState). g.setup) kept)
+    (λ before s. subst (λ (g : GatewayState). Stands g before) (sym kept) s)
+    (λ before s. rw (both_not line p.gateway.setup.names.lines none) prints)

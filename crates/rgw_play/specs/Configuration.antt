@@ -6,8 +6,8 @@ use Rattle.toml.specs.Data.{Data, Members, no_members, member, get_member, as_in
 use Rattle.toml.specs.Parse.{parse_document}
 use Rattle.mg_bytes.specs.Option.{◌>>=◌}
 use Rattle.mg_bytes.specs.Address.{ipv4_of}
-use Rattle.gateway_core.specs.declared.config.Config.{Config}
-use Rattle.gateway_core.specs.declared.config.NamedAddress.{NamedAddress}
+use Rattle.plain_machine.specs.declared.config.Config.{Config}
+use Rattle.plain_machine.specs.declared.config.NamedAddress.{NamedAddress}
 
 abbrev pub count_of : Members → ℕ
 count_of no_members = 0
@@ -45,9 +45,20 @@ names_from (member name value members) = do
 abbrev pub names_at : Members → Option Members
 names_at members = option_and_then as_table (get_member (codes "names") members)
 
--- the settings of a document: each of the eight keys, and no ninth
-unfoldable pub config_of : Members → Option Config
-config_of members = if count_of members == 8 then (do
+-- the settings of a document, and the names still as a table
+pub record Settings : Type 0 where
+  pub domain : List ℕ
+  pub lines : ℕ
+  pub agent : List ℕ
+  pub restart_wait : ℕ
+  pub disconnected_wait : ℕ
+  pub media_address : Ipv4Addr
+  pub media_base : ℕ
+  pub hosts : Members
+
+-- each of the eight keys
+unfoldable pub settings_of : Members → Option Settings
+settings_of members = do
   domain ← text_at (codes "domain") members
   lines ← number_at (codes "lines") members
   agent ← text_at (codes "agent") members
@@ -55,8 +66,7 @@ config_of members = if count_of members == 8 then (do
   disconnected_wait ← number_at (codes "disconnected_wait") members
   media_address ← address_at (codes "media_address") members
   media_base ← number_at (codes "media_base") members
-  table ← names_at members
-  names ← names_from table
+  hosts ← names_at members
   Some (record {
     domain = domain;
     lines = lines;
@@ -65,8 +75,27 @@ config_of members = if count_of members == 8 then (do
     disconnected_wait = disconnected_wait;
     media_address = media_address;
     media_base = media_base;
-    names = names;
-  })) else None
+    hosts = hosts;
+  })
+
+abbrev pub config_from : Settings → List NamedAddress → Config
+config_from settings names = record {
+  domain = settings.domain;
+  lines = settings.lines;
+  agent = settings.agent;
+  restart_wait = settings.restart_wait;
+  disconnected_wait = settings.disconnected_wait;
+  media_address = settings.media_address;
+  media_base = settings.media_base;
+  names = names;
+}
+
+-- the configuration of a document: its settings, and no ninth key
+unfoldable pub config_of : Members → Option Config
+config_of members = if count_of members == 8 then (do
+  settings ← settings_of members
+  names ← names_from settings.hosts
+  Some (config_from settings names)) else None
 
 -- the configuration that a text writes, if it is UTF-8, TOML and has such settings
 unfoldable pub config_in : List ℕ → Option Config

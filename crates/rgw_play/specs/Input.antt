@@ -11,9 +11,10 @@ is_separator line = bytes_eq line (codes "%%")
 -- the pieces before the first such line
 unfoldable pub config_pieces : List (List ℕ) → List (List ℕ)
 config_pieces [] = []
-config_pieces (piece ∷ pieces) = if is_separator (line_of piece) then [] else piece ∷ config_pieces pieces
+config_pieces (piece ∷ pieces) = if is_separator (line_of piece) then []
+    else piece ∷ config_pieces pieces
 
--- the pieces behind it
+-- the pieces after it
 unfoldable pub script_pieces : List (List ℕ) → List (List ℕ)
 script_pieces [] = []
 script_pieces (piece ∷ pieces) = if is_separator (line_of piece) then pieces else script_pieces pieces

@@ -1,5 +1,6 @@
 -- A script: its steps, or the number of its first line that is none.
-use Rattle.std.specs.Prelude.{ℕ, Bool, ◌+◌, ◌*◌, nat_lt, nat_le, codes, if◌then◌else◌, List, [], ◌∷◌, ◌++◌, Option, Some, None, Result, Ok, Err, option_map}
+use Rattle.std.specs.Prelude.{ℕ, Bool, ◌+◌, ◌*◌, nat_lt, nat_le, codes, if◌then◌else◌, List, [], ◌∷◌, ◌++◌, Option, Some, None, Result, Ok, Err, option_map, option_and_then, find, ◌==◌}
+use Rattle.std.specs.Option.{option_or}
 use Rattle.std.specs.Char.{digit_value}
 use Rattle.std.specs.Str.{bytes_eq}
 use Rattle.std.specs.declared.net.socket_addr.SocketAddrV4.{SocketAddrV4}
@@ -66,32 +67,34 @@ wait_from n = if nat_le n 10000000 then Some n else None
 abbrev pub wait_of : List ℕ → Option ℕ
 wait_of text = decimal_of text >>= wait_from
 
--- a key, by its sign
-unfoldable pub key_of : List ℕ → Option Key
-key_of sign =
-    if bytes_eq sign (codes "0") then Some keys.Zero else
-    (if bytes_eq sign (codes "1") then Some keys.One else
-    (if bytes_eq sign (codes "2") then Some keys.Two else
-    (if bytes_eq sign (codes "3") then Some keys.Three else
-    (if bytes_eq sign (codes "4") then Some keys.Four else
-    (if bytes_eq sign (codes "5") then Some keys.Five else
-    (if bytes_eq sign (codes "6") then Some keys.Six else
-    (if bytes_eq sign (codes "7") then Some keys.Seven else
-    (if bytes_eq sign (codes "8") then Some keys.Eight else
-    (if bytes_eq sign (codes "9") then Some keys.Nine else
-    (if bytes_eq sign (codes "*") then Some keys.Star else
-    (if bytes_eq sign (codes "#") then Some keys.Hash else
-    (if bytes_eq sign (codes "A") then Some keys.A else
-    (if bytes_eq sign (codes "B") then Some keys.B else
-    (if bytes_eq sign (codes "C") then Some keys.C else
-    (if bytes_eq sign (codes "D") then Some keys.D else None)))))))))))))))
+-- what stands at a word in a table
+abbrev pub at_word : {A : Type 0} → List ℕ → List (List ℕ × A) → Option A
+at_word word table = option_map (λ row. row.1) (find (λ row. bytes_eq word row.0) table)
 
--- what is done at a telephone: `off`, `on`, `flash` or a key
+-- the keys, each with its sign
+abbrev pub keys_by_sign : List (ℕ × Key)
+keys_by_sign =
+    (48, keys.Zero) ∷ (49, keys.One) ∷ (50, keys.Two) ∷ (51, keys.Three) ∷ (52, keys.Four)
+    ∷ (53, keys.Five) ∷ (54, keys.Six) ∷ (55, keys.Seven) ∷ (56, keys.Eight) ∷ (57, keys.Nine)
+    ∷ (42, keys.Star) ∷ (35, keys.Hash) ∷ (65, keys.A) ∷ (66, keys.B) ∷ (67, keys.C) ∷ (68, keys.D) ∷ []
+
+-- the key with a sign
+unfoldable pub key_with : ℕ → Option Key
+key_with sign = option_map (λ row. row.1) (find (λ row. row.0 == sign) keys_by_sign)
+
+abbrev pub key_of : List ℕ → Option Key
+key_of [] = None
+key_of (sign ∷ []) = key_with sign
+key_of (sign ∷ other ∷ more) = None
+
+-- what is done with the handset, by its word
+abbrev pub acts_by_word : List (List ℕ × Act)
+acts_by_word = (codes "off", acts.OffHook) ∷ (codes "on", acts.OnHook)
+    ∷ (codes "flash", acts.Flash) ∷ []
+
+-- what is done at a telephone: a word, or the sign of a key
 unfoldable pub act_of : List ℕ → Option Act
-act_of word =
-    if bytes_eq word (codes "off") then Some acts.OffHook else
-    (if bytes_eq word (codes "on") then Some acts.OnHook else
-    (if bytes_eq word (codes "flash") then Some acts.Flash else option_map acts.Key (key_of word)))
+act_of word = option_or (at_word word acts_by_word) (option_map acts.Key (key_of word))
 
 -- `phone LINE ACT`
 abbrev pub phone_step : List ℕ → List ℕ → Option ScriptLine
@@ -100,20 +103,24 @@ phone_step line word = do
   act ← act_of word
   Some (Whole (Phone number act))
 
--- a word and one more: `from ADDRESS`, `tick N`, `at M`, `wait N`, `show LINE`
-unfoldable pub line_of_two : List ℕ → List ℕ → Option ScriptLine
-line_of_two word rest =
-    if bytes_eq word (codes "from") then option_map From (address_of rest) else
-    (if bytes_eq word (codes "tick") then option_map (λ by. Whole (Tick by)) (decimal_of rest) else
-    (if bytes_eq word (codes "at") then option_map (λ moment. Whole (At moment)) (decimal_of rest) else
-    (if bytes_eq word (codes "wait") then option_map (λ by. Whole (Wait by)) (wait_of rest) else
-    (if bytes_eq word (codes "show") then option_map (λ line. Whole (Show line)) (line_number rest) else None))))
+-- the lines of a word and one more, by the word
+abbrev pub lines_of_two : List (List ℕ × (List ℕ → Option ScriptLine))
+lines_of_two =
+    (codes "from", λ rest. option_map From (address_of rest))
+    ∷ (codes "tick", λ rest. option_map (λ by. Whole (Tick by)) (decimal_of rest))
+    ∷ (codes "at", λ rest. option_map (λ moment. Whole (At moment)) (decimal_of rest))
+    ∷ (codes "wait", λ rest. option_map (λ by. Whole (Wait by)) (wait_of rest))
+    ∷ (codes "show", λ rest. option_map (λ line. Whole (Show line)) (line_number rest)) ∷ []
 
--- a word and two more: `raw ADDRESS HEX`, `phone LINE ACT`
-abbrev pub line_of_three : List ℕ → List ℕ → List ℕ → Option ScriptLine
-line_of_three word first second =
-    if bytes_eq word (codes "raw") then raw_step first second else
-    (if bytes_eq word (codes "phone") then phone_step first second else None)
+unfoldable pub line_of_two : List ℕ → List ℕ → Option ScriptLine
+line_of_two word rest = option_and_then (λ line. line rest) (at_word word lines_of_two)
+
+-- the lines of a word and two more, by the word
+abbrev pub lines_of_three : List (List ℕ × (List ℕ → List ℕ → Option ScriptLine))
+lines_of_three = (codes "raw", raw_step) ∷ (codes "phone", phone_step) ∷ []
+
+unfoldable pub line_of_three : List ℕ → List ℕ → List ℕ → Option ScriptLine
+line_of_three word first second = option_and_then (λ line. line first second) (at_word word lines_of_three)
 
 -- what the words of a line say between steps: nothing, that a `from` begins, or a whole step
 unfoldable pub line_in : List (List ℕ) → Option ScriptLine
@@ -137,7 +144,11 @@ pub record Reading : Type 0 where
 abbrev pub begun : ℕ → List Step → Option ScriptLine → Option Reading
 begun number steps None = None
 begun number steps (Some Empty) = Some (record { steps = steps; waiting = None })
-begun number steps (Some (From source)) = Some (record { steps = steps; waiting = Some (record { line = number; source = source; text = [] }) })
+begun number steps (Some (From source)) =
+    Some (record {
+      steps = steps;
+      waiting = Some (record { line = number; source = source; text = [] });
+    })
 begun number steps (Some (Whole step)) = Some (record { steps = steps ++ step ∷ []; waiting = None })
 
 -- the line that ends a `from`
@@ -147,7 +158,10 @@ is_end line = bytes_eq line (codes "--")
 abbrev pub continued : List Step → Waiting → List ℕ → Reading
 continued steps from line =
     if is_end line then record { steps = steps ++ Datagram from.source from.text ∷ []; waiting = None }
-    else record { steps = steps; waiting = Some (record { line = from.line; source = from.source; text = from.text ++ ended line }) }
+    else record {
+      steps = steps;
+      waiting = Some (record { line = from.line; source = from.source; text = from.text ++ ended line });
+    }
 
 abbrev pub next_from : ℕ → List Step → List ℕ → Option Waiting → Option Reading
 next_from number steps line None = begun number steps (line_in (words line))
@@ -172,10 +186,10 @@ read_from number reading [] = closed reading.steps reading.waiting
 read_from number reading (line ∷ lines) =
     unless_bad number (λ next. read_from (number + 1) next lines) (next_reading number line reading)
 
--- what lines say from this number on, behind these steps, where no `from` is open
-abbrev pub steps_behind : ℕ → List Step → List (List ℕ) → Result (List Step) ℕ
-steps_behind number steps lines = read_from number (record { steps = steps; waiting = None }) lines
+-- what lines say from this number on, after these steps, where no `from` is open
+abbrev pub steps_after : ℕ → List Step → List (List ℕ) → Result (List Step) ℕ
+steps_after number steps lines = read_from number (record { steps = steps; waiting = None }) lines
 
 -- the steps of a script's lines, or the number of the first bad one
 abbrev pub steps_of : List (List ℕ) → Result (List Step) ℕ
-steps_of lines = steps_behind 1 [] lines
+steps_of lines = steps_after 1 [] lines

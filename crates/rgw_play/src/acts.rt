@@ -1,12 +1,13 @@
-ghost use Rattle.std.specs.Prelude.{◌≡◌, ◌∷◌, []};
-ghost use Rattle.rgw_play.specs.Script.{key_of, act_of};
+//! What is done at a telephone, as a script says it.
+ghost use Rattle.std.specs.Prelude.{◌≡◌};
+ghost use Rattle.rgw_play.specs.Script.{key_with, key_of, act_of};
 
 use mg_line::{Act, Key};
 
 // The key with this sign.
-#[tactic(auto, unfolding(crate::specs::Script::key_of))]
+#[tactic(auto, unfolding(crate::specs::Script::key_with))]
 fn key_with(sign: u8) -> Option<Key>
-    ensures { result ≡ key_of (sign ∷ []) }
+    ensures { result ≡ key_with sign }
 {
     match sign {
         b'0' => Some(Key::Zero),
@@ -30,7 +31,6 @@ fn key_with(sign: u8) -> Option<Key>
 }
 
 // The key that a word is the sign of.
-#[tactic(auto, unfolding(crate::specs::Script::key_of))]
 fn key_of(word: &[u8]) -> Option<Key>
     ensures { result ≡ key_of word.now }
 {

@@ -1,3 +1,4 @@
+//! Reads an input, and cuts it into its configuration and its script.
 ghost use Rattle.std.specs.Prelude.{◌≡◌, ◌+◌, ◌≤◌, ◌⊎◌, IfErr, IfOk, IfSome, take, length};
 ghost use Rattle.mg_bytes.specs.Lines.{cut};
 ghost use Rattle.rgw_play.specs.Input.{is_separator, config_text, script_pieces};
@@ -11,7 +12,8 @@ const CHUNK: usize = 4096;
 
 /// Reads all there is, up to one byte past the limit.
 pub fn read_limited<R: Read>(alloc: Global, reader: &mut R) -> Result<Vec<u8>, PlayFault>
-    ensures ok { IfOk result (λ text. (IfSome (R.remaining reader.old) (λ input. text.items ≡ take (LIMIT + 1) input))) }
+    ensures ok { IfOk result
+        (λ text. (IfSome (R.remaining reader.old) (λ input. text.items ≡ take (LIMIT + 1) input))) }
     ensures bounded { IfOk result (λ text. length text.items ≤ LIMIT + 1) }
     ensures err { IfErr result (λ e. (e ≡ PlayFault.OutOfMemory) ⊎ (e ≡ PlayFault.Read)) }
 {
@@ -37,7 +39,7 @@ pub fn read_limited<R: Read>(alloc: Global, reader: &mut R) -> Result<Vec<u8>, P
     Err(PlayFault::Read)
 }
 
-/// What stands before the first line `%%` of an input, and what stands behind it.
+/// What stands before the first line `%%` of an input, and what stands after it.
 #[derive(Clone, Copy)]
 pub struct Parts<'a> {
     pub config: &'a [u8],

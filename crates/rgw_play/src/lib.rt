@@ -4,20 +4,20 @@
 #![tactic(auto)]
 
 mod acts;
+pub mod examples;
 mod input;
 pub mod laws;
 mod played;
+mod player;
 mod printing;
 mod scene;
 mod script;
 mod session;
 mod settings;
 mod step;
-#[cfg(test)]
-mod tests;
 mod words;
 
-pub use crate::played::{PlayFault, Played};
+pub use crate::played::{PlayFault, Played, name_of_config_fault};
 pub use crate::session::play;
 
 /// How many bytes of input are taken.

@@ -1,3 +1,10 @@
+//! What a play answers.
+ghost use Rattle.std.specs.Prelude.{◌≡◌};
+ghost use Rattle.rgw_play.specs.Fault.{name_of_config_fault};
+
+use gateway_core::ConfigFault;
+use mg_bytes::OutOfMemory;
+
 /// Why an input was not played, or not to its end.
 #[derive(Clone, Copy, Debug, PartialEq, Eq)]
 pub enum PlayFault {
@@ -20,4 +27,34 @@ pub struct Played {
     pub commands: u64,
     /// The steps that the gateway refused.
     pub refused: u64,
+}
+
+impl From<OutOfMemory> for PlayFault {
+    ghost use Rattle.rgw_play.specs.declared.played.PlayFault.TheVariants as play_faults;
+
+    ghost from_gives = { λ _ fault. fault ≡ play_faults.OutOfMemory };
+
+    fn from(_e: OutOfMemory) -> PlayFault {
+        PlayFault::OutOfMemory
+    }
+}
+
+const CONFIG_FAULTS: [ConfigFault; 5] = [
+    ConfigFault::BadDomain,
+    ConfigFault::BadLines,
+    ConfigFault::BadAgent,
+    ConfigFault::BadWait,
+    ConfigFault::BadMedia,
+];
+
+/// The name of a configuration's fault, which the gateway gives, or `BadToml`.
+pub fn name_of_config_fault(number: u8) -> &'static str
+    ensures { result.now ≡ name_of_config_fault number }
+{
+    for fault in CONFIG_FAULTS {
+        if fault.number() == number {
+            return fault.name();
+        }
+    }
+    "BadToml"
 }

@@ -1,7 +1,8 @@
-ghost use Rattle.std.specs.Prelude.{◌≡◌, ◌++◌, IfOk, OnOk, string_bytes};
+//! The printed form of datagrams, refusals and lines.
+ghost use Rattle.std.specs.Prelude.{◌≡◌, ◌≤◌, ◌++◌, length, IfOk, OnOk, string_bytes};
 ghost use Rattle.std.specs.List.{flat_map};
 ghost use Rattle.mg_bytes.specs.Lines.{lines_of};
-ghost use Rattle.rgw_play.specs.Printing.{printed_line, datagram_line, printed_datagram, number_of, name_of, refusal_line, hook_word, shown_line};
+ghost use Rattle.rgw_play.specs.Printing.{printed_line, datagram_line, printed_datagram, refusal_line, hook_word, shown_line};
 
 use gateway_core::{OutDatagram, Refusal};
 use mg_bytes::{OutOfMemory, lines, put_decimal};
@@ -17,7 +18,9 @@ fn datagram_line(alloc: Global, datagram: &OutDatagram) -> Result<String, OutOfM
 }
 
 fn put_lines(out: &mut Vec<u8>, bytes: &[u8]) -> Result<(), OutOfMemory>
-    ensures { OnOk result (out.new.items ≡ out.old.items ++ flat_map printed_line (lines_of bytes.now)) }
+    ensures ok { OnOk result (out.new.items ≡ out.old.items
+        ++ flat_map printed_line (lines_of bytes.now)) }
+    ensures grows { length out.old.items ≤ length out.new.items }
 {
     for line in lines(bytes) {
         out.extend_from_slice(line)?;
@@ -28,7 +31,8 @@ fn put_lines(out: &mut Vec<u8>, bytes: &[u8]) -> Result<(), OutOfMemory>
 
 #[tactic(auto, unfolding(crate::specs::Printing::printed_datagram))]
 fn put_datagram(alloc: Global, out: &mut Vec<u8>, datagram: &OutDatagram) -> Result<(), OutOfMemory>
-    ensures { OnOk result (out.new.items ≡ out.old.items ++ printed_datagram datagram.now) }
+    ensures ok { OnOk result (out.new.items ≡ out.old.items ++ printed_datagram datagram.now) }
+    ensures grows { length out.old.items ≤ length out.new.items }
 {
     let line = datagram_line(alloc, datagram)?;
     out.extend_from_slice(line.as_bytes())?;
@@ -43,7 +47,9 @@ pub fn put_datagrams(
     out: &mut Vec<u8>,
     datagrams: &[OutDatagram],
 ) -> Result<(), OutOfMemory>
-    ensures { OnOk result (out.new.items ≡ out.old.items ++ flat_map printed_datagram datagrams.now) }
+    ensures ok { OnOk result (out.new.items ≡ out.old.items
+        ++ flat_map printed_datagram datagrams.now) }
+    ensures grows { length out.old.items ≤ length out.new.items }
 {
     for datagram in datagrams {
         put_datagram(alloc, out, datagram)?;
@@ -51,35 +57,18 @@ pub fn put_datagrams(
     Ok(())
 }
 
-fn name_of(refusal: Refusal) -> &'static str
-    ensures { result.now ≡ name_of refusal }
-{
-    match refusal {
-        Refusal::OutOfMemory => "OutOfMemory",
-        Refusal::TickTooFar => "TickTooFar",
-        Refusal::ClockBack => "ClockBack",
-        Refusal::NoSuchLine => "NoSuchLine",
-        Refusal::PhoneState => "PhoneState",
-    }
-}
-
-fn number_of(refusal: Refusal) -> u8
-    ensures { result ≡ number_of refusal }
-{
-    refusal as u8
-}
-
 fn refusal_line(alloc: Global, refusal: Refusal) -> Result<String, OutOfMemory>
     ensures { IfOk result (λ line. string_bytes line ≡ printed_line (refusal_line refusal)) }
 {
     let mut line = String::new(alloc);
-    writeln!(line, "! {} {}", number_of(refusal), name_of(refusal))?;
+    writeln!(line, "! {} {}", refusal.number(), refusal.name())?;
     Ok(line)
 }
 
 /// Prints why a step is refused.
 pub fn put_refusal(alloc: Global, out: &mut Vec<u8>, refusal: Refusal) -> Result<(), OutOfMemory>
-    ensures { OnOk result (out.new.items ≡ out.old.items ++ printed_line (refusal_line refusal)) }
+    ensures ok { OnOk result (out.new.items ≡ out.old.items ++ printed_line (refusal_line refusal)) }
+    ensures grows { length out.old.items ≤ length out.new.items }
 {
     let line = refusal_line(alloc, refusal)?;
     out.extend_from_slice(line.as_bytes())?;
@@ -96,11 +85,12 @@ fn hook_word(hook: Hook) -> &'static [u8]
 }
 
 /// Prints what a line is.
-pub fn put_line(out: &mut Vec<u8>, line: u16, hook: Hook) -> Result<(), OutOfMemory>
-    ensures { OnOk result (out.new.items ≡ out.old.items ++ printed_line (shown_line line hook)) }
+pub fn put_line(alloc: Global, out: &mut Vec<u8>, line: u16, hook: Hook) -> Result<(), OutOfMemory>
+    ensures ok { OnOk result (out.new.items ≡ out.old.items ++ printed_line (shown_line line hook)) }
+    ensures grows { length out.old.items ≤ length out.new.items }
 {
     out.extend_from_slice(b"line ")?;
-    put_decimal(out, u64::from(line))?;
+    put_decimal(alloc, out, u64::from(line))?;
     out.push(b' ')?;
     out.extend_from_slice(hook_word(hook))?;
     out.extend_from_slice(b" signals - connections - lost 0\n")?;

@@ -1,3 +1,4 @@
+//! Judges an input: its gateway and its steps, or its first fault.
 ghost use Rattle.std.specs.Prelude.{◌≡◌, ◌≢◌, List, [], Ok, ℕ, Result, IfOk, IfErr};
 ghost use Rattle.gateway_core.specs.Stands.{Stands};
 ghost use Rattle.rgw_play.specs.declared.step.Step.{Step};
@@ -12,43 +13,45 @@ use crate::{LIMIT, PlayFault};
 use gateway_core::{ConfigFault, Gateway};
 use std::alloc::Global;
 
+// The number of the fault that a configuration can't be read.
+const BAD_TOML: u8 = 7;
+
 /// What there is to play: a gateway that nothing came to yet, and steps.
 #[derive(Drop)]
 pub struct Scene {
     pub gateway: Gateway,
-    /// How many lines it has.
-    pub lines: u32,
     pub steps: Vec<Step>,
 }
 
 // The gateway of a configuration's text.
-fn gateway_of(alloc: Global, text: &[u8]) -> Result<(Gateway, u32), PlayFault>
-    ensures ok { IfOk result (λ r. (steps : Result (List Step) ℕ) → configured (config_in text.now) steps ≡ scene_of r.0.setup steps) }
-    ensures opened { IfOk result (λ r. Stands r.0 []) }
-    ensures lines { IfOk result (λ r. r.0.setup.lines ≡ r.1) }
-    ensures err { IfErr result (λ fault. (steps : Result (List Step) ℕ) → Explains fault (configured (config_in text.now) steps)) }
+fn gateway_of(alloc: Global, text: &[u8]) -> Result<Gateway, PlayFault>
+    ensures ok { IfOk result
+        (λ gateway. (steps : Result (List Step) ℕ) →
+        configured (config_in text.now) steps ≡ scene_of gateway.setup steps) }
+    ensures opened { IfOk result (λ gateway. Stands gateway []) }
+    ensures err { IfErr result
+        (λ fault. (steps : Result (List Step) ℕ) →
+        Explains fault (configured (config_in text.now) steps)) }
     ensures no_stream { IfErr result (λ fault. (fault ≢ PlayFault.Read) × (fault ≢ PlayFault.Write)) }
 {
-    let config = match read_config(alloc, text) {
-        Ok(Some(config)) => config,
-        Ok(None) => return Err(PlayFault::Config { number: 7 }),
-        Err(_) => return Err(PlayFault::OutOfMemory),
+    let Some(config) = read_config(alloc, text)? else {
+        return Err(PlayFault::Config { number: BAD_TOML });
     };
-    let lines = config.lines;
     match Gateway::new(alloc, config) {
-        Ok(gateway) => Ok((gateway, lines)),
+        Ok(gateway) => Ok(gateway),
         Err(ConfigFault::OutOfMemory) => Err(PlayFault::OutOfMemory),
         Err(fault) => Err(PlayFault::Config {
-            number: fault as u8,
+            number: fault.number(),
         }),
     }
 }
 
 /// What there is to play of an input, or its first fault.
 pub fn judge(alloc: Global, input: &[u8]) -> Result<Scene, PlayFault>
-    ensures scene { IfOk result (λ scene. judged input.now ≡ Ok (record { setup = scene.gateway.setup; steps = scene.steps.items })) }
+    ensures scene { IfOk result
+        (λ scene. judged input.now
+        ≡ Ok (record { setup = scene.gateway.setup; steps = scene.steps.items })) }
     ensures opened { IfOk result (λ scene. Stands scene.gateway []) }
-    ensures lines { IfOk result (λ scene. scene.gateway.setup.lines ≡ scene.lines) }
     ensures err { IfErr result (λ fault. Explains fault (judged input.now)) }
     ensures no_stream { IfErr result (λ fault. (fault ≢ PlayFault.Read) × (fault ≢ PlayFault.Write)) }
 {
@@ -56,16 +59,12 @@ pub fn judge(alloc: Global, input: &[u8]) -> Result<Scene, PlayFault>
         return Err(PlayFault::Script { line: 0 });
     }
     let parts = parts_of(input);
-    let (gateway, lines) = match gateway_of(alloc, parts.config) {
-        Ok(made) => made,
+    let gateway = match gateway_of(alloc, parts.config) {
+        Ok(gateway) => gateway,
         Err(fault) => return Err(fault),
     };
     match read_script(alloc, parts.script) {
-        Ok(steps) => Ok(Scene {
-            gateway,
-            lines,
-            steps,
-        }),
+        Ok(steps) => Ok(Scene { gateway, steps }),
         Err(ScriptFault::OutOfMemory) => Err(PlayFault::OutOfMemory),
         Err(ScriptFault::BadLine { line }) => Err(PlayFault::Script { line }),
     }

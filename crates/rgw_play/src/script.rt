@@ -1,3 +1,4 @@
+//! Reads the lines of a script as steps.
 ghost use Rattle.std.specs.Prelude.{◌≡◌, ◌≤◌, [], length, map, IfOk, IfErr, OnOk, MatchResult, Some, None, Ok, Err, ℕ};
 ghost use Rattle.std.specs.Bool.{MatchBool};
 ghost use Rattle.mg_bytes.specs.Lines.{cut, line_of, lines_of};
@@ -111,7 +112,8 @@ impl ScriptReader {
     // One more line, if it may stand there.
     fn take_line(&mut self, alloc: Global, number: u64, line: &[u8]) -> Result<bool, OutOfMemory>
         ensures { IfOk result (λ fine. MatchBool fine
-            (next_reading number line.now self.old ≡ Some self.new) (next_reading number line.now self.old ≡ None)) }
+            (next_reading number line.now self.old ≡ Some self.new)
+            (next_reading number line.now self.old ≡ None)) }
     {
         match self.waiting.take() {
             None => self.begin(alloc, number, line),
@@ -124,7 +126,8 @@ impl ScriptReader {
 
     // The steps, unless a `from` has no `--`.
     fn close(self) -> Result<Vec<Step>, u64>
-        ensures { MatchResult result (λ steps. closed self.steps self.waiting ≡ Ok steps.items) (λ line. closed self.steps self.waiting ≡ Err line) }
+        ensures { MatchResult result (λ steps. closed self.steps self.waiting ≡ Ok steps.items)
+            (λ line. closed self.steps self.waiting ≡ Err line) }
     {
         let ScriptReader { steps, waiting } = self;
         match waiting {
@@ -139,7 +142,9 @@ impl ScriptReader {
 pub fn read_script(alloc: Global, script: &[u8]) -> Result<Vec<Step>, ScriptFault>
     requires { length script.now ≤ LIMIT }
     ensures ok { IfOk result (λ steps. steps_of (lines_of script.now) ≡ Ok steps.items) }
-    ensures bad { IfErr result (λ fault. (line : ℕ) → fault ≡ ScriptFault.BadLine line → steps_of (lines_of script.now) ≡ Err line) }
+    ensures bad { IfErr result
+        (λ fault. (line : ℕ) → fault ≡ ScriptFault.BadLine line →
+        steps_of (lines_of script.now) ≡ Err line) }
 {
     let mut reader = ScriptReader::new(alloc);
     let mut number: u64 = 0;

@@ -1,10 +1,12 @@
+//! Reads a configuration from TOML.
 ghost use Rattle.std.specs.Prelude.{◌≡◌, IfOk, MatchOption, Some, None, option_map, string_bytes};
 ghost use Rattle.toml.specs.View.{table_view, view};
 ghost use Rattle.toml.specs.Data.{get_member, as_str};
-ghost use Rattle.rgw_play.specs.Configuration.{count_of, text_at, number_in, number_at, address_in, address_at, names_from, names_at, config_of, config_in};
+ghost use Rattle.rgw_play.specs.Configuration.{count_of, text_at, number_in, number_at, address_in, address_at, names_from, names_at, settings_of, config_of, config_in};
+ghost use Rattle.rgw_play.specs.SettingsSeen.{settings_seen};
 
-use gateway_core::{Config, NamedAddress, Names};
-use mg_bytes::{OutOfMemory, Text, ipv4_address};
+use gateway_core::{Config, NamedAddress};
+use mg_bytes::{OutOfMemory, Sequence, Text, ipv4_address};
 use std::alloc::{AllocError, Global};
 use std::net::Ipv4Addr;
 use toml::{Table, Value};
@@ -85,11 +87,12 @@ fn owned(alloc: Global, text: &str) -> Result<Text, OutOfMemory>
 
 // The names of a table with their addresses, if each has one.
 #[tactic(auto, unfolding(crate::specs::Configuration::names_from))]
-fn names_of(alloc: Global, table: &Table) -> Result<Option<Names>, OutOfMemory>
+fn names_of(alloc: Global, table: &Table) -> Result<Option<Sequence<NamedAddress>>, OutOfMemory>
     ensures { IfOk result (λ found.
-        MatchOption found (names_from (table_view table.now) ≡ None) (λ names. names_from (table_view table.now) ≡ Some names)) }
+        MatchOption found (names_from (table_view table.now) ≡ None)
+        (λ names. names_from (table_view table.now) ≡ Some names)) }
 {
-    let mut names = Names::new(alloc);
+    let mut names = Sequence::new(alloc);
     for (name, value) in table.iter() {
         let Some(address) = address_in(value) else {
             return Ok(None);
@@ -100,50 +103,60 @@ fn names_of(alloc: Global, table: &Table) -> Result<Option<Names>, OutOfMemory>
     Ok(Some(names))
 }
 
-// The configuration of a document, if it has each of the eight keys and no ninth.
+// The settings of a document, and the names still as a table.
+#[derive(Clone, Copy)]
+struct Settings<'a> {
+    domain: &'a str,
+    lines: u32,
+    agent: &'a str,
+    restart_wait: u32,
+    disconnected_wait: u32,
+    media_address: Ipv4Addr,
+    media_base: u32,
+    hosts: &'a Table,
+}
+
+// The settings of a document that has each of the eight keys.
+#[tactic(auto, unfolding(crate::specs::Configuration::settings_of))]
+fn settings_of(table: &Table) -> Option<Settings<'_>>
+    ensures { option_map settings_seen result ≡ settings_of (table_view table.now) }
+{
+    Some(Settings {
+        domain: text_at(table, "domain")?,
+        lines: number_at(table, "lines")?,
+        agent: text_at(table, "agent")?,
+        restart_wait: number_at(table, "restart_wait")?,
+        disconnected_wait: number_at(table, "disconnected_wait")?,
+        media_address: address_at(table, "media_address")?,
+        media_base: number_at(table, "media_base")?,
+        hosts: names_at(table)?,
+    })
+}
+
+// The configuration of a document, if it has the eight keys and no ninth.
 #[tactic(auto, unfolding(crate::specs::Configuration::config_of))]
 fn config_of(alloc: Global, table: &Table) -> Result<Option<Config>, OutOfMemory>
     ensures { IfOk result (λ found.
-        MatchOption found (config_of (table_view table.now) ≡ None) (λ config. config_of (table_view table.now) ≡ Some config)) }
+        MatchOption found (config_of (table_view table.now) ≡ None)
+        (λ config. config_of (table_view table.now) ≡ Some config)) }
 {
     if key_count(table) != 8 {
         return Ok(None);
     }
-    let Some(domain) = text_at(table, "domain") else {
+    let Some(settings) = settings_of(table) else {
         return Ok(None);
     };
-    let Some(lines) = number_at(table, "lines") else {
-        return Ok(None);
-    };
-    let Some(agent) = text_at(table, "agent") else {
-        return Ok(None);
-    };
-    let Some(restart_wait) = number_at(table, "restart_wait") else {
-        return Ok(None);
-    };
-    let Some(disconnected_wait) = number_at(table, "disconnected_wait") else {
-        return Ok(None);
-    };
-    let Some(media_address) = address_at(table, "media_address") else {
-        return Ok(None);
-    };
-    let Some(media_base) = number_at(table, "media_base") else {
-        return Ok(None);
-    };
-    let Some(hosts) = names_at(table) else {
-        return Ok(None);
-    };
-    let Some(names) = names_of(alloc, hosts)? else {
+    let Some(names) = names_of(alloc, settings.hosts)? else {
         return Ok(None);
     };
     Ok(Some(Config {
-        domain: owned(alloc, domain)?,
-        lines,
-        agent: owned(alloc, agent)?,
-        restart_wait,
-        disconnected_wait,
-        media_address,
-        media_base,
+        domain: owned(alloc, settings.domain)?,
+        lines: settings.lines,
+        agent: owned(alloc, settings.agent)?,
+        restart_wait: settings.restart_wait,
+        disconnected_wait: settings.disconnected_wait,
+        media_address: settings.media_address,
+        media_base: settings.media_base,
         names,
     }))
 }

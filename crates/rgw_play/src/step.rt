@@ -1,3 +1,4 @@
+//! The steps of a script.
 use mg_bytes::Text;
 use mg_line::Act;
 use std::net::SocketAddrV4;

@@ -1,3 +1,4 @@
+//! Reads the words of a script's line.
 ghost use Rattle.std.specs.Prelude.{◌≡◌, ◌<◌, ◌∷◌, length, IfOk, IfSome, MatchOption, Some, None, option_map};
 ghost use Rattle.mg_bytes.specs.Words.{words as words_of};
 ghost use Rattle.mg_bytes.specs.Numbers.{decimal_of};
@@ -34,7 +35,7 @@ fn hex_byte(high: u8, low: u8) -> Option<u8>
     Some(16 * hex_digit(high)? + hex_digit(low)?)
 }
 
-// The first two bytes, and those behind them.
+// The first two bytes, and those after them.
 fn split_pair(digits: &[u8]) -> Option<(u8, u8, &[u8])>
     ensures { MatchOption result (length digits.now < 2) (λ r. digits.now ≡ r.0 ∷ r.1 ∷ r.2.now) }
 {
@@ -67,7 +68,8 @@ fn hex_bytes(alloc: Global, digits: &[u8]) -> Result<Option<Text>, OutOfMemory>
 
 fn raw_step(alloc: Global, address: &[u8], digits: &[u8]) -> Result<Option<ScriptLine>, OutOfMemory>
     ensures { IfOk result (λ found.
-        MatchOption found (raw_step address.now digits.now ≡ None) (λ line. raw_step address.now digits.now ≡ Some line)) }
+        MatchOption found (raw_step address.now digits.now ≡ None)
+        (λ line. raw_step address.now digits.now ≡ Some line)) }
 {
     let Some(source) = address_of(address) else {
         return Ok(None);
@@ -174,6 +176,7 @@ fn phone_step(line: &[u8], word: &[u8]) -> Option<ScriptLine>
 }
 
 // A line of three words.
+#[tactic(auto, unfolding(crate::specs::Script::line_of_three))]
 fn line_of_three(
     alloc: Global,
     word: &[u8],
@@ -181,7 +184,8 @@ fn line_of_three(
     second: &[u8],
 ) -> Result<Option<ScriptLine>, OutOfMemory>
     ensures { IfOk result (λ found.
-        MatchOption found (line_of_three word.now first.now second.now ≡ None) (λ line. line_of_three word.now first.now second.now ≡ Some line)) }
+        MatchOption found (line_of_three word.now first.now second.now ≡ None)
+        (λ line. line_of_three word.now first.now second.now ≡ Some line)) }
 {
     if word == b"raw".as_slice() {
         raw_step(alloc, first, second)
@@ -196,7 +200,8 @@ fn line_of_three(
 #[tactic(auto, unfolding(crate::specs::Script::line_in))]
 pub fn line_in(alloc: Global, line: &[u8]) -> Result<Option<ScriptLine>, OutOfMemory>
     ensures { IfOk result (λ found.
-        MatchOption found (line_in (words_of line.now) ≡ None) (λ l. line_in (words_of line.now) ≡ Some l)) }
+        MatchOption found (line_in (words_of line.now) ≡ None)
+        (λ l. line_in (words_of line.now) ≡ Some l)) }
 {
     let mut rest = words(line);
     let Some(word) = rest.next() else {

@@ -2,7 +2,7 @@ use Rattle.std.proofs.Common.{◌≡◌, ℕ, ◌+◌, ◌∷◌, [], ◌++◌, 
 use Rattle.std.specs.List.{flat_map}
 use Rattle.mgcp_text.specs.Writing.{ended}
 use Rattle.rgw_play.specs.declared.step.Step.TheVariants as steps
-use Rattle.rgw_play.specs.Script.{read_from, steps_behind}
+use Rattle.rgw_play.specs.Script.{read_from, steps_after}
 use Rattle.rgw_play.proofs.ScriptLaws.{ended_from, unended_from}
 use Rattle.rgw_play.proofs.laws.a_from_is_one_step.Goals as goal
 
@@ -11,7 +11,7 @@ unfolding read_from
 returns-clause-whole c = λ number before line source text more is none.
     let far : number + 1 + length text + 1 ≡ number + length text + 2 = omega arith in
     rw is (ended_from (number + 1) number before source [] text more none
-    ∙ ap (λ (n : ℕ). steps_behind n (before ++ steps.Datagram source (flat_map ended text) ∷ []) more) far)
+    ∙ ap (λ (n : ℕ). steps_after n (before ++ steps.Datagram source (flat_map ended text) ∷ []) more) far)
 
 pub returns-clause-open : goal.returns-clause-open
 unfolding read_from

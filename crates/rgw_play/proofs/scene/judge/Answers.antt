@@ -25,7 +25,7 @@ returns-in-Ok-read_script-clause-scene c =
     let whole : judged c.args.input.now ≡ configured (config_in c.parts_of-parts.result.config.now) steps =
     judged-short c.args.input.now (omega arith) ∙ ap (λ text. configured (config_in text) steps) (sym c.parts_of-parts.ensures.config) in
     whole ∙ c.in-Ok.ensures.ok steps
-    ∙ ap (scene_of c.in-Ok.made.0.setup) (ap (λ pieces. steps_of (map line_of pieces)) (sym c.parts_of-parts.ensures.script) ∙ c.in-Ok-read_script.ensures.ok)
+    ∙ ap (scene_of c.in-Ok.gateway.setup) (ap (λ pieces. steps_of (map line_of pieces)) (sym c.parts_of-parts.ensures.script) ∙ c.in-Ok-read_script.ensures.ok)
 
 pub returns-clause-err : goal.returns-clause-err
 returns-clause-err c =
@@ -33,6 +33,6 @@ returns-clause-err c =
     let whole : judged c.args.input.now ≡ configured (config_in c.parts_of-parts.result.config.now) steps =
     judged-short c.args.input.now (omega arith) ∙ ap (λ text. configured (config_in text) steps) (sym c.parts_of-parts.ensures.config) in
     whole ∙ c.in-Ok.ensures.ok steps
-    ∙ ap (scene_of c.in-Ok.made.0.setup)
+    ∙ ap (scene_of c.in-Ok.gateway.setup)
     (ap (λ pieces. steps_of (map line_of pieces)) (sym c.parts_of-parts.ensures.script) ∙ c.in-Err-BadLine.ensures.bad c.in-Err-BadLine.line c.in-Err-BadLine.field-0-is)
     ∙ ap (λ line. Err (play_fault.Script line)) (sym c.in-Err-BadLine.line-is)

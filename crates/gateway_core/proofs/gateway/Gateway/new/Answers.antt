@@ -2,5 +2,5 @@ use Rattle.std.proofs.Common.{refl}
 use Rattle.gateway_core.proofs.StandLemmas.{stands_for_nothing}
 use Rattle.gateway_core.proofs.gateway.Gateway.new.Goals as goal
 
-pub returns-clause-opened : goal.returns-clause-opened
-returns-clause-opened c = stands_for_nothing _ refl c.in-Ok.ensures
+pub returns : goal.returns
+returns c = rw (← c.in_ok-setup.ensures) (refl, stands_for_nothing _ (rw c.in_ok-stations.ensures refl))

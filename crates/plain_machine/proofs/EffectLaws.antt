@@ -1,0 +1,92 @@
+-- What every event leaves as it is: the number of lines, and the clock but at a tick.
+use Rattle.std.proofs.Common.{◌≡◌, ℕ, ◌-◌, Bool, true, false, List, [], ◌∷◌, length, Option, Some, None, refl, sym, ap, ◌∙◌, arith}
+use Rattle.std.proofs.lemmas.List.{set-get_or}
+use Rattle.std.proofs.lemmas.Option.{get_or_from_slice_get}
+use Rattle.std.specs.Prelude.{slice_set, slice_get, ◌==◌, if◌then◌else◌}
+use Rattle.std.proofs.lemmas.Grind.{common_steps}
+use Rattle.std.specs.declared.net.socket_addr.SocketAddrV4.{SocketAddrV4}
+use Rattle.mgcp_text.specs.declared.message.Message.TheVariants as messages
+use Rattle.mgcp_text.specs.Reading.{Outcome, message, no_header, bad_version, bad_body, read_text}
+use Rattle.mg_line.specs.declared.phone.Act.{Act}
+use Rattle.plain_machine.specs.declared.setup.Setup.{Setup}
+use Rattle.plain_machine.specs.declared.station.Station.{Station}
+use Rattle.plain_machine.specs.Event.{GatewayEvent, datagram, phone, tick}
+use Rattle.mg_line.specs.Line.{LineDone, phoned}
+use Rattle.plain_machine.specs.Machine.{Endpoints, Machine, Effect, told, station_at}
+use Rattle.plain_machine.specs.Arriving.{texts_of, clock_after}
+use Rattle.plain_machine.specs.Commanding.{Done}
+use Rattle.plain_machine.specs.Acting.{noted, acted, acted_at}
+use Rattle.plain_machine.specs.Falling.{pass}
+use Rattle.plain_machine.specs.Answering.{executed, handled, took_all}
+use Rattle.plain_machine.specs.Happening.{effect}
+
+abbrev lines_in : Endpoints → ℕ
+lines_in endpoints = length endpoints.stations
+
+set_same : (stations : List Station) (i : ℕ) (station : Station) → length (slice_set stations i station) ≡ length stations
+set_same stations i station = grind (arith, common_steps)
+
+acted_same : (setup : Setup) (endpoints : Endpoints) (number moment : ℕ) (act : Act) → lines_in (acted setup endpoints number moment act).endpoints ≡ lines_in endpoints
+unfolding acted
+acted_same setup endpoints number moment act = by_station (station_at endpoints number) where
+  by_station : (station : Option Station) → lines_in (acted_at station setup endpoints number moment act).endpoints ≡ lines_in endpoints
+  by_station None = refl
+  by_station (Some station) = set_same endpoints.stations (number - 1) _
+
+-- what is done at texts
+record Keeps (m : Machine) (done : Effect) : Type 0 where
+  lines : lines_in done.machine.endpoints ≡ lines_in m.endpoints
+  now : done.machine.now ≡ m.now
+
+executed_keeps : (m : Machine) (source : SocketAddrV4) (line : Option ℕ) (id : ℕ) (done : Done) → lines_in done.endpoints ≡ lines_in m.endpoints
+    → Keeps m (executed m source line id done)
+unfolding executed
+executed_keeps m source line id done same = record { lines = same; now = refl }
+
+handled_keeps : (setup : Setup) (m : Machine) (source : SocketAddrV4) (outcome : Outcome) → Keeps m (handled setup m source outcome)
+unfolding handled
+handled_keeps setup m source no_header = record { lines = refl; now = refl }
+handled_keeps setup m source (bad_version id) = executed_keeps m source _ id _ refl
+handled_keeps setup m source (bad_body id) = executed_keeps m source _ id _ refl
+handled_keeps setup m source (message (messages.Command verb id name params body)) = executed_keeps m source _ id _ refl
+handled_keeps setup m source (message (messages.Response code id params body)) = record { lines = refl; now = refl }
+
+took_keeps : (setup : Setup) (m : Machine) (source : SocketAddrV4) (texts : List (List ℕ)) → Keeps m (took_all setup m source texts)
+unfolding took_all
+took_keeps setup m source [] = record { lines = refl; now = refl }
+took_keeps setup m source (text ∷ texts) =
+    let first = handled_keeps setup m source (read_text text) in
+    let rest = took_keeps setup (handled setup m source (read_text text)).machine source texts in
+    record { lines = rest.lines ∙ first.lines; now = rest.now ∙ first.now }
+
+-- no line is lost
+pub effect_lines : (setup : Setup) (m : Machine) (event : GatewayEvent)
+    → length (effect setup m event).machine.endpoints.stations ≡ length m.endpoints.stations
+unfolding effect pass
+effect_lines setup m (datagram source bytes) = (took_keeps setup m source (texts_of bytes)).lines
+effect_lines setup m (phone line act) = acted_same setup m.endpoints line m.now act
+effect_lines setup m (tick moment) = refl
+
+-- a tick alone moves the clock
+pub effect_now : (setup : Setup) (m : Machine) (event : GatewayEvent) → (effect setup m event).machine.now ≡ clock_after m.now event
+unfolding effect
+effect_now setup m (datagram source bytes) = (took_keeps setup m source (texts_of bytes)).now
+effect_now setup m (phone line act) = refl
+effect_now setup m (tick moment) = refl
+
+-- a station that is put where it stands
+same_station : (test : Bool) (stations : List Station) (place : ℕ) (station : Station) → (if test then None else slice_get stations place) ≡ Some station
+    → slice_set stations place station ≡ stations
+same_station true stations place station at = absurd cc
+same_station false stations place station at =
+    ap (λ (x : Station). slice_set stations place x) (sym (get_or_from_slice_get stations place station station at)) ∙ set-get_or stations place station
+
+-- an act that a line doesn't heed
+pub acted_still : (setup : Setup) (endpoints : Endpoints) (number moment : ℕ) (act : Act) (station : Station) → station_at endpoints number ≡ Some station
+    → phoned station.line act moment ≡ record { line = station.line; notice = None } → acted setup endpoints number moment act ≡ told endpoints []
+unfolding acted
+acted_still setup endpoints number moment act station at still =
+    let same : slice_set endpoints.stations (number - 1) station ≡ endpoints.stations = same_station (number == 0) endpoints.stations (number - 1) station at in
+    ap (λ (x : Option Station). acted_at x setup endpoints number moment act) at
+    ∙ ap (λ (x : LineDone). noted setup endpoints number moment station x) still
+    ∙ ap (λ (x : List Station). let e : Endpoints = record { stations = x } in told e []) same

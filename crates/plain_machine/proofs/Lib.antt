@@ -1,0 +1,4 @@
+pub mod EffectLaws
+pub mod ListLaws
+pub mod EndLaws
+pub mod Computing

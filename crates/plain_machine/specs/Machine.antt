@@ -1,0 +1,51 @@
+-- The plain machine: its clock and its endpoints.
+use Rattle.std.specs.Prelude.{ℕ, ◌-◌, ◌==◌, if◌then◌else◌, List, [], replicate, Option, None, slice_get, slice_set}
+use Rattle.mg_line.specs.Line.{opening_line}
+use Rattle.plain_machine.specs.declared.setup.Setup.{Setup}
+use Rattle.plain_machine.specs.declared.station.Station.{Station}
+use Rattle.plain_machine.specs.Message.{Sent}
+
+-- all that changes but the clock: the stations, of which the first is line 1
+pub record Endpoints : Type 0 where
+  pub stations : List Station
+
+pub record Machine : Type 0 where
+  pub now : ℕ
+  pub endpoints : Endpoints
+
+-- what an event does, and what it sends
+pub record Effect : Type 0 where
+  pub machine : Machine
+  pub sent : List Sent
+
+abbrev pub idle : Machine → Effect
+idle m = record { machine = m; sent = [] }
+
+-- what the endpoints become, and what they send
+pub record Told : Type 0 where
+  pub endpoints : Endpoints
+  pub sent : List Sent
+
+abbrev pub told : Endpoints → List Sent → Told
+told endpoints sent = record { endpoints = endpoints; sent = sent }
+
+-- the machine's endpoints change and send
+abbrev pub told_in : Machine → Told → Effect
+told_in m change = record { machine = record m { endpoints = change.endpoints }; sent = change.sent }
+
+-- every line is on hook
+abbrev pub opening_station : Station
+opening_station = record { line = opening_line }
+
+abbrev pub opening_endpoints : Setup → Endpoints
+opening_endpoints setup = record { stations = replicate setup.names.lines opening_station }
+
+abbrev pub opening : Setup → Machine
+opening setup = record { now = 0; endpoints = opening_endpoints setup }
+
+-- the station of the line with this number, if there is one: the numbers begin with 1
+abbrev pub station_at : Endpoints → ℕ → Option Station
+station_at endpoints number = if number == 0 then None else slice_get endpoints.stations (number - 1)
+
+abbrev pub with_station : Endpoints → ℕ → Station → Endpoints
+with_station endpoints number station = record { stations = slice_set endpoints.stations (number - 1) station }

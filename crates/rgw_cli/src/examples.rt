@@ -1,0 +1,36 @@
+//! How the program ends, as theorems.
+#![tactic(auto, unfolding(crate::proofs::Computing::on_examples))]
+
+ghost use Rattle.std.specs.Prelude.{◌≡◌, codes, []};
+ghost use Rattle.rgw_play.specs.declared.played.PlayFault.TheVariants as faults;
+ghost use Rattle.rgw_cli.specs.declared.ending.Ending.TheVariants as endings;
+ghost use Rattle.rgw_cli.specs.Ending.{status_of, error_text};
+
+/// Each ending has its status.
+pub fn endings_have_their_status()
+    ensures played { status_of endings.Played ≡ 0 }
+    ensures config { status_of (endings.Fault (faults.Config 3)) ≡ 1 }
+    ensures script { status_of (endings.Fault (faults.Script 7)) ≡ 1 }
+    ensures words { status_of endings.Usage ≡ 2 }
+    ensures read { status_of (endings.Fault faults.Read) ≡ 3 }
+    ensures write { status_of (endings.Fault faults.Write) ≡ 3 }
+    ensures memory { status_of (endings.Fault faults.OutOfMemory) ≡ 3 }
+{}
+
+/// Each ending but the good one is told in a line.
+pub fn endings_have_their_lines()
+    ensures played { error_text endings.Played ≡ [] }
+    ensures domain { error_text (endings.Fault (faults.Config 2)) ≡ codes "config 2 BadDomain\n" }
+    ensures lines { error_text (endings.Fault (faults.Config 3)) ≡ codes "config 3 BadLines\n" }
+    ensures agent { error_text (endings.Fault (faults.Config 4)) ≡ codes "config 4 BadAgent\n" }
+    ensures wait { error_text (endings.Fault (faults.Config 5)) ≡ codes "config 5 BadWait\n" }
+    ensures media { error_text (endings.Fault (faults.Config 6)) ≡ codes "config 6 BadMedia\n" }
+    ensures toml { error_text (endings.Fault (faults.Config 7)) ≡ codes "config 7 BadToml\n" }
+    ensures long { error_text (endings.Fault (faults.Script 0)) ≡ codes "script line 0\n" }
+    ensures script { error_text (endings.Fault (faults.Script 1048576))
+        ≡ codes "script line 1048576\n" }
+    ensures words { error_text endings.Usage ≡ codes "usage: rgw simulate | rgw loopback [--port N]\n" }
+    ensures read { error_text (endings.Fault faults.Read) ≡ codes "read fault\n" }
+    ensures write { error_text (endings.Fault faults.Write) ≡ codes "write fault\n" }
+    ensures memory { error_text (endings.Fault faults.OutOfMemory) ≡ codes "out of memory\n" }
+{}

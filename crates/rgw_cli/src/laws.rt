@@ -1,0 +1,44 @@
+//! What an ending says of the input.
+ghost use Rattle.std.specs.Prelude.{◌≡◌, ◌++◌, ℕ, List, Option, Some, Ok, Err, IsOk};
+ghost use Rattle.std.specs.List.{flat_map};
+ghost use Rattle.rgw_play.specs.declared.played.PlayFault.{PlayFault};
+ghost use Rattle.rgw_play.specs.declared.played.PlayFault.TheVariants as faults;
+ghost use Rattle.rgw_play.specs.Moves.{printed};
+ghost use Rattle.rgw_play.specs.Play.{Scene, judged, shown};
+ghost use Rattle.rgw_cli.specs.declared.words.Task.TheVariants as tasks;
+ghost use Rattle.rgw_cli.specs.declared.words.WordFault.TheVariants as word_faults;
+ghost use Rattle.rgw_cli.specs.declared.ending.Ending.{Ending};
+ghost use Rattle.rgw_cli.specs.declared.ending.Ending.TheVariants as endings;
+ghost use Rattle.rgw_cli.specs.Ending.{Ends};
+
+/// Where `simulate` ends well, the input is fine and its whole output was written; a fault that is told is the input's.
+pub fn simulate_plays_the_input()
+    ensures output { (input before after : List ℕ) (scene : Scene) → judged input ≡ Ok scene →
+        Ends (Ok tasks.Simulate) endings.Played (Some input) (Some before) (Some after) →
+        after ≡ before ++ flat_map printed (shown scene) }
+    ensures refused { (input : List ℕ) (before after : Option (List ℕ)) (fault : PlayFault) →
+        judged input ≡ Err fault →
+        Ends (Ok tasks.Simulate) endings.Played (Some input) before after → ⊥ }
+    ensures config { (input : List ℕ) (before after : Option (List ℕ)) (number : ℕ) →
+        Ends (Ok tasks.Simulate) (endings.Fault (faults.Config number)) (Some input) before after →
+        judged input ≡ Err (faults.Config number) }
+    ensures script { (input : List ℕ) (before after : Option (List ℕ)) (line : ℕ) →
+        Ends (Ok tasks.Simulate) (endings.Fault (faults.Script line)) (Some input) before after →
+        judged input ≡ Err (faults.Script line) }
+    ensures write { (input : List ℕ) (before after : Option (List ℕ)) →
+        Ends (Ok tasks.Simulate) (endings.Fault faults.Write) (Some input) before after →
+        IsOk (judged input) }
+    ensures words { (input before after : Option (List ℕ)) →
+        Ends (Ok tasks.Simulate) endings.Usage input before after → ⊥ }
+{}
+
+/// Other words end as such, and so does `loopback` so far.
+pub fn other_words_end_as_such()
+    ensures words { (ending : Ending) (input before after : Option (List ℕ)) →
+        Ends (Err word_faults.Usage) ending input before after → ending ≡ endings.Usage }
+    ensures loopback { (port : ℕ) (ending : Ending) (input before after : Option (List ℕ)) →
+        Ends (Ok (tasks.Loopback port)) ending input before after → ending ≡ endings.Usage }
+    ensures memory { (ending : Ending) (input before after : Option (List ℕ)) →
+        Ends (Err word_faults.OutOfMemory) ending input before after →
+        ending ≡ endings.Fault faults.OutOfMemory }
+{}

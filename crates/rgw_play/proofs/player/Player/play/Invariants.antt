@@ -1,0 +1,7 @@
+use Rattle.std.proofs.Common.{take}
+use Rattle.rgw_play.specs.Moves.{all_moves}
+use Rattle.rgw_play.specs.Player.{Moved}
+use Rattle.rgw_play.proofs.player.Player.play.Given as goal
+
+abbrev pub invariant-loop-step : goal.invariant-loop-step
+invariant-loop-step l = Moved l.fn.self (all_moves (take l.step-index l.steps)) l.self

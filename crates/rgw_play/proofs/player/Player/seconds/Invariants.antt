@@ -1,0 +1,7 @@
+use Rattle.std.specs.Prelude.{replicate}
+use Rattle.rgw_play.specs.Moves.{pass}
+use Rattle.rgw_play.specs.Player.{Moved}
+use Rattle.rgw_play.proofs.player.Player.seconds.Given as goal
+
+abbrev pub invariant-loop : goal.invariant-loop
+invariant-loop l = Moved l.fn.self (replicate l.counter (pass 1000)) l.self
