@@ -1,3 +1,5 @@
 pub mod SavedLemmas
 pub mod SetupLemmas
+pub mod AlikeLemmas
 pub mod StandLemmas
+pub mod TextLemmas

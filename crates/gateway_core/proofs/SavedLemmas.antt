@@ -6,7 +6,9 @@ use Rattle.plain_machine.specs.declared.station.Station.{Station}
 use Rattle.gateway_core.specs.declared.state.Saved.{Saved}
 use Rattle.plain_machine.specs.Machine.{Endpoints, Machine}
 use Rattle.gateway_core.specs.declared.state.State.{State}
-use Rattle.gateway_core.specs.State.{restored, stations_before, machine_in, IsAtRest}
+use Rattle.history.specs.declared.entry.Entry.{Entry}
+use Rattle.history.specs.Kept.{from_young}
+use Rattle.gateway_core.specs.State.{Before, restored, before_in, endpoints_in, machine_in, purged_in, IsAtRest}
 
 -- what was saved last is put back first
 pub restored_snoc : (log : List Saved) (saved : Saved) (stations : List Station)
@@ -49,9 +51,19 @@ pub restored_none : (log : List Saved) (stations : List Station) → log ≡ [] 
 unfolding restored
 restored_none log stations none = rw none refl
 
--- the machine with these stations is the one that there was before the event
-pub as_before : (was : State) (is between : List Station) → IsAtRest was → is ≡ between → between ≡ stations_before was
-    → ◌≡◌ {A = Machine} (record { now = was.clock; endpoints = record { stations = is } }) (machine_in was)
-as_before was is between rest back before =
-    let same : is ≡ was.stations.items = back ∙ before ∙ sym (restored_none was.saved.items was.stations.items rest.settled) in
-    ap (λ (x : List Station). let e : Endpoints = record { stations = x } in let m : Machine = record { now = was.clock; endpoints = e } in m) same
+-- stations that can be put back, and the history that they go with
+pub same_before : (stations stations' : List Station) (history : List Entry) → stations' ≡ stations
+    → ◌≡◌ {A = Before} (record { stations = stations'; history = history }) (record { stations = stations; history = history })
+same_before stations stations' history same = ap (λ (x : List Station). let b : Before = record { stations = x; history = history } in b) same
+
+-- the machine with these stations and this history is the one that there was before the event, but for a purge
+pub as_before : (was : State) (stations : List Station) (history settled : List Entry) (between : Before) → IsAtRest was
+    → settled ≡ from_young was.clock was.history.kept → stations ≡ between.stations → history ≡ between.history
+    → between ≡ record { stations = restored was.saved.items was.stations.items; history = settled }
+    → ◌≡◌ {A = Machine} (record { now = was.clock; endpoints = record { stations = stations }; history = history }) (purged_in (machine_in was))
+as_before was stations history settled between rest purged back history_back before =
+    let all : stations ≡ was.stations.items =
+    back ∙ ap (λ (b : Before). b.stations) before ∙ sym (restored_none was.saved.items was.stations.items rest.settled) in
+    let of_history : history ≡ from_young was.clock was.history.kept = history_back ∙ ap (λ (b : Before). b.history) before ∙ purged in
+    ap (λ (x : List Station). let e : Endpoints = record { stations = x } in let m : Machine = record { now = was.clock; endpoints = e; history = history } in m) all
+    ∙ ap (λ (x : List Entry). let m : Machine = record { now = was.clock; endpoints = endpoints_in was; history = x } in m) of_history

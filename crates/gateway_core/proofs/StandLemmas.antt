@@ -19,10 +19,17 @@ use Rattle.plain_machine.proofs.EffectLaws.{effect_lines, effect_now}
 use Rattle.plain_machine.proofs.ListLaws.{machine_on, outputs_on, taken_on}
 use Rattle.gateway_core.specs.declared.state.State.{State}
 use Rattle.gateway_core.specs.Sound.{IsSound}
-use Rattle.gateway_core.specs.State.{endpoints_in, machine_in, Does, PutsOut}
+use Rattle.history.proofs.RecallLaws.{recalls_itself}
+use Rattle.plain_machine.specs.Message.{Sent}
+use Rattle.gateway_core.proofs.AlikeLemmas.{effect_alike, refusal_alike, takes_alike, alike_purged, refusal_purged}
+use Rattle.gateway_core.specs.State.{endpoints_in, machine_in, purged_in, Does, PutsOut}
 use Rattle.gateway_core.specs.Alike.{Alike, GoesOn}
 use Rattle.gateway_core.specs.GatewayState.{GatewayState}
 use Rattle.gateway_core.specs.Stands.{Stands, Took, before_place}
+
+pub on_err : {P : Type 0} (r : Result (Unit {0}) Refusal) → P → OnErr r P
+on_err (Ok x) p = tt
+on_err (Err refusal) p = p
 
 -- ---- one event, beside the plain machine
 
@@ -30,27 +37,19 @@ use Rattle.gateway_core.specs.Stands.{Stands, Took, before_place}
 pub does_nothing : (state : State) (change : Told) → change ≡ told (endpoints_in state) [] → Does (told_in (machine_in state) change) state state
 does_nothing state change none = rw none (record { machine = refl; outbox = sym (append-nil state.outbox.items) })
 
--- so far what is kept is the whole machine
-same_machine : (k m : Machine) → Alike k m → k ≡ m
-same_machine k m a =
-    let by_now : ◌≡◌ {A = Machine} (record { now = k.now; endpoints = k.endpoints }) (record { now = m.now; endpoints = k.endpoints }) =
-    ap (λ (x : ℕ). let n : Machine = record { now = x; endpoints = k.endpoints } in n) a.now in
-    by_now ∙ ap (λ (x : Endpoints). let n : Machine = record { now = m.now; endpoints = x } in n) a.endpoints
-
-pub goes_on : (setup : Setup) (k m : Machine) (is : State) (event : GatewayEvent) (were are : List OutDatagram) → Alike k m
+pub goes_on : (setup : Setup) (k m : Machine) (is : State) (event : GatewayEvent) (were are : List OutDatagram) → Alike k m → refusal_of k event ≡ None
     → PutsOut (effect setup k event) is were are → GoesOn setup m event (machine_in is) were are
-goes_on setup k m is event were are a p =
-    let same = same_machine k m a in
-    record {
-      alike = rw (p.machine, same) (record { now = refl; endpoints = refl });
-      outputs = p.outputs ∙ ap (λ (x : Machine). were ++ put_out (effect setup x event).sent) same;
-    }
+goes_on setup k m is event were are a none p =
+    let same = effect_alike setup k m event a none in
+    record { alike = rw (p.machine) same.machine; outputs = p.outputs ∙ ap (λ (sent : List Sent). were ++ put_out sent) same.sent }
 
-pub alike_after : (k k' m : Machine) → k' ≡ k → Alike k m → Alike k' m
-alike_after k k' m is a = rw is a
+pub goes_on_purged : (setup : Setup) (k m : Machine) (is : State) (event : GatewayEvent) (were are : List OutDatagram) → Alike k m → refusal_of k event ≡ None
+    → PutsOut (effect setup (purged_in k) event) is were are → GoesOn setup m event (machine_in is) were are
+goes_on_purged setup k m is event were are a none p =
+    goes_on setup (purged_in k) m is event were are (alike_purged k m a) (refusal_purged k event ∙ none) p
 
-refusal_alike : (k m : Machine) (event : GatewayEvent) → Alike k m → refusal_of k event ≡ refusal_of m event
-refusal_alike k m event a = ap (λ (x : Machine). refusal_of x event) (same_machine k m a)
+pub alike_after : (k k' m : Machine) → k' ≡ purged_in k → Alike k m → Alike k' m
+alike_after k k' m is a = rw is (alike_purged k m a)
 
 -- ---- what holds of every gateway
 
@@ -62,6 +61,9 @@ unfolding refusal_of
 now_below setup m (datagram source bytes) lt none = rw (effect_now setup m (datagram source bytes)) lt
 now_below setup m (phone line act) lt none = rw (effect_now setup m (phone line act)) lt
 now_below setup m (tick moment) lt none = rw (effect_now setup m (tick moment)) (ticks_below m.now moment none)
+
+pub purged_sound : (setup : Setup) (m : Machine) → IsSound setup m → IsSound setup (purged_in m)
+purged_sound setup m s = record { all = s.all; moment = s.moment }
 
 pub sound_after : (setup : Setup) (m : Machine) (is : State) (event : GatewayEvent) (were are : List OutDatagram) → IsSound setup m → refusal_of m event ≡ None
     → PutsOut (effect setup m event) is were are → IsSound setup (machine_in is)
@@ -128,7 +130,7 @@ took_next g h k events place d were are then inside a b =
 
 pub stands_for_nothing : (g : GatewayState) → g.machine ≡ opening g.setup → Stands g []
 unfolding machine_after are_taken
-stands_for_nothing g is = record { taken = refl; alike = rw is (record { now = refl; endpoints = refl }) }
+stands_for_nothing g is = record { taken = refl; alike = rw is (record { now = refl; endpoints = refl; history = recalls_itself [] }) }
 
 -- the event at a place
 pub at_place : (P : Event → Type 0) (events : List Event) (place : ℕ) (d : Event) → place < length events → P (get_or events place d) → IfSome (slice_get events place) P
@@ -140,7 +142,7 @@ at_place P events place d inside p = rw (slice_get-get_or events place d inside)
 pub ends_alike : (g : GatewayState) (setup : Setup) (events : List GatewayEvent) (event : GatewayEvent) (given : Option Refusal) → g.setup ≡ setup → Stands g events
     → Ends g.setup g.machine event given → Ends setup (plain setup events) event given
 ends_alike g setup events event given is s e =
-    rw (← is) (rw (same_machine g.machine (plain g.setup events) s.alike) at e)
+    rw (← is) (rw (refusal_alike g.machine (plain g.setup events) event s.alike, takes_alike g.setup g.machine (plain g.setup events) event s.alike) at e)
 
 pub took_ok : (g g' : GatewayState) (event : GatewayEvent) (were are : List OutDatagram) (result : Result (Unit {0}) Refusal) → g'.setup ≡ g.setup
     → Ends g.setup g.machine event (refused_by result)

@@ -1,5 +1,7 @@
 -- What changes in a gateway, and what a piece of work does to it.
 use Rattle.std.specs.Prelude.{◌≡◌, List, [], ◌∷◌, ◌++◌, slice_set}
+use Rattle.history.specs.declared.entry.Entry.{Entry}
+use Rattle.history.specs.Kept.{from_young}
 use Rattle.plain_machine.specs.declared.station.Station.{Station}
 use Rattle.plain_machine.specs.declared.output.OutDatagram.{OutDatagram}
 use Rattle.plain_machine.specs.Message.{datagrams_of}
@@ -13,21 +15,29 @@ endpoints_in state = record { stations = state.stations.items }
 
 -- the machine that is kept
 abbrev pub machine_in : State → Machine
-machine_in state = record { now = state.clock; endpoints = endpoints_in state }
+machine_in state = record { now = state.clock; endpoints = endpoints_in state; history = state.history.kept }
 
 -- the stations with what was saved put back, the last change first
 unfoldable pub restored : List Saved → List Station → List Station
 restored [] stations = stations
 restored (saved ∷ more) stations = slice_set (restored more stations) saved.place saved.station
 
--- the stations before the event that is happening
-abbrev pub stations_before : State → List Station
-stations_before state = restored state.saved.items state.stations.items
+-- what an event goes back to where it fails: the stations and the history
+pub record Before : Type 0 where
+  pub stations : List Station
+  pub history : List Entry
+
+abbrev pub before_in : State → Before
+before_in state = record { stations = restored state.saved.items state.stations.items; history = state.history.settled }
 
 -- The machine goes on as the effect says, and what it sends is to be sent next. What was before can still be had.
 pub record Does (effect : Effect) (was is : State) : Type 0 where
   pub machine : machine_in is ≡ effect.machine
   pub outbox : is.outbox.items ≡ was.outbox.items ++ datagrams_of effect.sent
+
+-- the machine without what can't matter any more
+abbrev pub purged_in : Machine → Machine
+purged_in m = record m { history = from_young m.now m.history }
 
 -- nothing is to be sent, and nothing was saved
 pub record IsAtRest (state : State) : Type 0 where

@@ -3,7 +3,7 @@ ghost use Rattle.std.specs.Prelude.{◌≡◌, None, OnOk};
 ghost use Rattle.plain_machine.specs.Machine.{told_in, station_at};
 ghost use Rattle.plain_machine.specs.Acting.{acted};
 ghost use Rattle.plain_machine.specs.Refusing.{act_refusal};
-ghost use Rattle.gateway_core.specs.State.{endpoints_in, machine_in, stations_before, Does};
+ghost use Rattle.gateway_core.specs.State.{endpoints_in, machine_in, before_in, Does};
 
 use crate::changing::{copy_of, put_station, station_at};
 use crate::context::Context;
@@ -22,7 +22,7 @@ pub(crate) fn act_on(
     requires { act_refusal (station_at (endpoints_in state.old) number) act ≡ None }
     ensures ok { OnOk result (Does (told_in (machine_in state.old)
         (acted context.entry.setup.now (endpoints_in state.old) number state.old.clock act)) state.old state.new) }
-    ensures before { stations_before state.new ≡ stations_before state.old }
+    ensures before { before_in state.new ≡ before_in state.old }
 {
     let _ = context;
     let Some(station) = station_at(state, number) else {

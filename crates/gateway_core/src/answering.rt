@@ -1,19 +1,25 @@
 //! What is done at a text that came in a datagram.
-ghost use Rattle.std.specs.Prelude.{◌≡◌, ◌≤◌, ◌∷◌, [], OnOk, length};
-ghost use Rattle.std.specs.Bool.{MatchBool, OnTrue};
+ghost use Rattle.std.specs.Prelude.{◌≡◌, ◌≤◌, ◌++◌, ◌∷◌, [], IfOk, OnOk, length};
+ghost use Rattle.std.specs.Bool.{OnTrue, OnFalse};
 ghost use Rattle.mgcp_text.specs.Reading.{message, read_text};
+ghost use Rattle.mgcp_text.specs.Message.{params_in};
+ghost use Rattle.mgcp_text.specs.Confirmation.{k_of};
+ghost use Rattle.history.specs.Memory.{most_firsts};
+ghost use Rattle.history.specs.Looking.{new, look_of};
 ghost use Rattle.plain_machine.specs.Arriving.{texts_of};
 ghost use Rattle.plain_machine.specs.Commanding.{only_answer};
-ghost use Rattle.plain_machine.specs.Answering.{executed, refused, handled, took_all};
-ghost use Rattle.gateway_core.specs.State.{endpoints_in, machine_in, stations_before, Does};
+ghost use Rattle.plain_machine.specs.Answering.{transaction, span_of, spans_of, executed, transacted, refusing, handled, took_all};
+ghost use Rattle.gateway_core.specs.State.{endpoints_in, machine_in, before_in, Does};
 
 use crate::commanding::{Command, commanded};
 use crate::context::Context;
 use crate::state::State;
-use mg_bytes::{OutOfMemory, has_dot_line};
-use mgcp_text::{Answer, Message, TextFault, TransactionId, read_message};
+use history::{IdSpan, Look};
+use mg_bytes::{OutOfMemory, Sequence, Text};
+use mgcp_text::{Answer, IdRange, KValue, Message, TextFault, TransactionId, read_k, read_message};
+use piggyback::parts;
 use plain_machine::OutDatagram;
-use std::alloc::AllocError;
+use std::alloc::{AllocError, Global};
 use std::net::SocketAddrV4;
 
 /// The largest datagram that is taken, in bytes (RFC 3435, 3.5.4).
@@ -26,33 +32,69 @@ pub(crate) struct Request {
     pub id: TransactionId,
 }
 
-// Whether a datagram holds a text: so far the whole of it, or none.
-#[tactic(auto, unfolding(plain_machine::specs::Arriving::texts_of))]
-fn is_one_text(bytes: &[u8]) -> bool
-    ensures { MatchBool result (texts_of bytes.now ≡ bytes.now ∷ []) (texts_of bytes.now ≡ []) }
-{
-    bytes.len() <= LARGEST_DATAGRAM && !has_dot_line(bytes)
+/// What a first confirms, and its answer.
+#[derive(Drop)]
+pub(crate) struct Reply {
+    pub confirms: Sequence<IdSpan>,
+    pub answer: Answer,
 }
 
-// A command is executed: its answer goes to its source.
+fn copy_of(alloc: Global, text: &[u8]) -> Result<Text, OutOfMemory>
+    ensures { IfOk result (λ copy. copy ≡ text.now) }
+{
+    Ok(Text::of(Vec::from_slice(alloc, text)?))
+}
+
+// A text goes to the source, now.
+fn send(state: &mut State, source: SocketAddrV4, text: Text) -> Result<(), OutOfMemory>
+    ensures ok { OnOk result (state.new.outbox.items ≡ state.old.outbox.items
+        ++ (record { to = source; moment = state.old.clock; bytes = text }) ∷ []) }
+    ensures machine { machine_in state.new ≡ machine_in state.old }
+    ensures before { before_in state.new ≡ before_in state.old }
+{
+    state.outbox.push(OutDatagram {
+        to: source,
+        moment: state.clock,
+        bytes: text,
+    })?;
+    Ok(())
+}
+
+// A first is executed: what it confirms is confirmed, and its answer is kept and goes to its source.
 #[tactic(auto, unfolding(plain_machine::specs::Answering::executed))]
 fn execute(
     context: Context<'_>,
     state: &mut State,
     request: Request,
-    answer: &Answer,
+    reply: Reply,
 ) -> Result<(), OutOfMemory>
-    ensures ok { (line : _) → OnOk result (Does (executed (machine_in state.old) request.source line request.id
-        (only_answer (endpoints_in state.old) answer.now)) state.old state.new) }
-    ensures before { stations_before state.new ≡ stations_before state.old }
+    ensures ok { (line : _) → OnOk result (Does (executed (machine_in state.old) request.source
+        (transaction request.id line reply.confirms (only_answer (endpoints_in state.old) reply.answer))) state.old state.new) }
+    ensures before { before_in state.new ≡ before_in state.old }
 {
-    let bytes = answer.text(context.alloc, request.id)?;
-    state.outbox.push(OutDatagram {
-        to: request.source,
-        moment: state.clock,
-        bytes,
-    })?;
-    Ok(())
+    let Reply { confirms, answer } = reply;
+    let text = answer.text(context.alloc, request.id)?;
+    let kept = copy_of(context.alloc, text.as_bytes())?;
+    state.history.confirm(confirms)?;
+    state.history.first(request.id.number(), state.clock, kept)?;
+    send(state, request.source, text)
+}
+
+// Whether a command is new; another one is a repeat, which gets the stored answer again or silence, or is lost.
+fn is_new(context: Context<'_>, state: &mut State, request: Request) -> Result<bool, OutOfMemory>
+    ensures new { IfOk result (λ is_new. OnTrue is_new
+        ((look_of most_firsts state.old.history.kept request.id state.old.clock ≡ new) × (state.new ≡ state.old))) }
+    ensures other { (line : _) (confirms : _) (done : _) → IfOk result (λ is_new. OnFalse is_new
+        (Does (transacted (machine_in state.old) request.source (transaction request.id line confirms done)) state.old state.new)) }
+    ensures before { before_in state.new ≡ before_in state.old }
+{
+    let text = match state.history.look(request.id.number(), state.clock) {
+        Look::New => return Ok(true),
+        Look::Confirmed | Look::Full => return Ok(false),
+        Look::Repeat(answer) => copy_of(context.alloc, answer.as_bytes())?,
+    };
+    send(state, request.source, text)?;
+    Ok(false)
 }
 
 // A command that this code answers.
@@ -63,10 +105,41 @@ fn refuse(
     code: u16,
 ) -> Result<(), OutOfMemory>
     requires { code ≤ 999 }
-    ensures ok { OnOk result (Does (refused (machine_in state.old) request.source request.id code) state.old state.new) }
-    ensures before { stations_before state.new ≡ stations_before state.old }
+    ensures ok { OnOk result (Does (transacted (machine_in state.old) request.source (refusing (machine_in state.old) request.id code))
+        state.old state.new) }
+    ensures before { before_in state.new ≡ before_in state.old }
 {
-    execute(context, state, request, &Answer::plain(context.alloc, code))
+    if !is_new(context, state, request)? {
+        return Ok(());
+    }
+    let reply = Reply {
+        confirms: Sequence::new(context.alloc),
+        answer: Answer::plain(context.alloc, code),
+    };
+    execute(context, state, request, reply)
+}
+
+fn span_of(range: &IdRange) -> IdSpan
+    ensures { result ≡ span_of range.now }
+{
+    IdSpan {
+        first: range.first.number(),
+        last: range.last.number(),
+    }
+}
+
+// The spans of ids that a readable K names (RFC 3435, 3.2.2.1).
+fn spans_of(alloc: Global, said: &Message<'_>) -> Result<Sequence<IdSpan>, OutOfMemory>
+    ensures { IfOk result (λ spans. spans ≡ spans_of (k_of (params_in said.now))) }
+{
+    let KValue::Items(ranges) = read_k(alloc, said)? else {
+        return Ok(Sequence::new(alloc));
+    };
+    let mut spans = Vec::new(alloc);
+    for range in ranges.as_slice() {
+        spans.push(span_of(range))?;
+    }
+    Ok(Sequence::of(spans))
 }
 
 // A message that was read.
@@ -79,21 +152,25 @@ fn handle_message(
 ) -> Result<(), OutOfMemory>
     ensures ok { OnOk result (Does (handled context.entry.setup.now (machine_in state.old) source (message said.now))
         state.old state.new) }
-    ensures before { stations_before state.new ≡ stations_before state.old }
+    ensures before { before_in state.new ≡ before_in state.old }
 {
-    match said {
-        Message::Command { verb, id, name, .. } => {
-            let command = Command {
-                verb: *verb,
-                name: name.as_slice(),
-                said,
-            };
-            let answer = commanded(context, state, &command)?;
-            let request = Request { source, id: *id };
-            execute(context, state, request, &answer)
-        }
-        Message::Response { .. } => Ok(()),
+    let Message::Command { verb, id, name, .. } = said else {
+        return Ok(());
+    };
+    let request = Request { source, id: *id };
+    if !is_new(context, state, request)? {
+        return Ok(());
     }
+    let command = Command {
+        verb: *verb,
+        name: name.as_slice(),
+        said,
+    };
+    let reply = Reply {
+        confirms: spans_of(context.alloc, said)?,
+        answer: commanded(context, state, &command)?,
+    };
+    execute(context, state, request, reply)
 }
 
 // A text.
@@ -106,7 +183,7 @@ fn take(
 ) -> Result<(), OutOfMemory>
     ensures ok { OnOk result (Does (handled context.entry.setup.now (machine_in state.old) source (read_text text.now))
         state.old state.new) }
-    ensures before { stations_before state.new ≡ stations_before state.old }
+    ensures before { before_in state.new ≡ before_in state.old }
 {
     match &read_message(context.alloc, text) {
         Err(TextFault::OutOfMemory) => Err(AllocError),
@@ -119,8 +196,8 @@ fn take(
     }
 }
 
-/// A datagram: its texts in order, each completely.
-#[tactic(auto, unfolding(plain_machine::specs::Answering::took_all))]
+/// A datagram: its texts in order, each completely. One that is too long does nothing.
+#[tactic(auto, unfolding(plain_machine::specs::Arriving::texts_of))]
 pub(crate) fn take_datagram(
     context: Context<'_>,
     state: &mut State,
@@ -129,10 +206,14 @@ pub(crate) fn take_datagram(
 ) -> Result<(), OutOfMemory>
     ensures ok { OnOk result (Does (took_all context.entry.setup.now (machine_in state.old) source (texts_of bytes.now))
         state.old state.new) }
-    ensures before { stations_before state.new ≡ stations_before state.old }
+    ensures before { before_in state.new ≡ before_in state.old }
 {
-    if is_one_text(bytes) {
-        take(context, state, source, bytes)?;
+    if bytes.len() > LARGEST_DATAGRAM {
+        return Ok(());
+    }
+    let mut texts = parts(bytes);
+    while let Some(text) = texts.next() {
+        take(context, state, source, text)?;
     }
     Ok(())
 }

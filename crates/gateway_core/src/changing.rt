@@ -1,7 +1,7 @@
 //! The stations of a gateway: looked up, changed one at a time, and put back where an event failed.
 ghost use Rattle.std.specs.Prelude.{◌≡◌, ◌-◌, ◌<◌, ◌≤◌, [], slice_set, slice_index_or, OnOk, OnErr, OnSome, IfOk, length, option_copied};
 ghost use Rattle.plain_machine.specs.Machine.{station_at, with_station};
-ghost use Rattle.gateway_core.specs.State.{endpoints_in, machine_in, stations_before, IsAtRest};
+ghost use Rattle.gateway_core.specs.State.{endpoints_in, machine_in, before_in, IsAtRest};
 
 use crate::state::{Saved, State};
 use mg_bytes::OutOfMemory;
@@ -50,7 +50,8 @@ pub(crate) fn put_station(
     ensures ok { OnOk result (endpoints_in state.new ≡ with_station (endpoints_in state.old) number station) }
     ensures clock { state.new.clock ≡ state.old.clock }
     ensures outbox { state.new.outbox.items ≡ state.old.outbox.items }
-    ensures before { stations_before state.new ≡ stations_before state.old }
+    ensures history { state.new.history ≡ state.old.history }
+    ensures before { before_in state.new ≡ before_in state.old }
 {
     let place = usize::from(number) - 1;
     let was = exchanged(&mut state.stations, place, station);
@@ -77,13 +78,15 @@ fn put_back(stations: &mut Vec<Station>, saved: Saved)
     }
 }
 
-/// An event failed: the stations are again what they were before it, and nothing is to be sent.
+/// An event failed: the stations and the history are again what they were before it, and nothing is to be sent.
 pub(crate) fn put_all_back(state: &mut State)
-    ensures stations { state.new.stations.items ≡ stations_before state.old }
+    ensures stations { state.new.stations.items ≡ (before_in state.old).stations }
+    ensures history { state.new.history.kept ≡ (before_in state.old).history }
     ensures clock { state.new.clock ≡ state.old.clock }
     ensures rest { IsAtRest state.new }
 {
     state.outbox.clear();
+    state.history.undo();
     while let Some(saved) = state.saved.pop() {
         put_back(&mut state.stations, saved);
     }

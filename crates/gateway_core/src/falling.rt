@@ -2,7 +2,7 @@
 ghost use Rattle.std.specs.Prelude.{◌≡◌, OnOk};
 ghost use Rattle.plain_machine.specs.Machine.{told_in};
 ghost use Rattle.plain_machine.specs.Falling.{is_due, pass};
-ghost use Rattle.gateway_core.specs.State.{endpoints_in, machine_in, stations_before, Does};
+ghost use Rattle.gateway_core.specs.State.{endpoints_in, machine_in, before_in, Does};
 
 use crate::context::Context;
 use crate::state::State;
@@ -24,7 +24,7 @@ pub(crate) fn pass(
 ) -> Result<(), OutOfMemory>
     ensures ok { OnOk result (Does (told_in (machine_in _state.old)
         (pass _context.entry.setup.now (endpoints_in _state.old) _moment)) _state.old _state.new) }
-    ensures before { stations_before _state.new ≡ stations_before _state.old }
+    ensures before { before_in _state.new ≡ before_in _state.old }
 {
     Ok(())
 }

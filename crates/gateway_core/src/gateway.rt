@@ -8,6 +8,7 @@ use crate::opening::{judged, opening_stations};
 use crate::state::State;
 use crate::stopped::Stopped;
 use crate::working::step_state;
+use history::History;
 use mg_line::Hook;
 use plain_machine::{Config, ConfigFault, Event, Outputs, Refusal, Setup};
 use std::alloc::Global;
@@ -50,6 +51,7 @@ impl Gateway {
         let state = State {
             clock: 0,
             stations,
+            history: History::new(alloc),
             outbox: Vec::new(alloc),
             saved: Vec::new(alloc),
         };

@@ -14,6 +14,7 @@ mod falling;
 mod gateway;
 pub mod laws;
 mod opening;
+mod packing;
 mod refusing;
 mod reporting;
 mod state;

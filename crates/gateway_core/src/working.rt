@@ -6,16 +6,17 @@ ghost use Rattle.plain_machine.specs.Happening.{effect};
 ghost use Rattle.plain_machine.specs.Refusing.{refusal_of, takes_none, Ends, refused_by};
 ghost use Rattle.gateway_core.specs.Sound.{IsSound};
 ghost use Rattle.gateway_core.specs.Alike.{Alike, GoesOn};
-ghost use Rattle.gateway_core.specs.State.{machine_in, stations_before, Does, IsAtRest, PutsOut};
+ghost use Rattle.gateway_core.specs.State.{machine_in, before_in, purged_in, Does, IsAtRest, PutsOut};
 
 use crate::acting::act_on;
 use crate::answering::take_datagram;
 use crate::changing::put_all_back;
 use crate::context::Context;
 use crate::falling::pass;
+use crate::packing::packed;
 use crate::refusing::{refusal_of, takes_none};
 use crate::state::State;
-use mg_bytes::{OutOfMemory, Sequence};
+use mg_bytes::OutOfMemory;
 use plain_machine::{Event, Outputs, Refusal};
 use std::alloc::AllocError;
 use std::mem;
@@ -26,7 +27,7 @@ fn happen(context: Context<'_>, state: &mut State, event: Event<'_>) -> Result<(
     requires { refusal_of (machine_in state.old) (event_of event) ≡ None }
     ensures ok { OnOk result (Does (effect context.entry.setup.now (machine_in state.old) (event_of event.entry))
         state.old state.new) }
-    ensures before { stations_before state.new ≡ stations_before state.old }
+    ensures before { before_in state.new ≡ before_in state.old }
 {
     match event {
         Event::Datagram { source, bytes } => take_datagram(context, state, source, bytes),
@@ -49,10 +50,10 @@ fn put_out(
     ensures err { OnErr result (outputs.new ≡ outputs.old) }
     ensures machine { machine_in state.new ≡ machine_in state.old }
     ensures outbox { state.new.outbox.items ≡ [] }
-    ensures saved { state.new.saved.items ≡ state.old.saved.items }
+    ensures before { before_in state.new ≡ before_in state.old }
 {
     let sent = mem::replace(&mut state.outbox, Vec::new(context.alloc));
-    outputs.append(Sequence::of(sent))
+    outputs.append(packed(context.alloc, sent)?)
 }
 
 // An event that isn't refused happens, and what it sends goes out. After an error the outputs are as they were.
@@ -68,13 +69,13 @@ fn carry_out(
         state.new outputs.old outputs.new) }
     ensures sent { OnOk result (state.new.outbox.items ≡ []) }
     ensures err { OnErr result (outputs.new ≡ outputs.old) }
-    ensures before { stations_before state.new ≡ stations_before state.old }
+    ensures before { before_in state.new ≡ before_in state.old }
 {
     happen(context, state, event)?;
     put_out(context, state, outputs)
 }
 
-// The same; after an error the machine is as it was too.
+// The same after a purge; after an error the machine is as it was too, but for the purge.
 fn attempt(
     context: Context<'_>,
     state: &mut State,
@@ -83,13 +84,15 @@ fn attempt(
 ) -> Result<(), OutOfMemory>
     requires taken { refusal_of (machine_in state.old) (event_of event) ≡ None }
     requires rest { IsAtRest state.old }
-    ensures ok { OnOk result (PutsOut (effect context.entry.setup.now (machine_in state.old) (event_of event.entry))
+    ensures ok { OnOk result (PutsOut
+        (effect context.entry.setup.now (purged_in (machine_in state.old)) (event_of event.entry))
         state.new outputs.old outputs.new) }
-    ensures err { OnErr result (machine_in state.new ≡ machine_in state.old) }
+    ensures err { OnErr result (machine_in state.new ≡ purged_in (machine_in state.old)) }
     ensures no_outputs { OnErr result (outputs.new ≡ outputs.old) }
     ensures rest { IsAtRest state.new }
 {
     let clock = state.clock;
+    state.history.purge(clock);
     match carry_out(context, state, event, outputs) {
         Ok(()) => {
             state.saved.clear();

@@ -1,4 +1,5 @@
 pub mod PieceLemmas
+pub mod CutLemmas
 pub mod DigitLemmas
 pub mod WordLemmas
 pub mod ItemLemmas

@@ -2,9 +2,12 @@
 use Rattle.std.specs.Prelude.{⊤}
 use Rattle.mgcp_text.proofs.Computing.{on_examples as text_examples}
 use Rattle.endpoint_names.proofs.Computing.{on_examples as name_examples}
+use Rattle.history.proofs.Computing.{on_examples as history_examples}
+use Rattle.piggyback.proofs.Computing.{on_examples as part_examples}
 use Rattle.mg_line.specs.Line.{phoned}
 use Rattle.plain_machine.specs.Setup.{table_from, setup_of}
 use Rattle.plain_machine.specs.Arriving.{texts_of, arrivals_from}
+use Rattle.plain_machine.specs.Packing.{packed_after}
 use Rattle.plain_machine.specs.Checking.{params_fault, audit_fault}
 use Rattle.plain_machine.specs.Reporting.{with_items}
 use Rattle.plain_machine.specs.Commanding.{audited}
@@ -16,5 +19,5 @@ use Rattle.plain_machine.specs.Refusing.{refusal_of}
 use Rattle.plain_machine.specs.Lists.{machine_after, sent_from, outputs_from, are_taken}
 
 unfoldable pub on_examples : ⊤
-unfolding text_examples name_examples phoned table_from setup_of texts_of arrivals_from params_fault audit_fault with_items audited acted pass executed handled took_all effect refusal_of machine_after sent_from outputs_from are_taken
+unfolding text_examples name_examples history_examples part_examples phoned table_from setup_of packed_after texts_of arrivals_from params_fault audit_fault with_items audited acted pass executed handled took_all effect refusal_of machine_after sent_from outputs_from are_taken
 on_examples = tt

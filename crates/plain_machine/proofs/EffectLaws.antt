@@ -14,10 +14,11 @@ use Rattle.plain_machine.specs.Event.{GatewayEvent, datagram, phone, tick}
 use Rattle.mg_line.specs.Line.{LineDone, phoned}
 use Rattle.plain_machine.specs.Machine.{Endpoints, Machine, Effect, told, station_at}
 use Rattle.plain_machine.specs.Arriving.{texts_of, clock_after}
-use Rattle.plain_machine.specs.Commanding.{Done}
+use Rattle.history.specs.Memory.{most_firsts}
+use Rattle.history.specs.Looking.{Told as Looked, new, repeat, confirmed, full, look_of}
 use Rattle.plain_machine.specs.Acting.{noted, acted, acted_at}
 use Rattle.plain_machine.specs.Falling.{pass}
-use Rattle.plain_machine.specs.Answering.{executed, handled, took_all}
+use Rattle.plain_machine.specs.Answering.{Transaction, executed, transacted_by, handled, took_all}
 use Rattle.plain_machine.specs.Happening.{effect}
 
 abbrev lines_in : Endpoints → ℕ
@@ -38,17 +39,20 @@ record Keeps (m : Machine) (done : Effect) : Type 0 where
   lines : lines_in done.machine.endpoints ≡ lines_in m.endpoints
   now : done.machine.now ≡ m.now
 
-executed_keeps : (m : Machine) (source : SocketAddrV4) (line : Option ℕ) (id : ℕ) (done : Done) → lines_in done.endpoints ≡ lines_in m.endpoints
-    → Keeps m (executed m source line id done)
+transacted_keeps : (told : Looked) (m : Machine) (source : SocketAddrV4) (t : Transaction) → lines_in t.done.endpoints ≡ lines_in m.endpoints
+    → Keeps m (transacted_by told m source t)
 unfolding executed
-executed_keeps m source line id done same = record { lines = same; now = refl }
+transacted_keeps new m source t same = record { lines = same; now = refl }
+transacted_keeps (repeat text) m source t same = record { lines = refl; now = refl }
+transacted_keeps confirmed m source t same = record { lines = refl; now = refl }
+transacted_keeps full m source t same = record { lines = refl; now = refl }
 
 handled_keeps : (setup : Setup) (m : Machine) (source : SocketAddrV4) (outcome : Outcome) → Keeps m (handled setup m source outcome)
 unfolding handled
 handled_keeps setup m source no_header = record { lines = refl; now = refl }
-handled_keeps setup m source (bad_version id) = executed_keeps m source _ id _ refl
-handled_keeps setup m source (bad_body id) = executed_keeps m source _ id _ refl
-handled_keeps setup m source (message (messages.Command verb id name params body)) = executed_keeps m source _ id _ refl
+handled_keeps setup m source (bad_version id) = transacted_keeps (look_of most_firsts m.history id m.now) m source _ refl
+handled_keeps setup m source (bad_body id) = transacted_keeps (look_of most_firsts m.history id m.now) m source _ refl
+handled_keeps setup m source (message (messages.Command verb id name params body)) = transacted_keeps (look_of most_firsts m.history id m.now) m source _ refl
 handled_keeps setup m source (message (messages.Response code id params body)) = record { lines = refl; now = refl }
 
 took_keeps : (setup : Setup) (m : Machine) (source : SocketAddrV4) (texts : List (List ℕ)) → Keeps m (took_all setup m source texts)

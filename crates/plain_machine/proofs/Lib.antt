@@ -1,4 +1,5 @@
 pub mod EffectLaws
 pub mod ListLaws
+pub mod TransactionLaws
 pub mod EndLaws
 pub mod Computing

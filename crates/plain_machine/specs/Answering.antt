@@ -1,15 +1,25 @@
 -- What is done at a text that arrived: a command is executed and answered (RFC 3435, 3.2 and 3.5).
-use Rattle.std.specs.Prelude.{ℕ, List, [], ◌∷◌, ◌++◌, Option, Some, None, Result, Ok, Err}
+use Rattle.std.specs.Prelude.{ℕ, List, [], ◌∷◌, ◌++◌, map, Option, Some, None, Result, Ok, Err}
 use Rattle.std.specs.declared.net.socket_addr.SocketAddrV4.{SocketAddrV4}
 use Rattle.mgcp_text.specs.declared.message.Message.TheVariants as messages
 use Rattle.mgcp_text.specs.Reading.{Outcome, message, no_header, bad_version, bad_body, read_text}
 use Rattle.mgcp_text.specs.Answer.{plain_code, response_of}
+use Rattle.mgcp_text.specs.Writing.{written}
+use Rattle.mgcp_text.specs.Confirmation.{k_of}
+use Rattle.mgcp_text.specs.declared.confirmation.IdRange.{IdRange}
+use Rattle.mgcp_text.specs.declared.confirmation.KValue.{KValue}
+use Rattle.mgcp_text.specs.declared.confirmation.KValue.TheVariants.{Absent, Unreadable, Items}
+use Rattle.history.specs.declared.span.IdSpan.{IdSpan}
+use Rattle.history.specs.declared.entry.Entry.{Entry}
+use Rattle.history.specs.declared.entry.Entry.TheVariants.{First, Confirmation}
+use Rattle.history.specs.Memory.{most_firsts}
+use Rattle.history.specs.Looking.{Told as Looked, new, repeat, confirmed, full, look_of}
 use Rattle.endpoint_names.specs.declared.name.Pattern.{Pattern}
 use Rattle.endpoint_names.specs.declared.name.Pattern.TheVariants.{One, All, Any}
 use Rattle.endpoint_names.specs.declared.name.NameFault.{NameFault}
 use Rattle.endpoint_names.specs.Name.{name_of}
 use Rattle.plain_machine.specs.declared.setup.Setup.{Setup}
-use Rattle.plain_machine.specs.Message.{answer_of, answer}
+use Rattle.plain_machine.specs.Message.{answer_of, Said, answer, again, Sent}
 use Rattle.plain_machine.specs.Machine.{Endpoints, Machine, Effect, Told, told, idle}
 use Rattle.plain_machine.specs.Commanding.{Noted, Done, only_answer, commanded}
 
@@ -27,29 +37,81 @@ line_of_name setup name = line_meant (name_of name setup.names.domain setup.name
 abbrev pub notified : Endpoints → List Noted → Told
 notified endpoints notices = told endpoints []
 
--- A command is executed: the endpoints become what it makes of them, and its answer goes to its source, before what
--- lines have to tell because of it.
-unfoldable pub executed : Machine → SocketAddrV4 → Option ℕ → ℕ → Done → Effect
-executed m source line id done = record {
-  machine = record m { endpoints = (notified done.endpoints done.notices).endpoints };
-  sent = (record { to = source; moment = m.now; owner = answer_of line; said = answer (response_of id done.answer) })
-      ∷ (notified done.endpoints done.notices).sent;
+-- a message to where a command came from
+abbrev pub reply : Machine → SocketAddrV4 → Option ℕ → Said → Sent
+reply m source line said = record { to = source; moment = m.now; owner = answer_of line; said = said }
+
+-- the spans of ids that a readable K names (RFC 3435, 3.2.2.1)
+abbrev pub span_of : IdRange → IdSpan
+span_of range = record { first = range.first; last = range.last }
+
+abbrev pub spans_of : KValue → List IdSpan
+spans_of Absent = []
+spans_of Unreadable = []
+spans_of (Items ranges) = map span_of ranges
+
+-- a command that arrived: its id, the line that it names, what it confirms, and what it would do now
+pub record Transaction : Type 0 where
+  pub id : ℕ
+  pub line : Option ℕ
+  pub confirms : List IdSpan
+  pub done : Done
+
+abbrev pub transaction : ℕ → Option ℕ → List IdSpan → Done → Transaction
+transaction id line confirms done = record { id = id; line = line; confirms = confirms; done = done }
+
+-- the text of the answer
+abbrev pub answer_text : Transaction → List ℕ
+answer_text t = written (response_of t.id t.done.answer)
+
+-- the history after a first: what it confirmed, and then the first itself with its answer
+abbrev pub history_with : Machine → Transaction → List Entry
+history_with m t =
+    (m.history ++ Confirmation t.confirms ∷ []) ++ First (record { id = t.id; moment = m.now; answer = answer_text t }) ∷ []
+
+-- A first is executed: what it confirms is confirmed, the endpoints become what it makes of them, and its answer goes to
+-- its source, before what lines have to tell because of it.
+unfoldable pub executed : Machine → SocketAddrV4 → Transaction → Effect
+executed m source t = record {
+  machine = record m {
+    endpoints = (notified t.done.endpoints t.done.notices).endpoints;
+    history = history_with m t;
+  };
+  sent = reply m source t.line (answer (response_of t.id t.done.answer)) ∷ (notified t.done.endpoints t.done.notices).sent;
 }
 
--- a command that this code answers
-abbrev pub refused : Machine → SocketAddrV4 → ℕ → ℕ → Effect
-refused m source id code = executed m source None id (only_answer m.endpoints (plain_code code))
+-- a command, by what is told of its id: a first is executed, a repeat gets the stored answer, what is confirmed gets
+-- silence, and what finds no room is lost. But for a first nothing changes (RFC 3435, 3.5.1)
+abbrev pub transacted_by : Looked → Machine → SocketAddrV4 → Transaction → Effect
+transacted_by new m source t = executed m source t
+transacted_by (repeat text) m source t = record { machine = m; sent = reply m source t.line (again text) ∷ [] }
+transacted_by confirmed m source t = idle m
+transacted_by full m source t = idle m
 
--- What arrived: another version and a body that can't be read are answered, what has no header is not. So far every
--- command is the first with its id.
+abbrev pub transacted : Machine → SocketAddrV4 → Transaction → Effect
+transacted m source t = transacted_by (look_of most_firsts m.history t.id m.now) m source t
+
+-- a command that this code answers, which confirms nothing
+abbrev pub refusing : Machine → ℕ → ℕ → Transaction
+refusing m id code = transaction id None [] (only_answer m.endpoints (plain_code code))
+
+-- the command that an outcome is: another version and a body that can't be read are answered, what has no header is not
+abbrev pub transaction_of : Setup → Machine → Outcome → Option Transaction
+transaction_of setup m no_header = None
+transaction_of setup m (bad_version id) = Some (refusing m id 528)
+transaction_of setup m (bad_body id) = Some (refusing m id 510)
+transaction_of setup m (message (messages.Command verb id name params body)) =
+    Some (transaction id (line_of_name setup name) (spans_of (k_of params))
+    (commanded setup m.endpoints m.now (record { verb = verb; name = name; params = params })))
+transaction_of setup m (message (messages.Response code id params body)) = None
+
+abbrev pub handled_as : Option Transaction → Machine → SocketAddrV4 → Effect
+handled_as None m source = idle m
+handled_as (Some t) m source = transacted m source t
+
+-- what is done at what arrived
 unfoldable pub handled : Setup → Machine → SocketAddrV4 → Outcome → Effect
-handled setup m source no_header = idle m
-handled setup m source (bad_version id) = refused m source id 528
-handled setup m source (bad_body id) = refused m source id 510
-handled setup m source (message (messages.Command verb id name params body)) =
-    executed m source (line_of_name setup name) id
-    (commanded setup m.endpoints m.now (record { verb = verb; name = name; params = params }))
-handled setup m source (message (messages.Response code id params body)) = idle m
+handled setup m source outcome = handled_as (transaction_of setup m outcome) m source
 
 abbrev pub after : Effect → (Machine → Effect) → Effect
 after first next = record { machine = (next first.machine).machine; sent = first.sent ++ (next first.machine).sent }

@@ -1,5 +1,5 @@
 -- The gateway of the worked examples, and its agent.
-use Rattle.std.specs.Prelude.{ℕ, List, [], ◌∷◌, ◌++◌, codes, Option}
+use Rattle.std.specs.Prelude.{ℕ, List, [], ◌∷◌, ◌++◌, codes, decimal, Option}
 use Rattle.std.specs.declared.net.ipv4_addr.Ipv4Addr.{Ipv4Addr}
 use Rattle.std.specs.declared.net.socket_addr.SocketAddrV4.{SocketAddrV4}
 use Rattle.mgcp_text.specs.declared.message.Message.{Message}
@@ -10,6 +10,7 @@ use Rattle.plain_machine.specs.declared.output.OutDatagram.{OutDatagram}
 use Rattle.plain_machine.specs.declared.refusal.Refusal.{Refusal}
 use Rattle.plain_machine.specs.Event.{GatewayEvent, datagram, tick}
 use Rattle.plain_machine.specs.Message.{answer_of, answer, Sent}
+use Rattle.plain_machine.specs.Machine.{Machine, opening}
 use Rattle.plain_machine.specs.Lists.{sent_of, outputs_of, refusal_at}
 
 -- 127.0.0.1
@@ -66,6 +67,9 @@ from_agent bytes = datagram agent bytes
 abbrev pub to_agent_at : ℕ → List ℕ → OutDatagram
 to_agent_at moment bytes = record { to = agent; moment = moment; bytes = bytes }
 
+abbrev pub to_other_at : ℕ → List ℕ → OutDatagram
+to_other_at moment bytes = record { to = other_agent; moment = moment; bytes = bytes }
+
 -- at the opening
 abbrev pub to_agent : List ℕ → OutDatagram
 to_agent bytes = to_agent_at 0 bytes
@@ -97,3 +101,15 @@ answer_owned_by line response = (record { to = agent; moment = 0; owner = answer
 -- the messages that go out where the agent says this at the opening
 abbrev pub messages_to : List ℕ → List Sent
 messages_to text = sent_of example (from_agent text ∷ [])
+
+-- an audit of line 1 with this id
+abbrev pub audit : ℕ → List ℕ
+audit id = codes "AUEP " ++ decimal id ++ codes " aaln/1@rgw.example.net MGCP 1.0\r\n"
+
+-- an audit of line 1 that asks for its hook state
+abbrev pub audit_of_hook : List ℕ
+audit_of_hook = audit 3001 ++ codes "F: ES\r\n"
+
+-- the opening, but at this moment
+abbrev pub machine_at : ℕ → Machine
+machine_at now = record (opening example) { now = now }

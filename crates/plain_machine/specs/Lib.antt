@@ -2,9 +2,9 @@ pub mod ConfigFault
 pub mod Setup
 pub mod Event
 pub mod Message
+pub mod Arriving
 pub mod Packing
 pub mod Machine
-pub mod Arriving
 pub mod Checking
 pub mod Reporting
 pub mod Commanding
@@ -15,4 +15,5 @@ pub mod Happening
 pub mod Refusal
 pub mod Refusing
 pub mod Lists
+pub mod Transactions
 pub mod Example

@@ -1,17 +1,20 @@
--- The plain machine: its clock and its endpoints.
+-- The plain machine: its clock, its endpoints, and the transactions that there ever were.
 use Rattle.std.specs.Prelude.{ℕ, ◌-◌, ◌==◌, if◌then◌else◌, List, [], replicate, Option, None, slice_get, slice_set}
 use Rattle.mg_line.specs.Line.{opening_line}
 use Rattle.plain_machine.specs.declared.setup.Setup.{Setup}
 use Rattle.plain_machine.specs.declared.station.Station.{Station}
+use Rattle.history.specs.declared.entry.Entry.{Entry}
 use Rattle.plain_machine.specs.Message.{Sent}
 
 -- all that changes but the clock: the stations, of which the first is line 1
 pub record Endpoints : Type 0 where
   pub stations : List Station
 
+-- its history has every first and what it confirmed, in order, and forgets nothing (RFC 3435, 3.5.1)
 pub record Machine : Type 0 where
   pub now : ℕ
   pub endpoints : Endpoints
+  pub history : List Entry
 
 -- what an event does, and what it sends
 pub record Effect : Type 0 where
@@ -41,7 +44,7 @@ abbrev pub opening_endpoints : Setup → Endpoints
 opening_endpoints setup = record { stations = replicate setup.names.lines opening_station }
 
 abbrev pub opening : Setup → Machine
-opening setup = record { now = 0; endpoints = opening_endpoints setup }
+opening setup = record { now = 0; endpoints = opening_endpoints setup; history = [] }
 
 -- the station of the line with this number, if there is one: the numbers begin with 1
 abbrev pub station_at : Endpoints → ℕ → Option Station

@@ -13,6 +13,8 @@ pub data Owner : Type 0 where
 -- what a message says
 pub data Said : Type 0 where
   answer : (response : Message) → Said
+  -- the stored answer once more (RFC 3435, 3.5.1)
+  again : (text : List ℕ) → Said
 
 pub record Sent : Type 0 where
   pub to : SocketAddrV4
@@ -22,6 +24,7 @@ pub record Sent : Type 0 where
 
 abbrev pub text_of : Said → List ℕ
 text_of (answer response) = written response
+text_of (again text) = text
 
 -- a message in a datagram of its own
 abbrev pub datagram_of : Sent → OutDatagram

@@ -1,11 +1,34 @@
--- The datagrams that the messages of one event go out in (RFC 3435, 3.5.5).
-use Rattle.std.specs.Prelude.{List}
+-- The datagrams that the messages of one event go out in (RFC 3435, 3.5.5): successive messages to one address at one
+-- moment are joined by dot lines while they fit.
+use Rattle.std.specs.Prelude.{Bool, ◌&&◌, ◌==◌, if◌then◌else◌, List, [], ◌∷◌}
+use Rattle.std.specs.Str.{bytes_eq}
+use Rattle.std.specs.declared.net.socket_addr.SocketAddrV4.{SocketAddrV4}
+use Rattle.piggyback.specs.Packing.{has_room, with_text}
 use Rattle.plain_machine.specs.declared.output.OutDatagram.{OutDatagram}
 use Rattle.plain_machine.specs.Message.{Sent, datagrams_of}
+use Rattle.plain_machine.specs.Arriving.{largest_datagram}
 
--- so far there is one message at most, and it has a datagram of its own
+abbrev pub same_address : SocketAddrV4 → SocketAddrV4 → Bool
+same_address a b = bytes_eq a.ip.octets b.ip.octets && a.port == b.port
+
+-- a message goes into a datagram too: to the same address, at the same moment, and it fits
+abbrev pub joins : OutDatagram → OutDatagram → Bool
+joins begun next =
+    same_address begun.to next.to && begun.moment == next.moment && has_room largest_datagram begun.bytes next.bytes
+
+abbrev pub joined : OutDatagram → OutDatagram → OutDatagram
+joined begun next = record begun { bytes = with_text begun.bytes next.bytes }
+
+-- the datagrams, where one is begun
+unfoldable pub packed_after : OutDatagram → List OutDatagram → List OutDatagram
+packed_after begun [] = begun ∷ []
+packed_after begun (next ∷ more) =
+    if joins begun next then packed_after (joined begun next) more else begun ∷ packed_after next more
+
+-- the datagrams of messages, each of which would have one of its own
 abbrev pub packed : List OutDatagram → List OutDatagram
-packed datagrams = datagrams
+packed [] = []
+packed (first ∷ more) = packed_after first more
 
 abbrev pub put_out : List Sent → List OutDatagram
 put_out sent = packed (datagrams_of sent)

@@ -5,3 +5,4 @@ pub mod audits;
 pub mod commands;
 pub mod configurations;
 pub mod refusals;
+pub mod transactions;

@@ -1,5 +1,8 @@
 //! Laws of the plain machine, for every setup and every list of events.
 ghost use Rattle.std.specs.Prelude.{◌≡◌, ◌≢◌, ◌++◌, ◌∷◌, [], List, map, length, Option, Some, None, true, false};
+ghost use Rattle.history.specs.Memory.{most_firsts};
+ghost use Rattle.history.specs.Firsts.{firsts_of};
+ghost use Rattle.history.specs.Kept.{entries_of};
 ghost use Rattle.plain_machine.specs.declared.setup.Setup.{Setup};
 ghost use Rattle.plain_machine.specs.declared.refusal.Refusal.{Refusal};
 ghost use Rattle.plain_machine.specs.declared.refusal.Refusal.TheVariants as refusals;
@@ -10,6 +13,7 @@ ghost use Rattle.plain_machine.specs.Arriving.{arrivals_at, clock_after, arrival
 ghost use Rattle.plain_machine.specs.Happening.{effect};
 ghost use Rattle.plain_machine.specs.Refusing.{refusal_of, takes_none, Ends};
 ghost use Rattle.plain_machine.specs.Lists.{machine_after, plain, sent_of, outputs_from, outputs_of};
+ghost use Rattle.plain_machine.specs.Transactions.{commands_of};
 
 /// What is done and sent after some events follows from the machine after them.
 pub fn events_go_on()
@@ -35,9 +39,10 @@ pub fn what_arrives_arrives_now()
         arrivals_of (before ++ event ∷ []) ≡ arrivals_of before ++ arrivals_at (plain setup before).now event }
 {}
 
-/// Each message has a datagram of its own so far.
-pub fn each_message_has_a_datagram()
-    ensures { (setup : Setup) (events : List GatewayEvent) → outputs_of setup events ≡ map datagram_of (sent_of setup events) }
+/// What the machine keeps of transactions is the firsts of all commands that arrived, each with what it confirmed.
+pub fn the_firsts_of_all_commands_are_kept()
+    ensures { (setup : Setup) (events : List GatewayEvent) →
+        (plain setup events).history ≡ entries_of (firsts_of most_firsts (commands_of setup events)) }
 {}
 
 /// A step ends as the machine says: a refused event is refused for its reason, another one is taken, and want of memory

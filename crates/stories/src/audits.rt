@@ -57,16 +57,6 @@ fn datagrams_are_answered(rt: HostRuntime) -> Result<(), Fail> {
 }
 
 #[test]
-fn a_copy_is_answered_again(rt: HostRuntime) -> Result<(), Fail> {
-    let stories = [all_taken(
-        2,
-        "from 127.0.0.1:2727\nAUEP 1202 aaln/1@rgw.example.net MGCP 2.0\n--\n\nfrom 127.0.0.1:2727\nAUEP 1202 aaln/1@rgw.example.net MGCP 2.0\n--\n",
-        "> 0 127.0.0.1:2727\n528 1202\n--\n> 0 127.0.0.1:2727\n528 1202\n--\n",
-    )];
-    tell(&rt, rt.alloc(), &stories)
-}
-
-#[test]
 fn an_audit_tells_the_hook_state(rt: HostRuntime) -> Result<(), Fail> {
     let stories = [
         all_taken(

@@ -9,6 +9,8 @@ use std::test::Fail;
 
 const AUDIT: &[u8] = b"AUEP 30 aaln/1@rgw.example.net MGCP 1.0\r\nF: ES\r\n";
 
+const NEXT_AUDIT: &[u8] = b"AUEP 31 aaln/1@rgw.example.net MGCP 1.0\r\nF: ES\r\n";
+
 fn text(alloc: Global, bytes: &[u8]) -> Result<Text, OutOfMemory> {
     Ok(Text::of(Vec::from_slice(alloc, bytes)?))
 }
@@ -142,7 +144,11 @@ fn a_run_stops_at_a_refusal(rt: HostRuntime) -> Result<(), Fail> {
     let Ok(mut gateway) = opened(rt.alloc()) else {
         return Err("a gateway".into());
     };
-    let events = [from_agent(AUDIT), phone(1, Act::OffHook), from_agent(AUDIT)];
+    let events = [
+        from_agent(AUDIT),
+        phone(1, Act::OffHook),
+        from_agent(NEXT_AUDIT),
+    ];
     assert!(rt; hook_of(&gateway, 1) == Some(Hook::OnHook));
     let Ok(outputs) = gateway.run(&events) else {
         return Err("outputs".into());
@@ -151,14 +157,15 @@ fn a_run_stops_at_a_refusal(rt: HostRuntime) -> Result<(), Fail> {
     assert!(rt; hook_of(&gateway, 16) == Some(Hook::OnHook));
     let (on, off) = (
         b"200 30 OK\r\nES: L/hu\r\n".as_slice(),
-        b"200 30 OK\r\nES: L/hd\r\n".as_slice(),
+        b"200 31 OK\r\nES: L/hd\r\n".as_slice(),
     );
     are_sent(&rt, &outputs, &[on, off]);
     let Err(stopped) = gateway.run(&events) else {
         return Err("a stop".into());
     };
     assert!(rt; stopped.place == 1 && stopped.refusal == Refusal::PhoneState);
-    are_sent(&rt, &stopped.outputs, &[off]);
+    // A repeat gets the answer of its first.
+    are_sent(&rt, &stopped.outputs, &[on]);
     Ok(())
 }
 

@@ -17,12 +17,18 @@ mod configurations;
 #[cfg(test)]
 mod fixture;
 #[cfg(test)]
+mod histories;
+#[cfg(test)]
 mod largest;
 #[cfg(test)]
 mod names;
+#[cfg(test)]
+mod packing;
 #[cfg(test)]
 mod scripts;
 #[cfg(test)]
 mod streams;
 #[cfg(test)]
 mod texts;
+#[cfg(test)]
+mod transactions;

@@ -19,8 +19,6 @@ pub fn some_datagrams_do_nothing()
         ≡ [] }
     ensures ten_digits { answers_to (codes "AUEP 1234567890 aaln/1@rgw.example.net MGCP 1.0\r\n")
         ≡ [] }
-    ensures two_texts { answers_to (codes "AUEP 1 aaln/1@rgw.example.net MGCP 1.0\r\n.\r\n")
-        ≡ [] }
     ensures response { answers_to (codes "200 1 OK\r\n") ≡ [] }
 {}
 
@@ -43,7 +41,10 @@ pub fn texts_arrive_in_their_order()
         ∷ (record { moment = 9; source = agent; outcome = bad_body 7 }) ∷ [] }
     ensures no_header { arrivals_of (from_agent [] ∷ [])
         ≡ (record { moment = 0; source = agent; outcome = no_header }) ∷ [] }
-    ensures dot { arrivals_of (from_agent (codes ".\r\n") ∷ []) ≡ [] }
+    ensures dot { arrivals_of (from_agent (codes ".\r\n") ∷ [])
+        ≡ (record { moment = 0; source = agent; outcome = no_header }) ∷ (record { moment = 0; source = agent; outcome = no_header }) ∷ [] }
+    ensures parts { arrivals_of (tick 9 ∷ from_agent (codes "AUEP 7\r\n . \nAUEP 8 x MGCP 2.0") ∷ [])
+        ≡ (record { moment = 9; source = agent; outcome = bad_body 7 }) ∷ (record { moment = 9; source = agent; outcome = bad_version 8 }) ∷ [] }
     ensures too_long { arrivals_of (from_agent (replicate 4001 10) ∷ []) ≡ [] }
     ensures longest { arrivals_of (from_agent (replicate 4000 10) ∷ [])
         ≡ (record { moment = 0; source = agent; outcome = no_header }) ∷ [] }

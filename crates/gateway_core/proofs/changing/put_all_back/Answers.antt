@@ -5,6 +5,7 @@ use Rattle.gateway_core.proofs.changing.put_all_back.Goals as goal
 pub loop-saved-preserved : goal.loop-saved-preserved
 loop-saved-preserved c = record {
   stations = restored_less _ _ c.in-Some.saved _ _ c.in-Some.ensures.items c.put_back.ensures ∙ c.loop-saved.invariant.stations;
+  history = c.loop-saved.invariant.history;
   clock = c.loop-saved.invariant.clock;
   outbox = c.loop-saved.invariant.outbox;
 }

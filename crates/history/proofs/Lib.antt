@@ -1,0 +1,7 @@
+pub mod SearchLaws
+pub mod RecallLaws
+pub mod KindLaws
+pub mod AnswerLaws
+pub mod EntryLaws
+pub mod PurgeLaws
+pub mod Computing
