@@ -1,5 +1,6 @@
 pub mod SearchLaws
 pub mod RecallLaws
+pub mod LookLaws
 pub mod KindLaws
 pub mod AnswerLaws
 pub mod EntryLaws

@@ -1,5 +1,5 @@
 //! Laws of transactions, over the whole list of what arrived (RFC 3435, 3.5.1), and of what a history keeps of it.
-ghost use Rattle.std.specs.Prelude.{◌≡◌, ◌≢◌, ◌↔◌, ◌-◌, ◌<◌, ◌≤◌, ◌++◌, ◌∷◌, [], ℕ, List, length, fold, All, AllPairs};
+ghost use Rattle.std.specs.Prelude.{◌≡◌, ◌≢◌, ◌↔◌, ◌-◌, ◌<◌, ◌≤◌, ◌++◌, ◌∷◌, [], ℕ, List, length, fold, All, AllPairs, Any};
 ghost use Rattle.std.specs.Prelude.{Some, None, IfSome};
 ghost use Rattle.history.specs.declared.entry.First.{First as KeptFirst};
 ghost use Rattle.history.specs.declared.entry.Entry.{Entry};
@@ -10,7 +10,7 @@ ghost use Rattle.history.specs.Firsts.{Copied, a_first, a_repeat, lost, young_of
 ghost use Rattle.history.specs.Firsts.{IsNoCopy, IsLatestCopy};
 ghost use Rattle.history.specs.Answers.{IsConfirmed, IsRepeat, IsSilenced, answer_to, answers_from, answers_of};
 ghost use Rattle.history.specs.Kept.{first_entry, settled_at, kept_with, from_young, firsts_in};
-ghost use Rattle.history.specs.Looking.{look_of, told_as};
+ghost use Rattle.history.specs.Looking.{repeat, look_of, told_as};
 ghost use Rattle.history.specs.Recalling.{Recalls, Remembers};
 
 // Of all that arrived
@@ -117,6 +117,13 @@ pub fn what_is_kept_recalls_all()
         Recalls between all since → Recalls kept all since }
     ensures look { (kept all : List Entry) (since id now : ℕ) → Recalls kept all since → since ≤ now →
         look_of most_firsts kept id now ≡ look_of most_firsts all id now }
+{}
+
+/// The answer that is told of a repeat is that of a first which is kept.
+pub fn what_is_told_again_is_kept()
+    ensures { (limit : ℕ) (entries : List Entry) (id now : ℕ) (answer : List ℕ) →
+        look_of limit entries id now ≡ repeat answer →
+        Any (λ (first : KeptFirst). first.answer ≡ answer) (firsts_in entries) }
 {}
 
 /// Where the firsts came in the order of their moments, a purge leaves the young ones alone.

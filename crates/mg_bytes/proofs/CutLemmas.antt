@@ -1,8 +1,9 @@
 -- The lines of texts that follow one another, and of lines that were cut.
-use Rattle.std.proofs.Common.{◌≡◌, ℕ, ◌<◌, ◌-◌, suc, true, false, List, [], ◌∷◌, ◌++◌, length, get_or, refl, sym, ap, ◌∙◌, arith, ⊎_elim, inl, inr}
+use Rattle.std.proofs.Common.{◌≡◌, ℕ, ◌<◌, ◌+◌, ◌-◌, suc, true, false, List, [], ◌∷◌, ◌++◌, length, get_or, refl, sym, ap, ◌∙◌, arith, ⊎_elim, inl, inr}
 use Rattle.std.specs.Prelude.{◌⊎◌}
 use Rattle.std.specs.List.{onto_first}
 use Rattle.std.proofs.lemmas.Bool.{cases_Bool}
+use Rattle.std.proofs.lemmas.List.{length-append, get_or-append_right}
 use Rattle.mg_bytes.specs.Lines.{cut, is_line_feed}
 use Rattle.mg_bytes.proofs.PieceLemmas.{cut-nil}
 
@@ -50,6 +51,16 @@ cut_append (b ∷ c ∷ bs) rest ends =
     (λ (feed : is_line_feed b ≡ true). cut_feed b _ feed ∙ ap (λ (lines : List (List ℕ)). (b ∷ []) ∷ lines) others ∙ rw (cut_feed b (c ∷ bs) feed) refl)
     (λ (other : is_line_feed b ≡ false). cut_other b _ other ∙ ap (onto_first b) others ∙ onto_front b (cut (c ∷ bs)) (cut rest) (cut_some c bs) ∙ rw (cut_other b (c ∷ bs) other) refl)
     (cases_Bool (is_line_feed b))
+
+-- a text ends as what is appended to it
+pub ends_append : (front text : List ℕ) → is_line_feed (get_or text (length text - 1) 0) ≡ true
+    → is_line_feed (get_or (front ++ text) (length (front ++ text) - 1) 0) ≡ true
+ends_append front [] ends = absurd cc
+ends_append front (b ∷ bs) ends =
+    let size : length (front ++ b ∷ bs) ≡ length front + length (b ∷ bs) = length-append front (b ∷ bs) in
+    let last : get_or (front ++ b ∷ bs) (length (front ++ b ∷ bs) - 1) 0 ≡ get_or (b ∷ bs) (length (front ++ b ∷ bs) - 1 - length front) 0 = get_or-append_right front (b ∷ bs) (length front) _ 0 refl (omega arith) in
+    let place : length (front ++ b ∷ bs) - 1 - length front ≡ length (b ∷ bs) - 1 = omega arith in
+    rw (last, place) ends
 
 -- a line with its end: the line feed is its last byte, and no other is one
 abbrev pub IsEnded : List ℕ → Type 0

@@ -3,4 +3,5 @@ pub mod EndedLemmas
 pub mod IdLemmas
 pub mod AnswerLemmas
 pub mod ValueLaws
+pub mod WholeLemmas
 pub mod Computing

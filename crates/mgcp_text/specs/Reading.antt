@@ -7,7 +7,7 @@ use Rattle.mg_bytes.specs.Words.{words}
 use Rattle.mgcp_text.specs.declared.message.Verb.{Verb}
 use Rattle.mgcp_text.specs.declared.message.Param.{Param}
 use Rattle.mgcp_text.specs.declared.message.Message.{Message}
-use Rattle.mgcp_text.specs.declared.message.Message.TheVariants.{Command}
+use Rattle.mgcp_text.specs.declared.message.Message.TheVariants.{Command, Response}
 use Rattle.mgcp_text.specs.declared.message.TextFault.{TextFault}
 use Rattle.mgcp_text.specs.declared.message.TextFault.TheVariants.{OutOfMemory, NoHeader, BadVersion, BadBody}
 use Rattle.mgcp_text.specs.declared.header.Header.{Header}
@@ -20,6 +20,14 @@ pub data Outcome : Type 0 where
   no_header : Outcome
   bad_version : ℕ → Outcome
   bad_body : ℕ → Outcome
+
+-- the transaction id of what was read, if it has one
+abbrev pub id_in : Outcome → Option ℕ
+id_in (message (Command verb id name params body)) = Some id
+id_in (message (Response code id params body)) = Some id
+id_in no_header = None
+id_in (bad_version id) = Some id
+id_in (bad_body id) = Some id
 
 -- what a reader answered, unless memory was refused
 abbrev pub outcome_of : Result Message TextFault → Option Outcome

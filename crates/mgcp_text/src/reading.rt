@@ -1,8 +1,8 @@
 //! What a text is read as (RFC 3435, 3.2).
-ghost use Rattle.std.specs.Prelude.{◌≡◌, IfSome, List, ℕ};
+ghost use Rattle.std.specs.Prelude.{◌≡◌, ◌≤◌, IfSome, List, ℕ};
 ghost use Rattle.mg_bytes.specs.Lines.{cut, TakesLine};
 ghost use Rattle.std.specs.List.{list_all};
-ghost use Rattle.mgcp_text.specs.Reading.{is_empty_line, skip_empty, description_of, Outcome, outcome_of, command_from, header_from, read_text};
+ghost use Rattle.mgcp_text.specs.Reading.{is_empty_line, skip_empty, description_of, Outcome, id_in, outcome_of, command_from, header_from, read_text};
 ghost use Rattle.mgcp_text.specs.Spelling.{Reads};
 
 use crate::bytes::Bytes;
@@ -109,4 +109,9 @@ pub fn read_message(alloc: Global, text: &[u8]) -> Result<Message<'_>, TextFault
 pub fn one_reading()
     ensures some { (text : List ℕ) → Reads text (read_text text) }
     ensures only { (text : List ℕ) (outcome : Outcome) → Reads text outcome → outcome ≡ read_text text }
+{}
+
+/// What is read has a transaction id from 1 to 999,999,999, if it has one (RFC 3435, 3.2.1.2).
+pub fn ids_are_in_their_bounds()
+    ensures { (text : List ℕ) → IfSome (id_in (read_text text)) (λ id. (1 ≤ id) × (id ≤ 999999999)) }
 {}

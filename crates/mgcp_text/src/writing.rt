@@ -1,11 +1,12 @@
 //! How a message is written (RFC 3435, 3.3).
-ghost use Rattle.std.specs.Prelude.{◌≡◌, ◌++◌, ◌≤◌, true, false, List, ℕ, ◌≢◌, IsTrue, IfOk, OnOk, MatchOption};
+ghost use Rattle.std.specs.Prelude.{◌≡◌, ◌++◌, ◌-◌, ◌≤◌, true, false, List, length, slice_index, ℕ, ◌≢◌, IsTrue, IfOk, OnOk, MatchOption};
 ghost use Rattle.std.specs.Str.{bytes_eq};
 ghost use Rattle.std.specs.List.{list_all, list_any, flat_map};
 ghost use Rattle.mg_bytes.specs.Blanks.{is_blank};
-ghost use Rattle.mg_bytes.specs.Lines.{cut, lines_of, is_line_feed};
+ghost use Rattle.mg_bytes.specs.Lines.{cut, lines_of, is_line_feed, is_dot_line};
 ghost use Rattle.mgcp_text.specs.declared.message.Param.{Param};
 ghost use Rattle.mgcp_text.specs.Parameter.{is_code};
+ghost use Rattle.mgcp_text.specs.declared.message.Message.{Message};
 ghost use Rattle.mgcp_text.specs.declared.message.Message.TheVariants as messages;
 ghost use Rattle.mgcp_text.specs.Reading.{is_empty_line};
 ghost use Rattle.mgcp_text.specs.Writing.{code_text, comment, response_line, param_line, ended, body_text, written, is_writable_param, is_writable_body, is_writable};
@@ -218,4 +219,12 @@ pub fn is_writable(said: &Message<'_>) -> bool
 pub fn words_can_be_written()
     ensures { (param : Param) → is_code param.code ≡ true → list_any is_blank param.value ≡ false
         → list_any is_line_feed param.value ≡ false → is_writable_param param ≡ true }
+{}
+
+/// What is written of a message that can be written ends in a line end, and none of its lines is a single dot. So it can
+/// share a datagram (RFC 3435, 3.5.5).
+pub fn what_is_written_is_whole_lines()
+    ensures ends { (said : Message) → is_writable said ≡ true →
+        is_line_feed (slice_index (written said) (length (written said) - 1)) ≡ true }
+    ensures apart { (said : Message) → is_writable said ≡ true → list_any is_dot_line (cut (written said)) ≡ false }
 {}

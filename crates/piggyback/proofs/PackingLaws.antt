@@ -10,7 +10,7 @@ use Rattle.mg_bytes.specs.Lines.{cut, is_dot_line}
 use Rattle.piggyback.specs.Parts.{has_dot_line, parts_of}
 use Rattle.piggyback.specs.Packing.{dot_line, with_text, has_room, packed_behind, packed, ends_in_line_feed, is_joinable, joined, with_next}
 use Rattle.piggyback.proofs.SplitLemmas.{split, split_append}
-use Rattle.mg_bytes.proofs.CutLemmas.{cut_append}
+use Rattle.mg_bytes.proofs.CutLemmas.{cut_append, ends_append}
 use Rattle.piggyback.proofs.PartingLaws.{parts-apart}
 
 -- the two ways of a text
@@ -63,16 +63,8 @@ parts-with_text begun text ends =
     ∙ ap (map concat) (split_append (cut begun) dot_line (cut text) dot_is)
     ∙ map-append concat (split (cut begun)) (split (cut text))
 
-pub ends-append : (front text : List ℕ) → ends_in_line_feed text ≡ true → ends_in_line_feed (front ++ text) ≡ true
-ends-append front [] ends = absurd cc
-ends-append front (b ∷ bs) ends =
-    let size : length (front ++ b ∷ bs) ≡ length front + length (b ∷ bs) = length-append front (b ∷ bs) in
-    let last : get_or (front ++ b ∷ bs) (length (front ++ b ∷ bs) - 1) 0 ≡ get_or (b ∷ bs) (length (front ++ b ∷ bs) - 1 - length front) 0 = get_or-append_right front (b ∷ bs) (length front) _ 0 refl (omega arith) in
-    let place : length (front ++ b ∷ bs) - 1 - length front ≡ length (b ∷ bs) - 1 = omega arith in
-    rw (last, place) ends
-
 pub ends-with_text : (begun text : List ℕ) → ends_in_line_feed text ≡ true → ends_in_line_feed (with_text begun text) ≡ true
-ends-with_text begun text ends = ends-append begun (dot_line ++ text) (ends-append dot_line text ends)
+ends-with_text begun text ends = ends_append begun (dot_line ++ text) (ends_append dot_line text ends)
 
 parts-behind : (max : ℕ) (begun : List ℕ) (texts : List (List ℕ)) → ends_in_line_feed begun ≡ true → list_all (is_joinable max) texts ≡ true
     → flat_map parts_of (packed_behind max begun texts) ≡ parts_of begun ++ texts

@@ -55,6 +55,9 @@ handled_keeps setup m source (bad_body id) = transacted_keeps (look_of most_firs
 handled_keeps setup m source (message (messages.Command verb id name params body)) = transacted_keeps (look_of most_firsts m.history id m.now) m source _ refl
 handled_keeps setup m source (message (messages.Response code id params body)) = record { lines = refl; now = refl }
 
+pub handled_now : (setup : Setup) (m : Machine) (source : SocketAddrV4) (outcome : Outcome) → (handled setup m source outcome).machine.now ≡ m.now
+handled_now setup m source outcome = (handled_keeps setup m source outcome).now
+
 took_keeps : (setup : Setup) (m : Machine) (source : SocketAddrV4) (texts : List (List ℕ)) → Keeps m (took_all setup m source texts)
 unfolding took_all
 took_keeps setup m source [] = record { lines = refl; now = refl }

@@ -1,5 +1,8 @@
 pub mod EffectLaws
 pub mod ListLaws
 pub mod TransactionLaws
+pub mod PackingLaws
+pub mod MessageLaws
+pub mod AnswerLaws
 pub mod EndLaws
 pub mod Computing

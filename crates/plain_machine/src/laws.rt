@@ -1,19 +1,25 @@
 //! Laws of the plain machine, for every setup and every list of events.
-ghost use Rattle.std.specs.Prelude.{◌≡◌, ◌≢◌, ◌++◌, ◌∷◌, [], List, map, length, Option, Some, None, true, false};
-ghost use Rattle.history.specs.Memory.{most_firsts};
-ghost use Rattle.history.specs.Firsts.{firsts_of};
+ghost use Rattle.std.specs.declared.net.socket_addr.SocketAddrV4.{SocketAddrV4};
+ghost use Rattle.std.specs.Prelude.{if◌then◌else◌, ◌≡◌, ◌≢◌, ◌++◌, ◌∷◌, ◌-◌, [], ◌≤◌, List, length, map, flat_map, All, AllPairs, Option, Some, None, true, false};
+ghost use Rattle.history.specs.Memory.{memory_time, most_firsts};
+ghost use Rattle.history.specs.Arrival.{Arrival as Command};
+ghost use Rattle.history.specs.Firsts.{Copied, a_first, a_repeat, lost, kind_of, firsts_of};
+ghost use Rattle.history.specs.Answers.{is_confirmed, answers_of};
 ghost use Rattle.history.specs.Kept.{entries_of};
 ghost use Rattle.plain_machine.specs.declared.setup.Setup.{Setup};
+ghost use Rattle.plain_machine.specs.declared.output.OutDatagram.{OutDatagram};
 ghost use Rattle.plain_machine.specs.declared.refusal.Refusal.{Refusal};
 ghost use Rattle.plain_machine.specs.declared.refusal.Refusal.TheVariants as refusals;
 ghost use Rattle.plain_machine.specs.Event.{GatewayEvent};
-ghost use Rattle.plain_machine.specs.Message.{datagram_of};
-ghost use Rattle.plain_machine.specs.Machine.{Machine};
-ghost use Rattle.plain_machine.specs.Arriving.{arrivals_at, clock_after, arrivals_of};
+ghost use Rattle.plain_machine.specs.Message.{again, datagrams_of};
+ghost use Rattle.plain_machine.specs.Machine.{Machine, idle};
+ghost use Rattle.plain_machine.specs.Answering.{Transaction, reply, executed, transacted};
+ghost use Rattle.plain_machine.specs.Packing.{messages_in};
+ghost use Rattle.plain_machine.specs.Arriving.{largest_datagram, arrivals_at, clock_after, arrivals_of};
 ghost use Rattle.plain_machine.specs.Happening.{effect};
 ghost use Rattle.plain_machine.specs.Refusing.{refusal_of, takes_none, Ends};
 ghost use Rattle.plain_machine.specs.Lists.{machine_after, plain, sent_of, outputs_from, outputs_of};
-ghost use Rattle.plain_machine.specs.Transactions.{commands_of};
+ghost use Rattle.plain_machine.specs.Transactions.{command_arrival, commands_of, Asked, asked_of, replies};
 
 /// What is done and sent after some events follows from the machine after them.
 pub fn events_go_on()
@@ -39,10 +45,63 @@ pub fn what_arrives_arrives_now()
         arrivals_of (before ++ event ∷ []) ≡ arrivals_of before ++ arrivals_at (plain setup before).now event }
 {}
 
-/// What the machine keeps of transactions is the firsts of all commands that arrived, each with what it confirmed.
+/// What the machine keeps of transactions is the firsts of all commands that arrived, each with what it confirmed; and no
+/// two of these firsts have one id within 30,000 ms.
 pub fn the_firsts_of_all_commands_are_kept()
-    ensures { (setup : Setup) (events : List GatewayEvent) →
+    ensures kept { (setup : Setup) (events : List GatewayEvent) →
         (plain setup events).history ≡ entries_of (firsts_of most_firsts (commands_of setup events)) }
+    ensures apart { (setup : Setup) (events : List GatewayEvent) →
+        AllPairs (λ (first later : Command). first.id ≡ later.id → memory_time ≤ later.moment - first.moment)
+        (firsts_of most_firsts (commands_of setup events)) }
+{}
+
+/// Which commands arrive, at which moments and with which confirmations, follows from the datagrams alone, each text by
+/// itself; with another version, or a body that can't be read, a command confirms nothing.
+pub fn commands_are_what_arrives()
+    ensures ids { (setup : Setup) (events : List GatewayEvent) →
+        map (λ (c : Command). c.id) (commands_of setup events) ≡ map (λ (a : Asked). a.id) (asked_of events) }
+    ensures moments { (setup : Setup) (events : List GatewayEvent) →
+        map (λ (c : Command). c.moment) (commands_of setup events) ≡ map (λ (a : Asked). a.moment) (asked_of events) }
+    ensures confirms { (setup : Setup) (events : List GatewayEvent) →
+        map (λ (c : Command). c.confirms) (commands_of setup events)
+        ≡ map (λ (a : Asked). a.confirms) (asked_of events) }
+{}
+
+/// What is sent is what the commands that arrived are answered, a first, a repeat and what is lost as the standard says,
+/// in their order, each to where its command came from and at the moment at which that arrived.
+pub fn what_is_sent_is_what_commands_are_answered()
+    ensures { (setup : Setup) (events : List GatewayEvent) →
+        datagrams_of (sent_of setup events) ≡ replies (asked_of events) (answers_of most_firsts (commands_of setup events)) }
+{}
+
+/// Where a machine keeps the firsts of all that arrived, a command that is one of them is executed; a repeat changes
+/// nothing and gets its first's answer, to where the repeat came from, or silence where that is confirmed; and what is
+/// lost does nothing.
+pub fn commands_are_done_by_what_they_are()
+    ensures first { (m : Machine) (source : SocketAddrV4) (t : Transaction) (earlier : List Command) →
+        m.history ≡ entries_of (firsts_of most_firsts earlier) →
+        kind_of most_firsts (firsts_of most_firsts earlier) (command_arrival m t) ≡ a_first →
+        transacted m source t ≡ executed m source t }
+    ensures repeat { (m : Machine) (source : SocketAddrV4) (t : Transaction) (earlier : List Command) (copied : Copied) →
+        m.history ≡ entries_of (firsts_of most_firsts earlier) →
+        kind_of most_firsts (firsts_of most_firsts earlier) (command_arrival m t) ≡ a_repeat copied →
+        transacted m source t ≡ record {
+          machine = m;
+          sent = if is_confirmed t.id copied.after then [] else reply m source t.line (again copied.original.answer) ∷ [];
+        } }
+    ensures lost { (m : Machine) (source : SocketAddrV4) (t : Transaction) (earlier : List Command) →
+        m.history ≡ entries_of (firsts_of most_firsts earlier) →
+        kind_of most_firsts (firsts_of most_firsts earlier) (command_arrival m t) ≡ lost →
+        transacted m source t ≡ idle m }
+{}
+
+/// The datagrams that go out hold the messages that are sent, in their order, and none of them is longer than the largest
+/// that is taken.
+pub fn what_is_packed_is_what_is_sent()
+    ensures messages { (setup : Setup) (events : List GatewayEvent) →
+        flat_map messages_in (outputs_of setup events) ≡ datagrams_of (sent_of setup events) }
+    ensures within { (setup : Setup) (events : List GatewayEvent) →
+        All (λ (datagram : OutDatagram). length datagram.bytes ≤ largest_datagram) (outputs_of setup events) }
 {}
 
 /// A step ends as the machine says: a refused event is refused for its reason, another one is taken, and want of memory

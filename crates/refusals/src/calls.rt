@@ -14,6 +14,22 @@ const AUDITS: [&[u8]; 4] = [
     b"AUEP 33 aaln/1@rgw.example.net MGCP 1.0\r\nF: ES\r\nK: 1-2, 4\r\n",
 ];
 
+// Firsts, a repeat, and a confirmation after which the same repeat gets silence. After a refusal half way nothing of it
+// may be kept, or the first of the two repeats would get silence too.
+const SEVERAL: &[u8] = b"AUEP 34 aaln/1@rgw.example.net MGCP 1.0\r
+F: ES\r
+.\r
+AUEP 30\r
+.\r
+AUEP 35 aaln/2@rgw.example.net MGCP 1.0\r
+K: 30-31\r
+.\r
+AUEP 30\r
+.\r
+AUEP 36 aaln/3@rgw.example.net MGCP 1.0\r
+F: ES\r
+";
+
 const INPUT: &[u8] = b"domain = \"rgw.example.net\"
 lines = 16
 agent = \"ca@ca.example.net\"
@@ -145,7 +161,12 @@ fn gateway_calls<R: Print>(rt: &R, gateway: &mut Gateway) -> io::Result<()> {
         rt,
         gateway,
         &[Event::Tick { moment: 5 }, third, flash, fourth],
-    )
+    )?;
+    let several = Event::Datagram {
+        source,
+        bytes: SEVERAL,
+    };
+    stepped(rt, gateway, several)
 }
 
 /// All calls, each again where memory was refused.

@@ -108,7 +108,7 @@ fn a_confirmation_of_everything_silences_all(rt: HostRuntime) -> Result<(), Fail
 }
 
 #[test]
-fn days_take_the_memory_of_30_seconds(rt: HostRuntime) -> Result<(), Fail> {
+fn minutes_take_the_memory_of_30_seconds(rt: HostRuntime) -> Result<(), Fail> {
     let mut history = History::new(rt.alloc());
     for id in 1..5000u32 {
         let now = u64::from(id) * 100;
