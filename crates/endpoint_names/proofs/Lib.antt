@@ -1,3 +1,4 @@
 pub mod FixedLemmas
 pub mod LineLemmas
+pub mod WrittenLemmas
 pub mod Computing

@@ -41,15 +41,15 @@ digits_from_same (b ∷ text) (d ∷ ds) digits same =
     let tail : text ≡ ds = digits_from_same text ds digits.1 parts.1 in
     ap (λ x. x ∷ text) head ∙ ap (λ xs. d ∷ xs) tail
 
-same_itself : (text : List ℕ) → same_but_case text text ≡ true
+pub same_itself : (text : List ℕ) → same_but_case text text ≡ true
 same_itself text = (bytes_eq-Decides (str_to_ascii_lowercase text) (str_to_ascii_lowercase text)).1 refl
 
 -- a line's local name: `aaln/` in any case, and the line's digits
-record IsLineName (local : List ℕ) (line : ℕ) : Type 0 where
-  front : same_but_case (take 5 local) (codes "aaln/") ≡ true
-  digits : drop 5 local ≡ decimal line
+pub record IsLineName (local : List ℕ) (line : ℕ) : Type 0 where
+  pub front : same_but_case (take 5 local) (codes "aaln/") ≡ true
+  pub digits : drop 5 local ≡ decimal line
 
-line_name_parts : (local : List ℕ) (line : ℕ) → line < 2 ^ 64 → same_but_case local (local_name line) ≡ true → IsLineName local line
+pub line_name_parts : (local : List ℕ) (line : ℕ) → line < 2 ^ 64 → same_but_case local (local_name line) ≡ true → IsLineName local line
 line_name_parts local line small same =
     let parts : (same_but_case (take 5 local) (codes "aaln/") ≡ true) × (same_but_case (drop 5 local) (decimal line) ≡ true) =
     both_true _ _ (sym (same-append local (codes "aaln/") (decimal line)) ∙ same) in
@@ -68,7 +68,7 @@ line_named_none local (suc n) small none =
     rw other (line_named_none local n (omega arith) (λ k low high. none k low (omega arith)))
 
 -- one line has it
-line_named_some : (local : List ℕ) (lines line : ℕ) → lines < 2 ^ 64 → 1 ≤ line → line ≤ lines → IsLineName local line → line_named local lines ≡ Some line
+pub line_named_some : (local : List ℕ) (lines line : ℕ) → lines < 2 ^ 64 → 1 ≤ line → line ≤ lines → IsLineName local line → line_named local lines ≡ Some line
 unfolding line_named
 line_named_some local zero line small low high is = absurd (omega arith)
 line_named_some local (suc n) line small low high is =
@@ -82,7 +82,7 @@ line_named_some local (suc n) line small low high is =
     rw other (line_named_some local n line (omega arith) low (omega arith) is))
     (cases_Bool (same_but_case local (local_name (suc n))))
 
-own : IsNumeralModel (λ ds. list_all is_ascii_digit ds ≡ true) (digits_value 10)
+pub own : IsNumeralModel (λ ds. list_all is_ascii_digit ds ≡ true) (digits_value 10)
 own = numerals_by_value _ (search rules)
 
 -- what is written of a line's number is read again

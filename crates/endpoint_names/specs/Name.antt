@@ -1,6 +1,6 @@
 -- Endpoint names (RFC 3435, 2.1.2, 3.2.1.3 and appendix E.1): `local@domain`. How lines are numbered, and which
 -- wildcards are taken, is this gateway's profile.
-use Rattle.std.specs.Prelude.{ℕ, zero, suc, Bool, ◌||◌, ◌==◌, if◌then◌else◌, List, [], ◌∷◌, ◌++◌, codes, decimal, Option, Some, None, Result, Ok, Err}
+use Rattle.std.specs.Prelude.{ℕ, zero, suc, Bool, true, ◌||◌, ◌==◌, if◌then◌else◌, List, [], ◌∷◌, ◌++◌, codes, decimal, Option, Some, None, Result, Ok, Err}
 use Rattle.std.specs.List.{list_any, slice_split}
 use Rattle.std.specs.Str.{bytes_eq}
 use Rattle.mg_bytes.specs.Bytes.{slash, at_sign}
@@ -63,3 +63,19 @@ name_from (Some sides) domain lines =
 -- what a name means on the gateway with this domain and so many lines; it is split at its first `@`
 unfoldable pub name_of : List ℕ → List ℕ → ℕ → Result Pattern NameFault
 name_of name domain lines = name_from (split_once at_sign name) domain lines
+
+-- the lines that a name means: the line that it names, and every line where it means all or any one
+abbrev pub means_line : Pattern → ℕ → Bool
+means_line (One named) line = named == line
+means_line All line = true
+means_line Any line = true
+
+-- the local name that is written
+abbrev pub local_text : Pattern → List ℕ
+local_text (One line) = local_name line
+local_text All = codes "*"
+local_text Any = codes "$"
+
+-- the name that is written of endpoints on the gateway with this domain
+unfoldable pub name_text : Pattern → List ℕ → List ℕ
+name_text pattern domain = local_text pattern ++ at_sign ∷ domain

@@ -3,6 +3,7 @@
 
 ghost use Rattle.std.specs.Prelude.{◌≡◌, ◌++◌, ◌∷◌, codes, replicate, true, false, Ok, Err, Some, None};
 ghost use Rattle.mg_bytes.specs.Bytes.{at_sign};
+ghost use Rattle.endpoint_names.specs.Name.{means_line, name_text};
 ghost use Rattle.endpoint_names.specs.Table.{is_domain, fault_of};
 ghost use Rattle.endpoint_names.specs.Entity.{entity_of};
 ghost use Rattle.endpoint_names.specs.Examples.{meaning, table_of, hosts_named, read_at, IsAt, IsNoEntity};
@@ -54,6 +55,25 @@ pub fn other_wildcards_are_too_complicated()
     // Only `/` parts the terms.
     ensures hyphen { meaning (codes "aaln-*@rgw.example.net") ≡ Err NameFault.Unknown }
     ensures dot { meaning (codes "aaln.$@rgw.example.net") ≡ Err NameFault.Unknown }
+{}
+
+/// One line alone is meant by its own name, and every line by the others.
+pub fn names_mean_lines()
+    ensures one { means_line (Pattern.One 1) 1 ≡ true }
+    ensures other { means_line (Pattern.One 1) 2 ≡ false }
+    ensures lesser { means_line (Pattern.One 16) 1 ≡ false }
+    ensures all_first { means_line Pattern.All 1 ≡ true }
+    ensures all_last { means_line Pattern.All 16 ≡ true }
+    ensures any_first { means_line Pattern.Any 1 ≡ true }
+    ensures any_last { means_line Pattern.Any 16 ≡ true }
+{}
+
+/// A name is written in lower case without leading zeros, with the domain as it is given.
+pub fn names_are_written()
+    ensures line { name_text (Pattern.One 1) (codes "rgw.example.net") ≡ codes "aaln/1@rgw.example.net" }
+    ensures last { name_text (Pattern.One 16) (codes "RGW.example.net") ≡ codes "aaln/16@RGW.example.net" }
+    ensures all { name_text Pattern.All (codes "rgw.example.net") ≡ codes "*@rgw.example.net" }
+    ensures any { name_text Pattern.Any (codes "rgw.example.net") ≡ codes "$@rgw.example.net" }
 {}
 
 /// A domain is 1 to 64 letters, digits, `-` and `.`.

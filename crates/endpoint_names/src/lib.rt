@@ -1,10 +1,12 @@
-//! Endpoint names and the names of call agents (RFC 3435, 2.1.2, 2.1.4 and 3.2.1.3). Nothing here takes memory.
+//! Endpoint names and the names of call agents (RFC 3435, 2.1.2, 2.1.4 and 3.2.1.3). Nothing here takes memory but
+//! `write_name`.
 #![tactic(auto)]
 
 mod domain;
 mod entity;
 pub mod examples;
 mod fixed;
+pub mod laws;
 mod name;
 mod names;
 mod table;
@@ -12,6 +14,6 @@ mod table;
 pub use crate::domain::is_domain;
 pub use crate::entity::{Entity, read_entity};
 pub use crate::fixed::FixedText;
-pub use crate::name::{NameFault, Pattern, read_name};
+pub use crate::name::{NameFault, Pattern, matches, read_name, write_name};
 pub use crate::names::Names;
 pub use crate::table::{Host, Table, TableFault};

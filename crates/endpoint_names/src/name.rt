@@ -1,11 +1,14 @@
 //! Endpoint names (RFC 3435, 2.1.2 and 3.2.1.3).
-ghost use Rattle.std.specs.Prelude.{◌≡◌, ◌==◌, if◌then◌else◌, slice_index, take, drop, codes, option_map};
+ghost use Rattle.std.specs.Prelude.{◌≡◌, ◌==◌, ◌++◌, if◌then◌else◌, slice_index, take, drop, codes, option_map};
+ghost use Rattle.std.specs.Prelude.{IfOk, OnOk};
 ghost use Rattle.mg_bytes.specs.Bytes.{digit_zero};
 ghost use Rattle.mg_bytes.specs.Case.{same_but_case};
 ghost use Rattle.mg_bytes.specs.Numbers.{decimal_of};
 ghost use Rattle.endpoint_names.specs.Name.{line_named, names_all, names_any, has_wildcard, is_wildcard, pattern_of, name_of};
+ghost use Rattle.endpoint_names.specs.Name.{means_line, local_text, name_text};
 
-use mg_bytes::{decimal, same_no_case, split_once};
+use mg_bytes::{OutOfMemory, Text, decimal, put_decimal, same_no_case, split_once};
+use std::alloc::Global;
 
 /// The endpoints that a name means.
 #[derive(Clone, Copy, Debug, PartialEq, Eq)]
@@ -122,4 +125,44 @@ pub fn read_name(name: &[u8], domain: &[u8], lines: u16) -> Result<Pattern, Name
         return Err(NameFault::Unknown);
     }
     pattern_of(local, lines)
+}
+
+/// Whether the line with this number is among those that a name means (RFC 3435, 2.1.2): one line alone, or every
+/// line where the name means all lines or any one.
+pub fn matches(pattern: Pattern, line: u16) -> bool
+    ensures { result ≡ means_line pattern line }
+{
+    match pattern {
+        Pattern::One(named) => named == line,
+        Pattern::All | Pattern::Any => true,
+    }
+}
+
+fn put_local_name(alloc: Global, out: &mut Vec<u8>, pattern: Pattern) -> Result<(), OutOfMemory>
+    ensures { OnOk result (out.new.items ≡ out.old.items ++ local_text pattern) }
+{
+    match pattern {
+        Pattern::One(line) => {
+            out.extend_from_slice(b"aaln/")?;
+            put_decimal(alloc, out, u64::from(line))?;
+        }
+        Pattern::All => out.push(b'*')?,
+        Pattern::Any => out.push(b'$')?,
+    }
+    Ok(())
+}
+
+/// The name of endpoints on the gateway with this domain, as it is written (RFC 3435, 2.1.2): `aaln/` and the line's
+/// number without leading zeros, `*` for all lines or `$` for any one, then `@` and the domain.
+///
+/// Its only error is want of memory.
+#[tactic(auto, unfolding(crate::specs::Name::name_text))]
+pub fn write_name(alloc: Global, pattern: Pattern, domain: &[u8]) -> Result<Text, OutOfMemory>
+    ensures { IfOk result (λ text. text ≡ name_text pattern domain.now) }
+{
+    let mut out = Vec::new(alloc);
+    put_local_name(alloc, &mut out, pattern)?;
+    out.push(b'@')?;
+    out.extend_from_slice(domain)?;
+    Ok(Text::of(out))
 }

@@ -1,5 +1,5 @@
 -- What is kept goes on as the plain machine does.
-use Rattle.std.proofs.Common.{◌≡◌, ℕ, ◌+◌, ◌<◌, ◌≤◌, ◌^◌, Bool, true, false, List, [], ◌∷◌, ◌++◌, Option, Some, None, refl, sym, ◌∙◌, ap, subst, arith}
+use Rattle.std.proofs.Common.{◌≡◌, ℕ, ◌+◌, ◌<◌, ◌≤◌, ◌^◌, Bool, true, false, not, List, [], ◌∷◌, ◌++◌, Option, Some, None, refl, sym, ◌∙◌, ap, subst, arith}
 use Rattle.std.proofs.lemmas.Bool.Decides.{nat_tests}
 use Rattle.std.specs.declared.net.socket_addr.SocketAddrV4.{SocketAddrV4}
 use Rattle.mgcp_text.specs.Reading.{Outcome, read_text, message, no_header, bad_version, bad_body}
@@ -14,8 +14,8 @@ use Rattle.plain_machine.specs.Event.{GatewayEvent, datagram, phone, tick}
 use Rattle.plain_machine.specs.Message.{Sent}
 use Rattle.plain_machine.specs.Machine.{Endpoints, Machine, Effect}
 use Rattle.plain_machine.specs.Arriving.{texts_of}
-use Rattle.plain_machine.specs.Falling.{pass}
 use Rattle.plain_machine.specs.Answering.{Transaction, executed, transacted_by, transacted, transaction_of, handled_as, handled, took_all}
+use Rattle.plain_machine.specs.Falling.{pass, is_due}
 use Rattle.plain_machine.specs.Happening.{effect}
 use Rattle.plain_machine.specs.Refusing.{refusal_of, tick_refusal, takes_none}
 use Rattle.gateway_core.specs.State.{purged_in}
@@ -87,13 +87,13 @@ ticks_on : (now moment : ℕ) → tick_refusal now moment ≡ None → now ≤ m
 ticks_on now moment none = grind (arith, nat_tests)
 
 pub effect_alike : (setup : Setup) (k m : Machine) (event : GatewayEvent) → Alike k m → refusal_of k event ≡ None → AlikeEffects (effect setup k event) (effect setup m event)
-unfolding effect refusal_of pass
+unfolding effect refusal_of
 effect_alike setup k m (datagram source bytes) a none = took_alike setup k m source (texts_of bytes) a
 effect_alike setup k m (phone line act) a none =
     by_fields (λ x. effect setup x (phone line act)) k m a (λ n e ks ms r. record { machine = record { now = refl; endpoints = refl; history = r }; sent = refl })
 effect_alike setup k m (tick moment) a none = record {
-  machine = record { now = refl; endpoints = a.endpoints; history = recalls_later k.history m.history k.now moment a.history (ticks_on k.now moment none) };
-  sent = refl;
+  machine = record { now = refl; endpoints = ap (λ (e : Endpoints). (pass setup e moment).endpoints) a.endpoints; history = recalls_later k.history m.history k.now moment a.history (ticks_on k.now moment none) };
+  sent = ap (λ (e : Endpoints). (pass setup e moment).sent) a.endpoints;
 }
 
 pub refusal_alike : (k m : Machine) (event : GatewayEvent) → Alike k m → refusal_of k event ≡ refusal_of m event
@@ -105,7 +105,7 @@ refusal_alike k m (tick moment) a = rw (a.now) refl
 pub takes_alike : (setup : Setup) (k m : Machine) (event : GatewayEvent) → Alike k m → takes_none setup k event ≡ takes_none setup m event
 takes_alike setup k m (datagram source bytes) a = refl
 takes_alike setup k m (phone line act) a = refl
-takes_alike setup k m (tick moment) a = refl
+takes_alike setup k m (tick moment) a = ap (λ (e : Endpoints). not (is_due setup e moment)) a.endpoints
 
 -- what is purged is never missed
 pub alike_purged : (k m : Machine) → Alike k m → Alike (purged_in k) m

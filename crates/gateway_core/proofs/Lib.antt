@@ -3,3 +3,4 @@ pub mod SetupLemmas
 pub mod AlikeLemmas
 pub mod StandLemmas
 pub mod TextLemmas
+pub mod WorkLemmas

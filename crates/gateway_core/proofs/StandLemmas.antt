@@ -63,11 +63,12 @@ now_below setup m (phone line act) lt none = rw (effect_now setup m (phone line 
 now_below setup m (tick moment) lt none = rw (effect_now setup m (tick moment)) (ticks_below m.now moment none)
 
 pub purged_sound : (setup : Setup) (m : Machine) → IsSound setup m → IsSound setup (purged_in m)
-purged_sound setup m s = record { all = s.all; moment = s.moment }
+purged_sound setup m s = record { set_up = s.set_up; all = s.all; moment = s.moment }
 
 pub sound_after : (setup : Setup) (m : Machine) (is : State) (event : GatewayEvent) (were are : List OutDatagram) → IsSound setup m → refusal_of m event ≡ None
     → PutsOut (effect setup m event) is were are → IsSound setup (machine_in is)
 sound_after setup m is event were are s none p = rw p.machine (record {
+  set_up = s.set_up;
   all = effect_lines setup m event ∙ s.all;
   moment = now_below setup m event s.moment none;
 })

@@ -1,6 +1,5 @@
 pub mod State
 pub mod Sound
-pub mod CodeFault
 pub mod GatewayState
 pub mod Alike
 pub mod Stands

@@ -2,6 +2,8 @@
 use Rattle.std.specs.Prelude.{◌≡◌, List, [], ◌∷◌, ◌++◌, slice_set}
 use Rattle.history.specs.declared.entry.Entry.{Entry}
 use Rattle.history.specs.Kept.{from_young}
+use Rattle.mgcp_text.specs.Answer.{Answer}
+use Rattle.plain_machine.specs.Done.{Done}
 use Rattle.plain_machine.specs.declared.station.Station.{Station}
 use Rattle.plain_machine.specs.declared.output.OutDatagram.{OutDatagram}
 use Rattle.plain_machine.specs.Message.{datagrams_of}
@@ -48,3 +50,13 @@ pub record IsAtRest (state : State) : Type 0 where
 pub record PutsOut (effect : Effect) (is : State) (were are : List OutDatagram) : Type 0 where
   pub machine : machine_in is ≡ effect.machine
   pub outputs : are ≡ were ++ put_out effect.sent
+
+-- The endpoints become what the command results in, and this is its answer; the rest is as it was. So far no line has
+-- anything to tell because of it.
+pub record Results (done : Done) (given : Answer) (was is : State) : Type 0 where
+  pub endpoints : endpoints_in is ≡ done.endpoints
+  pub answer : given ≡ done.answer
+  pub notices : done.notices ≡ []
+  pub clock : is.clock ≡ was.clock
+  pub outbox : is.outbox.items ≡ was.outbox.items
+  pub history : is.history ≡ was.history

@@ -7,11 +7,16 @@ ghost use Rattle.mgcp_text.specs.Confirmation.{k_of};
 ghost use Rattle.history.specs.Memory.{most_firsts};
 ghost use Rattle.history.specs.Looking.{new, look_of};
 ghost use Rattle.plain_machine.specs.Arriving.{texts_of};
-ghost use Rattle.plain_machine.specs.Commanding.{only_answer};
-ghost use Rattle.plain_machine.specs.Answering.{transaction, span_of, spans_of, executed, transacted, refusing, handled, took_all};
+ghost use Rattle.mgcp_text.specs.Answer.{response_of};
+ghost use Rattle.mgcp_text.specs.Writing.{written};
+ghost use Rattle.command_forms.specs.Order.{form_in};
+ghost use Rattle.plain_machine.specs.Done.{only_answer};
+ghost use Rattle.plain_machine.specs.Commanding.{done_by};
+ghost use Rattle.gateway_core.specs.Sound.{IsSound};
+ghost use Rattle.plain_machine.specs.Answering.{fitting, transaction, span_of, spans_of, executed, transacted, refusing, handled, took_all};
 ghost use Rattle.gateway_core.specs.State.{endpoints_in, machine_in, before_in, Does};
 
-use crate::commanding::{Command, commanded};
+use crate::commanding::commanded;
 use crate::context::Context;
 use crate::state::State;
 use history::{IdSpan, Look};
@@ -60,6 +65,17 @@ fn send(state: &mut State, source: SocketAddrV4, text: Text) -> Result<(), OutOf
     Ok(())
 }
 
+// The text of the response that an answer is, or of 533 where that would be longer than a datagram may be.
+fn text_of(context: Context<'_>, id: TransactionId, wanted: &Answer) -> Result<Text, OutOfMemory>
+    ensures { IfOk result (λ text. text ≡ written (response_of id (fitting id wanted.now))) }
+{
+    let text = wanted.text(context.alloc, id)?;
+    if text.as_bytes().len() <= LARGEST_DATAGRAM {
+        return Ok(text);
+    }
+    Answer::plain(context.alloc, 533).text(context.alloc, id)
+}
+
 // A first is executed: what it confirms is confirmed, and its answer is kept and goes to its source.
 #[tactic(auto, unfolding(plain_machine::specs::Answering::executed))]
 fn execute(
@@ -73,7 +89,7 @@ fn execute(
     ensures before { before_in state.new ≡ before_in state.old }
 {
     let Reply { confirms, answer } = reply;
-    let text = answer.text(context.alloc, request.id)?;
+    let text = text_of(context, request.id, &answer)?;
     let kept = copy_of(context.alloc, text.as_bytes())?;
     state.history.confirm(confirms)?;
     state.history.first(request.id.number(), state.clock, kept)?;
@@ -142,6 +158,27 @@ fn spans_of(alloc: Global, said: &Message<'_>) -> Result<Sequence<IdSpan>, OutOf
     Ok(Sequence::of(spans))
 }
 
+// A command that is a first is executed.
+fn execute_command(
+    context: Context<'_>,
+    state: &mut State,
+    request: Request,
+    said: &Message<'_>,
+) -> Result<(), OutOfMemory>
+    requires { IsSound context.setup.now (machine_in state.old) }
+    ensures ok { (line : _) → OnOk result (Does (executed (machine_in state.old) request.source
+        (transaction request.id line (spans_of (k_of (params_in said.now)))
+        (done_by (form_in said.now context.entry.setup.now.names) context.entry.setup.now (endpoints_in state.old) state.old.clock)))
+        state.old state.new) }
+    ensures before { before_in state.new ≡ before_in state.old }
+{
+    let reply = Reply {
+        confirms: spans_of(context.alloc, said)?,
+        answer: commanded(context, state, said)?,
+    };
+    execute(context, state, request, reply)
+}
+
 // A message that was read.
 #[tactic(auto, unfolding(plain_machine::specs::Answering::handled))]
 fn handle_message(
@@ -150,27 +187,19 @@ fn handle_message(
     source: SocketAddrV4,
     said: &Message<'_>,
 ) -> Result<(), OutOfMemory>
+    requires { IsSound context.setup.now (machine_in state.old) }
     ensures ok { OnOk result (Does (handled context.entry.setup.now (machine_in state.old) source (message said.now))
         state.old state.new) }
     ensures before { before_in state.new ≡ before_in state.old }
 {
-    let Message::Command { verb, id, name, .. } = said else {
+    let Message::Command { id, .. } = said else {
         return Ok(());
     };
     let request = Request { source, id: *id };
     if !is_new(context, state, request)? {
         return Ok(());
     }
-    let command = Command {
-        verb: *verb,
-        name: name.as_slice(),
-        said,
-    };
-    let reply = Reply {
-        confirms: spans_of(context.alloc, said)?,
-        answer: commanded(context, state, &command)?,
-    };
-    execute(context, state, request, reply)
+    execute_command(context, state, request, said)
 }
 
 // A text.
@@ -181,6 +210,7 @@ fn take(
     source: SocketAddrV4,
     text: &[u8],
 ) -> Result<(), OutOfMemory>
+    requires { IsSound context.setup.now (machine_in state.old) }
     ensures ok { OnOk result (Does (handled context.entry.setup.now (machine_in state.old) source (read_text text.now))
         state.old state.new) }
     ensures before { before_in state.new ≡ before_in state.old }
@@ -204,6 +234,7 @@ pub(crate) fn take_datagram(
     source: SocketAddrV4,
     bytes: &[u8],
 ) -> Result<(), OutOfMemory>
+    requires { IsSound context.setup.now (machine_in state.old) }
     ensures ok { OnOk result (Does (took_all context.entry.setup.now (machine_in state.old) source (texts_of bytes.now))
         state.old state.new) }
     ensures before { before_in state.new ≡ before_in state.old }

@@ -27,6 +27,7 @@ pub(crate) fn copy_of(station: &Station) -> Result<Station, OutOfMemory>
 {
     Ok(Station {
         line: station.line.try_copy()?,
+        entity: station.entity,
     })
 }
 

@@ -1,116 +1,95 @@
 //! What a command does and answers.
-ghost use Rattle.std.specs.Prelude.{◌≡◌, [], Ok, IfOk};
-ghost use Rattle.mg_bytes.specs.Checks.{checked, given};
-ghost use Rattle.plain_machine.specs.Machine.{station_at};
-ghost use Rattle.plain_machine.specs.Checking.{audit_fault};
-ghost use Rattle.plain_machine.specs.Reporting.{report_of};
-ghost use Rattle.plain_machine.specs.Commanding.{audited, only_answer, commanded};
-ghost use Rattle.gateway_core.specs.State.{endpoints_in};
-ghost use Rattle.gateway_core.specs.CodeFault.{AnswersAs};
+ghost use Rattle.std.specs.Prelude.{◌≡◌, IfOk};
+ghost use Rattle.command_forms.specs.Order.{form_in};
+ghost use Rattle.plain_machine.specs.Requesting.{requested};
+ghost use Rattle.plain_machine.specs.Commanding.{audited, done_by};
+ghost use Rattle.gateway_core.specs.Sound.{IsSound};
+ghost use Rattle.gateway_core.specs.State.{endpoints_in, machine_in, before_in, Results};
 
 use crate::changing::station_at;
-use crate::checking::audit_fault;
 use crate::context::Context;
-use crate::reporting::report_of;
+use crate::reporting::{names_of, report_of};
+use crate::requesting::{refused_by, request_all};
 use crate::state::State;
-use endpoint_names::{NameFault, Pattern, read_name};
-use mg_bytes::OutOfMemory;
-use mgcp_text::{Answer, Bytes, Message, Verb};
-use plain_machine::Station;
+use command_forms::{Form, form};
+use endpoint_names::{Entity, Pattern};
+use mg_bytes::{CodeFault, OutOfMemory};
+use mg_line::Request;
+use mgcp_text::{Answer, Bytes, Message};
 use std::alloc::AllocError;
-use std::marker::Model;
 
-/// A command that was read. A contract sees its verb, its name and its parameters.
-#[derive(Drop)]
-pub(crate) struct Command<'m, 'a> {
-    pub verb: Verb,
-    pub name: &'m [u8],
-    pub said: &'m Message<'a>,
-}
-
-impl<'m, 'a> Model for Command<'m, 'a> {
-    ghost use Rattle.plain_machine.specs.Commanding.{Command};
-    ghost use Rattle.mgcp_text.specs.Message.{params_in};
-
-    ghost Value = { Command };
-
-    ghost view = { λ c. record { verb = c.verb; name = c.name.now; params = params_in c.said.now } };
-}
-
-/// Why there is no answer but a return code, or none at all.
-#[derive(Clone, Copy, Debug, PartialEq, Eq)]
-pub(crate) enum CodeFault {
-    /// Memory was refused.
-    OutOfMemory,
-    /// The command is answered with this return code alone (RFC 3435, 2.4).
-    Code(u16),
-}
-
-impl From<OutOfMemory> for CodeFault {
-    ghost use Rattle.std.specs.Prelude.{◌≡◌};
-    ghost use Rattle.gateway_core.specs.declared.commanding.CodeFault.TheVariants as faults;
-
-    ghost from_gives = { λ _ fault. fault ≡ faults.OutOfMemory };
-
-    fn from(_refused: OutOfMemory) -> CodeFault {
-        CodeFault::OutOfMemory
-    }
-}
-
-// An audit of a line.
-#[tactic(auto, unfolding(mgcp_text::specs::Writing::is_writable_body))]
-fn audit_line(
-    context: Context<'_>,
-    station: &Station,
-    command: &Command<'_, '_>,
-) -> Result<Answer, CodeFault>
-    ensures { AnswersAs (checked (audit_fault command.now.params)
-        (Ok (record { code = 200; params = report_of station.now.line command.now.params; body = [] }))) result }
-{
-    if let Some(code) = audit_fault(context.alloc, command.said)? {
-        return Err(CodeFault::Code(code));
-    }
-    let report = report_of(context.alloc, &station.line, command.said.params())?;
-    Ok(Answer::with(200, report, Bytes::of(b"")))
-}
-
-// An audit, by its verb, its name, its parameters and their values.
-#[tactic(auto, unfolding(plain_machine::specs::Commanding::audited))]
+// The answer to an audit: the items that are asked for of one line, or the names of all lines.
+#[tactic(auto, unfolding(plain_machine::specs::Commanding::audited, mgcp_text::specs::Writing::is_writable_body))]
 fn audit(
     context: Context<'_>,
     state: &State,
-    command: &Command<'_, '_>,
-) -> Result<Answer, CodeFault>
-    ensures { AnswersAs (audited context.entry.setup.now (endpoints_in state.now) command.now) result }
+    lines: Pattern,
+    items: &[u8],
+) -> Result<Answer, OutOfMemory>
+    requires { IsSound context.setup.now (machine_in state.now) }
+    ensures { IfOk result (λ answer. answer ≡ audited context.entry.setup.now (endpoints_in state.now) lines items.now) }
 {
-    if command.verb != Verb::Auep {
-        return Err(CodeFault::Code(504));
-    }
-    let names = &context.setup.names;
-    let number = match read_name(command.name, names.domain.as_bytes(), names.lines) {
-        Ok(Pattern::One(number)) => number,
-        Ok(Pattern::All | Pattern::Any) => return Err(CodeFault::Code(503)),
-        Err(NameFault::TooComplicated) => return Err(CodeFault::Code(503)),
-        Err(NameFault::Unknown) => return Err(CodeFault::Code(500)),
+    let report = match lines {
+        Pattern::One(number) => match station_at(state, number) {
+            Some(station) => report_of(context.alloc, &station.line, items)?,
+            None => return Ok(Answer::plain(context.alloc, 500)),
+        },
+        Pattern::All => names_of(context, state)?,
+        Pattern::Any => return Ok(Answer::plain(context.alloc, 503)),
     };
-    match station_at(state, number) {
-        Some(station) => audit_line(context, station, command),
-        None => Err(CodeFault::Code(500)),
-    }
+    Ok(Answer::with(200, report, Bytes::of(b"")))
 }
 
-/// What a command answers. So far it changes nothing.
+// A request on the lines that its name means: on all of them, or on none.
+fn request(
+    context: Context<'_>,
+    state: &mut State,
+    lines: Pattern,
+    entity: &Option<Entity>,
+    request: &Request,
+) -> Result<Answer, OutOfMemory>
+    requires { IsSound context.setup.now (machine_in state.old) }
+    ensures ok { IfOk result (λ answer. Results (requested (endpoints_in state.old) lines entity.now request.now state.old.clock)
+        answer state.old state.new) }
+    ensures before { before_in state.new ≡ before_in state.old }
+{
+    if let Some(code) = refused_by(state, lines, request) {
+        return Ok(Answer::plain(context.alloc, code));
+    }
+    request_all(state, lines, entity, request)?;
+    Ok(Answer::plain(context.alloc, 200))
+}
+
+/// What a command does, and its answer.
 pub(crate) fn commanded(
     context: Context<'_>,
-    state: &State,
-    command: &Command<'_, '_>,
+    state: &mut State,
+    said: &Message<'_>,
 ) -> Result<Answer, OutOfMemory>
-    ensures { IfOk result (λ answer. commanded context.entry.setup.now (endpoints_in state.now) state.now.clock command.now
-        ≡ only_answer (endpoints_in state.now) answer) }
+    requires { IsSound context.setup.now (machine_in state.old) }
+    ensures ok { IfOk result (λ answer. Results
+        (done_by (form_in said.now context.entry.setup.now.names) context.entry.setup.now (endpoints_in state.old) state.old.clock)
+        answer state.old state.new) }
+    ensures before { before_in state.new ≡ before_in state.old }
 {
-    match audit(context, state, command) {
-        Ok(answer) => Ok(answer),
-        Err(CodeFault::Code(code)) => Ok(Answer::plain(context.alloc, code)),
+    match form(context.alloc, said, &context.setup.names) {
         Err(CodeFault::OutOfMemory) => Err(AllocError),
+        Err(CodeFault::Code(code)) => Ok(Answer::plain(context.alloc, code)),
+        Ok(Form::Audit { pattern, items }) => audit(context, state, pattern, items.as_slice()),
+        Ok(
+            Form::Request {
+                pattern,
+                entity,
+                request: form,
+            },
+        ) => request(
+            context,
+            state,
+            pattern,
+            &entity,
+            &Request {
+                signals: form.signals,
+            },
+        ),
     }
 }

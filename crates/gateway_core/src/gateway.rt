@@ -8,9 +8,11 @@ use crate::opening::{judged, opening_stations};
 use crate::state::State;
 use crate::stopped::Stopped;
 use crate::working::step_state;
+use arrayvec::ArrayVec;
 use history::History;
 use mg_line::Hook;
 use plain_machine::{Config, ConfigFault, Event, Outputs, Refusal, Setup};
+use signals::ActiveSignal;
 use std::alloc::Global;
 use std::marker::Model;
 
@@ -37,7 +39,7 @@ impl Model for Gateway {
 
 impl Gateway {
     ghost use Rattle.plain_machine.specs.Refusing.{Ends, refused_by};
-    ghost use Rattle.plain_machine.specs.Lists.{plain, hook_of};
+    ghost use Rattle.plain_machine.specs.Lists.{plain, hook_of, signals_of};
     ghost use Rattle.gateway_core.specs.Stands.{Stands, Opens, Took, StoppedAt};
 
     /// A gateway of this configuration, at moment 0.
@@ -47,7 +49,7 @@ impl Gateway {
         ensures { Opens (setup_of config) result }
     {
         let setup = judged(config)?;
-        let stations = opening_stations(alloc, setup.names.lines)?;
+        let stations = opening_stations(alloc, &setup)?;
         let state = State {
             clock: 0,
             stations,
@@ -76,6 +78,17 @@ impl Gateway {
         ensures { (events : List GatewayEvent) → Stands self.now events → hook_of (plain self.now.setup events) line ≡ Some result }
     {
         self.state.stations[usize::from(line) - 1].line.hook()
+    }
+
+    /// The active signals of a line, from 1 to the number of lines, with their ends (ms), in the order of the table: those
+    /// of L before those of G (RFC 3435, 2.1.7).
+    pub fn signals(&self, line: u16) -> ArrayVec<ActiveSignal, 9>
+        requires low { 1 ≤ line }
+        requires high { line ≤ self.now.setup.names.lines }
+        ensures { (events : List GatewayEvent) → Stands self.now events →
+            signals_of (plain self.now.setup events) line ≡ Some result.items }
+    {
+        self.state.stations[usize::from(line) - 1].line.signals()
     }
 
     /// The moment of the last tick that was taken, in ms; 0 before any. It is below 2^62.

@@ -7,7 +7,6 @@
 mod acting;
 mod answering;
 mod changing;
-mod checking;
 mod commanding;
 mod context;
 mod falling;
@@ -17,6 +16,7 @@ mod opening;
 mod packing;
 mod refusing;
 mod reporting;
+mod requesting;
 mod state;
 mod stopped;
 mod working;

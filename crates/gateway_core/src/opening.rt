@@ -79,14 +79,15 @@ pub(crate) fn judged(config: Config) -> Result<Setup, ConfigFault>
     })
 }
 
-/// So many stations, each with its line on hook.
-pub(crate) fn opening_stations(alloc: Global, count: u16) -> Result<Vec<Station>, OutOfMemory>
-    ensures { IfOk result (λ stations. stations.items ≡ replicate count opening_station) }
+/// The stations of this setup, each with its line as a line opens and the configured agent.
+pub(crate) fn opening_stations(alloc: Global, setup: &Setup) -> Result<Vec<Station>, OutOfMemory>
+    ensures { IfOk result (λ stations. stations.items ≡ replicate setup.now.names.lines (opening_station setup.now)) }
 {
     let mut stations = Vec::new(alloc);
-    for _ in 0..count {
+    for _ in 0..setup.names.lines {
         stations.push(Station {
             line: Line::new(alloc),
+            entity: setup.agent,
         })?;
     }
     Ok(stations)

@@ -1,5 +1,5 @@
 //! Why an event is refused.
-ghost use Rattle.std.specs.Prelude.{◌≡◌, ◌<◌, ◌^◌};
+ghost use Rattle.std.specs.Prelude.{◌≡◌, ◌<◌, ◌^◌, length};
 ghost use Rattle.plain_machine.specs.Event.{event_of};
 ghost use Rattle.plain_machine.specs.Machine.{station_at};
 ghost use Rattle.plain_machine.specs.Refusing.{act_refusal, tick_refusal, refusal_of, takes_none};
@@ -57,6 +57,7 @@ pub(crate) fn refusal_of(state: &State, event: Event<'_>) -> Option<Refusal>
 
 /// Whether an event takes no memory.
 pub(crate) fn takes_none(context: Context<'_>, state: &State, event: Event<'_>) -> bool
+    requires { length state.now.stations.items < 2 ^ 16 }
     ensures { result ≡ takes_none context.entry.setup.now (machine_in state.now) (event_of event.entry) }
 {
     match event {

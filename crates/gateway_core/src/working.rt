@@ -24,7 +24,8 @@ use std::mem;
 // An event that isn't refused happens.
 #[tactic(auto, unfolding(plain_machine::specs::Happening::effect, plain_machine::specs::Refusing::refusal_of))]
 fn happen(context: Context<'_>, state: &mut State, event: Event<'_>) -> Result<(), OutOfMemory>
-    requires { refusal_of (machine_in state.old) (event_of event) ≡ None }
+    requires taken { refusal_of (machine_in state.old) (event_of event) ≡ None }
+    requires sound { IsSound context.setup.now (machine_in state.old) }
     ensures ok { OnOk result (Does (effect context.entry.setup.now (machine_in state.old) (event_of event.entry))
         state.old state.new) }
     ensures before { before_in state.new ≡ before_in state.old }
@@ -64,6 +65,7 @@ fn carry_out(
     outputs: &mut Outputs,
 ) -> Result<(), OutOfMemory>
     requires taken { refusal_of (machine_in state.old) (event_of event) ≡ None }
+    requires sound { IsSound context.setup.now (machine_in state.old) }
     requires rest { IsAtRest state.old }
     ensures ok { OnOk result (PutsOut (effect context.entry.setup.now (machine_in state.old) (event_of event.entry))
         state.new outputs.old outputs.new) }
@@ -83,6 +85,7 @@ fn attempt(
     outputs: &mut Outputs,
 ) -> Result<(), OutOfMemory>
     requires taken { refusal_of (machine_in state.old) (event_of event) ≡ None }
+    requires sound { IsSound context.setup.now (machine_in state.old) }
     requires rest { IsAtRest state.old }
     ensures ok { OnOk result (PutsOut
         (effect context.entry.setup.now (purged_in (machine_in state.old)) (event_of event.entry))
@@ -107,7 +110,7 @@ fn attempt(
 }
 
 // An event that isn't refused and takes no memory: a datagram that is too long, or a tick up to which nothing is due.
-#[tactic(auto, unfolding(plain_machine::specs::Happening::effect, plain_machine::specs::Arriving::texts_of, plain_machine::specs::Answering::took_all, plain_machine::specs::Falling::pass))]
+#[tactic(auto, unfolding(plain_machine::specs::Happening::effect, plain_machine::specs::Arriving::texts_of, plain_machine::specs::Answering::took_all))]
 fn pass_by(context: Context<'_>, state: &mut State, event: Event<'_>)
     requires { takes_none context.setup.now (machine_in state.old) (event_of event) ≡ true }
     ensures ok { (outputs : _) → PutsOut (effect context.entry.setup.now (machine_in state.old) (event_of event.entry))

@@ -7,7 +7,8 @@ use Rattle.mg_bytes.specs.Words.{words, split_once}
 use Rattle.mg_bytes.specs.Items.{items_of}
 use Rattle.mg_bytes.specs.Numbers.{decimal_of}
 use Rattle.mg_bytes.specs.Address.{ipv4_of}
+use Rattle.mg_bytes.specs.Letter.{letter_of}
 
 unfoldable pub on_examples : ⊤
-unfolding digits trimmed_end trimmed cut words split_once items_of decimal_of ipv4_of
+unfolding digits trimmed_end trimmed cut words split_once items_of decimal_of ipv4_of letter_of
 on_examples = tt

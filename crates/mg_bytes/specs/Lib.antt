@@ -8,3 +8,5 @@ pub mod Items
 pub mod Numbers
 pub mod Case
 pub mod Address
+pub mod Letter
+pub mod CodeFault

@@ -1,7 +1,7 @@
 //! Worked examples of the definitions, as theorems.
 #![tactic(auto, unfolding(crate::proofs::Computing::on_examples))]
 
-ghost use Rattle.std.specs.Prelude.{◌≡◌, ◌++◌, codes, [], ◌∷◌, Some, None, Ok, Err, true, false};
+ghost use Rattle.std.specs.Prelude.{◌≡◌, ◌++◌, codes, map, ℕ, List, [], ◌∷◌, Some, None, Ok, Err, true, false};
 ghost use Rattle.mg_bytes.specs.Bytes.{tab, line_feed, vertical_tab, form_feed, carriage_return, space, dollar, star};
 ghost use Rattle.mg_bytes.specs.Bytes.{plus, comma, hyphen, full_stop, slash, digit_zero, colon, at_sign};
 ghost use Rattle.mg_bytes.specs.Bytes.{left_bracket, right_bracket};
@@ -13,6 +13,11 @@ ghost use Rattle.mg_bytes.specs.Items.{items_of};
 ghost use Rattle.mg_bytes.specs.Numbers.{decimal_of, is_hex_text};
 ghost use Rattle.mg_bytes.specs.Case.{same_but_case};
 ghost use Rattle.mg_bytes.specs.Address.{ipv4_of, port_of};
+ghost use Rattle.mg_bytes.specs.Letter.{all_letters, byte_of, letter_of};
+ghost use Rattle.mg_bytes.specs.CodeFault.{answer_of};
+
+use crate::code_fault::CodeFault;
+use crate::letter::Letter;
 
 /// The names of bytes stand for what is written.
 pub fn bytes_have_names()
@@ -129,4 +134,22 @@ pub fn ports_are_numbers_from_1_to_65535()
     ensures largest { port_of (codes "065535") ≡ Some 65535 }
     ensures zero { port_of (codes "0") ≡ None }
     ensures too_large { port_of (codes "65536") ≡ None }
+{}
+
+/// The letters of a digit map are the ten digits, `*`, `#`, A to D and T, in this order and in any case.
+pub fn keys_and_t_are_letters()
+    ensures bytes { map byte_of all_letters ≡ codes "0123456789*#ABCDT" }
+    ensures digit { letter_of 55 ≡ Some Letter.Seven }
+    ensures star { letter_of 42 ≡ Some Letter.Star }
+    ensures hash { letter_of 35 ≡ Some Letter.Hash }
+    ensures all { map letter_of (codes "0123456789*#ABCDT") ≡ map Some all_letters }
+    ensures lower { map letter_of (codes "abcdt") ≡ Some Letter.A ∷ Some Letter.B ∷ Some Letter.C ∷ Some Letter.D
+        ∷ Some Letter.Timer ∷ [] }
+    ensures others { map letter_of (codes "/:+)\"$EeSsUuXx@`") ≡ map (λ b. None) (codes "/:+)\"$EeSsUuXx@`") }
+{}
+
+/// A call that takes no memory answers the value, or the code alone.
+pub fn answers_are_values_or_codes()
+    ensures value { answer_of (Ok (codes "x")) ≡ Ok (codes "x") }
+    ensures code { answer_of {A = List ℕ} (Err 510) ≡ Err (CodeFault.Code 510) }
 {}

@@ -6,8 +6,10 @@
 
 mod address;
 mod blank;
+mod code_fault;
 pub mod examples;
 mod item;
+mod letter;
 mod letter_case;
 mod line;
 mod number;
@@ -18,7 +20,9 @@ mod word;
 
 pub use crate::address::{ipv4_address, port_number};
 pub use crate::blank::trimmed;
+pub use crate::code_fault::CodeFault;
 pub use crate::item::ListItems;
+pub use crate::letter::{Letter, letter_of};
 pub use crate::letter_case::same_no_case;
 pub use crate::line::Lines;
 pub use crate::number::{decimal, hex_text, put_decimal};

@@ -21,13 +21,12 @@ use Rattle.plain_machine.specs.Arriving.{Arrival as TextArrival, arrival, texts_
 use Rattle.plain_machine.specs.Answering.{Transaction, transaction_of, executed, transacted_by, transacted, handled_as, handled, took_all}
 use Rattle.plain_machine.specs.Transactions.{command_arrival, arriving, commands_in, commands_with, commands_from, Asked, asked_as, asked, replies}
 use Rattle.plain_machine.specs.Acting.{acted, acted_at}
-use Rattle.plain_machine.specs.Falling.{pass}
 use Rattle.plain_machine.specs.Happening.{effect}
 use Rattle.plain_machine.specs.Lists.{sent_from}
 use Rattle.mg_line.specs.declared.phone.Act.{Act}
-use Rattle.mg_line.specs.Line.{phoned}
+use Rattle.mg_line.specs.Acting.{phoned}
 use Rattle.plain_machine.specs.declared.station.Station.{Station}
-use Rattle.plain_machine.proofs.EffectLaws.{handled_now, effect_now}
+use Rattle.plain_machine.proofs.EffectLaws.{handled_now, effect_now, pass_tells_nothing}
 use Rattle.plain_machine.proofs.TransactionLaws.{Keeps, one_more, looked, arrived_on, event_on}
 
 -- what is asked, as a list
@@ -116,12 +115,14 @@ acted_tells_nothing setup endpoints number moment act = by_station (station_at e
 event_answered : (setup : Setup) (m : Machine) (event : GatewayEvent) (earlier : List Arrival) (askers : List Asked) (commands : List Arrival) → Keeps m earlier
     → replies (flat_map asked (arrivals_at m.now event) ++ askers) (answers_from most_firsts (firsts_of most_firsts earlier) (commands_with setup m event ++ commands))
     ≡ datagrams_of (effect setup m event).sent ++ replies askers (answers_from most_firsts (firsts_of most_firsts (earlier ++ commands_with setup m event)) commands)
-unfolding effect pass
+unfolding effect
 event_answered setup m (datagram source bytes) earlier askers commands keeps = texts_answered setup m source (texts_of bytes) earlier askers commands keeps
 event_answered setup m (phone line act) earlier askers commands keeps =
     nothing_more earlier askers commands
     ∙ ap (λ (x : List Sent). datagrams_of x ++ replies askers (answers_from most_firsts (firsts_of most_firsts (earlier ++ [])) commands)) (sym (acted_tells_nothing setup m.endpoints line m.now act))
-event_answered setup m (tick moment) earlier askers commands keeps = nothing_more earlier askers commands
+event_answered setup m (tick moment) earlier askers commands keeps =
+    nothing_more earlier askers commands
+    ∙ ap (λ (x : List Sent). datagrams_of x ++ replies askers (answers_from most_firsts (firsts_of most_firsts (earlier ++ [])) commands)) (sym (pass_tells_nothing setup m.endpoints moment))
 
 events_answered : (setup : Setup) (m : Machine) (events : List GatewayEvent) (earlier : List Arrival) → Keeps m earlier
     → replies (flat_map asked (arrivals_from m.now events)) (answers_from most_firsts (firsts_of most_firsts earlier) (commands_from setup m events)) ≡ datagrams_of (sent_from setup m events)

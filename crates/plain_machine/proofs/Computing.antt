@@ -4,20 +4,21 @@ use Rattle.mgcp_text.proofs.Computing.{on_examples as text_examples}
 use Rattle.endpoint_names.proofs.Computing.{on_examples as name_examples}
 use Rattle.history.proofs.Computing.{on_examples as history_examples}
 use Rattle.piggyback.proofs.Computing.{on_examples as part_examples}
-use Rattle.mg_line.specs.Line.{phoned}
+use Rattle.command_forms.proofs.Computing.{on_examples as form_examples}
+use Rattle.mg_line.proofs.Computing.{on_examples as line_examples}
 use Rattle.plain_machine.specs.Setup.{table_from, setup_of}
 use Rattle.plain_machine.specs.Arriving.{texts_of, arrivals_from}
 use Rattle.plain_machine.specs.Packing.{packed_after}
-use Rattle.plain_machine.specs.Checking.{params_fault, audit_fault}
-use Rattle.plain_machine.specs.Reporting.{with_items}
+use Rattle.plain_machine.specs.Reporting.{with_items, names_of}
+use Rattle.plain_machine.specs.Requesting.{refused_by, all_requested, all_told}
 use Rattle.plain_machine.specs.Commanding.{audited}
 use Rattle.plain_machine.specs.Acting.{acted}
-use Rattle.plain_machine.specs.Falling.{pass}
+use Rattle.plain_machine.specs.Falling.{first_due, due_by, happened, passed, pass}
 use Rattle.plain_machine.specs.Answering.{executed, handled, took_all}
 use Rattle.plain_machine.specs.Happening.{effect}
 use Rattle.plain_machine.specs.Refusing.{refusal_of}
 use Rattle.plain_machine.specs.Lists.{machine_after, sent_from, outputs_from, are_taken}
 
 unfoldable pub on_examples : ⊤
-unfolding text_examples name_examples history_examples part_examples phoned table_from setup_of packed_after texts_of arrivals_from params_fault audit_fault with_items audited acted pass executed handled took_all effect refusal_of machine_after sent_from outputs_from are_taken
+unfolding text_examples name_examples history_examples part_examples form_examples line_examples table_from setup_of packed_after texts_of arrivals_from with_items names_of refused_by all_requested all_told audited acted first_due due_by happened passed pass executed handled took_all effect refusal_of machine_after sent_from outputs_from are_taken
 on_examples = tt

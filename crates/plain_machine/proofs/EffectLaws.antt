@@ -1,5 +1,6 @@
 -- What every event leaves as it is: the number of lines, and the clock but at a tick.
-use Rattle.std.proofs.Common.{◌≡◌, ℕ, ◌-◌, Bool, true, false, List, [], ◌∷◌, length, Option, Some, None, refl, sym, ap, ◌∙◌, arith}
+use Rattle.std.proofs.Common.{◌≡◌, ℕ, zero, suc, ◌+◌, ◌-◌, Bool, true, false, List, [], ◌∷◌, length, map, Option, Some, None, Result, Ok, Err, refl, sym, ap, ◌∙◌, arith}
+use Rattle.std.specs.List.{enumerate_from}
 use Rattle.std.proofs.lemmas.List.{set-get_or}
 use Rattle.std.proofs.lemmas.Option.{get_or_from_slice_get}
 use Rattle.std.specs.Prelude.{slice_set, slice_get, ◌==◌, if◌then◌else◌}
@@ -11,13 +12,27 @@ use Rattle.mg_line.specs.declared.phone.Act.{Act}
 use Rattle.plain_machine.specs.declared.setup.Setup.{Setup}
 use Rattle.plain_machine.specs.declared.station.Station.{Station}
 use Rattle.plain_machine.specs.Event.{GatewayEvent, datagram, phone, tick}
-use Rattle.mg_line.specs.Line.{LineDone, phoned}
+use Rattle.mg_line.specs.Line.{LineDone}
+use Rattle.mg_line.specs.Acting.{phoned}
 use Rattle.plain_machine.specs.Machine.{Endpoints, Machine, Effect, told, station_at}
 use Rattle.plain_machine.specs.Arriving.{texts_of, clock_after}
 use Rattle.history.specs.Memory.{most_firsts}
 use Rattle.history.specs.Looking.{Told as Looked, new, repeat, confirmed, full, look_of}
 use Rattle.plain_machine.specs.Acting.{noted, acted, acted_at}
-use Rattle.plain_machine.specs.Falling.{pass}
+use Rattle.plain_machine.specs.Falling.{due_by, happened_on, happened, go_on, passed, room, pass}
+use Rattle.plain_machine.specs.declared.due_item.DueItem.{DueItem}
+use Rattle.plain_machine.specs.Done.{Done}
+use Rattle.plain_machine.specs.Requesting.{refused_by, where_meant, all_requested, unless_refused}
+use Rattle.plain_machine.specs.Commanding.{line_request, done_by}
+use Rattle.command_forms.specs.declared.forms.Form.{Form}
+use Rattle.command_forms.specs.declared.forms.Form.TheVariants as forms
+use Rattle.command_forms.specs.Order.{form_of}
+use Rattle.endpoint_names.specs.declared.name.Pattern.{Pattern}
+use Rattle.endpoint_names.specs.declared.entity.Entity.{Entity}
+use Rattle.mg_line.specs.declared.due.Due.{Due}
+use Rattle.mg_line.specs.declared.due.Due.TheVariants.{SignalEnd}
+use Rattle.mg_line.specs.declared.request.Request.{Request}
+use Rattle.mg_line.specs.Falling.{fired}
 use Rattle.plain_machine.specs.Answering.{Transaction, executed, transacted_by, handled, took_all}
 use Rattle.plain_machine.specs.Happening.{effect}
 
@@ -47,16 +62,38 @@ transacted_keeps (repeat text) m source t same = record { lines = refl; now = re
 transacted_keeps confirmed m source t same = record { lines = refl; now = refl }
 transacted_keeps full m source t same = record { lines = refl; now = refl }
 
+-- a request asks stations, and adds none
+mapped_lines : (f : ℕ × Station → Station) (n : ℕ) (stations : List Station) → length (map f (enumerate_from n stations)) ≡ length stations
+mapped_lines f n [] = refl
+mapped_lines f n (station ∷ stations) = ap suc (mapped_lines f (n + 1) stations)
+
+asked_lines : (refusal : Option ℕ) (endpoints : Endpoints) (lines : Pattern) (entity : Option Entity) (request : Request) (moment : ℕ) (done : Done)
+    → done.endpoints ≡ all_requested endpoints lines entity request moment → lines_in (unless_refused refusal endpoints done).endpoints ≡ lines_in endpoints
+unfolding all_requested
+asked_lines None endpoints lines entity request moment done is =
+    ap lines_in is ∙ mapped_lines (where_meant lines entity request moment) 1 endpoints.stations
+asked_lines (Some code) endpoints lines entity request moment done is = refl
+
+done_lines : (form : Result Form ℕ) (setup : Setup) (endpoints : Endpoints) (moment : ℕ) → lines_in (done_by form setup endpoints moment).endpoints ≡ lines_in endpoints
+done_lines (Err code) setup endpoints moment = refl
+done_lines (Ok (forms.Audit pattern items)) setup endpoints moment = refl
+done_lines (Ok (forms.Request pattern entity request)) setup endpoints moment =
+    asked_lines (refused_by endpoints pattern (line_request request)) endpoints pattern entity (line_request request) moment _ refl
+
 handled_keeps : (setup : Setup) (m : Machine) (source : SocketAddrV4) (outcome : Outcome) → Keeps m (handled setup m source outcome)
 unfolding handled
 handled_keeps setup m source no_header = record { lines = refl; now = refl }
 handled_keeps setup m source (bad_version id) = transacted_keeps (look_of most_firsts m.history id m.now) m source _ refl
 handled_keeps setup m source (bad_body id) = transacted_keeps (look_of most_firsts m.history id m.now) m source _ refl
-handled_keeps setup m source (message (messages.Command verb id name params body)) = transacted_keeps (look_of most_firsts m.history id m.now) m source _ refl
+handled_keeps setup m source (message (messages.Command verb id name params body)) =
+    transacted_keeps (look_of most_firsts m.history id m.now) m source _ (done_lines (form_of (record { verb = verb; name = name; params = params }) setup.names) setup m.endpoints m.now)
 handled_keeps setup m source (message (messages.Response code id params body)) = record { lines = refl; now = refl }
 
 pub handled_now : (setup : Setup) (m : Machine) (source : SocketAddrV4) (outcome : Outcome) → (handled setup m source outcome).machine.now ≡ m.now
 handled_now setup m source outcome = (handled_keeps setup m source outcome).now
+
+pub handled_lines : (setup : Setup) (m : Machine) (source : SocketAddrV4) (outcome : Outcome) → length (handled setup m source outcome).machine.endpoints.stations ≡ length m.endpoints.stations
+handled_lines setup m source outcome = (handled_keeps setup m source outcome).lines
 
 took_keeps : (setup : Setup) (m : Machine) (source : SocketAddrV4) (texts : List (List ℕ)) → Keeps m (took_all setup m source texts)
 unfolding took_all
@@ -66,13 +103,55 @@ took_keeps setup m source (text ∷ texts) =
     let rest = took_keeps setup (handled setup m source (read_text text)).machine source texts in
     record { lines = rest.lines ∙ first.lines; now = rest.now ∙ first.now }
 
+-- what falls due changes stations, and adds none
+pub happened_lines : (setup : Setup) (endpoints : Endpoints) (item : DueItem) → lines_in (happened setup endpoints item).endpoints ≡ lines_in endpoints
+unfolding happened
+happened_lines setup endpoints item = by_station (station_at endpoints item.line) where
+  by_station : (found : Option Station) → lines_in (happened_on found setup endpoints item).endpoints ≡ lines_in endpoints
+  by_station None = refl
+  by_station (Some station) = set_same endpoints.stations (item.line - 1) _
+
+passed_lines : (n : ℕ) (setup : Setup) (endpoints : Endpoints) (moment : ℕ) → lines_in (passed n setup endpoints moment).endpoints ≡ lines_in endpoints
+unfolding passed
+passed_lines zero setup endpoints moment = refl
+passed_lines (suc n) setup endpoints moment = by_due (due_by endpoints moment) (λ item. passed_lines n setup (happened setup endpoints item).endpoints moment) where
+  by_due : (found : Option DueItem) → ((item : DueItem) → lines_in (passed n setup (happened setup endpoints item).endpoints moment).endpoints ≡ lines_in (happened setup endpoints item).endpoints)
+      → lines_in (go_on found setup endpoints (λ next. passed n setup next moment)).endpoints ≡ lines_in endpoints
+  by_due None rest = refl
+  by_due (Some item) rest = rest item ∙ happened_lines setup endpoints item
+
+pass_lines : (setup : Setup) (endpoints : Endpoints) (moment : ℕ) → lines_in (pass setup endpoints moment).endpoints ≡ lines_in endpoints
+unfolding pass
+pass_lines setup endpoints moment = passed_lines (room endpoints) setup endpoints moment
+
+-- so far nothing is told of what falls due
+happened_tells_nothing : (setup : Setup) (endpoints : Endpoints) (item : DueItem) → (happened setup endpoints item).sent ≡ []
+unfolding happened fired
+happened_tells_nothing setup endpoints item = by_station (station_at endpoints item.line) item.due where
+  by_station : (found : Option Station) (due : Due) → (happened_on found setup endpoints (record item { due = due })).sent ≡ []
+  by_station None due = refl
+  by_station (Some station) (SignalEnd signal) = refl
+
+passed_tells_nothing : (n : ℕ) (setup : Setup) (endpoints : Endpoints) (moment : ℕ) → (passed n setup endpoints moment).sent ≡ []
+unfolding passed
+passed_tells_nothing zero setup endpoints moment = refl
+passed_tells_nothing (suc n) setup endpoints moment = by_due (due_by endpoints moment) (λ item. passed_tells_nothing n setup (happened setup endpoints item).endpoints moment) where
+  by_due : (found : Option DueItem) → ((item : DueItem) → (passed n setup (happened setup endpoints item).endpoints moment).sent ≡ [])
+      → (go_on found setup endpoints (λ next. passed n setup next moment)).sent ≡ []
+  by_due None rest = refl
+  by_due (Some item) rest = rw (happened_tells_nothing setup endpoints item) (rest item)
+
+pub pass_tells_nothing : (setup : Setup) (endpoints : Endpoints) (moment : ℕ) → (pass setup endpoints moment).sent ≡ []
+unfolding pass
+pass_tells_nothing setup endpoints moment = passed_tells_nothing (room endpoints) setup endpoints moment
+
 -- no line is lost
 pub effect_lines : (setup : Setup) (m : Machine) (event : GatewayEvent)
     → length (effect setup m event).machine.endpoints.stations ≡ length m.endpoints.stations
-unfolding effect pass
+unfolding effect
 effect_lines setup m (datagram source bytes) = (took_keeps setup m source (texts_of bytes)).lines
 effect_lines setup m (phone line act) = acted_same setup m.endpoints line m.now act
-effect_lines setup m (tick moment) = refl
+effect_lines setup m (tick moment) = pass_lines setup m.endpoints moment
 
 -- a tick alone moves the clock
 pub effect_now : (setup : Setup) (m : Machine) (event : GatewayEvent) → (effect setup m event).machine.now ≡ clock_after m.now event
@@ -82,7 +161,7 @@ effect_now setup m (phone line act) = refl
 effect_now setup m (tick moment) = refl
 
 -- a station that is put where it stands
-same_station : (test : Bool) (stations : List Station) (place : ℕ) (station : Station) → (if test then None else slice_get stations place) ≡ Some station
+pub same_station : (test : Bool) (stations : List Station) (place : ℕ) (station : Station) → (if test then None else slice_get stations place) ≡ Some station
     → slice_set stations place station ≡ stations
 same_station true stations place station at = absurd cc
 same_station false stations place station at =

@@ -1,6 +1,9 @@
 pub mod EffectLaws
 pub mod ListLaws
 pub mod TransactionLaws
+pub mod FallingLaws
+pub mod NameLemmas
+pub mod CodeLemmas
 pub mod PackingLaws
 pub mod MessageLaws
 pub mod AnswerLaws

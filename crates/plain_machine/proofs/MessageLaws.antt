@@ -1,28 +1,27 @@
 -- Every message that is sent ends in a line end, has no dot line, and is no longer than a datagram may be.
 use Rattle.std.proofs.Common.{◌≡◌, ◌≢◌, ℕ, ◌+◌, ◌<◌, ◌≤◌, ◌^◌, Bool, true, false, ◌&&◌, ◌||◌, ◌==◌, if◌then◌else◌, List, [], ◌∷◌, ◌++◌, length, map, codes, Option, Some, None, Result, Ok, Err, inl, inr, refl, sym, ap, ◌∙◌, arith, lit<, ⊎_elim}
-use Rattle.std.specs.Prelude.{◌⊎◌, All, Any, IfSome, flat_map, is_some, is_none, not}
+use Rattle.std.specs.Prelude.{◌⊎◌, All, Any, IfSome, flat_map, is_some, nat_le}
 use Rattle.std.specs.Fmt.{decimal}
-use Rattle.std.specs.List.{list_all, slice_index_or}
+use Rattle.std.specs.List.{list_all, slice_index_or, enumerate_from}
 use Rattle.std.specs.Str.{str_to_ascii_lowercase}
-use Rattle.std.proofs.lemmas.Bool.{cases_Bool}
+use Rattle.std.proofs.lemmas.Bool.{leb-true}
+use Rattle.std.proofs.lemmas.Bool.Decides.{nat_tests}
 use Rattle.std.proofs.lemmas.Fmt.{length-decimal-le}
 use Rattle.std.proofs.lemmas.Grind.{flat_map-append}
 use Rattle.std.proofs.lemmas.List.{length-append, map-append}
-use Rattle.std.proofs.lemmas.List.Elements.{All-nil, All-cons, All-append}
+use Rattle.std.proofs.lemmas.List.Elements.{All-nil, All-cons, All-head, All-tail, All-append}
 use Rattle.std.proofs.lemmas.Slice.Eq.{bytes_eq-Decides}
 use Rattle.std.specs.declared.net.socket_addr.SocketAddrV4.{SocketAddrV4}
 use Rattle.mg_bytes.specs.Bytes.{space}
 use Rattle.mg_bytes.specs.Blanks.{trimmed, trimmed_end}
 use Rattle.mg_bytes.specs.Case.{same_but_case}
-use Rattle.mg_bytes.specs.Checks.{unless, first_fault, checked, given}
-use Rattle.mgcp_text.specs.declared.confirmation.KValue.{KValue}
-use Rattle.mgcp_text.specs.declared.confirmation.KValue.TheVariants.{Absent, Unreadable, Items}
+use Rattle.mg_bytes.specs.Checks.{first_fault}
+use Rattle.mg_bytes.specs.Items.{items_of}
 use Rattle.mgcp_text.specs.declared.message.Param.{Param}
 use Rattle.mgcp_text.specs.declared.message.Message.TheVariants as messages
 use Rattle.mgcp_text.specs.Message.{param_at}
 use Rattle.mgcp_text.specs.Reading.{Outcome, message, no_header, bad_version, bad_body, id_in, read_text}
-use Rattle.mgcp_text.specs.Confirmation.{k_of}
-use Rattle.mgcp_text.specs.Writing.{code_text, comment, response_line, param_line, body_text, ended, written, is_writable_body}
+use Rattle.mgcp_text.specs.Writing.{code_text, comment, response_line, ended, written, is_writable_param, is_writable_body}
 use Rattle.mgcp_text.specs.Answer.{Answer, IsAnswer, plain_code, response_of}
 use Rattle.mgcp_text.proofs.AnswerLemmas.{answer_writable}
 use Rattle.mgcp_text.proofs.IdLemmas.{IsId, read_id}
@@ -38,38 +37,45 @@ use Rattle.history.specs.Looking.{Told as Looked, new, repeat, confirmed, full, 
 use Rattle.history.proofs.LookLaws.{repeat_kept}
 use Rattle.endpoint_names.specs.declared.name.Pattern.{Pattern}
 use Rattle.endpoint_names.specs.declared.name.Pattern.TheVariants.{One, All as AllLines, Any as AnyLine}
-use Rattle.endpoint_names.specs.declared.name.NameFault.{NameFault}
-use Rattle.endpoint_names.specs.declared.name.NameFault.TheVariants.{Unknown, TooComplicated}
-use Rattle.endpoint_names.specs.Name.{name_of}
+use Rattle.mg_line.specs.declared.request.Request.{Request}
 use Rattle.mg_line.specs.declared.notice.Notice.{Notice}
 use Rattle.mg_line.specs.declared.phone.Act.{Act}
-use Rattle.mg_line.specs.declared.phone.Hook.{Hook}
-use Rattle.mg_line.specs.declared.phone.Hook.TheVariants.{OnHook, OffHook}
-use Rattle.mg_line.specs.Line.{LineState, phoned}
+use Rattle.mg_packages.specs.declared.hook.Hook.{Hook}
+use Rattle.mg_packages.specs.declared.hook.Hook.TheVariants.{OnHook, OffHook}
+use Rattle.mg_line.specs.Line.{LineState}
+use Rattle.mg_line.specs.Acting.{phoned}
 use Rattle.plain_machine.specs.declared.setup.Setup.{Setup}
 use Rattle.plain_machine.specs.declared.station.Station.{Station}
 use Rattle.plain_machine.specs.declared.output.OutDatagram.{OutDatagram}
 use Rattle.plain_machine.specs.Event.{GatewayEvent, datagram, phone, tick}
 use Rattle.plain_machine.specs.Message.{Sent, answer as answers, again, datagram_of, datagrams_of}
-use Rattle.plain_machine.specs.Machine.{Endpoints, Machine, Effect, opening, station_at}
+use Rattle.plain_machine.specs.Machine.{Endpoints, Machine, Effect, opening, station_at, numbered}
 use Rattle.plain_machine.specs.Arriving.{largest_datagram, texts_of}
 use Rattle.plain_machine.specs.Packing.{messages_in, put_out}
-use Rattle.plain_machine.specs.Checking.{is_critical, is_ignored, is_among, audit_codes, param_fault, params_fault, k_fault, audit_fault}
-use Rattle.plain_machine.specs.Reporting.{asked_items, hook_event, item_of, with_item, with_items, report_of}
-use Rattle.plain_machine.specs.Commanding.{Command, is_served, on_one_line, audited, answer_from, commanded}
-use Rattle.plain_machine.specs.Answering.{Transaction, answer_text, reply, history_with, executed, transacted_by, refusing, handled, took_all}
+use Rattle.plain_machine.specs.Reporting.{hook_event, item_of, with_item, with_items, name_param, names_of}
+use Rattle.command_forms.specs.declared.forms.Form.{Form}
+use Rattle.command_forms.specs.declared.forms.Form.TheVariants as forms
+use Rattle.command_forms.specs.Command.{Command}
+use Rattle.command_forms.specs.Order.{form_of}
+use Rattle.endpoint_names.specs.declared.names.Names.{Names}
+use Rattle.command_forms.specs.Codes.{name_codes, param_codes, has_code, endpoints_of}
+use Rattle.command_forms.proofs.FormLemmas.{name_first, name_code, param_code}
+use Rattle.plain_machine.specs.declared.config.Config.{Config}
+use Rattle.plain_machine.specs.Setup.{setup_of, IsSetUp}
+use Rattle.plain_machine.specs.Done.{Done}
+use Rattle.plain_machine.specs.Requesting.{refusal_on, refused_by, unless_refused}
+use Rattle.plain_machine.specs.Commanding.{reported, line_audited, audited, line_request, done_by, commanded}
+use Rattle.plain_machine.proofs.EffectLaws.{effect_lines, handled_lines, pass_tells_nothing}
+use Rattle.plain_machine.proofs.ListLaws.{lines_of_opening}
+use Rattle.plain_machine.proofs.CodeLemmas.{IsCode, refusal_code}
+use Rattle.plain_machine.proofs.NameLemmas.{setup_is, names_writable}
+use Rattle.plain_machine.specs.Answering.{Transaction, fitting, response_to, answer_text, reply, history_with, executed, transacted_by, refusing, handled, took_all}
 use Rattle.plain_machine.specs.Acting.{acted, acted_at}
-use Rattle.plain_machine.specs.Falling.{pass}
 use Rattle.plain_machine.specs.Happening.{effect}
 use Rattle.plain_machine.specs.Lists.{machine_after, outputs_from, sent_from}
 use Rattle.plain_machine.proofs.PackingLaws.{IsMessage, IsWithin, packed_messages, packed_within}
 
 -- An answer
-
--- an answer that can be written, and is short behind its first line
-record Fits (answer : Answer) : Type 0 where
-  is : IsAnswer answer
-  short : length (flat_map (λ (param : Param). ended (param_line param)) answer.params) + length (body_text answer.body) ≤ 3900
 
 comment_length : (b : Bool) → length (if b then codes " OK" else []) ≤ 3
 comment_length true = omega arith
@@ -88,21 +94,32 @@ first_line code id small =
 abbrev Goes : List ℕ → Type 0
 Goes text = is_joinable largest_datagram text ≡ true
 
-fits_goes : (id : ℕ) (answer : Answer) → IsId id → Fits answer → Goes (written (response_of id answer))
-unfolding written
-fits_goes id answer has fits =
-    let params = flat_map (λ (param : Param). ended (param_line param)) answer.params in
-    let front = ended (response_line answer.code id) in
-    let whole = whole_written (response_of id answer) (answer_writable id answer has.0 has.1 fits.is) in
-    let head = first_line answer.code id has.1 in
-    let two = length-append front params in
-    let three = length-append (front ++ params) (body_text answer.body) in
-    let short : length ((front ++ params) ++ body_text answer.body) ≤ largest_datagram = omega (arith, head, two, three, fits.short) in
+short_goes : (id : ℕ) (answer : Answer) → IsId id → IsAnswer answer → length (written (response_of id answer)) ≤ largest_datagram → Goes (written (response_of id answer))
+short_goes id answer has is short =
+    let whole = whole_written (response_of id answer) (answer_writable id answer has.0 has.1 is) in
     joinable-from largest_datagram (written (response_of id answer)) (record { ends = whole.ends; apart = whole.apart; short = short })
 
-code_fits : (code : ℕ) → code ≤ 999 → Fits (plain_code code)
+is_no_body : is_writable_body [] ≡ true
 unfolding is_writable_body
-code_fits code small = record { is = record { three_digits = small; each = refl; whole = refl }; short = omega arith }
+is_no_body = refl
+
+code_is : (code : ℕ) → code ≤ 999 → IsAnswer (plain_code code)
+unfolding is_writable_body
+code_is code small = record { three_digits = small; each = refl; whole = refl }
+
+code_short : (code id : ℕ) → id ≤ 999999999 → length (written (response_of id (plain_code code))) ≤ largest_datagram
+unfolding written
+code_short code id small =
+    let head = first_line code id small in
+    let two = length-append (ended (response_line code id)) [] in
+    let three = length-append (ended (response_line code id) ++ []) [] in
+    omega (arith, head, two, three)
+
+answer_goes : (id : ℕ) (answer : Answer) → IsId id → IsAnswer answer → Goes (written (response_of id (fitting id answer)))
+answer_goes id answer has is = by_length (nat_le (length (written (response_of id answer))) largest_datagram) refl where
+  by_length : (b : Bool) → nat_le (length (written (response_of id answer))) largest_datagram ≡ b → Goes (written (response_of id (if b then answer else plain_code 533)))
+  by_length true short = short_goes id answer has is (leb-true _ _ short)
+  by_length false long = short_goes id (plain_code 533) has (code_is 533 (omega arith)) (code_short 533 id has.1)
 
 -- A report
 
@@ -141,78 +158,67 @@ items_report line report (item ∷ items) is = items_report line (with_item line
   by_report (inl none) = rw none (first_item line item)
   by_report (inr one) = rw one (next_item line item)
 
-item_fits : (hook : Hook) → Fits (record { code = 200; params = (record { code = codes "ES"; value = hook_event hook }) ∷ []; body = [] })
-unfolding is_writable_body trimmed trimmed_end param_line
-item_fits OnHook = record { is = record { three_digits = omega arith; each = refl; whole = refl }; short = omega arith }
-item_fits OffHook = record { is = record { three_digits = omega arith; each = refl; whole = refl }; short = omega arith }
+item_is : (hook : Hook) → IsAnswer (reported ((record { code = codes "ES"; value = hook_event hook }) ∷ []))
+unfolding is_writable_body trimmed trimmed_end
+item_is OnHook = record { three_digits = omega arith; each = refl; whole = refl }
+item_is OffHook = record { three_digits = omega arith; each = refl; whole = refl }
 
-abbrev reported : List Param → Answer
-reported report = record { code = 200; params = report; body = [] }
-
-report_fits : (line : LineState) (report : List Param) → IsReport line report → Fits (reported report)
-report_fits line report (inl none) = rw none (code_fits 200 (omega arith))
-report_fits line report (inr one) = rw one (item_fits line.hook)
+report_is : (line : LineState) (report : List Param) → IsReport line report → IsAnswer (reported report)
+report_is line report (inl none) = rw none (code_is 200 (omega arith))
+report_is line report (inr one) = rw one (item_is line.hook)
 
 -- What a command is answered
 
-abbrev IsCode : ℕ → Type 0
-IsCode code = code ≤ 999
+requested_is : (endpoints : Endpoints) (refusal : Option ℕ) (done : Done) → IfSome refusal IsCode → IsAnswer done.answer → IsAnswer (unless_refused refusal endpoints done).answer
+requested_is endpoints None done small is = is
+requested_is endpoints (Some code) done small is = code_is code small
 
-unless_code : (b : Bool) (code : ℕ) → IsCode code → IfSome (unless b code) IsCode
-unless_code true code small = tt
-unless_code false code small = small
+-- a machine that belongs to a setup
+record Fits (setup : Setup) (m : Machine) : Type 0 where
+  set_up : IsSetUp setup
+  lines : length m.endpoints.stations ≡ setup.names.lines
 
-first_code : (check : Option ℕ) (checks : List (Option ℕ)) → IfSome check IsCode → IfSome (first_fault checks) IsCode → IfSome (first_fault (check ∷ checks)) IsCode
-first_code None checks one more = more
-first_code (Some code) checks one more = one
+audit_is : (setup : Setup) (endpoints : Endpoints) (pattern : Pattern) (items : List ℕ) → IsSetUp setup → length endpoints.stations ≡ setup.names.lines → IsAnswer (audited setup endpoints pattern items)
+unfolding audited names_of
+audit_is setup endpoints (One line) items set_up lines = by_station (station_at endpoints line) where
+  by_station : (found : Option Station) → IsAnswer (line_audited found items)
+  by_station None = code_is 500 (omega arith)
+  by_station (Some station) = report_is station.line _ (items_report station.line [] (items_of items) (inl refl))
+audit_is setup endpoints AllLines items set_up lines =
+    let few : length endpoints.stations < 2 ^ 16 = omega (arith, lines, set_up.lines) in
+    names_are setup endpoints (names_writable setup endpoints.stations set_up.domain few) where
+      names_are : (setup : Setup) (endpoints : Endpoints) → list_all is_writable_param (map (name_param setup) (numbered endpoints)) ≡ true → IsAnswer (reported (map (name_param setup) (numbered endpoints)))
+      names_are setup endpoints each = record { three_digits = omega arith; each = each; whole = is_no_body }
+audit_is setup endpoints AnyLine items set_up lines = code_is 503 (omega arith)
 
-param_code : (taken : List (List ℕ)) (before : List Param) (param : Param) → IfSome (param_fault taken before param) IsCode
-param_code taken before param =
-    let known : Bool = not (is_critical param.code) in
-    let taken_here : Bool = is_ignored param.code || is_among taken param.code in
-    let once : Bool = is_ignored param.code || is_none (param_at param.code before) in
-    first_code (unless known 511) (unless taken_here 539 ∷ unless once 510 ∷ []) (unless_code known 511 (omega arith))
-    (first_code (unless taken_here 539) (unless once 510 ∷ []) (unless_code taken_here 539 (omega arith)) (first_code (unless once 510) [] (unless_code once 510 (omega arith)) tt))
+form_is : (form : Result Form ℕ) (setup : Setup) (endpoints : Endpoints) (moment : ℕ) → IsSetUp setup → length endpoints.stations ≡ setup.names.lines
+    → ((code : ℕ) → form ≡ Err code → IsCode code) → IsAnswer (done_by form setup endpoints moment).answer
+form_is (Err code) setup endpoints moment set_up lines small = code_is code (small code refl)
+form_is (Ok (forms.Audit pattern items)) setup endpoints moment set_up lines small = audit_is setup endpoints pattern items set_up lines
+form_is (Ok (forms.Request pattern entity request)) setup endpoints moment set_up lines small =
+    requested_is endpoints (refused_by endpoints pattern (line_request request)) _ (refusal_code endpoints pattern (line_request request)) (code_is 200 (omega arith))
 
-params_code : (taken : List (List ℕ)) (before params : List Param) → IfSome (params_fault taken before params) IsCode
-unfolding params_fault
-params_code taken before [] = tt
-params_code taken before (param ∷ params) =
-    first_code (param_fault taken before param) _ (param_code taken before param)
-    (first_code (params_fault taken (before ++ param ∷ []) params) [] (params_code taken (before ++ param ∷ []) params) tt)
+small_name : (code : ℕ) → has_code name_codes code ≡ true → IsCode code
+small_name code has = grind (arith, nat_tests)
 
-k_code : (value : KValue) → IfSome (k_fault value) IsCode
-k_code Absent = tt
-k_code Unreadable = omega arith
-k_code (Items ranges) = tt
+small_param : (code : ℕ) → has_code param_codes code ≡ true → IsCode code
+small_param code has = grind (arith, nat_tests)
 
-audit_code : (params : List Param) → IfSome (audit_fault params) IsCode
-unfolding audit_fault
-audit_code params = first_code (params_fault audit_codes [] params) _ (params_code audit_codes [] params) (first_code (k_fault (k_of params)) [] (k_code (k_of params)) tt)
+abbrev code_in : ℕ → Result Form ℕ → ℕ
+code_in other (Ok form) = other
+code_in other (Err code) = code
 
-checked_fits : (check : Option ℕ) (next : Result Answer ℕ) → IfSome check IsCode → Fits (answer_from next) → Fits (answer_from (checked check next))
-checked_fits None next small fits = fits
-checked_fits (Some code) next small fits = code_fits code small
+form_code : (command : Command) (names : Names) (code : ℕ) → form_of command names ≡ Err code → IsCode code
+form_code command names code is = by_name (endpoints_of command names) refl where
+  by_name : (found : Result Pattern ℕ) → endpoints_of command names ≡ found → IsCode code
+  by_name (Err other) bad =
+      let same : other ≡ code = ap (code_in 0) (sym (name_first command names other bad) ∙ is) in
+      rw (← same) (small_name other (name_code command names other bad))
+  by_name (Ok pattern) fine = small_param code (param_code command names pattern code fine is)
 
-line_fits : (name : Result Pattern NameFault) (next : ℕ → Result Answer ℕ) → ((line : ℕ) → Fits (answer_from (next line))) → Fits (answer_from (on_one_line name next))
-line_fits (Err Unknown) next fits = code_fits 500 (omega arith)
-line_fits (Err TooComplicated) next fits = code_fits 503 (omega arith)
-line_fits (Ok AllLines) next fits = code_fits 503 (omega arith)
-line_fits (Ok AnyLine) next fits = code_fits 503 (omega arith)
-line_fits (Ok (One line)) next fits = fits line
-
-station_fits : (found : Option Station) (next : Station → Result Answer ℕ) → ((station : Station) → Fits (answer_from (next station))) → Fits (answer_from (given found 500 next))
-station_fits None next fits = code_fits 500 (omega arith)
-station_fits (Some station) next fits = fits station
-
-audit_fits : (setup : Setup) (endpoints : Endpoints) (command : Command) → Fits (answer_from (audited setup endpoints command))
-unfolding audited
-audit_fits setup endpoints command =
-    checked_fits (unless (is_served command.verb) 504) _ (unless_code _ 504 (omega arith))
-    (line_fits (name_of command.name setup.names.domain setup.names.lines) _ (λ line.
-    station_fits (station_at endpoints line) _ (λ station.
-    checked_fits (audit_fault command.params) _ (audit_code command.params)
-    (report_fits station.line (report_of station.line command.params) (items_report station.line [] _ (inl refl))))))
+command_is : (setup : Setup) (m : Machine) (command : Command) → Fits setup m → IsAnswer (commanded setup m.endpoints m.now command).answer
+command_is setup m command fits =
+    form_is (form_of command setup.names) setup m.endpoints m.now fits.set_up fits.lines (λ code is. form_code command setup.names code is)
 
 -- What is kept and sent
 
@@ -244,32 +250,32 @@ unfolding executed
 transacted_goes new m source t all goes is = record {
   kept = kept_more (m.history ++ Confirmation t.confirms ∷ []) _ (kept_more m.history (Confirmation t.confirms ∷ []) all (All-nil (λ (first : KeptFirst). Goes first.answer)))
       (All-cons (λ (first : KeptFirst). Goes first.answer) _ [] goes (All-nil (λ (first : KeptFirst). Goes first.answer)));
-  sent = one_sent (reply m source t.line (answers (response_of t.id t.done.answer))) goes;
+  sent = one_sent (reply m source t.line (answers (response_to t))) goes;
 }
 transacted_goes (repeat text) m source t all goes is =
     record { kept = all; sent = one_sent (reply m source t.line (again text)) (again_goes text m.history all (repeat_kept most_firsts m.history t.id m.now text (sym is))) }
 transacted_goes confirmed m source t all goes is = record { kept = all; sent = All-nil IsMessage }
 transacted_goes full m source t all goes is = record { kept = all; sent = All-nil IsMessage }
 
-handled_goes : (setup : Setup) (m : Machine) (source : SocketAddrV4) (outcome : Outcome) → AreKept m.history → IfSome (id_in outcome) IsId → GoesOut (handled setup m source outcome)
+handled_goes : (setup : Setup) (m : Machine) (source : SocketAddrV4) (outcome : Outcome) → Fits setup m → AreKept m.history → IfSome (id_in outcome) IsId → GoesOut (handled setup m source outcome)
 unfolding handled
-handled_goes setup m source no_header all has = record { kept = all; sent = All-nil IsMessage }
-handled_goes setup m source (bad_version id) all has = transacted_goes _ m source (refusing m id 528) all (fits_goes id (plain_code 528) has (code_fits 528 (omega arith))) refl
-handled_goes setup m source (bad_body id) all has = transacted_goes _ m source (refusing m id 510) all (fits_goes id (plain_code 510) has (code_fits 510 (omega arith))) refl
-handled_goes setup m source (message (messages.Command verb id name params body)) all has =
+handled_goes setup m source no_header fits all has = record { kept = all; sent = All-nil IsMessage }
+handled_goes setup m source (bad_version id) fits all has = transacted_goes _ m source (refusing m id 528) all (answer_goes id (plain_code 528) has (code_is 528 (omega arith))) refl
+handled_goes setup m source (bad_body id) fits all has = transacted_goes _ m source (refusing m id 510) all (answer_goes id (plain_code 510) has (code_is 510 (omega arith))) refl
+handled_goes setup m source (message (messages.Command verb id name params body)) fits all has =
     let command : Command = record { verb = verb; name = name; params = params } in
-    transacted_goes _ m source _ all (fits_goes id (answer_from (audited setup m.endpoints command)) has (audit_fits setup m.endpoints command)) refl
-handled_goes setup m source (message (messages.Response code id params body)) all has = record { kept = all; sent = All-nil IsMessage }
+    transacted_goes _ m source _ all (answer_goes id (commanded setup m.endpoints m.now command).answer has (command_is setup m command fits)) refl
+handled_goes setup m source (message (messages.Response code id params body)) fits all has = record { kept = all; sent = All-nil IsMessage }
 
 sent_more : (some more : List Sent) → All IsMessage (datagrams_of some) → All IsMessage (datagrams_of more) → All IsMessage (datagrams_of (some ++ more))
 sent_more some more one two = rw (map-append datagram_of some more) (All-append IsMessage (datagrams_of some) (datagrams_of more) one two)
 
-texts_go : (setup : Setup) (m : Machine) (source : SocketAddrV4) (texts : List (List ℕ)) → AreKept m.history → GoesOut (took_all setup m source texts)
+texts_go : (setup : Setup) (m : Machine) (source : SocketAddrV4) (texts : List (List ℕ)) → Fits setup m → AreKept m.history → GoesOut (took_all setup m source texts)
 unfolding took_all
-texts_go setup m source [] all = record { kept = all; sent = All-nil IsMessage }
-texts_go setup m source (text ∷ texts) all =
-    let first = handled_goes setup m source (read_text text) all (read_id text) in
-    let rest = texts_go setup (handled setup m source (read_text text)).machine source texts first.kept in
+texts_go setup m source [] fits all = record { kept = all; sent = All-nil IsMessage }
+texts_go setup m source (text ∷ texts) fits all =
+    let first = handled_goes setup m source (read_text text) fits all (read_id text) in
+    let rest = texts_go setup (handled setup m source (read_text text)).machine source texts (record { set_up = fits.set_up; lines = handled_lines setup m source (read_text text) ∙ fits.lines }) first.kept in
     record { kept = rest.kept; sent = sent_more (handled setup m source (read_text text)).sent _ first.sent rest.sent }
 
 acted_goes : (setup : Setup) (endpoints : Endpoints) (number moment : ℕ) (found : Option Station) (act : Act) → All IsMessage (datagrams_of (acted_at found setup endpoints number moment act).sent)
@@ -277,42 +283,44 @@ unfolding phoned
 acted_goes setup endpoints number moment None act = All-nil IsMessage
 acted_goes setup endpoints number moment (Some station) act = All-nil IsMessage
 
-event_goes : (setup : Setup) (m : Machine) (event : GatewayEvent) → AreKept m.history → GoesOut (effect setup m event)
-unfolding effect acted pass
-event_goes setup m (datagram source bytes) all = texts_go setup m source (texts_of bytes) all
-event_goes setup m (phone line act) all = record { kept = all; sent = acted_goes setup m.endpoints line m.now (station_at m.endpoints line) act }
-event_goes setup m (tick moment) all = record { kept = all; sent = All-nil IsMessage }
+event_goes : (setup : Setup) (m : Machine) (event : GatewayEvent) → Fits setup m → AreKept m.history → GoesOut (effect setup m event)
+unfolding effect acted
+event_goes setup m (datagram source bytes) fits all = texts_go setup m source (texts_of bytes) fits all
+event_goes setup m (phone line act) fits all = record { kept = all; sent = acted_goes setup m.endpoints line m.now (station_at m.endpoints line) act }
+event_goes setup m (tick moment) fits all = record { kept = all; sent = rw (pass_tells_nothing setup m.endpoints moment) (All-nil IsMessage) }
 
-events_keep : (setup : Setup) (m : Machine) (events : List GatewayEvent) → AreKept m.history → AreKept (machine_after setup m events).history
-unfolding machine_after
-events_keep setup m [] all = all
-events_keep setup m (event ∷ events) all = events_keep setup (effect setup m event).machine events (event_goes setup m event all).kept
+event_fits : (setup : Setup) (m : Machine) (event : GatewayEvent) → Fits setup m → Fits setup (effect setup m event).machine
+event_fits setup m event fits = record { set_up = fits.set_up; lines = effect_lines setup m event ∙ fits.lines }
 
-outputs_hold : (setup : Setup) (m : Machine) (events : List GatewayEvent) → AreKept m.history
+outputs_hold : (setup : Setup) (m : Machine) (events : List GatewayEvent) → Fits setup m → AreKept m.history
     → flat_map messages_in (outputs_from setup m events) ≡ datagrams_of (sent_from setup m events)
 unfolding outputs_from sent_from
-outputs_hold setup m [] all = refl
-outputs_hold setup m (event ∷ events) all =
+outputs_hold setup m [] fits all = refl
+outputs_hold setup m (event ∷ events) fits all =
     let done = effect setup m event in
-    let goes = event_goes setup m event all in
+    let goes = event_goes setup m event fits all in
     flat_map-append messages_in (put_out done.sent) (outputs_from setup done.machine events)
     ∙ ap (λ (front : List OutDatagram). front ++ flat_map messages_in (outputs_from setup done.machine events)) (packed_messages (datagrams_of done.sent) goes.sent)
-    ∙ ap (λ (rest : List OutDatagram). datagrams_of done.sent ++ rest) (outputs_hold setup done.machine events goes.kept)
+    ∙ ap (λ (rest : List OutDatagram). datagrams_of done.sent ++ rest) (outputs_hold setup done.machine events (event_fits setup m event fits) goes.kept)
     ∙ sym (map-append datagram_of done.sent (sent_from setup done.machine events))
 
-outputs_fit : (setup : Setup) (m : Machine) (events : List GatewayEvent) → AreKept m.history → All IsWithin (outputs_from setup m events)
+outputs_fit : (setup : Setup) (m : Machine) (events : List GatewayEvent) → Fits setup m → AreKept m.history → All IsWithin (outputs_from setup m events)
 unfolding outputs_from
-outputs_fit setup m [] all = All-nil IsWithin
-outputs_fit setup m (event ∷ events) all =
+outputs_fit setup m [] fits all = All-nil IsWithin
+outputs_fit setup m (event ∷ events) fits all =
     let done = effect setup m event in
-    let goes = event_goes setup m event all in
-    All-append IsWithin (put_out done.sent) (outputs_from setup done.machine events) (packed_within (datagrams_of done.sent) goes.sent) (outputs_fit setup done.machine events goes.kept)
+    let goes = event_goes setup m event fits all in
+    All-append IsWithin (put_out done.sent) (outputs_from setup done.machine events) (packed_within (datagrams_of done.sent) goes.sent) (outputs_fit setup done.machine events (event_fits setup m event fits) goes.kept)
 
 pub nothing_kept : (setup : Setup) → AreKept (opening setup).history
 nothing_kept setup = All-nil (λ (first : KeptFirst). Goes first.answer)
 
-pub sent_as_messages : (setup : Setup) (events : List GatewayEvent) → flat_map messages_in (outputs_from setup (opening setup) events) ≡ datagrams_of (sent_from setup (opening setup) events)
-sent_as_messages setup events = outputs_hold setup (opening setup) events (nothing_kept setup)
+opening_fits : (setup : Setup) → IsSetUp setup → Fits setup (opening setup)
+opening_fits setup set_up = record { set_up = set_up; lines = lines_of_opening setup }
 
-pub sent_within : (setup : Setup) (events : List GatewayEvent) → All IsWithin (outputs_from setup (opening setup) events)
-sent_within setup events = outputs_fit setup (opening setup) events (nothing_kept setup)
+pub sent_as_messages : (config : Config) (setup : Setup) (events : List GatewayEvent) → setup_of config ≡ Ok setup
+    → flat_map messages_in (outputs_from setup (opening setup) events) ≡ datagrams_of (sent_from setup (opening setup) events)
+sent_as_messages config setup events is = outputs_hold setup (opening setup) events (opening_fits setup (setup_is config setup is)) (nothing_kept setup)
+
+pub sent_within : (config : Config) (setup : Setup) (events : List GatewayEvent) → setup_of config ≡ Ok setup → All IsWithin (outputs_from setup (opening setup) events)
+sent_within config setup events is = outputs_fit setup (opening setup) events (opening_fits setup (setup_is config setup is)) (nothing_kept setup)

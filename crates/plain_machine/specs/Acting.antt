@@ -2,7 +2,8 @@
 use Rattle.std.specs.Prelude.{ℕ, List, [], Option, Some, None}
 use Rattle.mg_line.specs.declared.phone.Act.{Act}
 use Rattle.mg_line.specs.declared.notice.Notice.{Notice}
-use Rattle.mg_line.specs.Line.{LineDone, phoned}
+use Rattle.mg_line.specs.Line.{LineDone}
+use Rattle.mg_line.specs.Acting.{phoned}
 use Rattle.plain_machine.specs.declared.setup.Setup.{Setup}
 use Rattle.plain_machine.specs.declared.station.Station.{Station}
 use Rattle.plain_machine.specs.Message.{Sent}

@@ -1,9 +1,10 @@
 -- What is done at a text that arrived: a command is executed and answered (RFC 3435, 3.2 and 3.5).
-use Rattle.std.specs.Prelude.{ℕ, List, [], ◌∷◌, ◌++◌, map, Option, Some, None, Result, Ok, Err}
+use Rattle.std.specs.Prelude.{ℕ, nat_le, if◌then◌else◌, List, [], ◌∷◌, ◌++◌, length, map, Option, Some, None, Result, Ok, Err}
 use Rattle.std.specs.declared.net.socket_addr.SocketAddrV4.{SocketAddrV4}
 use Rattle.mgcp_text.specs.declared.message.Message.TheVariants as messages
 use Rattle.mgcp_text.specs.Reading.{Outcome, message, no_header, bad_version, bad_body, read_text}
-use Rattle.mgcp_text.specs.Answer.{plain_code, response_of}
+use Rattle.mgcp_text.specs.declared.message.Message.{Message}
+use Rattle.mgcp_text.specs.Answer.{Answer, plain_code, response_of}
 use Rattle.mgcp_text.specs.Writing.{written}
 use Rattle.mgcp_text.specs.Confirmation.{k_of}
 use Rattle.mgcp_text.specs.declared.confirmation.IdRange.{IdRange}
@@ -21,7 +22,9 @@ use Rattle.endpoint_names.specs.Name.{name_of}
 use Rattle.plain_machine.specs.declared.setup.Setup.{Setup}
 use Rattle.plain_machine.specs.Message.{answer_of, Said, answer, again, Sent}
 use Rattle.plain_machine.specs.Machine.{Endpoints, Machine, Effect, Told, told, idle}
-use Rattle.plain_machine.specs.Commanding.{Noted, Done, only_answer, commanded}
+use Rattle.plain_machine.specs.Arriving.{largest_datagram}
+use Rattle.plain_machine.specs.Done.{Noted, Done, only_answer}
+use Rattle.plain_machine.specs.Commanding.{commanded}
 
 -- the line that a name reads as
 abbrev pub line_meant : Result Pattern NameFault → Option ℕ
@@ -60,9 +63,17 @@ pub record Transaction : Type 0 where
 abbrev pub transaction : ℕ → Option ℕ → List IdSpan → Done → Transaction
 transaction id line confirms done = record { id = id; line = line; confirms = confirms; done = done }
 
--- the text of the answer
+-- an answer that would be longer than a datagram may be gives way to 533 (RFC 3435, 2.4: the response is too large)
+abbrev pub fitting : ℕ → Answer → Answer
+fitting id wanted = if nat_le (length (written (response_of id wanted))) largest_datagram then wanted else plain_code 533
+
+-- the response that answers it
+abbrev pub response_to : Transaction → Message
+response_to t = response_of t.id (fitting t.id t.done.answer)
+
+-- its text
 abbrev pub answer_text : Transaction → List ℕ
-answer_text t = written (response_of t.id t.done.answer)
+answer_text t = written (response_to t)
 
 -- the history after a first: what it confirmed, and then the first itself with its answer
 abbrev pub history_with : Machine → Transaction → List Entry
@@ -77,7 +88,7 @@ executed m source t = record {
     endpoints = (notified t.done.endpoints t.done.notices).endpoints;
     history = history_with m t;
   };
-  sent = reply m source t.line (answer (response_of t.id t.done.answer)) ∷ (notified t.done.endpoints t.done.notices).sent;
+  sent = reply m source t.line (answer (response_to t)) ∷ (notified t.done.endpoints t.done.notices).sent;
 }
 
 -- a command, by what is told of its id: a first is executed, a repeat gets the stored answer, what is confirmed gets

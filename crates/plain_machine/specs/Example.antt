@@ -1,5 +1,5 @@
 -- The gateway of the worked examples, and its agent.
-use Rattle.std.specs.Prelude.{ℕ, List, [], ◌∷◌, ◌++◌, codes, decimal, Option}
+use Rattle.std.specs.Prelude.{ℕ, ◌-◌, List, [], ◌∷◌, ◌++◌, codes, decimal, replicate, Option, Some}
 use Rattle.std.specs.declared.net.ipv4_addr.Ipv4Addr.{Ipv4Addr}
 use Rattle.std.specs.declared.net.socket_addr.SocketAddrV4.{SocketAddrV4}
 use Rattle.mgcp_text.specs.declared.message.Message.{Message}
@@ -11,7 +11,10 @@ use Rattle.plain_machine.specs.declared.refusal.Refusal.{Refusal}
 use Rattle.plain_machine.specs.Event.{GatewayEvent, datagram, tick}
 use Rattle.plain_machine.specs.Message.{answer_of, answer, Sent}
 use Rattle.plain_machine.specs.Machine.{Machine, opening}
-use Rattle.plain_machine.specs.Lists.{sent_of, outputs_of, refusal_at}
+use Rattle.mg_packages.specs.declared.signal.Signal.{Signal}
+use Rattle.signals.specs.declared.active.ActiveSignal.{ActiveSignal}
+use Rattle.mgcp_text.specs.Answer.{Answer}
+use Rattle.plain_machine.specs.Lists.{machine_after, sent_of, outputs_from, outputs_of, refusal_at, signals_of}
 
 -- 127.0.0.1
 abbrev pub local_host : Ipv4Addr
@@ -59,6 +62,14 @@ example = record {
   media_address = local_host;
   media_base = 3000;
 }
+
+-- the same gateway with two lines
+abbrev pub two_lines : Setup
+two_lines = record example { names = record { domain = codes "rgw.example.net"; lines = 2; table = example.names.table } }
+
+-- an answer with one parameter, whose line has so many bytes
+abbrev pub long_answer : ℕ → Answer
+long_answer bytes = record { code = 200; params = (record { code = codes "Z"; value = replicate (bytes - 5) 97 }) ∷ []; body = [] }
 
 abbrev pub from_agent : List ℕ → GatewayEvent
 from_agent bytes = datagram agent bytes
@@ -113,3 +124,18 @@ audit_of_hook = audit 3001 ++ codes "F: ES\r\n"
 -- the opening, but at this moment
 abbrev pub machine_at : ℕ → Machine
 machine_at now = record (opening example) { now = now }
+
+-- a request of these lines with this id, and then these parameters
+abbrev pub rqnt : ℕ → List ℕ → List ℕ → GatewayEvent
+rqnt id local params = from_agent (codes "RQNT " ++ decimal id ++ codes " " ++ local ++ codes "@rgw.example.net MGCP 1.0\r\n" ++ params)
+
+-- the active signals of a line after these events, which begin at 1,000
+abbrev pub signals_after : List GatewayEvent → ℕ → Option (List ActiveSignal)
+signals_after events line = signals_of (machine_after example (machine_at 1000) events) line
+
+-- what is sent at these events, which begin at 1,000
+abbrev pub sends : List GatewayEvent → List OutDatagram
+sends events = outputs_from example (machine_at 1000) events
+
+abbrev pub until : Signal → ℕ → ActiveSignal
+until signal end = record { signal = signal; end = Some end }

@@ -5,11 +5,12 @@ pub mod Message
 pub mod Arriving
 pub mod Packing
 pub mod Machine
-pub mod Checking
-pub mod Reporting
-pub mod Commanding
 pub mod Acting
 pub mod Falling
+pub mod Done
+pub mod Reporting
+pub mod Requesting
+pub mod Commanding
 pub mod Answering
 pub mod Happening
 pub mod Refusal

@@ -1,6 +1,7 @@
 -- Whole lists of events.
 use Rattle.std.specs.Prelude.{ℕ, Bool, true, ◌&&◌, is_none, List, [], ◌∷◌, ◌++◌, Option, option_map}
-use Rattle.mg_line.specs.declared.phone.Hook.{Hook}
+use Rattle.mg_packages.specs.declared.hook.Hook.{Hook}
+use Rattle.signals.specs.declared.active.ActiveSignal.{ActiveSignal}
 use Rattle.plain_machine.specs.declared.setup.Setup.{Setup}
 use Rattle.plain_machine.specs.declared.output.OutDatagram.{OutDatagram}
 use Rattle.plain_machine.specs.declared.refusal.Refusal.{Refusal}
@@ -48,3 +49,7 @@ refusal_at setup before event = refusal_of (plain setup before) event
 -- the hook state of a line, if there is one
 abbrev pub hook_of : Machine → ℕ → Option Hook
 hook_of m number = option_map (λ station. station.line.hook) (station_at m.endpoints number)
+
+-- the active signals of a line, if there is one, with their ends (RFC 3435, 2.1.7)
+abbrev pub signals_of : Machine → ℕ → Option (List ActiveSignal)
+signals_of m number = option_map (λ station. station.line.signals) (station_at m.endpoints number)

@@ -1,5 +1,6 @@
 -- The plain machine: its clock, its endpoints, and the transactions that there ever were.
 use Rattle.std.specs.Prelude.{ℕ, ◌-◌, ◌==◌, if◌then◌else◌, List, [], replicate, Option, None, slice_get, slice_set}
+use Rattle.std.specs.List.{enumerate_from}
 use Rattle.mg_line.specs.Line.{opening_line}
 use Rattle.plain_machine.specs.declared.setup.Setup.{Setup}
 use Rattle.plain_machine.specs.declared.station.Station.{Station}
@@ -36,12 +37,12 @@ told endpoints sent = record { endpoints = endpoints; sent = sent }
 abbrev pub told_in : Machine → Told → Effect
 told_in m change = record { machine = record m { endpoints = change.endpoints }; sent = change.sent }
 
--- every line is on hook
-abbrev pub opening_station : Station
-opening_station = record { line = opening_line }
+-- every line is as a line opens, and reports to the configured agent
+abbrev pub opening_station : Setup → Station
+opening_station setup = record { line = opening_line; entity = setup.agent }
 
 abbrev pub opening_endpoints : Setup → Endpoints
-opening_endpoints setup = record { stations = replicate setup.names.lines opening_station }
+opening_endpoints setup = record { stations = replicate setup.names.lines (opening_station setup) }
 
 abbrev pub opening : Setup → Machine
 opening setup = record { now = 0; endpoints = opening_endpoints setup; history = [] }
@@ -52,3 +53,7 @@ station_at endpoints number = if number == 0 then None else slice_get endpoints.
 
 abbrev pub with_station : Endpoints → ℕ → Station → Endpoints
 with_station endpoints number station = record { stations = slice_set endpoints.stations (number - 1) station }
+
+-- the stations with the numbers of their lines
+abbrev pub numbered : Endpoints → List (ℕ × Station)
+numbered endpoints = enumerate_from 1 endpoints.stations

@@ -1,7 +1,7 @@
 -- Why an event is refused, and when a step may want memory.
 use Rattle.std.specs.Prelude.{◌≡◌, ℕ, Bool, true, false, not, ◌+◌, ◌^◌, ◌||◌, nat_lt, nat_le, if◌then◌else◌, length, Option, Some, None, Result, Ok, Err, IfSome}
 use Rattle.mg_line.specs.declared.phone.Act.{Act}
-use Rattle.mg_line.specs.Line.{is_possible}
+use Rattle.mg_line.specs.Acting.{is_possible}
 use Rattle.plain_machine.specs.declared.setup.Setup.{Setup}
 use Rattle.plain_machine.specs.declared.station.Station.{Station}
 use Rattle.plain_machine.specs.declared.refusal.Refusal.{Refusal}

@@ -1,6 +1,6 @@
 //! Laws of the plain machine, for every setup and every list of events.
 ghost use Rattle.std.specs.declared.net.socket_addr.SocketAddrV4.{SocketAddrV4};
-ghost use Rattle.std.specs.Prelude.{if◌then◌else◌, ◌≡◌, ◌≢◌, ◌++◌, ◌∷◌, ◌-◌, [], ◌≤◌, List, length, map, flat_map, All, AllPairs, Option, Some, None, true, false};
+ghost use Rattle.std.specs.Prelude.{ℕ, if◌then◌else◌, ◌<◌, Ok, ◌≡◌, ◌≢◌, ◌++◌, ◌∷◌, ◌-◌, [], ◌≤◌, List, length, map, flat_map, All, AllPairs, Option, Some, None, true, false};
 ghost use Rattle.history.specs.Memory.{memory_time, most_firsts};
 ghost use Rattle.history.specs.Arrival.{Arrival as Command};
 ghost use Rattle.history.specs.Firsts.{Copied, a_first, a_repeat, lost, kind_of, firsts_of};
@@ -12,7 +12,12 @@ ghost use Rattle.plain_machine.specs.declared.refusal.Refusal.{Refusal};
 ghost use Rattle.plain_machine.specs.declared.refusal.Refusal.TheVariants as refusals;
 ghost use Rattle.plain_machine.specs.Event.{GatewayEvent};
 ghost use Rattle.plain_machine.specs.Message.{again, datagrams_of};
-ghost use Rattle.plain_machine.specs.Machine.{Machine, idle};
+ghost use Rattle.plain_machine.specs.Machine.{Machine, Endpoints, idle, told};
+ghost use Rattle.plain_machine.specs.Falling.{due_at, due_by, happened, afterwards, pass};
+ghost use Rattle.plain_machine.specs.declared.due_item.DueItem.{DueItem};
+ghost use Rattle.plain_machine.specs.declared.config.Config.{Config};
+ghost use Rattle.plain_machine.specs.Setup.{setup_of, IsSetUp};
+ghost use Rattle.mg_line.specs.declared.due.Due.{Due};
 ghost use Rattle.plain_machine.specs.Answering.{Transaction, reply, executed, transacted};
 ghost use Rattle.plain_machine.specs.Packing.{messages_in};
 ghost use Rattle.plain_machine.specs.Arriving.{largest_datagram, arrivals_at, clock_after, arrivals_of};
@@ -95,13 +100,41 @@ pub fn commands_are_done_by_what_they_are()
         transacted m source t ≡ idle m }
 {}
 
-/// The datagrams that go out hold the messages that are sent, in their order, and none of them is longer than the largest
-/// that is taken.
+/// What a configuration sets up has a domain, and 16 lines at most.
+pub fn configurations_set_up_gateways()
+    ensures { (config : Config) (setup : Setup) → setup_of config ≡ Ok setup → IsSetUp setup }
+{}
+
+/// With the setup of a configuration, the datagrams that go out hold the messages that are sent, in their order, and none
+/// of them is longer than the largest that is taken.
 pub fn what_is_packed_is_what_is_sent()
-    ensures messages { (setup : Setup) (events : List GatewayEvent) →
+    ensures messages { (config : Config) (setup : Setup) (events : List GatewayEvent) → setup_of config ≡ Ok setup →
         flat_map messages_in (outputs_of setup events) ≡ datagrams_of (sent_of setup events) }
-    ensures within { (setup : Setup) (events : List GatewayEvent) →
+    ensures within { (config : Config) (setup : Setup) (events : List GatewayEvent) → setup_of config ≡ Ok setup →
         All (λ (datagram : OutDatagram). length datagram.bytes ≤ largest_datagram) (outputs_of setup events) }
+{}
+
+/// While something is due up to a moment, what falls due first happens, at its own moment; and after that nothing is due
+/// up to that moment.
+pub fn what_is_due_happens_in_its_order()
+    ensures first { (setup : Setup) (endpoints : Endpoints) (moment : ℕ) (item : DueItem) →
+        due_by endpoints moment ≡ Some item →
+        pass setup endpoints moment ≡ afterwards (happened setup endpoints item) (λ next. pass setup next moment) }
+    ensures nothing { (setup : Setup) (endpoints : Endpoints) (moment : ℕ) → due_by endpoints moment ≡ None →
+        pass setup endpoints moment ≡ told endpoints [] }
+    ensures after { (setup : Setup) (endpoints : Endpoints) (moment : ℕ) →
+        due_by (pass setup endpoints moment).endpoints moment ≡ None }
+{}
+
+/// What falls due first is due on its line; nothing on any line is due earlier, and nothing on a lesser line as early.
+pub fn the_first_due_is_the_earliest()
+    ensures due { (endpoints : Endpoints) (moment : ℕ) (item : DueItem) → due_by endpoints moment ≡ Some item →
+        (due_at endpoints item.line ≡ Some (item.moment, item.due)) × (item.moment ≤ moment) }
+    ensures earliest { (endpoints : Endpoints) (moment line : ℕ) (item : DueItem) (other : ℕ × Due) →
+        due_by endpoints moment ≡ Some item → due_at endpoints line ≡ Some other →
+        (item.moment ≤ other.0) × (item.moment ≡ other.0 → item.line ≤ line) }
+    ensures none { (endpoints : Endpoints) (moment line : ℕ) (other : ℕ × Due) →
+        due_by endpoints moment ≡ None → due_at endpoints line ≡ Some other → moment < other.0 }
 {}
 
 /// A step ends as the machine says: a refused event is refused for its reason, another one is taken, and want of memory

@@ -5,6 +5,7 @@
 #![tactic(auto)]
 
 mod config;
+mod due_item;
 mod event;
 pub mod examples;
 pub mod laws;
@@ -14,6 +15,7 @@ mod setup;
 mod station;
 
 pub use crate::config::{Config, ConfigFault, NamedAddress};
+pub use crate::due_item::DueItem;
 pub use crate::event::Event;
 pub use crate::output::{OutDatagram, Outputs};
 pub use crate::refusal::Refusal;

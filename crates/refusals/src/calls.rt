@@ -30,6 +30,14 @@ AUEP 36 aaln/3@rgw.example.net MGCP 1.0\r
 F: ES\r
 ";
 
+const REQUEST: &[u8] = b"RQNT 40 *@rgw.example.net MGCP 1.0\r
+X: A0\r
+N: ca2@[127.0.0.2]\r
+S: L/rs,L/vmwi\r
+.\r
+AUEP 41 *@rgw.example.net MGCP 1.0\r
+";
+
 const INPUT: &[u8] = b"domain = \"rgw.example.net\"
 lines = 16
 agent = \"ca@ca.example.net\"
@@ -75,14 +83,23 @@ fn opened(alloc: Global) -> Result<Gateway, ConfigFault> {
     Gateway::new(alloc, example(alloc)?)
 }
 
-// What can be read of a gateway: its clock, and its first line.
-fn seen(gateway: &Gateway) -> (u64, Option<Hook>) {
-    let hook = if gateway.lines() >= 1 {
-        Some(gateway.hook(1))
-    } else {
-        None
-    };
-    (gateway.now(), hook)
+// What can be read of a gateway: its clock, its first line, and how many signals are active on the last.
+fn seen(gateway: &Gateway) -> (u64, Option<Hook>, usize) {
+    let lines = gateway.lines();
+    if lines == 0 {
+        return (gateway.now(), None, 0);
+    }
+    let active = gateway.signals(lines).as_slice().len();
+    (gateway.now(), Some(gateway.hook(1)), active)
+}
+
+fn show_signals<R: Print>(rt: &R, gateway: &Gateway) -> io::Result<()> {
+    for line in 1..=gateway.lines() {
+        for active in gateway.signals(line).as_slice() {
+            println!(rt; "{line} {:?} {:?}", active.signal, active.end)?;
+        }
+    }
+    Ok(())
 }
 
 fn show<R: Print>(rt: &R, outputs: &Outputs) -> io::Result<()> {
@@ -166,7 +183,25 @@ fn gateway_calls<R: Print>(rt: &R, gateway: &mut Gateway) -> io::Result<()> {
         source,
         bytes: SEVERAL,
     };
-    stepped(rt, gateway, several)
+    stepped(rt, gateway, several)?;
+    signal_calls(rt, gateway, source)
+}
+
+// A request of all lines, an audit of all, and a tick up to which a signal ends on each: on all lines or on none.
+fn signal_calls<R: Print>(rt: &R, gateway: &mut Gateway, source: SocketAddrV4) -> io::Result<()> {
+    let on = Event::Phone {
+        line: 1,
+        act: Act::OnHook,
+    };
+    stepped(rt, gateway, on)?;
+    let request = Event::Datagram {
+        source,
+        bytes: REQUEST,
+    };
+    stepped(rt, gateway, request)?;
+    show_signals(rt, gateway)?;
+    stepped(rt, gateway, Event::Tick { moment: 505 })?;
+    show_signals(rt, gateway)
 }
 
 /// All calls, each again where memory was refused.

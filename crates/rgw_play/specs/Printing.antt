@@ -1,10 +1,12 @@
 -- What is printed of a datagram that goes out, and of a step that is refused. Each line ends in LF.
-use Rattle.std.specs.Prelude.{ℕ, codes, decimal, List, [], ◌∷◌, ◌++◌}
+use Rattle.std.specs.Prelude.{ℕ, codes, decimal, List, [], ◌∷◌, ◌++◌, Option, Some, None}
 use Rattle.std.specs.List.{flat_map}
 use Rattle.std.specs.Net.Text.{socket_v4_text}
 use Rattle.mg_bytes.specs.Lines.{lines_of}
-use Rattle.mg_line.specs.declared.phone.Hook.{Hook}
-use Rattle.mg_line.specs.declared.phone.Hook.TheVariants.{OffHook, OnHook}
+use Rattle.mg_packages.specs.declared.hook.Hook.{Hook}
+use Rattle.mg_packages.specs.declared.hook.Hook.TheVariants.{OffHook, OnHook}
+use Rattle.mg_packages.specs.Looking.{signal_name}
+use Rattle.signals.specs.declared.active.ActiveSignal.{ActiveSignal}
 use Rattle.plain_machine.specs.declared.output.OutDatagram.{OutDatagram}
 use Rattle.plain_machine.specs.declared.refusal.Refusal.{Refusal}
 use Rattle.plain_machine.specs.Refusal.{refusal_number, refusal_name}
@@ -32,8 +34,21 @@ abbrev pub hook_word : Hook → List ℕ
 hook_word OffHook = codes "off"
 hook_word OnHook = codes "on"
 
--- what a line is: so far its hook state; signals, connections and lost events aren't there yet
-abbrev pub shown_line : ℕ → Hook → List ℕ
-shown_line line hook =
-    codes "line " ++ decimal line ++ codes " " ++ hook_word hook
-    ++ codes " signals - connections - lost 0"
+abbrev pub end_shown : Option ℕ → List ℕ
+end_shown None = codes "-"
+end_shown (Some end) = decimal end
+
+-- a signal and its end, as `L/dl:17000`; `-` where no time ends it
+abbrev pub signal_shown : ActiveSignal → List ℕ
+signal_shown active = signal_name active.signal ++ codes ":" ++ end_shown active.end
+
+-- signals with commas between them; `-` where there are none
+unfoldable pub signals_shown : List ActiveSignal → List ℕ
+signals_shown [] = codes "-"
+signals_shown (active ∷ more) = signal_shown active ++ flat_map (λ next. codes "," ++ signal_shown next) more
+
+-- what a line is: its hook state and its signals; connections and lost events aren't there yet
+abbrev pub shown_line : ℕ → Hook → List ActiveSignal → List ℕ
+shown_line line hook signals =
+    codes "line " ++ decimal line ++ codes " " ++ hook_word hook ++ codes " signals " ++ signals_shown signals
+    ++ codes " connections - lost 0"

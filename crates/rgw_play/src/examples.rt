@@ -4,7 +4,7 @@
 ghost use Rattle.std.specs.Prelude.{◌≡◌, codes, pos, negsuc, true, false, [], ◌∷◌, Some, None, Ok, Err};
 ghost use Rattle.toml.specs.Data.{string, integer, boolean, table, no_members, member};
 ghost use Rattle.mg_line.specs.declared.phone.Act.TheVariants as acts;
-ghost use Rattle.mg_line.specs.declared.phone.Hook.TheVariants as hooks;
+ghost use Rattle.mg_packages.specs.declared.hook.Hook.TheVariants as hooks;
 ghost use Rattle.mg_line.specs.declared.phone.Key.TheVariants as keys;
 ghost use Rattle.plain_machine.specs.declared.refusal.Refusal.TheVariants as refusals;
 ghost use Rattle.plain_machine.specs.Event.{datagram, phone, tick};
@@ -14,6 +14,7 @@ ghost use Rattle.rgw_play.specs.Input.{config_text, script_lines};
 ghost use Rattle.rgw_play.specs.Configuration.{config_of};
 ghost use Rattle.rgw_play.specs.Script.{act_of};
 ghost use Rattle.rgw_play.specs.Fault.{name_of_config_fault};
+ghost use Rattle.mg_packages.specs.declared.signal.Signal.TheVariants as signals;
 ghost use Rattle.rgw_play.specs.Moves.{give, pass, ask, sends, refuses, tells, moves_of, printed, is_refused};
 ghost use Rattle.rgw_play.specs.Example.{address, agent, line_says, script_says, output_of, taken_by, to_agent, host_at, settings_with, local, with_lines, with_media, with_names, example_config};
 
@@ -202,12 +203,17 @@ pub fn what_is_shown_is_printed()
     ensures back { printed (refuses refusals.ClockBack) ≡ codes "! 3 ClockBack\n" }
     ensures no_line { printed (refuses refusals.NoSuchLine) ≡ codes "! 4 NoSuchLine\n" }
     ensures state { printed (refuses refusals.PhoneState) ≡ codes "! 5 PhoneState\n" }
-    ensures off { printed (tells 1 hooks.OffHook)
+    ensures off { printed (tells 1 hooks.OffHook [])
         ≡ codes "line 1 off signals - connections - lost 0\n" }
-    ensures on { printed (tells 16 hooks.OnHook) ≡ codes "line 16 on signals - connections - lost 0\n" }
+    ensures on { printed (tells 16 hooks.OnHook []) ≡ codes "line 16 on signals - connections - lost 0\n" }
+    ensures tone { printed (tells 1 hooks.OffHook ((record { signal = signals.DialTone; end = Some 17000 }) ∷ []))
+        ≡ codes "line 1 off signals L/dl:17000 connections - lost 0\n" }
+    ensures tones { printed (tells 1 hooks.OffHook ((record { signal = signals.MessageWaiting; end = None })
+        ∷ (record { signal = signals.Congestion; end = None }) ∷ (record { signal = signals.Confirm; end = Some 1500 }) ∷ []))
+        ≡ codes "line 1 off signals L/vmwi:-,G/cg:-,G/cf:1500 connections - lost 0\n" }
     ensures counted { is_refused (refuses refusals.PhoneState) ≡ true }
     ensures not_sent { is_refused (sends []) ≡ false }
-    ensures not_told { is_refused (tells 1 hooks.OnHook) ≡ false }
+    ensures not_told { is_refused (tells 1 hooks.OnHook []) ≡ false }
 {}
 
 /// Moves are made one after the other.

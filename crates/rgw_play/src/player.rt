@@ -8,6 +8,7 @@ use crate::step::Step;
 use gateway_core::{Event, Gateway, Outputs, Refusal};
 use mg_bytes::OutOfMemory;
 use mg_line::Hook;
+use signals::ActiveSignal;
 use std::alloc::{AllocError, Global};
 
 /// Plays steps at a gateway and prints what they show. After an error it isn't used again.
@@ -59,11 +60,11 @@ impl Player {
     }
 
     // Prints what a line is.
-    fn tell(&mut self, line: u16, hook: Hook) -> Result<(), OutOfMemory>
+    fn tell(&mut self, line: u16, hook: Hook, signals: &[ActiveSignal]) -> Result<(), OutOfMemory>
         ensures kept { OnOk result (self.new.gateway ≡ self.old.gateway) }
-        ensures printed { OnOk result (Prints self.old (tells line hook ∷ []) self.new) }
+        ensures printed { OnOk result (Prints self.old (tells line hook signals.now ∷ []) self.new) }
     {
-        put_line(self.alloc, &mut self.out, line, hook)?;
+        put_line(self.alloc, &mut self.out, line, hook, signals)?;
         Ok(())
     }
 
@@ -115,7 +116,8 @@ impl Player {
     {
         if line >= 1 && line <= self.gateway.lines() {
             let hook = self.gateway.hook(line);
-            return self.tell(line, hook);
+            let signals = self.gateway.signals(line);
+            return self.tell(line, hook, signals.as_slice());
         }
         self.refuse(Refusal::NoSuchLine)
     }

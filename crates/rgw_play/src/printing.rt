@@ -1,12 +1,14 @@
 //! The printed form of datagrams, refusals and lines.
-ghost use Rattle.std.specs.Prelude.{◌≡◌, ◌≤◌, ◌++◌, length, IfOk, OnOk, string_bytes};
+ghost use Rattle.std.specs.Prelude.{◌≡◌, ◌≤◌, ◌++◌, length, codes, IfOk, OnOk, string_bytes};
 ghost use Rattle.std.specs.List.{flat_map};
 ghost use Rattle.mg_bytes.specs.Lines.{lines_of};
-ghost use Rattle.rgw_play.specs.Printing.{printed_line, datagram_line, printed_datagram, refusal_line, hook_word, shown_line};
+ghost use Rattle.rgw_play.specs.Printing.{printed_line, datagram_line, printed_datagram, refusal_line, hook_word, end_shown, signal_shown, signals_shown, shown_line};
 
 use gateway_core::{OutDatagram, Refusal};
 use mg_bytes::{OutOfMemory, lines, put_decimal};
 use mg_line::Hook;
+use mg_packages::signal_name;
+use signals::ActiveSignal;
 use std::alloc::Global;
 
 fn datagram_line(alloc: Global, datagram: &OutDatagram) -> Result<String, OutOfMemory>
@@ -84,15 +86,83 @@ fn hook_word(hook: Hook) -> &'static [u8]
     }
 }
 
+fn put_end(alloc: Global, out: &mut Vec<u8>, end: Option<u64>) -> Result<(), OutOfMemory>
+    ensures ok { OnOk result (out.new.items ≡ out.old.items ++ end_shown end) }
+    ensures grows { length out.old.items ≤ length out.new.items }
+{
+    match end {
+        Some(end) => put_decimal(alloc, out, end),
+        None => {
+            out.push(b'-')?;
+            Ok(())
+        }
+    }
+}
+
+fn put_signal(alloc: Global, out: &mut Vec<u8>, active: ActiveSignal) -> Result<(), OutOfMemory>
+    ensures ok { OnOk result (out.new.items ≡ out.old.items ++ signal_shown active) }
+    ensures grows { length out.old.items ≤ length out.new.items }
+{
+    out.extend_from_slice(signal_name(active.signal))?;
+    out.push(b':')?;
+    put_end(alloc, out, active.end)
+}
+
+fn put_more_signals(
+    alloc: Global,
+    out: &mut Vec<u8>,
+    more: &[ActiveSignal],
+) -> Result<(), OutOfMemory>
+    ensures ok { OnOk result (out.new.items ≡ out.old.items
+        ++ flat_map (λ next. codes "," ++ signal_shown next) more.now) }
+    ensures grows { length out.old.items ≤ length out.new.items }
+{
+    for active in more {
+        out.push(b',')?;
+        put_signal(alloc, out, *active)?;
+    }
+    Ok(())
+}
+
+#[tactic(auto, unfolding(crate::specs::Printing::signals_shown))]
+fn put_signals(
+    alloc: Global,
+    out: &mut Vec<u8>,
+    signals: &[ActiveSignal],
+) -> Result<(), OutOfMemory>
+    ensures ok { OnOk result (out.new.items ≡ out.old.items ++ signals_shown signals.now) }
+    ensures grows { length out.old.items ≤ length out.new.items }
+{
+    match signals {
+        [] => {
+            out.push(b'-')?;
+            Ok(())
+        }
+        [first, more @ ..] => {
+            put_signal(alloc, out, *first)?;
+            put_more_signals(alloc, out, more)
+        }
+    }
+}
+
 /// Prints what a line is.
-pub fn put_line(alloc: Global, out: &mut Vec<u8>, line: u16, hook: Hook) -> Result<(), OutOfMemory>
-    ensures ok { OnOk result (out.new.items ≡ out.old.items ++ printed_line (shown_line line hook)) }
+pub fn put_line(
+    alloc: Global,
+    out: &mut Vec<u8>,
+    line: u16,
+    hook: Hook,
+    signals: &[ActiveSignal],
+) -> Result<(), OutOfMemory>
+    ensures ok { OnOk result (out.new.items ≡ out.old.items
+        ++ printed_line (shown_line line hook signals.now)) }
     ensures grows { length out.old.items ≤ length out.new.items }
 {
     out.extend_from_slice(b"line ")?;
     put_decimal(alloc, out, u64::from(line))?;
     out.push(b' ')?;
     out.extend_from_slice(hook_word(hook))?;
-    out.extend_from_slice(b" signals - connections - lost 0\n")?;
+    out.extend_from_slice(b" signals ")?;
+    put_signals(alloc, out, signals)?;
+    out.extend_from_slice(b" connections - lost 0\n")?;
     Ok(())
 }

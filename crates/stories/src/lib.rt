@@ -3,6 +3,8 @@
 #![tactic(auto)]
 
 #[cfg(test)]
+mod active_signals;
+#[cfg(test)]
 mod audits;
 #[cfg(test)]
 mod bytes;
@@ -16,6 +18,8 @@ mod command_line;
 mod configurations;
 #[cfg(test)]
 mod fixture;
+#[cfg(test)]
+mod forms;
 #[cfg(test)]
 mod histories;
 #[cfg(test)]

@@ -2,7 +2,7 @@
 #![tactic(auto, unfolding(crate::proofs::Computing::on_examples))]
 
 ghost use Rattle.std.specs.Prelude.{◌≡◌, ◌++◌, [], ◌∷◌, Some, None, true, false, replicate};
-ghost use Rattle.mg_line.specs.declared.phone.Hook.TheVariants as hooks;
+ghost use Rattle.mg_packages.specs.declared.hook.Hook.TheVariants as hooks;
 ghost use Rattle.mg_line.specs.declared.phone.Act.TheVariants as acts;
 ghost use Rattle.mg_line.specs.declared.phone.Key.TheVariants as keys;
 ghost use Rattle.plain_machine.specs.declared.refusal.Refusal.TheVariants as refusals;

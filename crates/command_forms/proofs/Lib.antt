@@ -1,0 +1,4 @@
+pub mod OrderLemmas
+pub mod CodeLemmas
+pub mod FormLemmas
+pub mod Computing

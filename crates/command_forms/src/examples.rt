@@ -1,0 +1,171 @@
+//! Worked examples of the definitions, as theorems: each sentence of a definition has one that a slip in it breaks.
+#![tactic(auto, unfolding(crate::proofs::Computing::on_examples))]
+
+ghost use Rattle.std.specs.Prelude.{◌≡◌, ◌++◌, codes, replicate, [], ◌∷◌, Some, Ok, Err};
+ghost use Rattle.mgcp_text.specs.declared.message.Message.TheVariants as messages;
+ghost use Rattle.endpoint_names.specs.declared.name.Pattern.TheVariants as patterns;
+ghost use Rattle.mg_packages.specs.declared.signal.Signal.TheVariants.{DialTone, Ringing, MessageWaiting};
+ghost use Rattle.event_syntax.specs.declared.signals.Setting.TheVariants.{Start, Stop, Lasting};
+ghost use Rattle.command_forms.specs.Order.{form_in};
+ghost use Rattle.command_forms.specs.Example.{gateway, asked, command_on, request_on, audit_on, request, audit, refused, bare_request, request_for, request_with, taken, asks, audit_of};
+
+/// A request has an identifier as it was given, and may have signals and an entity. What follows the parameters is
+/// ignored.
+pub fn requests_are_read()
+    ensures identifier { request (codes "X: 1\r\n") ≡ taken }
+    ensures as_given { request (codes "X: 0a0F\r\n") ≡ bare_request (patterns.One 1) (codes "0a0F") }
+    ensures signals { request (codes "X: 1\r\nS: L/rg(to=5),vmwi(-),L/dl\r\n") ≡ request_for (asks Ringing (Lasting 5)
+        ∷ asks MessageWaiting Stop ∷ asks DialTone Start ∷ []) }
+    ensures no_signals { request (codes "X: 1\r\nS:\r\n") ≡ taken }
+    ensures entity { request (codes "X: 1\r\nN: CA@Ca.example.net\r\n") ≡ request_with (codes "CA@Ca.example.net") 2727 }
+    ensures port { request (codes "N: ca@[127.0.0.1]:2728\r\nX: 1\r\n") ≡ request_with (codes "ca@[127.0.0.1]:2728") 2728 }
+    ensures confirming { request (codes "K: 7-9, 12\r\nX: 1\r\n") ≡ taken }
+    ensures confirming_none { request (codes "X: 1\r\nK:\r\n") ≡ taken }
+    ensures description { request (codes "X: 1\r\n\r\nX+Y: 1\r\n") ≡ taken }
+    ensures lower_case { command_on (codes "rqnt") (codes "AALN/1") (codes "x: 1\r\nk: 1\r\ns:\r\n") ≡ taken }
+{}
+
+/// An audit has the items that F asks for, with commas between them as they were given; an empty F is no F.
+pub fn audits_are_read()
+    ensures bare { audit [] ≡ audit_of (patterns.One 1) [] }
+    ensures items { audit (codes "F: es , X\r\n") ≡ audit_of (patterns.One 1) (codes "es , X") }
+    ensures no_items { audit (codes "F:\r\n") ≡ audit_of (patterns.One 1) [] }
+    ensures confirming { audit (codes "K: 1\r\nf: ES\r\n") ≡ audit_of (patterns.One 1) (codes "ES") }
+    ensures last_line { audit_on (codes "aaln/16") [] ≡ audit_of (patterns.One 16) [] }
+{}
+
+/// The verbs without a row are 504, and so is a message that is no command.
+pub fn other_verbs_are_not_served()
+    ensures ntfy { command_on (codes "NTFY") (codes "aaln/1") (codes "X: 1\r\n") ≡ refused 504 }
+    ensures epcf { command_on (codes "EPCF") (codes "aaln/1") [] ≡ refused 504 }
+    ensures crcx { command_on (codes "CRCX") (codes "aaln/1") [] ≡ refused 504 }
+    ensures mdcx { command_on (codes "MDCX") (codes "aaln/1") [] ≡ refused 504 }
+    ensures dlcx { command_on (codes "DLCX") (codes "aaln/1") [] ≡ refused 504 }
+    ensures aucx { command_on (codes "AUCX") (codes "aaln/1") [] ≡ refused 504 }
+    ensures rsip { command_on (codes "RSIP") (codes "aaln/1") [] ≡ refused 504 }
+    ensures unknown { command_on (codes "PING") (codes "aaln/1") [] ≡ refused 504 }
+    ensures response { form_in (messages.Response 200 2001 [] []) gateway ≡ Err 504 }
+{}
+
+/// A name that no endpoint has is 500; a wildcard in another place is 503.
+pub fn names_are_of_endpoints()
+    ensures beyond { request_on (codes "aaln/17") (codes "X: 1\r\n") ≡ refused 500 }
+    ensures audit_beyond { audit_on (codes "aaln/17") [] ≡ refused 500 }
+    ensures no_wildcard { audit_on (codes "aaln/*x") [] ≡ refused 500 }
+    ensures other_domain { asked (codes "AUEP 2001 aaln/1@ca.example.net MGCP 1.0\r\n") ≡ refused 500 }
+    ensures complicated { request_on (codes "aaln/*/1") (codes "X: 1\r\n") ≡ refused 503 }
+    ensures audit_complicated { audit_on (codes "*/aaln") [] ≡ refused 503 }
+{}
+
+/// A request may be on all lines; an audit may where it asks for no items. Nothing may be on any one line.
+pub fn some_names_may_mean_all_lines()
+    ensures request_all { request_on (codes "*") (codes "X: A2\r\n") ≡ bare_request patterns.All (codes "A2") }
+    ensures request_after { request_on (codes "aaln/*") (codes "X: A2\r\n") ≡ bare_request patterns.All (codes "A2") }
+    ensures request_any { request_on (codes "$") (codes "X: A2\r\n") ≡ refused 503 }
+    ensures audit_all { audit_on (codes "*") [] ≡ audit_of patterns.All [] }
+    ensures audit_after { audit_on (codes "aaln/*") (codes "K: 1\r\n") ≡ audit_of patterns.All [] }
+    ensures empty_items { audit_on (codes "*") (codes "F:\r\n") ≡ audit_of patterns.All [] }
+    ensures audit_items { audit_on (codes "*") (codes "F: ES\r\n") ≡ refused 503 }
+    ensures lower_case { audit_on (codes "*") (codes "f: ES\r\n") ≡ refused 503 }
+    ensures comma { audit_on (codes "*") (codes "F: ,\r\n") ≡ refused 503 }
+    ensures audit_any { audit_on (codes "$") [] ≡ refused 503 }
+    // The first F counts here, and a second one is found later.
+    ensures first_empty { audit_on (codes "*") (codes "F:\r\nF: ES\r\n") ≡ refused 510 }
+    ensures first_full { audit_on (codes "*") (codes "F: ES\r\nF:\r\n") ≡ refused 503 }
+{}
+
+/// An extension `X+..` or with a `/` isn't understood, and `X-..` is ignored, both in either case.
+pub fn extensions_begin_with_x()
+    ensures critical { request (codes "X: 1\r\nX+Y: 1\r\n") ≡ refused 511 }
+    ensures critical_lower { request (codes "X: 1\r\nx+y: 1\r\n") ≡ refused 511 }
+    ensures critical_sign { request (codes "X: 1\r\nX+: 1\r\n") ≡ refused 511 }
+    ensures package { request (codes "X: 1\r\nL/S: 1\r\n") ≡ refused 511 }
+    ensures last_slash { request (codes "X: 1\r\nS/: 1\r\n") ≡ refused 511 }
+    ensures ignored { request (codes "X: 1\r\nX-Y: 1\r\n") ≡ taken }
+    ensures ignored_lower { request (codes "X: 1\r\nx-y: 1\r\n") ≡ taken }
+    ensures ignored_sign { request (codes "X: 1\r\nX-: 1\r\n") ≡ taken }
+    ensures ignored_twice { request (codes "X-Y: 1\r\nX: 1\r\nX-Y: 2\r\n") ≡ taken }
+    ensures ignored_with_slash { request (codes "X: 1\r\nX-a/b: 1\r\n") ≡ refused 511 }
+    ensures other_letter { request (codes "X: 1\r\nS-Y: 1\r\n") ≡ refused 539 }
+    ensures other_plus { request (codes "X: 1\r\nS+Y: 1\r\n") ≡ refused 539 }
+    ensures other_sign { request (codes "X: 1\r\nXY: 1\r\n") ≡ refused 539 }
+    // What is ignored stands for nothing.
+    ensures no_identifier { request (codes "X-: 1\r\n") ≡ refused 510 }
+{}
+
+/// A request must have X and may have N, S and K; an audit may have F and K.
+pub fn verbs_have_codes()
+    ensures missing { request [] ≡ refused 510 }
+    ensures missing_with_others { request (codes "S: L/rg\r\nK: 1\r\n") ≡ refused 510 }
+    ensures foreign { request (codes "X: 1\r\nM: x\r\n") ≡ refused 539 }
+    ensures items { request (codes "X: 1\r\nF: ES\r\n") ≡ refused 539 }
+    ensures longer { request (codes "X: 1\r\nSS: L/rg\r\n") ≡ refused 539 }
+    ensures audit_identifier { audit (codes "X: 1\r\n") ≡ refused 539 }
+    ensures audit_entity { audit (codes "N: ca@ca.example.net\r\n") ≡ refused 539 }
+    ensures audit_signals { audit (codes "S:\r\n") ≡ refused 539 }
+    ensures audit_foreign { audit (codes "M: x\r\n") ≡ refused 539 }
+{}
+
+/// A code may stand once, in whatever case.
+pub fn codes_stand_once()
+    ensures identifier { request (codes "X: 1\r\nX: 1\r\n") ≡ refused 510 }
+    ensures case { request (codes "X: 1\r\nx: 1\r\n") ≡ refused 510 }
+    ensures apart { request (codes "S:\r\nX: 1\r\ns:\r\n") ≡ refused 510 }
+    ensures entity { request (codes "X: 1\r\nN: ca@ca.example.net\r\nN: ca@ca.example.net\r\n") ≡ refused 510 }
+    ensures confirming { audit (codes "K: 1\r\nK: 2\r\n") ≡ refused 510 }
+    ensures items { audit (codes "F: ES\r\nF: ES\r\n") ≡ refused 510 }
+{}
+
+/// Each value has its own code, also where it is empty; an identifier is 1 to 32 hexadecimal digits.
+pub fn values_have_codes()
+    ensures confirming { request (codes "X: 1\r\nK: x\r\n") ≡ refused 510 }
+    ensures audit_confirming { audit (codes "K: x\r\n") ≡ refused 510 }
+    ensures entity { request (codes "X: 1\r\nN: ca@other.example.net\r\n") ≡ refused 539 }
+    ensures no_entity { request (codes "X: 1\r\nN:\r\n") ≡ refused 539 }
+    ensures no_identifier { request (codes "X:\r\n") ≡ refused 510 }
+    ensures no_digit { request (codes "X: 1g\r\n") ≡ refused 510 }
+    ensures digits_32 { let digits = replicate 32 70 in
+        request (codes "X: " ++ digits ++ codes "\r\n") ≡ bare_request (patterns.One 1) digits }
+    ensures digits_33 { request (codes "X: " ++ replicate 33 70 ++ codes "\r\n") ≡ refused 510 }
+    ensures spelling { request (codes "X: 1\r\nS: L/dl()\r\n") ≡ refused 510 }
+    ensures package { request (codes "X: 1\r\nS: Q/a\r\n") ≡ refused 518 }
+    ensures unknown { request (codes "X: 1\r\nS: L/wt\r\n") ≡ refused 513 }
+    ensures event { request (codes "X: 1\r\nS: L/hd\r\n") ≡ refused 522 }
+    ensures parameter { request (codes "X: 1\r\nS: L/dl(to=x)\r\n") ≡ refused 538 }
+    ensures nine { request (codes "X: 1\r\nS: dl,dl,dl,dl,dl,dl,dl,dl,dl\r\n") ≡ refused 502 }
+{}
+
+/// The verb comes first, then the name, then the parameters, then what is missing, then the values.
+pub fn a_command_is_checked_in_order()
+    ensures verb_before_name { command_on (codes "NTFY") (codes "aaln/17") [] ≡ refused 504 }
+    ensures verb_before_wildcard { command_on (codes "NTFY") (codes "$") [] ≡ refused 504 }
+    ensures verb_before_parameters { command_on (codes "NTFY") (codes "aaln/1") (codes "X+Y: 1\r\n") ≡ refused 504 }
+    ensures name_before_parameters { request_on (codes "aaln/17") (codes "X+Y: 1\r\n") ≡ refused 500 }
+    ensures complicated_before_parameters { request_on (codes "aaln/*/1") (codes "X+Y: 1\r\n") ≡ refused 503 }
+    ensures wildcard_before_parameters { request_on (codes "$") (codes "X+Y: 1\r\n") ≡ refused 503 }
+    ensures items_before_parameters { audit_on (codes "*") (codes "M: x\r\nF: ES\r\n") ≡ refused 503 }
+    ensures parameters_before_missing { request (codes "M: x\r\n") ≡ refused 539 }
+    ensures parameters_before_values { request (codes "X: g\r\nS: Q/a\r\nM: x\r\n") ≡ refused 539 }
+    ensures missing_before_entity { request (codes "N: x\r\n") ≡ refused 510 }
+    ensures missing_before_signals { request (codes "S: Q/a\r\n") ≡ refused 510 }
+{}
+
+/// The parameters are checked from top to bottom.
+pub fn the_first_faulty_line_counts()
+    ensures foreign_first { request (codes "M: x\r\nX+Y: 1\r\nX: 1\r\n") ≡ refused 539 }
+    ensures critical_first { request (codes "X+Y: 1\r\nM: x\r\nX: 1\r\n") ≡ refused 511 }
+    ensures second_first { request (codes "X: 1\r\nX: 1\r\nM: x\r\n") ≡ refused 510 }
+    ensures foreign_before_second { request (codes "X: 1\r\nM: x\r\nX: 1\r\n") ≡ refused 539 }
+{}
+
+/// The values are judged in the order K, N, X, S, wherever their lines stand.
+pub fn values_are_judged_in_order()
+    ensures k_before_n { request (codes "X: 1\r\nN: x\r\nK: x\r\n") ≡ refused 510 }
+    ensures k_above_n { request (codes "K: x\r\nN: x\r\nX: 1\r\n") ≡ refused 510 }
+    ensures k_before_s { request (codes "S: Q/a\r\nX: 1\r\nK: x\r\n") ≡ refused 510 }
+    ensures n_before_x { request (codes "X: g\r\nN: x\r\n") ≡ refused 539 }
+    ensures n_above_x { request (codes "N: x\r\nX: g\r\n") ≡ refused 539 }
+    ensures n_before_s { request (codes "S: Q/a\r\nX: 1\r\nN: x\r\n") ≡ refused 539 }
+    ensures x_before_s { request (codes "S: Q/a\r\nX: g\r\n") ≡ refused 510 }
+    ensures x_above_s { request (codes "X: g\r\nS: Q/a\r\n") ≡ refused 510 }
+{}

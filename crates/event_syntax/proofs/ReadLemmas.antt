@@ -1,0 +1,138 @@
+-- What is read of S can be written, and its faults are return codes.
+use Rattle.std.proofs.Common.{◌≡◌, ℕ, ◌≤◌, Bool, true, false, leb, List, [], ◌∷◌, length, refl, sym, ap, lit≤, ⊎_elim, subst, Option, Some, None, suc}
+use Rattle.std.specs.Prelude.{Result, Ok, Err, option_map}
+use Rattle.std.specs.Option.{ok_or}
+use Rattle.std.specs.List.{list_all}
+use Rattle.std.proofs.lemmas.Bool.{cases_Bool}
+use Rattle.mg_bytes.specs.Bytes.{slash, at_sign}
+use Rattle.mg_bytes.specs.Words.{split_once}
+use Rattle.mg_packages.specs.declared.package.Package.{Package}
+use Rattle.mg_packages.specs.declared.package.Package.TheVariants.{Line, Generic, Dtmf}
+use Rattle.mg_packages.specs.declared.event.Event.{Event}
+use Rattle.mg_packages.specs.declared.signal.Kind.{Kind}
+use Rattle.mg_packages.specs.declared.signal.Signal.{Signal}
+use Rattle.mg_packages.specs.Looking.{in_package, in_package_from, package_named, no_signal, signal_in, signal_named, event_named, kind_of}
+use Rattle.event_syntax.specs.declared.signals.Setting.{Setting}
+use Rattle.event_syntax.specs.declared.signals.SignalRequest.{SignalRequest}
+use Rattle.event_syntax.specs.Cuts.{Form, form_of, items, entries}
+use Rattle.event_syntax.specs.Faults.{each, each_up_to, ◌>>=◌}
+use Rattle.event_syntax.specs.Spelling.{are_signals}
+use Rattle.event_syntax.specs.Signals.{most_signals, takes, asked_by, taken_by, setting_from, setting_of, signal_from, signal_at, signal_called, signal_entry_from, signal_entry, signals_in, signals_of, is_writable_signal, are_writable_signals}
+
+-- a value that passes, or a return code
+abbrev pub Passes : {A : Type 0} → (A → Type 0) → Result A ℕ → Type 0
+Passes P (Ok x) = P x
+Passes P (Err code) = code ≤ 999
+
+passes_on : {A B : Type 0} (P : A → Type 0) (Q : B → Type 0) (read : Result A ℕ) (next : A → Result B ℕ)
+    → Passes P read → ((x : A) → P x → Passes Q (next x)) → Passes Q (read >>= next)
+passes_on P Q (Ok x) next here on = on x here
+passes_on P Q (Err code) next here on = here
+
+passes_more : {A : Type 0} (P Q : A → Type 0) (read : Result A ℕ) → Passes P read → ((x : A) → P x → Q x) → Passes Q read
+passes_more P Q (Ok x) here more = more x here
+passes_more P Q (Err code) here more = here
+
+passes_each : {A : Type 0} (test : A → Bool) (read : List ℕ → Result A ℕ) (texts : List (List ℕ))
+    → ((text : List ℕ) → Passes (λ x. test x ≡ true) (read text))
+    → Passes (λ xs. (list_all test xs ≡ true) × (length xs ≡ length texts)) (each read texts)
+unfolding each
+passes_each test read [] one = (refl, refl)
+passes_each test read (text ∷ texts) one =
+    passes_on (λ x. test x ≡ true) _ (read text) _ (one text)
+    (λ x here. passes_on (λ xs. (list_all test xs ≡ true) × (length xs ≡ length texts)) _ (each read texts) _ (passes_each test read texts one)
+    (λ xs rest. (rw here (rest.0), ap suc (rest.1))))
+
+-- the signal
+found_passes : (found : Option Signal) (within : Package) (event : Option Event)
+    → Passes (λ signal. Unit {0}) (ok_or found (no_signal within event))
+found_passes (Some signal) within event = tt
+found_passes None Line None = lit≤ tt
+found_passes None Line (Some event) = lit≤ tt
+found_passes None Generic None = lit≤ tt
+found_passes None Generic (Some event) = lit≤ tt
+found_passes None Dtmf event = lit≤ tt
+
+at_passes : (place : Package × List ℕ) (sides : Option (List ℕ × List ℕ)) → Passes (λ signal. Unit {0}) (signal_from place sides)
+unfolding signal_in
+at_passes place None = found_passes (signal_named place.0 place.1) place.0 (event_named place.0 place.1)
+at_passes place (Some sides) = lit≤ tt
+
+package_passes : (name : List ℕ) (found : Option Package)
+    → Passes {A = Package × List ℕ} (λ place. Unit {0}) (ok_or (option_map (λ within. (within, name)) found) 518)
+package_passes name (Some within) = tt
+package_passes name None = lit≤ tt
+
+place_passes : (text : List ℕ) (sides : Option (List ℕ × List ℕ)) → Passes (λ place. Unit {0}) (in_package_from text sides)
+place_passes text None = tt
+place_passes text (Some sides) = package_passes sides.1 (package_named sides.0)
+
+called_passes : (text : List ℕ) → Passes (λ signal. Unit {0}) (signal_called text)
+unfolding signal_called in_package
+called_passes text =
+    passes_on (λ place. Unit {0}) _ (in_package text) signal_at (place_passes text (split_once slash text))
+    (λ place here. at_passes place (split_once at_sign place.1))
+
+-- what is asked of it
+taken_passes : (kind : Kind) (asked : Option Setting) → Passes (λ setting. takes kind setting ≡ true) (taken_by kind asked)
+taken_passes kind None = lit≤ tt
+taken_passes kind (Some setting) =
+    ⊎_elim
+    (λ (h : takes kind setting ≡ true). rw h h)
+    (λ (h : takes kind setting ≡ false). rw h (lit≤ tt))
+    (cases_Bool (takes kind setting))
+
+from_passes : (kind : Kind) (parameters : List (List ℕ)) → Passes (λ setting. takes kind setting ≡ true) (setting_from kind parameters)
+from_passes kind [] = lit≤ tt
+from_passes kind (parameter ∷ []) = taken_passes kind (asked_by parameter)
+from_passes kind (parameter ∷ next ∷ rest) = lit≤ tt
+
+setting_passes : (kind : Kind) (inside : List (List ℕ)) → Passes (λ setting. takes kind setting ≡ true) (setting_of kind inside)
+unfolding setting_of
+setting_passes kind [] = refl
+setting_passes kind (parameters ∷ rest) = from_passes kind (items parameters)
+
+-- entries
+form_passes : (form : Option Form) → Passes (λ request. is_writable_signal request ≡ true) (signal_entry_from form)
+form_passes None = lit≤ tt
+form_passes (Some form) =
+    passes_on (λ signal. Unit {0}) _ (signal_called form.head) _ (called_passes form.head)
+    (λ signal here. passes_on (λ setting. takes (kind_of signal) setting ≡ true) _ (setting_of (kind_of signal) form.inside) _
+    (setting_passes (kind_of signal) form.inside) (λ setting ok. ok))
+
+entry_passes : (entry : List ℕ) → Passes (λ request. is_writable_signal request ≡ true) (signal_entry entry)
+unfolding signal_entry
+entry_passes entry = form_passes (form_of entry)
+
+-- the value
+up_to_passes : (texts : List (List ℕ)) → Passes (λ requests. are_writable_signals requests ≡ true) (each_up_to most_signals signal_entry texts)
+unfolding are_writable_signals
+up_to_passes texts =
+    ⊎_elim
+    (λ (h : leb (length texts) 8 ≡ true). rw h (passes_more _ _ (each signal_entry texts) (passes_each is_writable_signal signal_entry texts entry_passes)
+    (λ requests read. rw (read.1, h) read.0)))
+    (λ (h : leb (length texts) 8 ≡ false). rw h (lit≤ tt))
+    (cases_Bool (leb (length texts) 8))
+
+signals_pass : (value : List ℕ) → Passes (λ requests. are_writable_signals requests ≡ true) (signals_of value)
+unfolding signals_of signals_in
+signals_pass value =
+    ⊎_elim
+    (λ (h : are_signals value ≡ true). rw h (up_to_passes (entries value)))
+    (λ (h : are_signals value ≡ false). rw h (lit≤ tt))
+    (cases_Bool (are_signals value))
+
+along : {A : Type 0} (P : A → Type 0) (read said : Result A ℕ) → read ≡ said → Passes P read → Passes P said
+along {A = A} P read said e = let Q : Result A ℕ → Type 0 = Passes P in subst Q e
+
+-- of a value that is spelled
+pub spelled : (value : List ℕ) (read : Result (List SignalRequest) ℕ) → true ≡ are_signals value → read ≡ signals_in value → signals_of value ≡ read
+unfolding signals_of
+spelled value read good in_order = rw (sym good) (sym in_order)
+
+-- what is read can be written, and a fault is a return code
+pub read_is_writable : (value : List ℕ) (requests : List SignalRequest) → signals_of value ≡ Ok requests → are_writable_signals requests ≡ true
+read_is_writable value requests read = along _ _ (Ok requests) read (signals_pass value)
+
+pub fault_is_code : (value : List ℕ) (code : ℕ) → signals_of value ≡ Err code → code ≤ 999
+fault_is_code value code read = along (λ requests. are_writable_signals requests ≡ true) _ (Err code) read (signals_pass value)

@@ -1,0 +1,16 @@
+use Rattle.std.proofs.Common.{sym, ◌∙◌}
+use Rattle.gateway_core.proofs.WorkLemmas.{pass_next, pass_end, room_less, count_same}
+use Rattle.gateway_core.proofs.falling.pass.Goals as goal
+
+pub loop-item-smaller : goal.loop-item-smaller
+loop-item-smaller c = room_less _ _ _ _ _ (sym c.in-Some.ensures) c.in_ok-happen.ensures.ok
+
+pub loop-item-preserved : goal.loop-item-preserved
+loop-item-preserved c = record {
+  completes = λ is rest. c.loop-item.invariant.completes is (pass_next _ _ _ _ _ is (sym c.in-Some.ensures) c.in_ok-happen.ensures.ok rest);
+  count = count_same _ _ _ _ c.in_ok-happen.ensures.ok ∙ c.loop-item.invariant.count;
+  before = c.in_ok-happen.ensures.before ∙ c.loop-item.invariant.before;
+}
+
+pub returns-clause-ok : goal.returns-clause-ok
+returns-clause-ok c = c.loop-item.invariant.completes c.loop-item.state (pass_end _ _ _ (sym c.in_default.ensures))

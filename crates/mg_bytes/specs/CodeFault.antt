@@ -1,0 +1,15 @@
+-- What a call answers where a definition says a value, or the return code of a fault (RFC 3435, 2.4).
+use Rattle.std.specs.Prelude.{◌≡◌, ◌≤◌, ⊤, ℕ, Result, Ok, Err}
+use Rattle.mg_bytes.specs.declared.code_fault.CodeFault.{CodeFault}
+use Rattle.mg_bytes.specs.declared.code_fault.CodeFault.TheVariants.{OutOfMemory, Code}
+
+-- the value or the code is what the definition says, unless memory was refused
+abbrev pub AnswersAs : {A : Type 0} → Result A ℕ → Result A CodeFault → Type 0
+AnswersAs said (Ok value) = said ≡ Ok value
+AnswersAs said (Err (Code code)) = (said ≡ Err code) × (code ≤ 999)
+AnswersAs said (Err OutOfMemory) = ⊤
+
+-- what a call answers that takes no memory
+abbrev pub answer_of : {A : Type 0} → Result A ℕ → Result A CodeFault
+answer_of (Ok value) = Ok value
+answer_of (Err code) = Err (Code code)

@@ -1,0 +1,8 @@
+//! The hook of a telephone.
+
+/// Whether the handset lies on its hook.
+#[derive(Clone, Copy, Debug, PartialEq, Eq)]
+pub enum Hook {
+    OnHook,
+    OffHook,
+}
