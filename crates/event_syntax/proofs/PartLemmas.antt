@@ -16,7 +16,7 @@ some_onto : (b : ℕ) (ps : List (List ℕ)) → 0 < length (onto_first b ps)
 some_onto b [] = omega arith
 some_onto b (p ∷ ps) = omega arith
 
-some_pieces : (depth : ℕ) (text : List ℕ) → 0 < length (pieces Commas depth text)
+pub some_pieces : (depth : ℕ) (text : List ℕ) → 0 < length (pieces Commas depth text)
 unfolding pieces
 some_pieces depth [] = omega arith
 some_pieces depth (b ∷ bs) =

@@ -1,9 +1,10 @@
 -- What is read of S can be written, and its faults are return codes.
-use Rattle.std.proofs.Common.{◌≡◌, ℕ, ◌≤◌, Bool, true, false, leb, List, [], ◌∷◌, length, refl, sym, ap, lit≤, ⊎_elim, subst, Option, Some, None, suc}
+use Rattle.std.proofs.Common.{◌≡◌, ℕ, ◌≤◌, Bool, true, false, cond, ◌&&◌, leb, List, [], ◌∷◌, length, refl, sym, ap, lit≤, ⊎_elim, subst, Option, Some, None, suc}
 use Rattle.std.specs.Prelude.{Result, Ok, Err, option_map}
 use Rattle.std.specs.Option.{ok_or}
 use Rattle.std.specs.List.{list_all}
 use Rattle.std.proofs.lemmas.Bool.{cases_Bool}
+use Rattle.mg_bytes.proofs.DigitLemmas.{both_true}
 use Rattle.mg_bytes.specs.Bytes.{slash, at_sign}
 use Rattle.mg_bytes.specs.Words.{split_once}
 use Rattle.mg_packages.specs.declared.package.Package.{Package}
@@ -16,7 +17,7 @@ use Rattle.event_syntax.specs.declared.signals.Setting.{Setting}
 use Rattle.event_syntax.specs.declared.signals.SignalRequest.{SignalRequest}
 use Rattle.event_syntax.specs.Cuts.{Form, form_of, items, entries}
 use Rattle.event_syntax.specs.Faults.{each, each_up_to, ◌>>=◌}
-use Rattle.event_syntax.specs.Spelling.{are_signals}
+use Rattle.event_syntax.specs.Spelling.{is_signal_entry, are_signals}
 use Rattle.event_syntax.specs.Signals.{most_signals, takes, asked_by, taken_by, setting_from, setting_of, signal_from, signal_at, signal_called, signal_entry_from, signal_entry, signals_in, signals_of, is_writable_signal, are_writable_signals}
 
 -- a value that passes, or a return code
@@ -24,24 +25,54 @@ abbrev pub Passes : {A : Type 0} → (A → Type 0) → Result A ℕ → Type 0
 Passes P (Ok x) = P x
 Passes P (Err code) = code ≤ 999
 
-passes_on : {A B : Type 0} (P : A → Type 0) (Q : B → Type 0) (read : Result A ℕ) (next : A → Result B ℕ)
+pub passes_on : {A B : Type 0} (P : A → Type 0) (Q : B → Type 0) (read : Result A ℕ) (next : A → Result B ℕ)
     → Passes P read → ((x : A) → P x → Passes Q (next x)) → Passes Q (read >>= next)
 passes_on P Q (Ok x) next here on = on x here
 passes_on P Q (Err code) next here on = here
 
-passes_more : {A : Type 0} (P Q : A → Type 0) (read : Result A ℕ) → Passes P read → ((x : A) → P x → Q x) → Passes Q read
+pub passes_more : {A : Type 0} (P Q : A → Type 0) (read : Result A ℕ) → Passes P read → ((x : A) → P x → Q x) → Passes Q read
 passes_more P Q (Ok x) here more = more x here
 passes_more P Q (Err code) here more = here
 
-passes_each : {A : Type 0} (test : A → Bool) (read : List ℕ → Result A ℕ) (texts : List (List ℕ))
-    → ((text : List ℕ) → Passes (λ x. test x ≡ true) (read text))
+-- entries that are spelled
+pub passes_each_spelled : {A : Type 0} (test : A → Bool) (spelled : List ℕ → Bool) (read : List ℕ → Result A ℕ) (texts : List (List ℕ))
+    → ((text : List ℕ) → spelled text ≡ true → Passes (λ x. test x ≡ true) (read text)) → list_all spelled texts ≡ true
     → Passes (λ xs. (list_all test xs ≡ true) × (length xs ≡ length texts)) (each read texts)
 unfolding each
-passes_each test read [] one = (refl, refl)
-passes_each test read (text ∷ texts) one =
-    passes_on (λ x. test x ≡ true) _ (read text) _ (one text)
-    (λ x here. passes_on (λ xs. (list_all test xs ≡ true) × (length xs ≡ length texts)) _ (each read texts) _ (passes_each test read texts one)
+passes_each_spelled test spelled read [] one all = (refl, refl)
+passes_each_spelled test spelled read (text ∷ texts) one all =
+    let parts : (spelled text ≡ true) × (list_all spelled texts ≡ true) = both_true _ _ all in
+    passes_on (λ x. test x ≡ true) _ (read text) _ (one text parts.0)
+    (λ x here. passes_on (λ xs. (list_all test xs ≡ true) × (length xs ≡ length texts)) _ (each read texts) _ (passes_each_spelled test spelled read texts one parts.1)
     (λ xs rest. (rw here (rest.0), ap suc (rest.1))))
+
+all_texts : (texts : List (List ℕ)) → list_all (λ text. true) texts ≡ true
+all_texts [] = refl
+all_texts (text ∷ texts) = all_texts texts
+
+pub passes_each : {A : Type 0} (test : A → Bool) (read : List ℕ → Result A ℕ) (texts : List (List ℕ))
+    → ((text : List ℕ) → Passes (λ x. test x ≡ true) (read text))
+    → Passes (λ xs. (list_all test xs ≡ true) × (length xs ≡ length texts)) (each read texts)
+passes_each test read texts one = passes_each_spelled test (λ text. true) read texts (λ text so. one text) (all_texts texts)
+
+-- at most so many of them, in a value that is spelled
+pub passes_up_to : {A : Type 0} (test : A → Bool) (most : ℕ) (spelled : List ℕ → Bool) (read : List ℕ → Result A ℕ) (texts : List (List ℕ))
+    → ((text : List ℕ) → spelled text ≡ true → Passes (λ x. test x ≡ true) (read text)) → list_all spelled texts ≡ true
+    → Passes (λ xs. (leb (length xs) most && list_all test xs) ≡ true) (each_up_to most read texts)
+passes_up_to test most spelled read texts one all =
+    ⊎_elim
+    (λ (few : leb (length texts) most ≡ true). rw few (passes_more _ _ (each read texts) (passes_each_spelled test spelled read texts one all)
+    (λ xs passed. rw (passed.1, few) (passed.0))))
+    (λ (many : leb (length texts) most ≡ false). rw many (lit≤ tt))
+    (cases_Bool (leb (length texts) most))
+
+pub passes_if : {A : Type 0} (P : A → Type 0) (spelled : Bool) (read : Result A ℕ) → (spelled ≡ true → Passes P read)
+    → Passes P (cond spelled read (Err 510))
+passes_if P true read so = so refl
+passes_if P false read so = lit≤ tt
+
+pub along : {A : Type 0} (P : A → Type 0) (read said : Result A ℕ) → read ≡ said → Passes P read → Passes P said
+along {A = A} P read said e = let Q : Result A ℕ → Type 0 = Passes P in subst Q e
 
 -- the signal
 found_passes : (found : Option Signal) (within : Package) (event : Option Event)
@@ -67,7 +98,7 @@ place_passes : (text : List ℕ) (sides : Option (List ℕ × List ℕ)) → Pas
 place_passes text None = tt
 place_passes text (Some sides) = package_passes sides.1 (package_named sides.0)
 
-called_passes : (text : List ℕ) → Passes (λ signal. Unit {0}) (signal_called text)
+pub called_passes : (text : List ℕ) → Passes (λ signal. Unit {0}) (signal_called text)
 unfolding signal_called in_package
 called_passes text =
     passes_on (λ place. Unit {0}) _ (in_package text) signal_at (place_passes text (split_once slash text))
@@ -100,30 +131,15 @@ form_passes (Some form) =
     (λ signal here. passes_on (λ setting. takes (kind_of signal) setting ≡ true) _ (setting_of (kind_of signal) form.inside) _
     (setting_passes (kind_of signal) form.inside) (λ setting ok. ok))
 
-entry_passes : (entry : List ℕ) → Passes (λ request. is_writable_signal request ≡ true) (signal_entry entry)
+pub entry_passes : (entry : List ℕ) → Passes (λ request. is_writable_signal request ≡ true) (signal_entry entry)
 unfolding signal_entry
 entry_passes entry = form_passes (form_of entry)
 
 -- the value
-up_to_passes : (texts : List (List ℕ)) → Passes (λ requests. are_writable_signals requests ≡ true) (each_up_to most_signals signal_entry texts)
-unfolding are_writable_signals
-up_to_passes texts =
-    ⊎_elim
-    (λ (h : leb (length texts) 8 ≡ true). rw h (passes_more _ _ (each signal_entry texts) (passes_each is_writable_signal signal_entry texts entry_passes)
-    (λ requests read. rw (read.1, h) read.0)))
-    (λ (h : leb (length texts) 8 ≡ false). rw h (lit≤ tt))
-    (cases_Bool (leb (length texts) 8))
-
 signals_pass : (value : List ℕ) → Passes (λ requests. are_writable_signals requests ≡ true) (signals_of value)
-unfolding signals_of signals_in
+unfolding signals_of signals_in are_signals are_writable_signals
 signals_pass value =
-    ⊎_elim
-    (λ (h : are_signals value ≡ true). rw h (up_to_passes (entries value)))
-    (λ (h : are_signals value ≡ false). rw h (lit≤ tt))
-    (cases_Bool (are_signals value))
-
-along : {A : Type 0} (P : A → Type 0) (read said : Result A ℕ) → read ≡ said → Passes P read → Passes P said
-along {A = A} P read said e = let Q : Result A ℕ → Type 0 = Passes P in subst Q e
+    passes_if _ (are_signals value) _ (passes_up_to is_writable_signal most_signals is_signal_entry signal_entry (entries value) (λ entry so. entry_passes entry))
 
 -- of a value that is spelled
 pub spelled : (value : List ℕ) (read : Result (List SignalRequest) ℕ) → true ≡ are_signals value → read ≡ signals_in value → signals_of value ≡ read

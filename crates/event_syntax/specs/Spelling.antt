@@ -1,10 +1,12 @@
--- How values are spelled (RFC 3435, 2.3.3 and appendix A), as far as S goes.
-use Rattle.std.specs.Prelude.{ℕ, nat_le, Bool, false, ◌&&◌, ◌||◌, not, ◌==◌, List, [], ◌∷◌, length, Option, Some, None}
+-- How the values of S and T are spelled (RFC 3435, 2.3.3 and appendix A).
+use Rattle.std.specs.Prelude.{ℕ, nat_le, Bool, false, ◌&&◌, ◌||◌, not, ◌==◌, List, [], ◌∷◌, length, codes, Option, Some, None}
 use Rattle.std.specs.List.{list_all}
 use Rattle.mg_bytes.specs.Bytes.{comma, slash, at_sign, left_bracket, right_bracket}
 use Rattle.mg_bytes.specs.Blanks.{is_blank}
+use Rattle.mg_bytes.specs.Case.{same_but_case}
 use Rattle.mg_bytes.specs.Words.{split_once}
 use Rattle.event_syntax.specs.Cuts.{Form, left_parenthesis, right_parenthesis, form_of, items, entries}
+use Rattle.event_syntax.specs.Ranges.{is_bracketed}
 
 abbrev pub is_parenthesis : ℕ → Bool
 is_parenthesis b = b == left_parenthesis || b == right_parenthesis
@@ -47,15 +49,15 @@ is_parameter text = nat_le 1 (length text) && list_all is_parameter_byte text
 unfoldable pub are_parameters : List ℕ → Bool
 are_parameters text = list_all is_parameter (items text)
 
--- such a head, and optionally parameters in one pair of parentheses
-abbrev pub with_parameters : (List ℕ → Bool) → List (List ℕ) → List ℕ → Bool
-with_parameters is_head [] head = is_head head
-with_parameters is_head (parameters ∷ []) head = is_head head && are_parameters parameters
-with_parameters is_head (first ∷ second ∷ rest) head = false
+-- a head that is spelled, and optionally parameters in one pair of parentheses
+abbrev pub with_parameters : Bool → List (List ℕ) → Bool
+with_parameters spelled [] = spelled
+with_parameters spelled (parameters ∷ []) = spelled && are_parameters parameters
+with_parameters spelled (first ∷ second ∷ rest) = false
 
 abbrev pub is_signal_entry_from : Option Form → Bool
 is_signal_entry_from None = false
-is_signal_entry_from (Some form) = with_parameters is_signal form.inside form.head
+is_signal_entry_from (Some form) = with_parameters (is_signal form.head) form.inside
 
 -- an entry of S
 unfoldable pub is_signal_entry : List ℕ → Bool
@@ -64,3 +66,24 @@ is_signal_entry entry = is_signal_entry_from (form_of entry)
 -- the value of S
 unfoldable pub are_signals : List ℕ → Bool
 are_signals value = list_all is_signal_entry (entries value)
+
+abbrev pub is_event_from : List ℕ → Option (List ℕ × List ℕ) → Bool
+is_event_from text None = is_name text
+is_event_from text (Some sides) =
+    is_word sides.0 && (is_name sides.1 || (same_but_case sides.0 (codes "D") && is_bracketed sides.1))
+
+-- `[package/]name`, or `D/` and a range
+unfoldable pub is_event : List ℕ → Bool
+is_event text = is_event_from text (split_once slash text)
+
+abbrev pub is_detected_from : Option Form → Bool
+is_detected_from None = false
+is_detected_from (Some form) = with_parameters (is_event form.head) form.inside
+
+-- an entry of T
+unfoldable pub is_detected : List ℕ → Bool
+is_detected entry = is_detected_from (form_of entry)
+
+-- the value of T
+unfoldable pub are_detected : List ℕ → Bool
+are_detected value = list_all is_detected (entries value)

@@ -1,11 +1,17 @@
 //! Laws of the values. Each function has an empty body: its clauses are the theorems.
 ghost use Rattle.std.specs.Prelude.{◌≡◌, ◌<◌, ◌≤◌, ℕ, List, ◌∷◌, ◌++◌, length, map, Ok, Err, is_ok, true, false};
 ghost use Rattle.std.specs.List.{list_all};
+ghost use Rattle.event_syntax.specs.declared.events.Events.{Events};
+ghost use Rattle.event_syntax.specs.declared.handling.Handling.{Handling};
+ghost use Rattle.event_syntax.specs.declared.observed.Observed.{Observed};
 ghost use Rattle.event_syntax.specs.declared.signals.SignalRequest.{SignalRequest};
 ghost use Rattle.event_syntax.specs.declared.cut.Cut.TheVariants.{Commas};
 ghost use Rattle.event_syntax.specs.Cuts.{pieces, entries, IsPartedByCommas};
 ghost use Rattle.event_syntax.specs.Spelling.{are_signals};
 ghost use Rattle.event_syntax.specs.Signals.{most_signals, signal_entry, signals_of, signals_text, are_writable_signals};
+ghost use Rattle.event_syntax.specs.Detect.{detected_of, detected_text, are_writable_events};
+ghost use Rattle.event_syntax.specs.Handling.{handling_of, handling_text};
+ghost use Rattle.event_syntax.specs.Observed.{observed_of, observed_text, are_writable_observed};
 
 /// A text is cut at the commas that stand outside of all parentheses, and nowhere else.
 pub fn outer_commas_part_a_text()
@@ -32,4 +38,21 @@ pub fn the_first_fault_counts()
 pub fn signals_are_read_again()
     ensures { (requests : List SignalRequest) → are_writable_signals requests ≡ true
         → signals_of (signals_text requests) ≡ Ok requests }
+{}
+
+/// What is written of events is read again as the same: at most 32, each a set of letters that isn't empty, all events of
+/// L, or one event of L or G.
+pub fn events_are_read_again()
+    ensures { (list : List Events) → are_writable_events list ≡ true → detected_of (detected_text list) ≡ Ok list }
+{}
+
+/// What is written of a handling is read again as the same.
+pub fn handling_is_read_again()
+    ensures { (handling : Handling) → handling_of (handling_text handling) ≡ Ok handling }
+{}
+
+/// What is written of observed events is read again as the same, where each end is that of a time-out signal, and told
+/// with its signal.
+pub fn observed_events_are_read_again()
+    ensures { (list : List Observed) → are_writable_observed list ≡ true → observed_of (observed_text list) ≡ Ok list }
 {}

@@ -189,7 +189,7 @@ fn setting_of(kind: Kind, inside: Inside<'_>) -> Result<Setting, u16>
 }
 
 #[tactic(auto, unfolding(crate::specs::Signals::signal_called))]
-fn signal_called(text: &[u8]) -> Result<Signal, u16>
+pub(crate) fn signal_called(text: &[u8]) -> Result<Signal, u16>
     ensures { result ≡ signal_called text.now }
 {
     let (within, name) = in_package(text)?;
@@ -224,7 +224,7 @@ fn each_signal(value: &[u8]) -> Result<SignalRequests, u16>
 
 // The entries of a value that is spelled.
 #[tactic(auto, unfolding(crate::specs::Signals::signals_in))]
-fn signals_in(value: &[u8]) -> Result<SignalRequests, u16>
+pub(crate) fn signals_in(value: &[u8]) -> Result<SignalRequests, u16>
     ensures { result ≡ signals_in value.now }
 {
     if !has_at_most(value, MOST_SIGNALS) {

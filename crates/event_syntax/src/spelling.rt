@@ -1,13 +1,15 @@
 //! How values are spelled. Each test goes through its text once.
 ghost use Rattle.std.specs.Prelude.{◌≡◌, nat_le, length};
 ghost use Rattle.std.specs.List.{list_all};
-ghost use Rattle.event_syntax.specs.Cuts.{items, entries};
+ghost use Rattle.event_syntax.specs.Cuts.{items, entries, inside_seen};
 ghost use Rattle.event_syntax.specs.Spelling.{is_name_byte, is_word, is_name, is_signal, is_parameter_byte, is_parameter};
-ghost use Rattle.event_syntax.specs.Spelling.{are_parameters, is_signal_entry, are_signals};
+ghost use Rattle.event_syntax.specs.Spelling.{are_parameters, with_parameters, is_signal_entry, are_signals};
+ghost use Rattle.event_syntax.specs.Spelling.{is_event, is_detected, are_detected};
 
 use crate::cut::{entries, items};
 use crate::form::{Inside, form_of};
-use mg_bytes::split_once;
+use crate::range::is_bracketed;
+use mg_bytes::{same_no_case, split_once};
 
 fn is_name_byte(byte: u8) -> bool
     ensures { result ≡ is_name_byte byte }
@@ -29,7 +31,7 @@ fn all_name_bytes(text: &[u8]) -> bool
     text.iter().all(|byte| is_name_byte(*byte))
 }
 
-fn is_word(text: &[u8]) -> bool
+pub(crate) fn is_word(text: &[u8]) -> bool
     ensures { result ≡ is_word text.now }
 {
     text.len() >= 1 && all_name_bytes(text)
@@ -74,7 +76,7 @@ fn is_parameter(text: &[u8]) -> bool
 }
 
 #[tactic(auto, unfolding(crate::specs::Spelling::are_parameters))]
-fn are_parameters(text: &[u8]) -> bool
+pub(crate) fn are_parameters(text: &[u8]) -> bool
     ensures { result ≡ are_parameters text.now }
 {
     for item in items(text) {
@@ -85,16 +87,23 @@ fn are_parameters(text: &[u8]) -> bool
     true
 }
 
+// A head that is spelled, and optionally parameters in one pair of parentheses.
+fn with_parameters(spelled: bool, inside: Inside<'_>) -> bool
+    ensures { result ≡ with_parameters spelled (inside_seen inside.entry) }
+{
+    match inside {
+        Inside::Nothing => spelled,
+        Inside::Single(parameters) => spelled && are_parameters(parameters),
+        Inside::Double(_, _) => false,
+    }
+}
+
 #[tactic(auto, unfolding(crate::specs::Spelling::is_signal_entry))]
 fn is_signal_entry(entry: &[u8]) -> bool
     ensures { result ≡ is_signal_entry entry.now }
 {
     match form_of(entry) {
-        Some(form) => match form.inside {
-            Inside::Nothing => is_signal(form.head),
-            Inside::Single(parameters) => is_signal(form.head) && are_parameters(parameters),
-            Inside::Double(_, _) => false,
-        },
+        Some(form) => with_parameters(is_signal(form.head), form.inside),
         None => false,
     }
 }
@@ -107,6 +116,43 @@ pub(crate) fn are_signals(value: &[u8]) -> bool
 {
     for entry in entries(value) {
         if !is_signal_entry(entry) {
+            return false;
+        }
+    }
+    true
+}
+
+#[tactic(auto, unfolding(crate::specs::Spelling::is_event))]
+pub(crate) fn is_event(text: &[u8]) -> bool
+    ensures { result ≡ is_event text.now }
+{
+    match split_once(text, b'/') {
+        Some((package_name, name)) => {
+            is_word(package_name)
+                && (is_name(name) || (same_no_case(package_name, b"D") && is_bracketed(name)))
+        }
+        None => is_name(text),
+    }
+}
+
+#[tactic(auto, unfolding(crate::specs::Spelling::is_detected))]
+fn is_detected(entry: &[u8]) -> bool
+    ensures { result ≡ is_detected entry.now }
+{
+    match form_of(entry) {
+        Some(form) => with_parameters(is_event(form.head), form.inside),
+        None => false,
+    }
+}
+
+/// Whether a value of T is spelled: entries `[package/]name[@connection]`, or `D/` and a range, each with parameters in
+/// one pair of parentheses or without.
+#[tactic(auto, unfolding(crate::specs::Spelling::are_detected))]
+pub(crate) fn are_detected(value: &[u8]) -> bool
+    ensures { result ≡ are_detected value.now }
+{
+    for entry in entries(value) {
+        if !is_detected(entry) {
             return false;
         }
     }

@@ -83,3 +83,14 @@ pub fn letter_of(byte: u8) -> Option<Letter>
         _ => None,
     }
 }
+// What stands in a place that has no letter yet.
+impl Default for Letter {
+    ghost use Rattle.std.specs.Prelude.{◌≡◌};
+    ghost use Rattle.mg_bytes.specs.declared.letter.Letter.TheVariants.{Zero};
+
+    ghost is_default = { λ letter. letter ≡ Zero };
+
+    fn default() -> Self {
+        Letter::Zero
+    }
+}

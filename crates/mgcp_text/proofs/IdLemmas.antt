@@ -1,5 +1,5 @@
--- Transaction ids.
-use Rattle.std.proofs.Common.{◌≡◌, ℕ, ◌<◌, ◌≤◌, ◌^◌, ◌==◌, Bool, true, false, if◌then◌else◌, List, [], ◌∷◌, length, Option, Some, None, refl, ap, arith, rules}
+-- Transaction ids and return codes of what is read.
+use Rattle.std.proofs.Common.{◌≡◌, ℕ, ◌<◌, ◌≤◌, ◌^◌, ◌==◌, Bool, true, false, if◌then◌else◌, List, [], ◌∷◌, length, Option, Some, None, refl, ap, ◌∙◌, arith, rules}
 use Rattle.std.specs.Prelude.{IfSome, nat_le, unwrap_or}
 use Rattle.std.specs.List.{list_all}
 use Rattle.std.specs.Char.{is_ascii_digit}
@@ -14,9 +14,10 @@ use Rattle.mg_bytes.specs.Option.{◌>>=◌}
 use Rattle.mg_bytes.specs.Words.{words}
 use Rattle.mgcp_text.specs.declared.message.Param.{Param}
 use Rattle.mgcp_text.specs.declared.message.Verb.{Verb}
-use Rattle.mgcp_text.specs.declared.header.Header.{Header}
-use Rattle.mgcp_text.specs.Header.{HeaderTail, id_from, id_of, command_verb, header_of, tail_of, is_version}
-use Rattle.mgcp_text.specs.Reading.{Outcome, id_in, params_of, command_from, header_from, outcome_from, skip_empty, read_text}
+use Rattle.mgcp_text.specs.declared.header.Start.{Start}
+use Rattle.mgcp_text.specs.declared.header.Start.TheVariants as starts
+use Rattle.mgcp_text.specs.Header.{HeaderTail, id_from, id_of, command_verb, return_code, start_of, header_of, tail_of, is_version}
+use Rattle.mgcp_text.specs.Reading.{id_in, code_in, params_of, command_from, response_from, message_from, header_from, outcome_from, skip_empty, read_text}
 use Rattle.mgcp_text.specs.Writing.{is_id}
 
 pub is_id_true : (id : ℕ) → 1 ≤ id → id ≤ 999999999 → is_id id ≡ true
@@ -76,18 +77,23 @@ command_id verb id rest pieces = by_tail (tail_of rest) refl where
   by_tail None none = rw none refl
   by_tail (Some tail) some = by_version (is_version tail.protocol tail.version) tail some refl
 
+message_id : (start : Start) (id : ℕ) (rest pieces : List (List ℕ)) → id_in (message_from start id rest pieces) ≡ Some id
+unfolding response_from
+message_id (starts.Command verb) id rest pieces = command_id verb id rest pieces
+message_id (starts.Response code) id rest pieces = refl
+
 headed_id : (line : List (List ℕ)) (pieces : List (List ℕ)) → IfSome (id_in (header_from (header_of line) pieces)) IsId
 unfolding header_of
 headed_id [] pieces = tt
 headed_id (kind ∷ []) pieces = tt
-headed_id (kind ∷ number ∷ rest) pieces = by_verb (command_verb kind) refl where
-  by_id : (verb : Verb) (id : Option ℕ) → command_verb kind ≡ Some verb → id_of number ≡ id → IfSome (id_in (header_from (header_of (kind ∷ number ∷ rest)) pieces)) IsId
-  by_id verb None is none = rw (is, none) tt
-  by_id verb (Some id) is some = rw (is, some, command_id verb id rest pieces) (word_id number id some)
+headed_id (kind ∷ number ∷ rest) pieces = by_start (start_of kind) refl where
+  by_id : (start : Start) (id : Option ℕ) → start_of kind ≡ Some start → id_of number ≡ id → IfSome (id_in (header_from (header_of (kind ∷ number ∷ rest)) pieces)) IsId
+  by_id start None is none = rw (is, none) tt
+  by_id start (Some id) is some = rw (is, some, message_id start id rest pieces) (word_id number id some)
 
-  by_verb : (verb : Option Verb) → command_verb kind ≡ verb → IfSome (id_in (header_from (header_of (kind ∷ number ∷ rest)) pieces)) IsId
-  by_verb None none = rw none tt
-  by_verb (Some verb) some = by_id verb (id_of number) some refl
+  by_start : (start : Option Start) → start_of kind ≡ start → IfSome (id_in (header_from (header_of (kind ∷ number ∷ rest)) pieces)) IsId
+  by_start None none = rw none tt
+  by_start (Some start) some = by_id start (id_of number) some refl
 
 piece_id : (pieces : List (List ℕ)) → IfSome (id_in (outcome_from pieces)) IsId
 piece_id [] = tt
@@ -96,3 +102,81 @@ piece_id (piece ∷ pieces) = headed_id (words (line_of piece)) pieces
 pub read_id : (text : List ℕ) → IfSome (id_in (read_text text)) IsId
 unfolding read_text
 read_id text = piece_id (skip_empty (cut text))
+
+-- What is read as a response has a code of three digits
+
+abbrev pub IsReturnCode : ℕ → Type 0
+IsReturnCode code = code ≤ 999
+
+word_code : (word : List ℕ) (code : ℕ) → return_code word ≡ Some code → IsReturnCode code
+word_code word code read = by_length (length word == 3) refl read where
+  by_length : (b : Bool) → (length word == 3) ≡ b → (if b then decimal_of word else None) ≡ Some code → IsReturnCode code
+  by_length true three e =
+      let short : length word ≤ 3 = grind (arith, nat_tests) in
+      let small : code < 10 ^ 3 = short_number 3 word code e short in
+      omega arith
+  by_length false other e = absurd (none-some code e)
+
+abbrev IsStart : Start → Type 0
+IsStart (starts.Command verb) = Unit {0}
+IsStart (starts.Response code) = IsReturnCode code
+
+start_is : (x y : Start) → Some x ≡ Some y → x ≡ y
+start_is x y e = ap (λ (o : Option Start). unwrap_or o x) e
+
+first_code : (word : List ℕ) (start : Start) → start_of word ≡ Some start → IsStart start
+unfolding start_of
+first_code word start e = by_code (return_code word) refl where
+  by_verb : (verb : Option Verb) → command_verb word ≡ verb → return_code word ≡ None → IsStart start
+  by_verb None no_verb none = absurd (let is : None ≡ Some start = (rw (none, no_verb) refl) ∙ e in cc)
+  by_verb (Some verb) some none =
+      let is : Some (starts.Command verb) ≡ Some start = (rw (none, some) refl) ∙ e in
+      rw (← start_is (starts.Command verb) start is) tt
+
+  by_code : (code : Option ℕ) → return_code word ≡ code → IsStart start
+  by_code None none = by_verb (command_verb word) refl none
+  by_code (Some code) some =
+      let is : Some (starts.Response code) ≡ Some start = (rw some refl) ∙ e in
+      rw (← start_is (starts.Response code) start is) (word_code word code some)
+
+command_code : (verb : Verb) (id : ℕ) (rest pieces : List (List ℕ)) → code_in (command_from verb id rest pieces) ≡ None
+unfolding command_from
+command_code verb id rest pieces = by_tail (tail_of rest) refl where
+  by_params : (read : Option (List Param × List (List ℕ))) (tail : HeaderTail) → tail_of rest ≡ Some tail → is_version tail.protocol tail.version ≡ true
+      → params_of pieces ≡ read → code_in (command_from verb id rest pieces) ≡ None
+  by_params None tail is version none = rw (is, version, none) refl
+  by_params (Some read) tail is version some = rw (is, version, some) refl
+
+  by_version : (b : Bool) (tail : HeaderTail) → tail_of rest ≡ Some tail → is_version tail.protocol tail.version ≡ b → code_in (command_from verb id rest pieces) ≡ None
+  by_version true tail is version = by_params (params_of pieces) tail is version refl
+  by_version false tail is version = rw (is, version) refl
+
+  by_tail : (tail : Option HeaderTail) → tail_of rest ≡ tail → code_in (command_from verb id rest pieces) ≡ None
+  by_tail None none = rw none refl
+  by_tail (Some tail) some = by_version (is_version tail.protocol tail.version) tail some refl
+
+message_code : (start : Start) (id : ℕ) (rest pieces : List (List ℕ)) → IsStart start → IfSome (code_in (message_from start id rest pieces)) IsReturnCode
+unfolding response_from
+message_code (starts.Command verb) id rest pieces is = rw (command_code verb id rest pieces) tt
+message_code (starts.Response code) id rest pieces is = is
+
+headed_code : (line : List (List ℕ)) (pieces : List (List ℕ)) → IfSome (code_in (header_from (header_of line) pieces)) IsReturnCode
+unfolding header_of
+headed_code [] pieces = tt
+headed_code (kind ∷ []) pieces = tt
+headed_code (kind ∷ number ∷ rest) pieces = by_start (start_of kind) refl where
+  by_id : (start : Start) (id : Option ℕ) → start_of kind ≡ Some start → id_of number ≡ id → IfSome (code_in (header_from (header_of (kind ∷ number ∷ rest)) pieces)) IsReturnCode
+  by_id start None is none = rw (is, none) tt
+  by_id start (Some id) is some = rw (is, some) (message_code start id rest pieces (first_code kind start is))
+
+  by_start : (start : Option Start) → start_of kind ≡ start → IfSome (code_in (header_from (header_of (kind ∷ number ∷ rest)) pieces)) IsReturnCode
+  by_start None none = rw none tt
+  by_start (Some start) some = by_id start (id_of number) some refl
+
+piece_code : (pieces : List (List ℕ)) → IfSome (code_in (outcome_from pieces)) IsReturnCode
+piece_code [] = tt
+piece_code (piece ∷ pieces) = headed_code (words (line_of piece)) pieces
+
+pub read_code : (text : List ℕ) → IfSome (code_in (read_text text)) IsReturnCode
+unfolding read_text
+read_code text = piece_code (skip_empty (cut text))

@@ -4,4 +4,5 @@ pub mod IdLemmas
 pub mod AnswerLemmas
 pub mod ValueLaws
 pub mod WholeLemmas
+pub mod RoundLaws
 pub mod Computing

@@ -1,6 +1,6 @@
 -- Each text is read as one outcome: the function and the relation say the same.
 use Rattle.std.proofs.Common.{◌≡◌, ℕ, ◌<◌, inl, inr, true, false, List, [], ◌∷◌, ◌++◌, length, Option, Some, None, refl, sym, ap, ◌∙◌, arith, ⊎_elim, ◌⊎◌, append-nil}
-use Rattle.std.specs.Prelude.{Ok, IfSome, option_map}
+use Rattle.std.specs.Prelude.{Ok, IfSome, option_map, filter_map}
 use Rattle.std.specs.List.{AllByRecursion}
 use Rattle.std.proofs.lemmas.Bool.{cases_Bool}
 use Rattle.mg_bytes.specs.Checks.{given}
@@ -9,11 +9,13 @@ use Rattle.mg_bytes.specs.Words.{words, split_once}
 use Rattle.mgcp_text.specs.declared.message.Verb.{Verb}
 use Rattle.mgcp_text.specs.declared.message.Param.{Param}
 use Rattle.mgcp_text.specs.declared.message.Message.TheVariants.{Command, Response}
+use Rattle.mgcp_text.specs.declared.header.Start.{Start}
+use Rattle.mgcp_text.specs.declared.header.Start.TheVariants as starts
 use Rattle.mgcp_text.specs.declared.header.Header.{Header}
 use Rattle.mgcp_text.specs.Header.{header_of, is_version}
 use Rattle.mgcp_text.specs.Parameter.{param_of}
-use Rattle.mgcp_text.specs.Reading.{Outcome, message, no_header, bad_version, bad_body, is_empty, is_empty_line, skip_empty, put_front, params_of, description_of, read_as, command_from, read_text}
-use Rattle.mgcp_text.specs.Spelling.{IsEmptyLine, IsFullLine, BeginsWith, HasHeader, AreParams, EndsParams, HasParams, HasStray, HasName, HasOtherVersion, Reads}
+use Rattle.mgcp_text.specs.Reading.{Outcome, message, no_header, bad_version, bad_body, is_empty, is_empty_line, skip_empty, put_front, params_of, some_params_of, description_of, read_as, command_from, response_from, message_from, read_text}
+use Rattle.mgcp_text.specs.Spelling.{IsEmptyLine, IsFullLine, BeginsWith, HasHeader, AreParams, EndsParams, HasParams, HasSomeParams, HasStray, HasName, HasOtherVersion, HasCommand, Reads}
 
 -- ---- the first line that isn't empty
 
@@ -48,7 +50,7 @@ skip_is : (text line : List ℕ) (following : List (List ℕ)) (b : BeginsWith t
 skip_is text line following b = ap skip_empty b.pieces ∙ skip_front b.front b.piece following b.skipped b.full
 
 -- what is read of a text with this header
-header_is : (text : List ℕ) (h : Header) (following : List (List ℕ)) → HasHeader text h following → read_text text ≡ command_from h.verb h.id h.rest following
+header_is : (text : List ℕ) (h : Header) (following : List (List ℕ)) → HasHeader text h following → read_text text ≡ message_from h.start h.id h.rest following
 unfolding read_text
 header_is text h following has =
     rw (skip_is text has.line following has.first, ← has.first.is_line, has.header) refl
@@ -145,6 +147,62 @@ found (piece ∷ pieces) =
     (λ (h : is_empty_line piece ≡ false). found_at piece pieces h (param_of (line_of piece)) refl (found pieces))
     (cases_Bool (is_empty_line piece))
 
+-- ---- the parameters of a response
+
+abbrev in_lines : List (List ℕ) → List Param
+in_lines lines = filter_map (λ piece. param_of (line_of piece)) lines
+
+-- full lines in front
+some_front : (lines after : List (List ℕ)) → AllByRecursion IsFullLine lines → some_params_of (lines ++ after) ≡ put_front (in_lines lines) (some_params_of after)
+unfolding some_params_of
+some_front [] after full = refl
+some_front (l ∷ ls) after full = by_read (param_of (line_of l)) refl (some_front ls after full.1) where
+  by_read : (found : Option Param) → param_of (line_of l) ≡ found → some_params_of (ls ++ after) ≡ put_front (in_lines ls) (some_params_of after)
+      → some_params_of ((l ∷ ls) ++ after) ≡ put_front (in_lines (l ∷ ls)) (some_params_of after)
+  by_read None none others = rw (full.0, none, others) refl
+  by_read (Some param) some others = rw (full.0, some, others) refl
+
+some_end : (after rest : List (List ℕ)) → EndsParams after rest → some_params_of after ≡ ([], rest)
+unfolding some_params_of
+some_end [] rest ends = rw ends refl
+some_end (piece ∷ pieces) rest ends = rw (ends.0, ends.1) refl
+
+some_are : (pieces : List (List ℕ)) (params : List Param) (rest : List (List ℕ)) → HasSomeParams pieces params rest → some_params_of pieces ≡ (params, rest)
+some_are pieces params rest has =
+    ap some_params_of has.parts ∙ some_front has.lines has.after has.full ∙ ap (put_front (in_lines has.lines)) (some_end has.after rest has.ends)
+    ∙ rw (append-nil (in_lines has.lines), has.each) refl
+
+abbrev SomeFound : List (List ℕ) → Type 0
+SomeFound pieces = (params : List Param) × (rest : List (List ℕ)) × HasSomeParams pieces params rest
+
+some_more : (piece : List ℕ) (pieces : List (List ℕ)) → IsFullLine piece → SomeFound pieces → SomeFound (piece ∷ pieces)
+some_more piece pieces full (params, rest, has) = (
+  in_lines (piece ∷ has.lines),
+  rest,
+  record {
+    lines = piece ∷ has.lines;
+    after = has.after;
+    parts = ap (λ (x : List (List ℕ)). piece ∷ x) has.parts;
+    full = (full, has.full);
+    each = refl;
+    ends = has.ends;
+  },
+)
+
+-- pieces begin with the lines of a response
+some_found : (pieces : List (List ℕ)) → SomeFound pieces
+some_found [] = ([], [], record { lines = []; after = []; parts = refl; full = tt; each = refl; ends = refl })
+some_found (piece ∷ pieces) =
+    ⊎_elim
+    (λ (h : is_empty_line piece ≡ true). ([], pieces, record { lines = []; after = piece ∷ pieces; parts = refl; full = tt; each = refl; ends = (h, refl) }))
+    (λ (h : is_empty_line piece ≡ false). some_more piece pieces h (some_found pieces))
+    (cases_Bool (is_empty_line piece))
+
+response_is : (code id : ℕ) (pieces : List (List ℕ)) (params : List Param) (rest : List (List ℕ)) → HasSomeParams pieces params rest
+    → response_from code id pieces ≡ message (Response code id params (description_of rest))
+unfolding response_from
+response_is code id pieces params rest has = rw (some_are pieces params rest has) refl
+
 -- ---- the words after the id
 
 -- a command with this name, and what was read of its parameters
@@ -212,36 +270,47 @@ three (a ∷ []) = inl (omega arith)
 three (a ∷ b ∷ []) = inl (omega arith)
 three (a ∷ b ∷ c ∷ more) = inr (record { name = a; protocol = b; version = c; more = more; words = refl })
 
-module _ (text : List ℕ) (h : Header) (following : List (List ℕ)) (has : HasHeader text h following) where
-  reads_as : (outcome : Outcome) → command_from h.verb h.id h.rest following ≡ outcome → Reads text outcome → Reads text (read_text text)
-  reads_as outcome e r = rw (header_is text h following has, e) r
+module _ (text : List ℕ) (verb : Verb) (id : ℕ) (rest following : List (List ℕ)) (has : HasCommand text verb id rest following) where
+  reads_as : (outcome : Outcome) → command_from verb id rest following ≡ outcome → Reads text outcome → Reads text (read_text text)
+  reads_as outcome e r = rw (header_is text (record { start = starts.Command verb; id = id; rest = rest }) following has, e) r
 
-  reads_named : (name : List ℕ) → HasName h.rest name → Found following → Reads text (read_text text)
-  reads_named name named (inl (params, rest, lines)) =
-      reads_as (message (Command h.verb h.id name params (description_of rest)))
-      (named_is h.verb h.id h.rest following name named ∙ ap (with_params h.verb h.id name) (params_are following params rest lines))
-      (record { rest = h.rest; following = following; after = rest; header = has; named = named; lines = lines; description = refl })
+  reads_named : (name : List ℕ) → HasName rest name → Found following → Reads text (read_text text)
+  reads_named name named (inl (params, after, lines)) =
+      reads_as (message (Command verb id name params (description_of after)))
+      (named_is verb id rest following name named ∙ ap (with_params verb id name) (params_are following params after lines))
+      (record { rest = rest; following = following; after = after; header = has; named = named; lines = lines; description = refl })
   reads_named name named (inr stray) =
-      reads_as (bad_body h.id) (named_is h.verb h.id h.rest following name named ∙ ap (with_params h.verb h.id name) (stray_is following stray))
-      (h, following, has, refl, inr (name, named, stray))
+      reads_as (bad_body id) (named_is verb id rest following name named ∙ ap (with_params verb id name) (stray_is following stray))
+      (verb, rest, following, has, inr (name, named, stray))
 
-  reads_three : HasThree h.rest → Reads text (read_text text)
+  reads_three : HasThree rest → Reads text (read_text text)
   reads_three t =
       ⊎_elim
       (λ (e : is_version t.protocol t.version ≡ true).
       reads_named t.name (record { protocol = t.protocol; version = t.version; more = t.more; parts = t.words; spoken = e }) (found following))
       (λ (e : is_version t.protocol t.version ≡ false).
-      let other : HasOtherVersion h.rest = record { name = t.name; protocol = t.protocol; version = t.version; more = t.more; parts = t.words; other = e } in
-      reads_as (bad_version h.id) (other_is h.verb h.id h.rest following other) (h, following, has, refl, other))
+      let other : HasOtherVersion rest = record { name = t.name; protocol = t.protocol; version = t.version; more = t.more; parts = t.words; other = e } in
+      reads_as (bad_version id) (other_is verb id rest following other) (verb, rest, following, has, other))
       (cases_Bool (is_version t.protocol t.version))
 
-  reads_header : (length h.rest < 3) ⊎ HasThree h.rest → Reads text (read_text text)
-  reads_header (inl short) = reads_as (bad_body h.id) (short_is h.verb h.id h.rest following short) (h, following, has, refl, inl short)
-  reads_header (inr t) = reads_three t
+  reads_command : (length rest < 3) ⊎ HasThree rest → Reads text (read_text text)
+  reads_command (inl short) = reads_as (bad_body id) (short_is verb id rest following short) (verb, rest, following, has, inl short)
+  reads_command (inr t) = reads_three t
+
+reads_response : (text : List ℕ) (code id : ℕ) (rest following : List (List ℕ)) → HasHeader text (record { start = starts.Response code; id = id; rest = rest }) following
+    → SomeFound following → Reads text (read_text text)
+reads_response text code id rest following has (params, after, lines) =
+    rw (header_is text (record { start = starts.Response code; id = id; rest = rest }) following has, response_is code id following params after lines)
+    (record { rest = rest; following = following; after = after; header = has; lines = lines; description = refl })
+
+reads_start : (text : List ℕ) (start : Start) (id : ℕ) (rest following : List (List ℕ)) → HasHeader text (record { start = start; id = id; rest = rest }) following
+    → Reads text (read_text text)
+reads_start text (starts.Command verb) id rest following has = reads_command text verb id rest following has (three rest)
+reads_start text (starts.Response code) id rest following has = reads_response text code id rest following has (some_found following)
 
 reads_top : (text : List ℕ) → Top text → Reads text (read_text text)
 reads_top text (without e none) = rw e none
-reads_top text (with h following has) = reads_header text h following has (three h.rest)
+reads_top text (with h following has) = reads_start text h.start h.id h.rest following has
 
 -- each text is read as this outcome
 pub reads_some : (text : List ℕ) → Reads text (read_text text)
@@ -254,16 +323,19 @@ no_header_top text (with h following has) never = absurd (never h following has)
 -- and as no other
 pub reads_only : (text : List ℕ) (outcome : Outcome) → Reads text outcome → outcome ≡ read_text text
 reads_only text (message (Command verb id name params body)) s =
-    sym (header_is text (record { verb = verb; id = id; rest = s.rest }) s.following s.header ∙ named_is verb id s.rest s.following name s.named
+    sym (header_is text (record { start = starts.Command verb; id = id; rest = s.rest }) s.following s.header ∙ named_is verb id s.rest s.following name s.named
     ∙ ap (with_params verb id name) (params_are s.following params s.after s.lines) ∙ rw (← s.description) refl)
-reads_only text (message (Response code id params body)) r = absurd r
+reads_only text (message (Response code id params body)) s =
+    sym (header_is text (record { start = starts.Response code; id = id; rest = s.rest }) s.following s.header
+    ∙ response_is code id s.following params s.after s.lines ∙ rw (← s.description) refl)
 reads_only text no_header never = no_header_top text (top text) never
-reads_only text (bad_version id) (h, following, has, e, other) =
-    sym (header_is text h following has ∙ other_is h.verb h.id h.rest following other ∙ ap bad_version e)
-reads_only text (bad_body id) (h, following, has, e, inl short) =
-    sym (header_is text h following has ∙ short_is h.verb h.id h.rest following short ∙ ap bad_body e)
-reads_only text (bad_body id) (h, following, has, e, inr (name, named, stray)) =
-    sym (header_is text h following has ∙ named_is h.verb h.id h.rest following name named ∙ ap (with_params h.verb h.id name) (stray_is following stray) ∙ ap bad_body e)
+reads_only text (bad_version id) (verb, rest, following, has, other) =
+    sym (header_is text (record { start = starts.Command verb; id = id; rest = rest }) following has ∙ other_is verb id rest following other)
+reads_only text (bad_body id) (verb, rest, following, has, inl short) =
+    sym (header_is text (record { start = starts.Command verb; id = id; rest = rest }) following has ∙ short_is verb id rest following short)
+reads_only text (bad_body id) (verb, rest, following, has, inr (name, named, stray)) =
+    sym (header_is text (record { start = starts.Command verb; id = id; rest = rest }) following has ∙ named_is verb id rest following name named
+    ∙ ap (with_params verb id name) (stray_is following stray))
 
 pub reads_from_value : (text : List ℕ) (read : Option Outcome) → IfSome read (λ outcome. outcome ≡ read_text text) → IfSome read (Reads text)
 reads_from_value text None e = tt

@@ -1,5 +1,6 @@
--- The command header (RFC 3435, 3.2.1): verb, transaction id, endpoint name, `MGCP` and version.
-use Rattle.std.specs.Prelude.{ℕ, ◌&&◌, ◌==◌, nat_le, Bool, codes, if◌then◌else◌, List, [], ◌∷◌, length, Option, Some, None}
+-- The header line of a message: of a command (RFC 3435, 3.2.1) its verb, transaction id, endpoint name, `MGCP` and version;
+-- of a response (3.3) its return code, transaction id and perhaps a comment.
+use Rattle.std.specs.Prelude.{ℕ, ◌&&◌, ◌==◌, nat_le, Bool, codes, if◌then◌else◌, List, [], ◌∷◌, length, Option, Some, None, option_map}
 use Rattle.std.specs.List.{list_all}
 use Rattle.std.specs.Char.{is_ascii_alphanumeric}
 use Rattle.std.specs.Str.{bytes_eq}
@@ -8,6 +9,8 @@ use Rattle.mg_bytes.specs.Case.{same_but_case}
 use Rattle.mg_bytes.specs.Numbers.{decimal_of}
 use Rattle.mgcp_text.specs.declared.message.Verb.{Verb}
 use Rattle.mgcp_text.specs.declared.message.Verb.TheVariants.{Epcf, Rqnt, Ntfy, Crcx, Mdcx, Dlcx, Auep, Aucx, Rsip, Other}
+use Rattle.mgcp_text.specs.declared.header.Start.{Start}
+use Rattle.mgcp_text.specs.declared.header.Start.TheVariants as starts
 use Rattle.mgcp_text.specs.declared.header.Header.{Header}
 
 -- four letters or digits (RFC 3435, 3.2.1.1; that a digit may come first is this gateway's profile)
@@ -46,16 +49,28 @@ id_from n = if n == 0 then None else Some n
 unfoldable pub id_of : List ℕ → Option ℕ
 id_of word = if nat_le (length word) 9 then decimal_of word >>= id_from else None
 
--- the verb and the id that the words of a line begin with, and the words after them
+-- a return code: three digits (RFC 3435, 2.4)
+abbrev pub return_code : List ℕ → Option ℕ
+return_code word = if length word == 3 then decimal_of word else None
+
+abbrev pub start_from : Option ℕ → List ℕ → Option Start
+start_from None word = option_map starts.Command (command_verb word)
+start_from (Some code) word = Some (starts.Response code)
+
+-- what the first word says: a return code begins a response, and a verb a command
+unfoldable pub start_of : List ℕ → Option Start
+start_of word = start_from (return_code word) word
+
+-- what the first word of a line says, the id that is the second, and the words after them
 unfoldable pub header_of : List (List ℕ) → Option Header
 header_of [] = None
 header_of (kind ∷ []) = None
 header_of (kind ∷ number ∷ rest) = do
-  verb ← command_verb kind
+  start ← start_of kind
   id ← id_of number
-  Some (record { verb = verb; id = id; rest = rest })
+  Some (record { start = start; id = id; rest = rest })
 
--- the words after the id: an endpoint name, a protocol and its version
+-- the words after the id of a command: an endpoint name, a protocol and its version
 pub record HeaderTail : Type 0 where
   pub name : List ℕ
   pub protocol : List ℕ

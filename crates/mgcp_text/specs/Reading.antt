@@ -10,6 +10,8 @@ use Rattle.mgcp_text.specs.declared.message.Message.{Message}
 use Rattle.mgcp_text.specs.declared.message.Message.TheVariants.{Command, Response}
 use Rattle.mgcp_text.specs.declared.message.TextFault.{TextFault}
 use Rattle.mgcp_text.specs.declared.message.TextFault.TheVariants.{OutOfMemory, NoHeader, BadVersion, BadBody}
+use Rattle.mgcp_text.specs.declared.header.Start.{Start}
+use Rattle.mgcp_text.specs.declared.header.Start.TheVariants as starts
 use Rattle.mgcp_text.specs.declared.header.Header.{Header}
 use Rattle.mgcp_text.specs.Header.{tail_of, header_of, is_version}
 use Rattle.mgcp_text.specs.Parameter.{param_of}
@@ -28,6 +30,14 @@ id_in (message (Response code id params body)) = Some id
 id_in no_header = None
 id_in (bad_version id) = Some id
 id_in (bad_body id) = Some id
+
+-- the return code of what was read, if it is a response
+abbrev pub code_in : Outcome → Option ℕ
+code_in (message (Command verb id name params body)) = None
+code_in (message (Response code id params body)) = Some code
+code_in no_header = None
+code_in (bad_version id) = None
+code_in (bad_body id) = None
 
 -- what a reader answered, unless memory was refused
 abbrev pub outcome_of : Result Message TextFault → Option Outcome
@@ -61,6 +71,17 @@ params_of (piece ∷ pieces) =
     option_and_then (λ param. option_map (put_front (param ∷ [])) (params_of pieces))
     (param_of (line_of piece))
 
+-- what was read of a line is put before the rest, and a line that is no parameter is skipped
+abbrev pub put_read : Option Param → List Param × List (List ℕ) → List Param × List (List ℕ)
+put_read None read = read
+put_read (Some param) read = put_front (param ∷ []) read
+
+-- the same of a response, where other lines may stand among the parameters: all parameters are kept
+unfoldable pub some_params_of : List (List ℕ) → List Param × List (List ℕ)
+some_params_of [] = ([], [])
+some_params_of (piece ∷ pieces) =
+    if is_empty_line piece then ([], pieces) else put_read (param_of (line_of piece)) (some_params_of pieces)
+
 -- the text of the pieces, or none where each is an empty line
 unfoldable pub description_of : List (List ℕ) → List ℕ
 description_of pieces = if list_all is_empty_line pieces then [] else concat pieces
@@ -79,9 +100,19 @@ command_from verb id rest pieces = read_as
     (given (params_of pieces) (bad_body id) (λ read.
     Ok (Command verb id tail.name read.0 (description_of read.1))))))
 
+-- a response whose header has this return code and id, and these pieces after it: it has no fault
+unfoldable pub response_from : ℕ → ℕ → List (List ℕ) → Outcome
+response_from code id pieces =
+    let read = some_params_of pieces in message (Response code id read.0 (description_of read.1))
+
+-- a message, by what its header begins with: the further words of a response's header are ignored
+abbrev pub message_from : Start → ℕ → List (List ℕ) → List (List ℕ) → Outcome
+message_from (starts.Command verb) id rest pieces = command_from verb id rest pieces
+message_from (starts.Response code) id rest pieces = response_from code id pieces
+
 abbrev pub header_from : Option Header → List (List ℕ) → Outcome
 header_from None pieces = no_header
-header_from (Some h) pieces = command_from h.verb h.id h.rest pieces
+header_from (Some h) pieces = message_from h.start h.id h.rest pieces
 
 abbrev pub outcome_from : List (List ℕ) → Outcome
 outcome_from [] = no_header

@@ -1,6 +1,5 @@
--- What a text is read as (RFC 3435, 3.1, 3.2 and appendix A): each text has one outcome.
--- Until the gateway sends commands of its own, a text that begins as a response has no header.
-use Rattle.std.specs.Prelude.{◌≡◌, ◌⊎◌, ◌<◌, ℕ, true, false, List, [], ◌∷◌, ◌++◌, length, map, Some, None}
+-- What a text is read as (RFC 3435, 3.1 to 3.3 and appendix A): each text has one outcome.
+use Rattle.std.specs.Prelude.{◌≡◌, ◌⊎◌, ◌<◌, ℕ, true, false, List, [], ◌∷◌, ◌++◌, length, map, filter_map, Some, None}
 use Rattle.std.specs.List.{AllByRecursion}
 use Rattle.mg_bytes.specs.Lines.{cut, line_of}
 use Rattle.mg_bytes.specs.Words.{words}
@@ -8,6 +7,7 @@ use Rattle.mgcp_text.specs.declared.message.Verb.{Verb}
 use Rattle.mgcp_text.specs.declared.message.Param.{Param}
 use Rattle.mgcp_text.specs.declared.message.Message.{Message}
 use Rattle.mgcp_text.specs.declared.message.Message.TheVariants.{Command, Response}
+use Rattle.mgcp_text.specs.declared.header.Start.TheVariants as starts
 use Rattle.mgcp_text.specs.declared.header.Header.{Header}
 use Rattle.mgcp_text.specs.Header.{header_of, is_version}
 use Rattle.mgcp_text.specs.Parameter.{param_of}
@@ -29,7 +29,7 @@ pub record BeginsWith (text line : List ℕ) (following : List (List ℕ)) : Typ
   pub full : IsFullLine piece
   pub is_line : line ≡ line_of piece
 
--- the text begins with a header, whose verb, id and further words are h's
+-- the text begins with a header, whose first word, id and further words are h's
 pub record HasHeader (text : List ℕ) (h : Header) (following : List (List ℕ)) : Type 0 where
   pub line : List ℕ
   pub first : BeginsWith text line following
@@ -50,6 +50,15 @@ pub record HasParams (pieces : List (List ℕ)) (params : List Param) (rest : Li
   pub after : List (List ℕ)
   pub parts : pieces ≡ lines ++ after
   pub each : AreParams lines params
+  pub ends : EndsParams after rest
+
+-- the parameters are those of the lines up to the first empty line or the end that are one, and then comes the rest
+pub record HasSomeParams (pieces : List (List ℕ)) (params : List Param) (rest : List (List ℕ)) : Type 0 where
+  pub lines : List (List ℕ)
+  pub after : List (List ℕ)
+  pub parts : pieces ≡ lines ++ after
+  pub full : AllByRecursion IsFullLine lines
+  pub each : params ≡ filter_map (λ piece. param_of (line_of piece)) lines
   pub ends : EndsParams after rest
 
 -- among the lines up to the first empty one stands one that is no parameter
@@ -80,32 +89,45 @@ pub record HasOtherVersion (rest : List (List ℕ)) : Type 0 where
   pub parts : rest ≡ name ∷ protocol ∷ version ∷ more
   pub other : is_version protocol version ≡ false
 
--- the text spells this message
+-- the text begins with the header of a command: its verb, id and further words
+abbrev pub HasCommand : List ℕ → Verb → ℕ → List (List ℕ) → List (List ℕ) → Type 0
+HasCommand text verb id rest following = HasHeader text (record { start = starts.Command verb; id = id; rest = rest }) following
+
+-- the text spells this command
 pub record SpellsCommand (text : List ℕ) (verb : Verb) (id : ℕ) (name : List ℕ) (params : List Param)
     (body : List ℕ) : Type 0 where
   pub rest : List (List ℕ)
   pub following : List (List ℕ)
   pub after : List (List ℕ)
-  pub header : HasHeader text (record { verb = verb; id = id; rest = rest }) following
+  pub header : HasCommand text verb id rest following
   pub named : HasName rest name
   pub lines : HasParams following params after
   pub description : body ≡ description_of after
 
+-- the text spells this response, whatever further words its header has
+pub record SpellsResponse (text : List ℕ) (code id : ℕ) (params : List Param) (body : List ℕ) : Type 0 where
+  pub rest : List (List ℕ)
+  pub following : List (List ℕ)
+  pub after : List (List ℕ)
+  pub header : HasHeader text (record { start = starts.Response code; id = id; rest = rest }) following
+  pub lines : HasSomeParams following params after
+  pub description : body ≡ description_of after
+
+-- the text spells this message
 abbrev pub Spells : List ℕ → Message → Type 0
 Spells text (Command verb id name params body) = SpellsCommand text verb id name params body
-Spells text (Response code id params body) = ⊥
+Spells text (Response code id params body) = SpellsResponse text code id params body
 
--- a header with this id, and fewer than three words following it, or a line that is no parameter
+-- a command's header with this id, and fewer than three words following it, or a line that is no parameter
 abbrev pub IsBadBody : List ℕ → ℕ → Type 0
 IsBadBody text id =
-    (h : Header) × (following : List (List ℕ)) × HasHeader text h following × (h.id ≡ id)
-    × ((length h.rest < 3) ⊎ ((name : List ℕ) × HasName h.rest name × HasStray following))
+    (verb : Verb) × (rest following : List (List ℕ)) × HasCommand text verb id rest following
+    × ((length rest < 3) ⊎ ((name : List ℕ) × HasName rest name × HasStray following))
 
--- a header with this id, of another protocol or version
+-- a command's header with this id, of another protocol or version
 abbrev pub IsBadVersion : List ℕ → ℕ → Type 0
 IsBadVersion text id =
-    (h : Header) × (following : List (List ℕ)) × HasHeader text h following × (h.id ≡ id)
-    × HasOtherVersion h.rest
+    (verb : Verb) × (rest following : List (List ℕ)) × HasCommand text verb id rest following × HasOtherVersion rest
 
 -- a text is read as this outcome
 abbrev pub Reads : List ℕ → Outcome → Type 0

@@ -1,18 +1,37 @@
--- What is written of a message (RFC 3435, 3.3): single spaces, each line with CRLF. So far responses are written.
-use Rattle.std.specs.Prelude.{ℕ, ◌+◌, ◌/◌, ◌%◌, ◌&&◌, ◌||◌, ◌==◌, not, nat_le, Bool, true, false, codes, decimal, if◌then◌else◌, List, [], ◌∷◌, ◌++◌}
+-- What is written of a message (RFC 3435, 3.2 and 3.3): single spaces, each line with CRLF.
+use Rattle.std.specs.Prelude.{ℕ, ◌+◌, ◌/◌, ◌%◌, ◌&&◌, ◌||◌, ◌==◌, not, nat_le, Bool, true, codes, decimal, if◌then◌else◌, List, [], ◌∷◌, ◌++◌}
 use Rattle.std.specs.List.{list_all, list_any, flat_map}
 use Rattle.std.specs.Str.{bytes_eq}
 use Rattle.mg_bytes.specs.Bytes.{line_feed, carriage_return, space, digit_zero, colon}
-use Rattle.mg_bytes.specs.Blanks.{trimmed}
+use Rattle.mg_bytes.specs.Blanks.{is_blank, trimmed}
 use Rattle.mg_bytes.specs.Lines.{cut, lines_of, is_line_feed, is_dot_line}
+use Rattle.mgcp_text.specs.declared.message.Verb.{Verb}
+use Rattle.mgcp_text.specs.declared.message.Verb.TheVariants.{Epcf, Rqnt, Ntfy, Crcx, Mdcx, Dlcx, Auep, Aucx, Rsip, Other}
 use Rattle.mgcp_text.specs.declared.message.Param.{Param}
 use Rattle.mgcp_text.specs.declared.message.Message.{Message}
 use Rattle.mgcp_text.specs.declared.message.Message.TheVariants.{Command, Response}
 use Rattle.mgcp_text.specs.Parameter.{is_code}
-use Rattle.mgcp_text.specs.Reading.{is_empty_line}
+use Rattle.mgcp_text.specs.Reading.{is_empty, is_empty_line}
 
 abbrev pub crlf : List ℕ
 crlf = carriage_return ∷ line_feed ∷ []
+
+-- a verb's word, in upper case (RFC 3435, 3.2.1.1); of another verb the word isn't known
+abbrev pub verb_text : Verb → List ℕ
+verb_text Epcf = codes "EPCF"
+verb_text Rqnt = codes "RQNT"
+verb_text Ntfy = codes "NTFY"
+verb_text Crcx = codes "CRCX"
+verb_text Mdcx = codes "MDCX"
+verb_text Dlcx = codes "DLCX"
+verb_text Auep = codes "AUEP"
+verb_text Aucx = codes "AUCX"
+verb_text Rsip = codes "RSIP"
+verb_text Other = []
+
+-- `verb id name MGCP 1.0`
+unfoldable pub command_line : Verb → ℕ → List ℕ → List ℕ
+command_line verb id name = verb_text verb ++ ((space ∷ decimal id) ++ ((space ∷ name) ++ codes " MGCP 1.0"))
 
 -- a return code in its three digits
 abbrev pub code_text : ℕ → List ℕ
@@ -44,11 +63,14 @@ body_text (b ∷ bs) = crlf ++ (b ∷ bs)
 abbrev pub ended : List ℕ → List ℕ
 ended line = line ++ crlf
 
--- the text of a response; commands are not written so far
+-- a header line, a line for each parameter, and the description
+abbrev pub text_with : List ℕ → List Param → List ℕ → List ℕ
+text_with line params body = ended line ++ flat_map (λ param. ended (param_line param)) params ++ body_text body
+
+-- the text of a message
 unfoldable pub written : Message → List ℕ
-written (Command verb id name params body) = []
-written (Response code id params body) =
-    ended (response_line code id) ++ flat_map (λ param. ended (param_line param)) params ++ body_text body
+written (Command verb id name params body) = text_with (command_line verb id name) params body
+written (Response code id params body) = text_with (response_line code id) params body
 
 -- What can be written
 
@@ -70,8 +92,18 @@ is_writable_body (b ∷ bs) =
 unfoldable pub is_id : ℕ → Bool
 is_id id = nat_le 1 id && nat_le id 999999999
 
--- a response with a transaction id and a code of three digits
+-- a verb whose word is known
+abbrev pub is_known : Verb → Bool
+is_known verb = not (is_empty (verb_text verb))
+
+-- an endpoint name that is one word of one line
+abbrev pub is_writable_name : List ℕ → Bool
+is_writable_name name = not (is_empty name) && not (list_any is_blank name) && not (list_any is_line_feed name)
+
+-- a command with a known verb, a transaction id and a name, or a response with a code of three digits and a transaction
+-- id, whose parameters and description can be written
 unfoldable pub is_writable : Message → Bool
-is_writable (Command verb id name params body) = false
+is_writable (Command verb id name params body) =
+    is_known verb && is_id id && is_writable_name name && list_all is_writable_param params && is_writable_body body
 is_writable (Response code id params body) =
     is_id id && nat_le code 999 && list_all is_writable_param params && is_writable_body body

@@ -11,8 +11,8 @@ ghost use Rattle.mgcp_text.specs.Message.{param_at};
 ghost use Rattle.mgcp_text.specs.Reading.{message, no_header, bad_version, bad_body, read_text};
 ghost use Rattle.mgcp_text.specs.Confirmation.{k_of};
 ghost use Rattle.mgcp_text.specs.Writing.{written, is_writable};
-ghost use Rattle.mgcp_text.specs.Examples.{param, audit, creation, confirmed, range};
-ghost use Rattle.mgcp_text.specs.Examples.{is_writable_code, is_writable_with, is_writable_text};
+ghost use Rattle.mgcp_text.specs.Examples.{param, audit, creation, response, confirmed, range, command_text};
+ghost use Rattle.mgcp_text.specs.Examples.{is_writable_code, is_writable_with, is_writable_text, is_writable_command};
 
 /// An audit is a command without parameters.
 pub fn an_audit_is_read()
@@ -34,12 +34,12 @@ pub fn words_are_verbs()
     ensures other { verb_of (codes "MESG") ≡ verbs.Other }
 {}
 
-/// What lacks a verb of four letters or digits, or an id of 1 to 9 digits that are not all 0, has no header.
+/// What lacks a verb of four letters or digits or a code of three digits, or an id of 1 to 9 digits that are not all 0, has
+/// no header.
 pub fn some_texts_have_no_header()
     ensures empty { read_text [] ≡ no_header }
     ensures blanks { read_text (codes " \t\r\n\n") ≡ no_header }
     ensures dot { read_text (codes ".\r\n") ≡ no_header }
-    ensures response { read_text (codes "200 1200 OK\r\n") ≡ no_header }
     ensures three_letters { read_text (codes "AUE 1 x MGCP 1.0\r\n") ≡ no_header }
     ensures five_letters { read_text (codes "AUEPX 1 x MGCP 1.0\r\n") ≡ no_header }
     ensures no_letter { read_text (codes "AU-P 1 x MGCP 1.0\r\n") ≡ no_header }
@@ -48,6 +48,44 @@ pub fn some_texts_have_no_header()
     ensures nine_zeros { read_text (codes "AUEP 000000000 x MGCP 1.0\r\n") ≡ no_header }
     ensures ten_digits { read_text (codes "AUEP 1234567890 x MGCP 1.0\r\n") ≡ no_header }
     ensures ten_with_zeros { read_text (codes "AUEP 0000000001 x MGCP 1.0\r\n") ≡ no_header }
+{}
+
+/// A response begins with its return code in three digits and its id (RFC 3435, 3.3). Nothing more of its header counts.
+pub fn responses_are_read()
+    ensures ok { read_text (codes "200 1200 OK\r\n") ≡ response 200 1200 [] [] }
+    ensures bare { read_text (codes "250 7") ≡ response 250 7 [] [] }
+    ensures provisional { read_text (codes "100 10000000\r\n") ≡ response 100 10000000 [] [] }
+    ensures mark { read_text (codes "512 9 /L no such event MGCP 9.9\r\n") ≡ response 512 9 [] [] }
+    ensures least { read_text (codes "000 5\r\n") ≡ response 0 5 [] [] }
+    ensures low { read_text (codes "099 5\r\n") ≡ response 99 5 [] [] }
+    ensures greatest { read_text (codes "999 999999999\r\n") ≡ response 999 999999999 [] [] }
+    ensures zeros { read_text (codes "\r\n \n\t200\t000000005\tOK") ≡ response 200 5 [] [] }
+{}
+
+/// Another number of digits, or another byte among them, is no return code, and a response without an id has no header.
+pub fn some_texts_are_no_responses()
+    ensures alone { read_text (codes "200\r\n") ≡ no_header }
+    ensures zero { read_text (codes "200 0 OK\r\n") ≡ no_header }
+    ensures ten_digits { read_text (codes "200 0000000005 OK\r\n") ≡ no_header }
+    ensures comment_first { read_text (codes "200 OK 5\r\n") ≡ no_header }
+    ensures letter { read_text (codes "2O0 5 OK\r\n") ≡ no_header }
+    ensures two_digits { read_text (codes "99 5 OK\r\n") ≡ no_header }
+    // Four digits are a verb, that of another command.
+    ensures four_digits { read_text (codes "1000 5 OK\r\n") ≡ bad_body 5 }
+    ensures sign { read_text (codes "+20 5 OK\r\n") ≡ no_header }
+{}
+
+/// A response keeps all its parameters up to the first empty line, in their order, and lines that are none are skipped.
+pub fn a_response_keeps_its_parameters()
+    ensures all { read_text (codes "521 1\r\nN: ca2@[127.0.0.2]:2727\r\nK:\r\n")
+        ≡ response 521 1 (param (codes "N") (codes "ca2@[127.0.0.2]:2727") ∷ param (codes "K") [] ∷ []) [] }
+    ensures twice { read_text (codes "200 1 OK\r\nN: a\r\nn : b\r\n")
+        ≡ response 200 1 (param (codes "N") (codes "a") ∷ param (codes "n") (codes "b") ∷ []) [] }
+    ensures strays { read_text (codes "200 1 OK\r\nno parameter\r\n: 1\r\nX_A: 1\r\nI: 1\r\nstray")
+        ≡ response 200 1 (param (codes "I") (codes "1") ∷ []) [] }
+    ensures description { read_text (codes "200 1 OK\r\nI: 1\r\nstray\r\n \r\nK: 2\r\n\r\nv=0\r\n")
+        ≡ response 200 1 (param (codes "I") (codes "1") ∷ []) (codes "K: 2\r\n\r\nv=0\r\n") }
+    ensures only_empty { read_text (codes "200 1 OK\r\n\r\n \r\n") ≡ response 200 1 [] [] }
 {}
 
 /// An id may have leading zeros, and a verb that nobody knows is still a verb.
@@ -152,6 +190,32 @@ pub fn responses_are_written()
         ≡ codes "250 7 OK\r\nI: 1\r\nT:\r\n\r\nv=0\r\n" }
 {}
 
+/// A command is its verb in upper case, its id, its name, and `MGCP 1.0` (RFC 3435, 3.2.1).
+pub fn commands_are_written()
+    ensures epcf { command_text verbs.Epcf ≡ codes "EPCF 7 x MGCP 1.0\r\n" }
+    ensures rqnt { command_text verbs.Rqnt ≡ codes "RQNT 7 x MGCP 1.0\r\n" }
+    ensures ntfy { command_text verbs.Ntfy ≡ codes "NTFY 7 x MGCP 1.0\r\n" }
+    ensures crcx { command_text verbs.Crcx ≡ codes "CRCX 7 x MGCP 1.0\r\n" }
+    ensures mdcx { command_text verbs.Mdcx ≡ codes "MDCX 7 x MGCP 1.0\r\n" }
+    ensures dlcx { command_text verbs.Dlcx ≡ codes "DLCX 7 x MGCP 1.0\r\n" }
+    ensures auep { command_text verbs.Auep ≡ codes "AUEP 7 x MGCP 1.0\r\n" }
+    ensures aucx { command_text verbs.Aucx ≡ codes "AUCX 7 x MGCP 1.0\r\n" }
+    ensures rsip { command_text verbs.Rsip ≡ codes "RSIP 7 x MGCP 1.0\r\n" }
+{}
+
+/// Its parameters and its description come after its header.
+pub fn commands_are_written_whole()
+    ensures restart { let params = param (codes "RM") (codes "restart") ∷ []
+        in written (messages.Command verbs.Rsip 1 (codes "*@rgw.example.net") params [])
+        ≡ codes "RSIP 1 *@rgw.example.net MGCP 1.0\r\nRM: restart\r\n" }
+    ensures notification { let params = param (codes "X") (codes "A1") ∷ param (codes "O") (codes "L/hd,D/8") ∷ []
+        in written (messages.Command verbs.Ntfy 10000000 (codes "aaln/1@rgw.example.net") params [])
+        ≡ codes "NTFY 10000000 aaln/1@rgw.example.net MGCP 1.0\r\nX: A1\r\nO: L/hd,D/8\r\n" }
+    ensures description { let params = param (codes "C") (codes "1A") ∷ param (codes "L") [] ∷ []
+        in written (messages.Command verbs.Crcx 999999999 (codes "x") params (codes "v=0\r\n"))
+        ≡ codes "CRCX 999999999 x MGCP 1.0\r\nC: 1A\r\nL:\r\n\r\nv=0\r\n" }
+{}
+
 /// Codes up to 999, the ids, values of one line, and descriptions of whole lines can be written.
 pub fn some_messages_can_be_written()
     ensures smallest { is_writable_code 0 1 ≡ true }
@@ -159,6 +223,10 @@ pub fn some_messages_can_be_written()
     ensures empty_value { is_writable_with (codes "I") [] ≡ true }
     ensures inner_blanks { is_writable_with (codes "X-a+/9") (codes "a \tb\r") ≡ true }
     ensures description { is_writable_text (codes "v=0\r\n\r\nv=0\r\n") ≡ true }
+    ensures command { is_writable_command verbs.Ntfy 1 (codes "x") ≡ true }
+    ensures largest_command { is_writable_command verbs.Epcf 999999999 (codes "*@rgw.example.net") ≡ true }
+    ensures whole_command { is_writable (messages.Command verbs.Crcx 1 (codes "x")
+        (param (codes "C") (codes "1A") ∷ []) (codes "v=0\r\n")) ≡ true }
 {}
 
 /// What would be read as something else can't be written.
@@ -176,5 +244,13 @@ pub fn some_messages_cannot_be_written()
     ensures blanks { is_writable_text (codes "v=0 \r\n") ≡ false }
     ensures no_return { is_writable_text (codes "v=0\n") ≡ false }
     ensures empty_lines { is_writable_text (codes "\r\n\r\n") ≡ false }
-    ensures command { is_writable (messages.Command verbs.Auep 1 (codes "x") [] []) ≡ false }
+    ensures verb { is_writable_command verbs.Other 1 (codes "x") ≡ false }
+    ensures command_id { is_writable_command verbs.Ntfy 0 (codes "x") ≡ false }
+    ensures large_command_id { is_writable_command verbs.Ntfy 1000000000 (codes "x") ≡ false }
+    ensures no_name { is_writable_command verbs.Ntfy 1 [] ≡ false }
+    ensures two_words { is_writable_command verbs.Ntfy 1 (codes "x y") ≡ false }
+    ensures tab { is_writable_command verbs.Ntfy 1 (codes "x\t") ≡ false }
+    ensures two_lines { is_writable_command verbs.Ntfy 1 (codes "x\ny") ≡ false }
+    ensures command_param { is_writable (messages.Command verbs.Ntfy 1 (codes "x") (param [] [] ∷ []) []) ≡ false }
+    ensures command_description { is_writable (messages.Command verbs.Crcx 1 (codes "x") [] (codes ".\r\n")) ≡ false }
 {}

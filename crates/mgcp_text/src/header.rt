@@ -1,18 +1,27 @@
-//! The header line of a command (RFC 3435, 3.2.1).
+//! The header line of a command (RFC 3435, 3.2.1) and of a response (3.3).
 ghost use Rattle.std.specs.Prelude.{◌≡◌, map};
 ghost use Rattle.std.specs.List.{list_all};
 ghost use Rattle.std.specs.Char.{is_ascii_alphanumeric};
-ghost use Rattle.mgcp_text.specs.Header.{is_verb_word, verb_in, verb_of, command_verb, header_of, is_version};
+ghost use Rattle.mgcp_text.specs.Header.{is_verb_word, verb_in, verb_of, command_verb, return_code, start_of, header_of, is_version};
 ghost use Rattle.mg_bytes.specs.Words.{words as words_of};
 
 use crate::id::{TransactionId, id_of};
 use crate::message::Verb;
-use mg_bytes::{Words, same_no_case, words};
+use mg_bytes::{Words, decimal, same_no_case, words};
 
-/// How a command's header begins, and the words after the id.
+/// What the first word of a header says.
+#[derive(Clone, Copy, Debug, PartialEq, Eq)]
+pub enum Start {
+    /// A command begins, with this verb (RFC 3435, 3.2.1.1).
+    Command(Verb),
+    /// A response begins, with this return code (RFC 3435, 2.4 and 3.3).
+    Response(u16),
+}
+
+/// How a header begins, and the words after the id.
 #[derive(Drop)]
 pub struct Header<'a> {
-    pub verb: Verb,
+    pub start: Start,
     pub id: TransactionId,
     pub rest: Words<'a>,
 }
@@ -71,15 +80,39 @@ fn command_verb(word: &[u8]) -> Option<Verb>
     Some(verb_of(word))
 }
 
+// Three digits.
+fn return_code(word: &[u8]) -> Option<u16>
+    ensures { result ≡ return_code word.now }
+{
+    if word.len() != 3 {
+        return None;
+    }
+    let code = decimal(word)?;
+    Some(code as u16)
+}
+
+#[tactic(auto, unfolding(crate::specs::Header::start_of))]
+fn start_of(word: &[u8]) -> Option<Start>
+    ensures { result ≡ start_of word.now }
+{
+    match return_code(word) {
+        Some(code) => Some(Start::Response(code)),
+        None => {
+            let verb = command_verb(word)?;
+            Some(Start::Command(verb))
+        }
+    }
+}
+
 /// The header that a line is.
 #[tactic(auto, unfolding(crate::specs::Header::header_of))]
 pub fn header_of(line: &[u8]) -> Option<Header<'_>>
     ensures { result ≡ header_of (words_of line.now) }
 {
     let mut rest = words(line);
-    let verb = command_verb(rest.next()?)?;
+    let start = start_of(rest.next()?)?;
     let id = id_of(rest.next()?)?;
-    Some(Header { verb, id, rest })
+    Some(Header { start, id, rest })
 }
 
 /// Whether two words are the protocol and the version that this gateway speaks.

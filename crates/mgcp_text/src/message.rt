@@ -81,9 +81,9 @@ pub enum TextFault {
     OutOfMemory,
     /// It has no header, so there is no transaction to answer.
     NoHeader,
-    /// Its header has this id, and another protocol or version than this gateway's.
+    /// It is a command whose header has this id, and another protocol or version than this gateway's.
     BadVersion { id: TransactionId },
-    /// Its header has this id and lacks words, or a line before the first empty one isn't a parameter.
+    /// It is a command whose header has this id and lacks words, or a line before the first empty one isn't a parameter.
     BadBody { id: TransactionId },
 }
 

@@ -3,7 +3,7 @@ ghost use Rattle.std.specs.Prelude.{◌≡◌, None, Some, MatchOption, IfOk, op
 ghost use Rattle.std.specs.List.{list_all};
 ghost use Rattle.mgcp_text.specs.Message.{has_code, param_at};
 ghost use Rattle.mgcp_text.specs.Parameter.{is_code_byte, is_code, param_of};
-ghost use Rattle.mgcp_text.specs.Reading.{params_of};
+ghost use Rattle.mgcp_text.specs.Reading.{params_of, some_params_of};
 
 use crate::bytes::Bytes;
 use crate::message::{Param, Params};
@@ -66,6 +66,23 @@ pub fn params_of<'a>(
         }
     }
     Ok(Some(params))
+}
+
+/// The parameters of a response up to the first empty line: all of them are kept, and other lines are skipped.
+#[tactic(auto, unfolding(crate::specs::Reading::some_params_of))]
+pub fn some_params_of<'a>(alloc: Global, lines: &mut Lines<'a>) -> Result<Params<'a>, OutOfMemory>
+    ensures { IfOk result (λ params. some_params_of lines.old ≡ (params, lines.new)) }
+{
+    let mut params = Sequence::new(alloc);
+    while let Some(line) = lines.next() {
+        if line.is_empty() {
+            break;
+        }
+        if let Some(param) = param_of(line) {
+            params.push(param)?;
+        }
+    }
+    Ok(params)
 }
 
 fn has_code(param: &Param<'_>, code: &[u8]) -> bool

@@ -1,15 +1,16 @@
-//! What a text is read as (RFC 3435, 3.2).
+//! What a text is read as (RFC 3435, 3.2 and 3.3).
 ghost use Rattle.std.specs.Prelude.{◌≡◌, ◌≤◌, IfSome, List, ℕ};
 ghost use Rattle.mg_bytes.specs.Lines.{cut, TakesLine};
 ghost use Rattle.std.specs.List.{list_all};
-ghost use Rattle.mgcp_text.specs.Reading.{is_empty_line, skip_empty, description_of, Outcome, id_in, outcome_of, command_from, header_from, read_text};
+ghost use Rattle.mgcp_text.specs.Reading.{is_empty_line, skip_empty, description_of, Outcome, id_in, code_in, outcome_of, command_from, response_from, message_from, read_text};
 ghost use Rattle.mgcp_text.specs.Spelling.{Reads};
 
 use crate::bytes::Bytes;
-use crate::header::{Header, header_of, is_version};
-use crate::message::{Message, TextFault};
-use crate::parameter::params_of;
-use mg_bytes::{Lines, lines};
+use crate::header::{Header, Start, header_of, is_version};
+use crate::id::TransactionId;
+use crate::message::{Message, TextFault, Verb};
+use crate::parameter::{params_of, some_params_of};
+use mg_bytes::{Lines, Words, lines};
 use std::alloc::Global;
 
 // The next line that is not empty.
@@ -51,14 +52,13 @@ fn description_of(text: &[u8]) -> &[u8]
 #[tactic(auto, unfolding(crate::specs::Reading::command_from))]
 fn read_command<'a>(
     alloc: Global,
-    header: Header<'a>,
+    verb: Verb,
+    id: TransactionId,
+    mut words: Words<'a>,
     mut lines: Lines<'a>,
 ) -> Result<Message<'a>, TextFault>
-    ensures { IfSome (outcome_of result) (λ outcome.
-        outcome ≡ command_from header.entry.verb header.entry.id header.entry.rest lines.entry) }
+    ensures { IfSome (outcome_of result) (λ outcome. outcome ≡ command_from verb id words.entry lines.entry) }
 {
-    let (verb, id) = (header.verb, header.id);
-    let mut words = header.rest;
     let (Some(name), Some(protocol), Some(version)) = (words.next(), words.next(), words.next())
     else {
         return Err(TextFault::BadBody { id });
@@ -78,6 +78,40 @@ fn read_command<'a>(
     })
 }
 
+// The response of a header, whose parameters and description are among the lines after it.
+#[tactic(auto, unfolding(crate::specs::Reading::response_from))]
+fn read_response<'a>(
+    alloc: Global,
+    code: u16,
+    id: TransactionId,
+    mut lines: Lines<'a>,
+) -> Result<Message<'a>, TextFault>
+    ensures { IfSome (outcome_of result) (λ outcome. outcome ≡ response_from code id lines.entry) }
+{
+    let params = some_params_of(alloc, &mut lines)?;
+    let body = Bytes::of(description_of(lines.rest()));
+    Ok(Message::Response {
+        code,
+        id,
+        params,
+        body,
+    })
+}
+
+fn read_headed<'a>(
+    alloc: Global,
+    header: Header<'a>,
+    lines: Lines<'a>,
+) -> Result<Message<'a>, TextFault>
+    ensures { IfSome (outcome_of result) (λ outcome.
+        outcome ≡ message_from header.entry.start header.entry.id header.entry.rest lines.entry) }
+{
+    match header.start {
+        Start::Command(verb) => read_command(alloc, verb, header.id, header.rest, lines),
+        Start::Response(code) => read_response(alloc, code, header.id, lines),
+    }
+}
+
 #[tactic(auto, unfolding(crate::specs::Reading::read_text))]
 fn read_first(alloc: Global, text: &[u8]) -> Result<Message<'_>, TextFault>
     ensures { IfSome (outcome_of result) (λ outcome. outcome ≡ read_text text.now) }
@@ -89,13 +123,13 @@ fn read_first(alloc: Global, text: &[u8]) -> Result<Message<'_>, TextFault>
     let Some(header) = header_of(line) else {
         return Err(TextFault::NoHeader);
     };
-    read_command(alloc, header, rest)
+    read_headed(alloc, header, rest)
 }
 
-/// Reads the message that a text spells (RFC 3435, 3.2).
+/// Reads the message that a text spells (RFC 3435, 3.2 and 3.3).
 ///
 /// Empty lines before it are skipped, the next line is the header, then come parameter lines, and after an
-/// empty line the description. So far a text that begins as a response has no header.
+/// empty line the description. In a response lines that are no parameters are skipped.
 pub fn read_message(alloc: Global, text: &[u8]) -> Result<Message<'_>, TextFault>
     // Unless memory is refused: a message exactly where the text spells it, each fault exactly where it is read so.
     ensures reads { IfSome (outcome_of result) (Reads text.now) }
@@ -114,4 +148,9 @@ pub fn one_reading()
 /// What is read has a transaction id from 1 to 999,999,999, if it has one (RFC 3435, 3.2.1.2).
 pub fn ids_are_in_their_bounds()
     ensures { (text : List ℕ) → IfSome (id_in (read_text text)) (λ id. (1 ≤ id) × (id ≤ 999999999)) }
+{}
+
+/// The return code of a response that is read has three digits (RFC 3435, 2.4).
+pub fn return_codes_are_in_their_bounds()
+    ensures { (text : List ℕ) → IfSome (code_in (read_text text)) (λ code. code ≤ 999) }
 {}

@@ -1,4 +1,4 @@
-//! How a message is written (RFC 3435, 3.3).
+//! How a message is written (RFC 3435, 3.2 and 3.3).
 ghost use Rattle.std.specs.Prelude.{◌≡◌, ◌++◌, ◌-◌, ◌≤◌, true, false, List, length, slice_index, ℕ, ◌≢◌, IsTrue, IfOk, OnOk, MatchOption};
 ghost use Rattle.std.specs.Str.{bytes_eq};
 ghost use Rattle.std.specs.List.{list_all, list_any, flat_map};
@@ -8,16 +8,54 @@ ghost use Rattle.mgcp_text.specs.declared.message.Param.{Param};
 ghost use Rattle.mgcp_text.specs.Parameter.{is_code};
 ghost use Rattle.mgcp_text.specs.declared.message.Message.{Message};
 ghost use Rattle.mgcp_text.specs.declared.message.Message.TheVariants as messages;
-ghost use Rattle.mgcp_text.specs.Reading.{is_empty_line};
-ghost use Rattle.mgcp_text.specs.Writing.{code_text, comment, response_line, param_line, ended, body_text, written, is_writable_param, is_writable_body, is_writable};
+ghost use Rattle.mgcp_text.specs.Reading.{is_empty_line, message, read_text};
+ghost use Rattle.mgcp_text.specs.Spelling.{Reads};
+ghost use Rattle.mgcp_text.specs.Writing.{verb_text, command_line, code_text, comment, response_line, param_line, ended, body_text, text_with, written};
+ghost use Rattle.mgcp_text.specs.Writing.{is_id, is_known, is_writable_name, is_writable_param, is_writable_body, is_writable};
 
 use crate::bytes::Bytes;
 use crate::id::TransactionId;
-use crate::message::{Message, Param};
+use crate::message::{Message, Param, Verb};
 use crate::parameter::is_code;
 use crate::reading::has_only_empty_lines;
 use mg_bytes::{OutOfMemory, Text, has_dot_line, lines, put_decimal, trimmed};
 use std::alloc::Global;
+
+fn verb_text(verb: Verb) -> &'static [u8]
+    ensures { result.now ≡ verb_text verb }
+{
+    match verb {
+        Verb::Epcf => b"EPCF",
+        Verb::Rqnt => b"RQNT",
+        Verb::Ntfy => b"NTFY",
+        Verb::Crcx => b"CRCX",
+        Verb::Mdcx => b"MDCX",
+        Verb::Dlcx => b"DLCX",
+        Verb::Auep => b"AUEP",
+        Verb::Aucx => b"AUCX",
+        Verb::Rsip => b"RSIP",
+        Verb::Other => b"",
+    }
+}
+
+#[tactic(auto, unfolding(crate::specs::Writing::command_line))]
+fn put_command_line(
+    alloc: Global,
+    out: &mut Vec<u8>,
+    verb: Verb,
+    id: TransactionId,
+    name: &[u8],
+) -> Result<(), OutOfMemory>
+    ensures { OnOk result (out.new.items ≡ out.old.items ++ ended (command_line verb id name.now)) }
+{
+    out.extend_from_slice(verb_text(verb))?;
+    out.push(b' ')?;
+    put_decimal(alloc, out, u64::from(id.number()))?;
+    out.push(b' ')?;
+    out.extend_from_slice(name)?;
+    out.extend_from_slice(b" MGCP 1.0\r\n")?;
+    Ok(())
+}
 
 fn put_code(out: &mut Vec<u8>, code: u16) -> Result<(), OutOfMemory>
     requires { code ≤ 999 }
@@ -95,6 +133,33 @@ fn put_body(out: &mut Vec<u8>, body: &[u8]) -> Result<(), OutOfMemory>
     Ok(())
 }
 
+// The text of a message whose header line is out already.
+fn with_lines(mut out: Vec<u8>, params: &[Param<'_>], body: &[u8]) -> Result<Text, OutOfMemory>
+    ensures { IfOk result (λ text. text
+        ≡ out.items ++ flat_map (λ param. ended (param_line param)) params.now ++ body_text body.now) }
+{
+    put_params(&mut out, params)?;
+    put_body(&mut out, body)?;
+    Ok(Text::of(out))
+}
+
+// The text of a command.
+#[tactic(auto, unfolding(crate::specs::Writing::written))]
+fn command_text(
+    alloc: Global,
+    verb: Verb,
+    id: TransactionId,
+    name: &[u8],
+    params: &[Param<'_>],
+    body: &[u8],
+) -> Result<Text, OutOfMemory>
+    ensures { IfOk result (λ text. text ≡ written (messages.Command verb id name.now params.now body.now)) }
+{
+    let mut out = Vec::new(alloc);
+    put_command_line(alloc, &mut out, verb, id, name)?;
+    with_lines(out, params, body)
+}
+
 /// The text of a response.
 #[tactic(auto, unfolding(crate::specs::Writing::written))]
 pub(crate) fn response_text(
@@ -109,15 +174,11 @@ pub(crate) fn response_text(
 {
     let mut out = Vec::new(alloc);
     put_response_line(alloc, &mut out, code, id)?;
-    put_params(&mut out, params)?;
-    put_body(&mut out, body.as_slice())?;
-    Ok(Text::of(out))
+    with_lines(out, params, body.as_slice())
 }
 
-/// The text of a message (RFC 3435, 3.3): each line with CRLF, single spaces between the words of its own.
-/// So far it writes responses.
-#[tactic(auto, unfolding(crate::specs::Writing::written, crate::specs::Writing::is_writable))]
-pub fn write_message(alloc: Global, said: &Message<'_>) -> Result<Text, OutOfMemory>
+#[tactic(auto, unfolding(crate::specs::Writing::is_writable))]
+fn message_text(alloc: Global, said: &Message<'_>) -> Result<Text, OutOfMemory>
     requires { IsTrue (is_writable said.now) }
     ensures { IfOk result (λ text. text ≡ written said.now) }
 {
@@ -128,8 +189,27 @@ pub fn write_message(alloc: Global, said: &Message<'_>) -> Result<Text, OutOfMem
             params,
             body,
         } => response_text(alloc, *code, *id, params.as_slice(), body),
-        Message::Command { .. } => Ok(Text::of(Vec::new(alloc))),
+        Message::Command {
+            verb,
+            id,
+            name,
+            params,
+            body,
+        } => {
+            let (name, body) = (name.as_slice(), body.as_slice());
+            command_text(alloc, *verb, *id, name, params.as_slice(), body)
+        }
     }
+}
+
+/// The text of a message (RFC 3435, 3.2 and 3.3): each line with CRLF, single spaces between the words of its own.
+pub fn write_message(alloc: Global, said: &Message<'_>) -> Result<Text, OutOfMemory>
+    requires { IsTrue (is_writable said.now) }
+    ensures form { IfOk result (λ text. text ≡ written said.now) }
+    // It is read as the same message.
+    ensures reads { IfOk result (λ text. Reads text (message said.now)) }
+{
+    message_text(alloc, said)
 }
 
 fn has_line_feed(text: &[u8]) -> bool
@@ -194,23 +274,66 @@ fn is_writable_body(body: &[u8]) -> bool
     is_ended_lines(body) && !has_only_empty_lines(body) && !has_dot_line(body)
 }
 
-/// Whether a message can be written: a response with a code up to 999, whose parameters have a code and a value
-/// of one line without blanks round it, and whose description is nothing, or lines with CRLF without blanks at
-/// their ends, not all of them empty and none of them a single dot.
+#[tactic(auto, unfolding(crate::specs::Writing::is_id))]
+fn is_id(id: TransactionId) -> bool
+    ensures { result ≡ is_id id }
+{
+    let number = id.number();
+    number >= 1 && number <= 999_999_999
+}
+
+fn is_known(verb: Verb) -> bool
+    ensures { result ≡ is_known verb }
+{
+    match verb {
+        Verb::Other => false,
+        _ => true,
+    }
+}
+
+fn has_blank(text: &[u8]) -> bool
+    ensures { result ≡ list_any is_blank text.now }
+{
+    text.iter().any(|byte| *byte == b' ' || *byte == b'\t')
+}
+
+fn is_writable_name(name: &[u8]) -> bool
+    ensures { result ≡ is_writable_name name.now }
+{
+    !name.is_empty() && !has_blank(name) && !has_line_feed(name)
+}
+
+/// Whether a message can be written: a command whose verb isn't `Other` and whose name is one word, or a response with a
+/// code up to 999; their parameters have a code and a value of one line without blanks round it, and their description is
+/// nothing, or lines with CRLF without blanks at their ends, not all of them empty and none of them a single dot.
 #[tactic(auto, unfolding(crate::specs::Writing::is_writable))]
 pub fn is_writable(said: &Message<'_>) -> bool
     ensures { result ≡ is_writable said.now }
 {
     match said {
-        Message::Command { .. } => false,
+        Message::Command {
+            verb,
+            id,
+            name,
+            params,
+            body,
+        } => {
+            is_known(*verb)
+                && is_id(*id)
+                && is_writable_name(name.as_slice())
+                && all_writable(params.as_slice())
+                && is_writable_body(body.as_slice())
+        }
         Message::Response {
             code,
             id,
             params,
             body,
         } => {
-            let _number = id.number();
-            *code <= 999 && all_writable(params.as_slice()) && is_writable_body(body.as_slice())
+            is_id(*id)
+                && *code <= 999
+                && all_writable(params.as_slice())
+                && is_writable_body(body.as_slice())
         }
     }
 }
@@ -227,4 +350,9 @@ pub fn what_is_written_is_whole_lines()
     ensures ends { (said : Message) → is_writable said ≡ true →
         is_line_feed (slice_index (written said) (length (written said) - 1)) ≡ true }
     ensures apart { (said : Message) → is_writable said ≡ true → list_any is_dot_line (cut (written said)) ≡ false }
+{}
+
+/// What is written of a message that can be written is read as the same message (RFC 3435, 3.2 and 3.3).
+pub fn what_is_written_is_read_again()
+    ensures { (said : Message) → is_writable said ≡ true → read_text (written said) ≡ message said }
 {}

@@ -1,0 +1,31 @@
+-- What a digit map is read as: its text without blanks, or the first fault.
+use Rattle.std.specs.Prelude.{◌≡◌, ⊤, ℕ, nat_le, not, List, [], ◌∷◌, length, filter, Option, Result, Ok, Err}
+use Rattle.mg_bytes.specs.Blanks.{is_blank}
+use Rattle.mg_bytes.specs.Checks.{unless, first_fault, checked}
+use Rattle.digit_map.specs.declared.fault.MapFault.{MapFault}
+use Rattle.digit_map.specs.declared.fault.MapFault.TheVariants.{OutOfMemory, Syntax, TooLarge}
+use Rattle.digit_map.specs.Spelling.{is_map}
+
+-- the most bytes of a map without its blanks (this gateway's profile)
+abbrev pub most_bytes : ℕ
+most_bytes = 2048
+
+-- blanks may stand anywhere, and mean nothing
+abbrev pub without_blanks : List ℕ → List ℕ
+without_blanks text = filter (λ b. not (is_blank b)) text
+
+-- the first fault of a text without blanks: it is no map, or it is too long
+abbrev pub fault_of : List ℕ → Option MapFault
+fault_of text =
+    first_fault (unless (is_map text) Syntax ∷ unless (nat_le (length text) most_bytes) TooLarge ∷ [])
+
+-- the map that a text is read as
+unfoldable pub map_of : List ℕ → Result (List ℕ) MapFault
+map_of text = checked (fault_of (without_blanks text)) (Ok (without_blanks text))
+
+-- the map or the fault is what is said, unless memory was refused
+abbrev pub AnswersAs : Result (List ℕ) MapFault → Result (List ℕ) MapFault → Type 0
+AnswersAs said (Ok map) = said ≡ Ok map
+AnswersAs said (Err OutOfMemory) = ⊤
+AnswersAs said (Err Syntax) = said ≡ Err Syntax
+AnswersAs said (Err TooLarge) = said ≡ Err TooLarge

@@ -1,0 +1,43 @@
+-- What is done at an event (RFC 3435, 2.3.3 and 4.4.1).
+use Rattle.std.specs.Prelude.{Bool, false, ◌||◌, if◌then◌else◌, List, Option, Some, None, find}
+use Rattle.std.specs.List.{list_any}
+use Rattle.mg_packages.specs.declared.event.Event.{Event}
+use Rattle.mg_packages.specs.Looking.{is_persistent}
+use Rattle.event_syntax.specs.declared.events.Events.{Events}
+use Rattle.event_syntax.specs.declared.observed.Observed.{Observed}
+use Rattle.event_syntax.specs.declared.request.Action.TheVariants.{Notify, Ignore}
+use Rattle.event_syntax.specs.declared.request.RequestedEvent.{RequestedEvent}
+use Rattle.event_syntax.specs.declared.request.Response.{Response}
+use Rattle.event_syntax.specs.declared.request.Response.TheVariants.{Plain}
+use Rattle.event_requests.specs.Requests.{EventRequests}
+use Rattle.event_requests.specs.Naming.{names, event_of}
+
+-- the response to an event, and whether the active signals go on
+pub record Chosen : Type 0 where
+  pub response : Response
+  pub keep : Bool
+
+-- where no entry names it, a persistent event is notified, and nothing is done at another
+abbrev pub unasked : Event → Chosen
+unasked event = record { response = Plain (if is_persistent event then Notify else Ignore); keep = false }
+
+abbrev pub chosen_by : Event → Option RequestedEvent → Chosen
+chosen_by event None = unasked event
+chosen_by event (Some entry) = record { response = entry.response; keep = entry.keep }
+
+-- what the first entry says that names the event
+unfoldable pub chosen : List RequestedEvent → Event → Chosen
+chosen requested event = chosen_by event (find (λ entry. names entry.events event) requested)
+
+-- whether some entry of R names an event, and of T
+abbrev pub is_requested : List RequestedEvent → Event → Bool
+is_requested requested event = list_any (λ entry. names entry.events event) requested
+
+abbrev pub is_detected : List Events → Event → Bool
+is_detected detected event = list_any (λ events. names events event) detected
+
+-- whether an event is kept while it can't occur: R or T names it, or it is persistent
+unfoldable pub is_kept : EventRequests → Observed → Bool
+is_kept asked observed =
+    is_requested asked.requested (event_of observed) || is_detected asked.detected (event_of observed)
+    || is_persistent (event_of observed)

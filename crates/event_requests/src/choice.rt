@@ -1,0 +1,66 @@
+//! Which entry an event meets.
+ghost use Rattle.std.specs.Prelude.{◌≡◌};
+ghost use Rattle.event_requests.specs.Choice.{chosen, unasked, is_requested, is_detected};
+ghost use Rattle.event_requests.specs.Deciding.{response_of, seen};
+
+use crate::decision::{Decision, Doing};
+use crate::naming::names;
+use event_syntax::{Action, Events, RequestedEvent, Response};
+use mg_packages::{Event, is_persistent};
+
+/// Whether some entry of R names an event.
+pub(crate) fn is_requested(entries: &[RequestedEvent], event: Event) -> bool
+    ensures { result ≡ is_requested entries.now event }
+{
+    entries.iter().any(|entry| names(entry.events, event))
+}
+
+/// Whether some entry of T names an event.
+pub(crate) fn is_detected(entries: &[Events], event: Event) -> bool
+    ensures { result ≡ is_detected entries.now event }
+{
+    entries.iter().any(|events| names(*events, event))
+}
+
+/// Without an entry a persistent event is notified, and nothing is done at another.
+pub(crate) fn unasked<'a>(event: Event) -> Decision<'a>
+    ensures { seen result ≡ unasked event }
+{
+    let action = if is_persistent(event) {
+        Action::Notify
+    } else {
+        Action::Ignore
+    };
+    Decision {
+        doing: Doing::Plain(action),
+        keep: false,
+    }
+}
+
+fn doing(response: &Response) -> Doing<'_>
+    ensures { response_of result ≡ response.now }
+{
+    match response {
+        Response::Plain(action) => Doing::Plain(*action),
+        Response::Embed(embedding) => Doing::Embed(embedding),
+        Response::AccumulateAndEmbed(embedding) => Doing::AccumulateAndEmbed(embedding),
+    }
+}
+
+/// What the first entry of R says that names an event.
+#[tactic(auto, unfolding(crate::specs::Choice::chosen))]
+pub(crate) fn decided(entries: &[RequestedEvent], event: Event) -> Decision<'_>
+    ensures { seen result ≡ chosen entries.now event }
+{
+    let mut rest = entries;
+    while let [entry, after @ ..] = rest {
+        if names(entry.events, event) {
+            return Decision {
+                doing: doing(&entry.response),
+                keep: entry.keep,
+            };
+        }
+        rest = after;
+    }
+    unasked(event)
+}

@@ -1,0 +1,60 @@
+//! Whether a request needs a digit map that isn't there.
+ghost use Rattle.std.specs.Prelude.{◌≡◌, map};
+ghost use Rattle.event_requests.specs.Requests.{entry_in};
+ghost use Rattle.std.specs.List.{list_any};
+ghost use Rattle.event_requests.specs.Maps.{is_dial, embedded_lacks_map, response_lacks_map, lacks_map};
+
+use event_syntax::{Action, EmbeddedEvent, EmbeddedRequest, RequestedEvent, Response};
+
+fn is_dial(action: Action) -> bool
+    ensures { result ≡ is_dial action }
+{
+    matches!(action, Action::Dial)
+}
+
+fn any_dials(entries: &[EmbeddedEvent]) -> bool
+    ensures { result ≡ list_any (λ entry. is_dial entry.action) entries.now }
+{
+    entries.iter().any(|entry| is_dial(entry.action))
+}
+
+fn embedded_lacks_map(known: bool, request: &EmbeddedRequest) -> bool
+    ensures { result ≡ embedded_lacks_map known request.now }
+{
+    !(request.map.is_some() || known) && any_dials(request.events.as_slice())
+}
+
+fn response_lacks_map(known: bool, response: &Response) -> bool
+    ensures { result ≡ response_lacks_map known response.now }
+{
+    match response {
+        Response::Plain(action) => !known && is_dial(*action),
+        Response::Embed(embedding) => embedded_lacks_map(known, embedding.request()),
+        Response::AccumulateAndEmbed(embedding) => embedded_lacks_map(known, embedding.request()),
+    }
+}
+
+/// Whether some entry of R, or of a request that is embedded there, has the action D where there is no digit map for it.
+#[tactic(auto, unfolding(crate::specs::Maps::lacks_map))]
+pub(crate) fn lacks_map(known: bool, requested: &[RequestedEvent]) -> bool
+    ensures { result ≡ lacks_map known requested.now }
+{
+    requested
+        .iter()
+        .any(|entry| response_lacks_map(known, &entry.response))
+}
+
+/// The same of the R of an embedded request.
+#[tactic(auto, unfolding(crate::specs::Maps::lacks_map))]
+pub(crate) fn embedded_lacks(known: bool, requested: &[EmbeddedEvent]) -> bool
+    ensures { result ≡ lacks_map known (map entry_in requested.now) }
+{
+    let mut rest = requested;
+    while let [entry, after @ ..] = rest {
+        if !known && is_dial(entry.action) {
+            return true;
+        }
+        rest = after;
+    }
+    false
+}

@@ -1,0 +1,12 @@
+use Rattle.std.proofs.Common.{◌≡◌, ◌+◌, ◌≤◌, length}
+use Rattle.event_syntax.specs.Cuts.{entries}
+use Rattle.event_syntax.specs.Faults.{each}
+use Rattle.event_syntax.specs.Embedding.{embedded_event}
+use Rattle.event_syntax.proofs.EachLemmas.{put_before}
+use Rattle.event_syntax.proofs.embedded.each_event.Given as goal
+
+abbrev pub invariant-loop-entry : goal.invariant-loop-entry
+invariant-loop-entry l = record {
+  whole : put_before l.events (each embedded_event l.entry-iterator) ≡ each embedded_event (entries l.value);
+  room : length l.events + length l.entry-iterator ≤ 32;
+}

@@ -1,0 +1,147 @@
+-- The value of R (RFC 3435, 2.3.3): what it is read as, and how it is written.
+use Rattle.std.specs.Prelude.{ℕ, nat_le, Bool, true, false, ◌&&◌, if◌then◌else◌, List, [], ◌∷◌, ◌++◌, length, map, codes, Option, Some, None, Result, Ok, Err}
+use Rattle.std.specs.List.{list_all, join_with_byte}
+use Rattle.std.specs.Str.{bytes_eq}
+use Rattle.mg_bytes.specs.Bytes.{comma}
+use Rattle.digit_map.specs.declared.fault.MapFault.{MapFault}
+use Rattle.digit_map.specs.Reading.{map_of}
+use Rattle.event_syntax.specs.declared.request.Action.{Action}
+use Rattle.event_syntax.specs.declared.request.Action.TheVariants.{Notify, Accumulate, Dial, Ignore}
+use Rattle.event_syntax.specs.declared.request.EmbeddedEvent.{EmbeddedEvent}
+use Rattle.event_syntax.specs.declared.request.EmbeddedRequest.{EmbeddedRequest}
+use Rattle.event_syntax.specs.declared.request.Response.{Response}
+use Rattle.event_syntax.specs.declared.request.Response.TheVariants.{Plain, Embed, AccumulateAndEmbed}
+use Rattle.event_syntax.specs.declared.request.RequestedEvent.{RequestedEvent}
+use Rattle.event_syntax.specs.declared.signals.SignalRequest.{SignalRequest}
+use Rattle.event_syntax.specs.Faults.{◌>>=◌, each_up_to}
+use Rattle.event_syntax.specs.Cuts.{left_parenthesis, right_parenthesis, entries}
+use Rattle.event_syntax.specs.RequestSpelling.{are_requested}
+use Rattle.event_syntax.specs.Signals.{signals_text, are_writable_signals}
+use Rattle.event_syntax.specs.Events.{events_text, is_writable}
+use Rattle.event_syntax.specs.Detect.{most_events}
+use Rattle.event_syntax.specs.Actions.{Deed, plain, embed, accumulate_and_embed, Rule, rule_of, takes}
+use Rattle.event_syntax.specs.Embedding.{embedded_in}
+
+-- Reading
+
+abbrev pub requested_by : Rule → Response → RequestedEvent
+requested_by rule response = record { events = rule.events; response = response; keep = rule.keep }
+
+-- what is embedded is read behind all that the entry says itself
+abbrev pub response_of : Deed → Result Response ℕ
+response_of (plain action) = Ok (Plain action)
+response_of (embed inside) = embedded_in inside >>= λ request. Ok (Embed request)
+response_of (accumulate_and_embed inside) = embedded_in inside >>= λ request. Ok (AccumulateAndEmbed request)
+
+-- an entry
+unfoldable pub requested : List ℕ → Result RequestedEvent ℕ
+requested entry = do
+  rule ← rule_of entry
+  response ← response_of rule.deed
+  Ok (requested_by rule response)
+
+-- the entries of a value that is spelled
+unfoldable pub requested_in : List ℕ → Result (List RequestedEvent) ℕ
+requested_in value = each_up_to most_events requested (entries value)
+
+-- the value, or the code of its first fault
+unfoldable pub requested_of : List ℕ → Result (List RequestedEvent) ℕ
+requested_of value = if are_requested value then requested_in value else Err 510
+
+-- Writing
+
+abbrev pub action_text : Action → List ℕ
+action_text Notify = codes "N"
+action_text Accumulate = codes "A"
+action_text Dial = codes "D"
+action_text Ignore = codes "I"
+
+abbrev pub keep_text : Bool → List (List ℕ)
+keep_text keep = if keep then codes "K" ∷ [] else []
+
+abbrev pub in_parentheses : List ℕ → List ℕ
+in_parentheses text = left_parenthesis ∷ (text ++ right_parenthesis ∷ [])
+
+abbrev pub listed : List (List ℕ) → List ℕ
+listed texts = join_with_byte comma texts
+
+-- an entry of an embedded R: the events, and in parentheses what is done
+unfoldable pub embedded_event_text : EmbeddedEvent → List ℕ
+embedded_event_text entry =
+    events_text entry.events ++ in_parentheses (listed (action_text entry.action ∷ keep_text entry.keep))
+
+-- the parts R and S where they aren't empty, and D where there is a map
+abbrev pub events_part : List EmbeddedEvent → List (List ℕ)
+events_part [] = []
+events_part (entry ∷ rest) =
+    (codes "R" ++ in_parentheses (listed (map embedded_event_text (entry ∷ rest)))) ∷ []
+
+abbrev pub signals_part : List SignalRequest → List (List ℕ)
+signals_part [] = []
+signals_part (signal ∷ rest) = (codes "S" ++ in_parentheses (signals_text (signal ∷ rest))) ∷ []
+
+abbrev pub map_part : Option (List ℕ) → List (List ℕ)
+map_part None = []
+map_part (Some text) = (codes "D" ++ in_parentheses text) ∷ []
+
+abbrev pub parts_text : EmbeddedRequest → List (List ℕ)
+parts_text request = events_part request.events ++ (signals_part request.signals ++ map_part request.map)
+
+unfoldable pub embedded_text : EmbeddedRequest → List ℕ
+embedded_text request = codes "E" ++ in_parentheses (listed (parts_text request))
+
+-- what is done: N, A, D or I, A before E; K comes last
+abbrev pub actions_text : Response → List (List ℕ)
+actions_text (Plain action) = action_text action ∷ []
+actions_text (Embed request) = embedded_text request ∷ []
+actions_text (AccumulateAndEmbed request) = codes "A" ∷ embedded_text request ∷ []
+
+-- an entry: the events, and in parentheses what is done
+unfoldable pub requested_entry_text : RequestedEvent → List ℕ
+requested_entry_text entry =
+    events_text entry.events ++ in_parentheses (listed (actions_text entry.response ++ keep_text entry.keep))
+
+-- the value: entries with commas between them
+unfoldable pub requested_text : List RequestedEvent → List ℕ
+requested_text list = listed (map requested_entry_text list)
+
+-- What can be written so that it is read again: the events take what is done, and what is embedded holds something
+
+abbrev pub is_writable_embedded_event : EmbeddedEvent → Bool
+is_writable_embedded_event entry = is_writable entry.events && takes entry.events (plain entry.action)
+
+abbrev pub is_same_map : List ℕ → Result (List ℕ) MapFault → Bool
+is_same_map text (Ok read) = bytes_eq read text
+is_same_map text (Err fault) = false
+
+-- a map is its text without blanks
+abbrev pub is_writable_map : Option (List ℕ) → Bool
+is_writable_map None = true
+is_writable_map (Some text) = is_same_map text (map_of text)
+
+abbrev pub is_something : List (List ℕ) → Bool
+is_something [] = false
+is_something (part ∷ parts) = true
+
+abbrev pub is_writable_request : EmbeddedRequest → Bool
+is_writable_request request =
+    nat_le (length request.events) most_events && list_all is_writable_embedded_event request.events
+    && are_writable_signals request.signals && is_writable_map request.map && is_something (parts_text request)
+
+abbrev pub is_writable_response : Response → Bool
+is_writable_response (Plain action) = true
+is_writable_response (Embed request) = is_writable_request request
+is_writable_response (AccumulateAndEmbed request) = is_writable_request request
+
+-- what is done, by whatever is embedded
+abbrev pub deed_in : Response → Deed
+deed_in (Plain action) = plain action
+deed_in (Embed request) = embed []
+deed_in (AccumulateAndEmbed request) = accumulate_and_embed []
+
+abbrev pub is_writable_entry : RequestedEvent → Bool
+is_writable_entry entry =
+    is_writable entry.events && takes entry.events (deed_in entry.response) && is_writable_response entry.response
+
+unfoldable pub are_writable_requested : List RequestedEvent → Bool
+are_writable_requested list = nat_le (length list) most_events && list_all is_writable_entry list

@@ -1,0 +1,137 @@
+//! The events to look for while a notification isn't answered: the value of T (RFC 3435, 2.3.3).
+ghost use Rattle.std.specs.Prelude.{◌≡◌, ◌≤◌, length, true, IfOk};
+ghost use Rattle.mg_bytes.specs.CodeFault.{AnswersAs, answer_of};
+ghost use Rattle.event_syntax.specs.Cuts.{entries};
+ghost use Rattle.event_syntax.specs.Faults.{each};
+ghost use Rattle.event_syntax.specs.Detect.{detected, detected_in, detected_of, detected_text, are_writable_events};
+
+use crate::cut::entries;
+use crate::events::{Events, events_called, put_events};
+use crate::form::{Inside, form_of};
+use crate::spelling::{are_detected, has_at_most};
+use arrayvec::ArrayVec;
+use mg_bytes::{CodeFault, OutOfMemory, Text};
+use std::alloc::Global;
+use std::marker::Model;
+
+/// The most entries that T and R may have.
+pub(crate) const MOST_EVENTS: usize = 32;
+
+/// The entries of T, at most 32. A contract sees their list.
+#[derive(Drop)]
+pub struct DetectedEvents {
+    list: ArrayVec<Events, 32>,
+}
+
+impl Model for DetectedEvents {
+    ghost use Rattle.std.specs.Prelude.{◌≤◌, List, length};
+    ghost use Rattle.event_syntax.specs.declared.events.Events.{Events};
+
+    ghost Value = { List Events };
+
+    ghost view = { λ d. d.list.items };
+
+    ghost invariant = { λ d. length d.list.items ≤ 32 };
+}
+
+impl DetectedEvents {
+    ghost use Rattle.std.specs.Prelude.{◌≡◌, ◌<◌, ◌≤◌, ◌++◌, ◌∷◌, [], length};
+
+    /// No entries.
+    pub fn new() -> Self
+        ensures { result ≡ [] }
+    {
+        DetectedEvents {
+            list: ArrayVec::new(),
+        }
+    }
+
+    /// Adds an entry at the end; there are fewer than 32 before.
+    pub fn push(&mut self, events: Events)
+        requires { length self.old < 32 }
+        ensures { self.new ≡ self.old ++ events ∷ [] }
+    {
+        self.list.push(events);
+    }
+
+    /// The entries.
+    pub fn as_slice(&self) -> &[Events]
+        ensures value { result.now ≡ self.now }
+        ensures few { length result.now ≤ 32 }
+    {
+        self.list.as_slice()
+    }
+}
+
+#[tactic(auto, unfolding(crate::specs::Detect::detected))]
+fn detected(entry: &[u8]) -> Result<Events, u16>
+    ensures { result ≡ detected entry.now }
+{
+    let Some(form) = form_of(entry) else {
+        return Err(510);
+    };
+    let events = events_called(form.head)?;
+    match form.inside {
+        Inside::Nothing => Ok(events),
+        Inside::Single(_) | Inside::Double(_, _) => Err(538),
+    }
+}
+
+fn each_detected(value: &[u8]) -> Result<DetectedEvents, u16>
+    requires { length (entries value.now) ≤ 32 }
+    ensures { result ≡ each detected (entries value.now) }
+{
+    let mut list = DetectedEvents::new();
+    for entry in entries(value) {
+        list.push(detected(entry)?);
+    }
+    Ok(list)
+}
+
+// The entries of a value that is spelled.
+#[tactic(auto, unfolding(crate::specs::Detect::detected_in))]
+fn detected_in(value: &[u8]) -> Result<DetectedEvents, u16>
+    ensures { result ≡ detected_in value.now }
+{
+    if !has_at_most(value, MOST_EVENTS) {
+        return Err(502);
+    }
+    each_detected(value)
+}
+
+/// The value of T (RFC 3435, 2.3.3): entries with commas between them, each `[package/]name`, `package/all`, or in D a
+/// range or `X`; an empty value is an empty list.
+///
+/// A fault is a return code: 510 where the value isn't spelled so; else 502 for more than 32 entries; else that of the
+/// first entry with a fault: 518 for its package, 512 for `@`, 522 or 512 for its name, 538 for parameters, which no
+/// event takes. It takes no memory, so it is never refused any.
+#[tactic(auto, unfolding(crate::specs::Detect::detected_of))]
+pub fn read_detect(value: &[u8]) -> Result<DetectedEvents, CodeFault>
+    ensures value { result ≡ answer_of (detected_of value.now) }
+    ensures answers { AnswersAs (detected_of value.now) result }
+    // What is read can be written.
+    ensures writable { IfOk result (λ list. are_writable_events list ≡ true) }
+{
+    if !are_detected(value) {
+        return Err(CodeFault::Code(510));
+    }
+    match detected_in(value) {
+        Ok(list) => Ok(list),
+        Err(code) => Err(CodeFault::Code(code)),
+    }
+}
+
+/// The written form of T (RFC 3435, 2.3.3): the entries with commas between them, each with its package, letters of D as
+/// one or in brackets without spans, and nothing blank. An error is for want of memory only.
+pub fn write_detect(alloc: Global, list: &[Events]) -> Result<Text, OutOfMemory>
+    ensures { IfOk result (λ text. text ≡ detected_text list.now) }
+{
+    let mut out = Vec::new(alloc);
+    for (place, events) in list.iter().enumerate() {
+        if place > 0 {
+            out.push(b',')?;
+        }
+        put_events(&mut out, *events)?;
+    }
+    Ok(Text::of(out))
+}

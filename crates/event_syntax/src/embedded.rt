@@ -1,0 +1,124 @@
+//! Embedded requests: what stands in the parentheses of E.
+ghost use Rattle.std.specs.Prelude.{◌≡◌, ◌≤◌, length};
+ghost use Rattle.event_syntax.specs.Cuts.{entries};
+ghost use Rattle.event_syntax.specs.Faults.{each, each_up_to};
+ghost use Rattle.event_syntax.specs.Detect.{most_events};
+ghost use Rattle.event_syntax.specs.Embedding.{embedded_event, map_from, with_part_named};
+ghost use Rattle.event_syntax.specs.Embedding.{with_part, embedded_in, Gives};
+ghost use Rattle.digit_map.specs.Reading.{map_of};
+
+use crate::cut::{entries, items};
+use crate::detect::MOST_EVENTS;
+use crate::form::{Inside, form_of};
+use crate::request::{EmbeddedEvent, EmbeddedEvents, EmbeddedRequest};
+use crate::rule::{Deed, rule_of};
+use crate::signals::{SignalRequests, signals_in};
+use crate::spelling::has_at_most;
+use digit_map::{MapFault, MapText, read_map};
+use mg_bytes::{CodeFault, same_no_case};
+use std::alloc::Global;
+
+// An entry of R, where no request can be embedded once more.
+#[tactic(auto, unfolding(crate::specs::Embedding::embedded_event))]
+fn embedded_event(entry: &[u8]) -> Result<EmbeddedEvent, u16>
+    ensures { result ≡ embedded_event entry.now }
+{
+    let rule = rule_of(entry)?;
+    match rule.deed {
+        Deed::Plain(action) => Ok(EmbeddedEvent {
+            events: rule.events,
+            action,
+            keep: rule.keep,
+        }),
+        Deed::Embed(_) | Deed::AccumulateAndEmbed(_) => Err(523),
+    }
+}
+
+fn each_event(value: &[u8]) -> Result<EmbeddedEvents, u16>
+    requires { length (entries value.now) ≤ 32 }
+    ensures { result ≡ each embedded_event (entries value.now) }
+{
+    let mut events = EmbeddedEvents::new();
+    for entry in entries(value) {
+        events.push(embedded_event(entry)?);
+    }
+    Ok(events)
+}
+
+fn events_in(value: &[u8]) -> Result<EmbeddedEvents, u16>
+    ensures { result ≡ each_up_to most_events embedded_event (entries value.now) }
+{
+    if !has_at_most(value, MOST_EVENTS) {
+        return Err(502);
+    }
+    each_event(value)
+}
+
+fn map_in(alloc: Global, value: &[u8]) -> Result<MapText, CodeFault>
+    ensures { Gives (map_from (map_of value.now)) result }
+{
+    match read_map(alloc, value) {
+        Ok(map) => Ok(map),
+        Err(MapFault::OutOfMemory) => Err(CodeFault::OutOfMemory),
+        Err(MapFault::Syntax) => Err(CodeFault::Code(510)),
+        Err(MapFault::TooLarge) => Err(CodeFault::Code(502)),
+    }
+}
+
+// A request with the part of this name.
+fn with_part_named(
+    alloc: Global,
+    request: EmbeddedRequest,
+    name: &[u8],
+    value: &[u8],
+) -> Result<EmbeddedRequest, CodeFault>
+    ensures { Gives (with_part_named request name.now value.now) result }
+{
+    if same_no_case(name, b"R") {
+        let events = events_in(value).map_err(CodeFault::Code)?;
+        Ok(EmbeddedRequest { events, ..request })
+    } else if same_no_case(name, b"S") {
+        let signals = signals_in(value).map_err(CodeFault::Code)?;
+        Ok(EmbeddedRequest { signals, ..request })
+    } else {
+        let map = Some(map_in(alloc, value)?);
+        Ok(EmbeddedRequest { map, ..request })
+    }
+}
+
+#[tactic(auto, unfolding(crate::specs::Embedding::with_part))]
+fn with_part(
+    alloc: Global,
+    request: EmbeddedRequest,
+    part: &[u8],
+) -> Result<EmbeddedRequest, CodeFault>
+    ensures { Gives (with_part request part.now) result }
+{
+    let Some(form) = form_of(part) else {
+        return Err(CodeFault::Code(510));
+    };
+    match form.inside {
+        Inside::Nothing => Err(CodeFault::Code(510)),
+        Inside::Single(value) | Inside::Double(value, _) => with_part_named(
+            alloc, request, form.head, value,
+        ),
+    }
+}
+
+/// The request that stands in the parentheses of E, part by part: the code of the first fault is 502 for more than 32
+/// entries of its R or 8 of its S, one of an entry, or that of its digit map, 510 where it isn't spelled and 502 where
+/// it is too large.
+#[tactic(auto, unfolding(crate::specs::Embedding::embedded_in, crate::specs::Embedding::with_parts))]
+pub(crate) fn embedded_in(alloc: Global, inside: &[u8]) -> Result<EmbeddedRequest, CodeFault>
+    ensures { Gives (embedded_in inside.now) result }
+{
+    let mut request = EmbeddedRequest {
+        events: EmbeddedEvents::new(),
+        signals: SignalRequests::new(),
+        map: None,
+    };
+    for part in items(inside) {
+        request = with_part(alloc, request, part)?;
+    }
+    Ok(request)
+}

@@ -1,0 +1,228 @@
+//! What R holds (RFC 3435, 2.3.3): events with what is done at them, and requests embedded in these.
+use crate::events::Events;
+use crate::signals::SignalRequests;
+use arrayvec::ArrayVec;
+use digit_map::MapText;
+use mg_bytes::OutOfMemory;
+use std::alloc::Global;
+use std::marker::Model;
+use std::rc::Rc;
+
+/// What is done at an event, but for an embedded request (RFC 3435, 2.3.3).
+#[derive(Clone, Copy, Debug, PartialEq, Eq)]
+pub enum Action {
+    /// The line notifies at once: `N`.
+    Notify,
+    /// The event is accumulated: `A`.
+    Accumulate,
+    /// It is accumulated and treated by the digit map: `D`.
+    Dial,
+    /// Nothing: `I`.
+    Ignore,
+}
+
+/// An entry of R in an embedded request, in which no request is embedded once more.
+#[derive(Clone, Copy, Debug, PartialEq, Eq)]
+pub struct EmbeddedEvent {
+    pub events: Events,
+    pub action: Action,
+    /// Whether the active signals go on: `K`.
+    pub keep: bool,
+}
+
+// What stands in a place that has no entry yet.
+impl Default for EmbeddedEvent {
+    ghost use Rattle.std.specs.Prelude.{◌≡◌, false};
+    ghost use Rattle.event_syntax.specs.declared.events.Events.TheVariants.{AllOfLine};
+    ghost use Rattle.event_syntax.specs.declared.request.Action.TheVariants.{Notify};
+
+    ghost is_default = { λ entry. entry ≡ record { events = AllOfLine; action = Notify; keep = false } };
+
+    fn default() -> Self {
+        EmbeddedEvent {
+            events: Events::AllOfLine,
+            action: Action::Notify,
+            keep: false,
+        }
+    }
+}
+
+/// The entries of R in an embedded request, at most 32. A contract sees their list.
+#[derive(Drop)]
+pub struct EmbeddedEvents {
+    entries: ArrayVec<EmbeddedEvent, 32>,
+}
+
+impl Model for EmbeddedEvents {
+    ghost use Rattle.std.specs.Prelude.{◌≤◌, List, length};
+    ghost use Rattle.event_syntax.specs.declared.request.EmbeddedEvent.{EmbeddedEvent};
+
+    ghost Value = { List EmbeddedEvent };
+
+    ghost view = { λ e. e.entries.items };
+
+    ghost invariant = { λ e. length e.entries.items ≤ 32 };
+}
+
+impl EmbeddedEvents {
+    ghost use Rattle.std.specs.Prelude.{◌≡◌, ◌<◌, ◌≤◌, ◌++◌, ◌∷◌, [], length};
+
+    /// No entries.
+    pub fn new() -> Self
+        ensures { result ≡ [] }
+    {
+        EmbeddedEvents {
+            entries: ArrayVec::new(),
+        }
+    }
+
+    /// Adds an entry at the end; there are fewer than 32 before.
+    pub fn push(&mut self, entry: EmbeddedEvent)
+        requires { length self.old < 32 }
+        ensures { self.new ≡ self.old ++ entry ∷ [] }
+    {
+        self.entries.push(entry);
+    }
+
+    /// The entries.
+    pub fn as_slice(&self) -> &[EmbeddedEvent]
+        ensures value { result.now ≡ self.now }
+        ensures few { length result.now ≤ 32 }
+    {
+        self.entries.as_slice()
+    }
+}
+
+/// What stands in the parentheses of E: an R, an S, and a digit map where one is given.
+#[derive(Drop)]
+pub struct EmbeddedRequest {
+    pub events: EmbeddedEvents,
+    pub signals: SignalRequests,
+    pub map: Option<MapText>,
+}
+
+/// An embedded request in a place of its own, so that an entry without one stays small. Copies share the place.
+#[derive(Drop)]
+pub struct Embedding {
+    request: Rc<EmbeddedRequest>,
+}
+
+impl Model for Embedding {
+    ghost use Rattle.event_syntax.specs.declared.request.EmbeddedRequest.{EmbeddedRequest};
+
+    ghost Value = { EmbeddedRequest };
+
+    ghost view = { λ e. e.request.value };
+}
+
+impl Embedding {
+    ghost use Rattle.std.specs.Prelude.{◌≡◌, IfOk};
+
+    /// Puts a request into a place of its own. An error is for want of memory only.
+    pub fn new(alloc: Global, request: EmbeddedRequest) -> Result<Self, OutOfMemory>
+        ensures { IfOk result (λ embedding. embedding ≡ request) }
+    {
+        Ok(Embedding {
+            request: Rc::new(alloc, request)?,
+        })
+    }
+
+    /// The same request in the same place.
+    pub fn try_copy(&self) -> Result<Self, OutOfMemory>
+        ensures { IfOk result (λ copy. copy ≡ self.now) }
+    {
+        Ok(Embedding {
+            request: self.request.clone()?,
+        })
+    }
+
+    /// The request.
+    pub fn request(&self) -> &EmbeddedRequest
+        ensures { result.now ≡ self.now }
+    {
+        &self.request
+    }
+}
+
+/// What is done at an event.
+#[derive(Drop)]
+pub enum Response {
+    Plain(Action),
+    /// The embedded request takes effect: `E`.
+    Embed(Embedding),
+    /// The event is accumulated, and then the embedded request takes effect: `A` with `E`.
+    AccumulateAndEmbed(Embedding),
+}
+
+/// An entry of R: at these events this is done.
+#[derive(Drop)]
+pub struct RequestedEvent {
+    pub events: Events,
+    pub response: Response,
+    /// Whether the active signals go on: `K`.
+    pub keep: bool,
+}
+
+// What stands in a place that has no entry yet.
+impl Default for RequestedEvent {
+    ghost use Rattle.std.specs.Prelude.{◌≡◌, false};
+    ghost use Rattle.event_syntax.specs.declared.events.Events.TheVariants.{AllOfLine};
+    ghost use Rattle.event_syntax.specs.declared.request.Action.TheVariants.{Notify};
+    ghost use Rattle.event_syntax.specs.declared.request.Response.TheVariants.{Plain};
+
+    ghost is_default = { λ entry. entry ≡ record { events = AllOfLine; response = Plain Notify; keep = false } };
+
+    fn default() -> Self {
+        RequestedEvent {
+            events: Events::AllOfLine,
+            response: Response::Plain(Action::Notify),
+            keep: false,
+        }
+    }
+}
+
+/// The entries of R, at most 32. A contract sees their list.
+#[derive(Drop)]
+pub struct RequestedEvents {
+    entries: ArrayVec<RequestedEvent, 32>,
+}
+
+impl Model for RequestedEvents {
+    ghost use Rattle.std.specs.Prelude.{◌≤◌, List, length};
+    ghost use Rattle.event_syntax.specs.declared.request.RequestedEvent.{RequestedEvent};
+
+    ghost Value = { List RequestedEvent };
+
+    ghost view = { λ r. r.entries.items };
+
+    ghost invariant = { λ r. length r.entries.items ≤ 32 };
+}
+
+impl RequestedEvents {
+    ghost use Rattle.std.specs.Prelude.{◌≡◌, ◌<◌, ◌≤◌, ◌++◌, ◌∷◌, [], length};
+
+    /// No entries.
+    pub fn new() -> Self
+        ensures { result ≡ [] }
+    {
+        RequestedEvents {
+            entries: ArrayVec::new(),
+        }
+    }
+
+    /// Adds an entry at the end; there are fewer than 32 before.
+    pub fn push(&mut self, entry: RequestedEvent)
+        requires { length self.old < 32 }
+        ensures { self.new ≡ self.old ++ entry ∷ [] }
+    {
+        self.entries.push(entry);
+    }
+
+    /// The entries.
+    pub fn as_slice(&self) -> &[RequestedEvent]
+        ensures value { result.now ≡ self.now }
+        ensures few { length result.now ≤ 32 }
+    {
+        self.entries.as_slice()
+    }
+}

@@ -1,0 +1,206 @@
+//! What an entry of R says by itself, up to the inside of E.
+ghost use Rattle.std.specs.Prelude.{◌≡◌, option_map};
+ghost use Rattle.event_syntax.specs.Cuts.{items, inside_seen};
+ghost use Rattle.event_syntax.specs.Actions.{word_named, word_of, said_of, takes, ruled_by, said_in};
+ghost use Rattle.event_syntax.specs.Actions.{rule_of, and_embed, and_action, and_word, deed_or_notify};
+ghost use Rattle.event_syntax.specs.Actions.{word_seen, deed_seen, so_far_seen, said_seen, rule_seen, seen_as};
+
+use crate::cut::items;
+use crate::events::{Events, events_called};
+use crate::form::{Inside, form_of};
+use crate::request::Action;
+use mg_bytes::same_no_case;
+
+/// What one action says.
+#[derive(Clone, Copy)]
+pub(crate) enum Word<'a> {
+    /// The signals go on: K.
+    Keeps,
+    /// N, A, D or I.
+    Acts(Action),
+    /// E, with what stands in its parentheses.
+    Embeds(&'a [u8]),
+}
+
+/// What is done, where an embedded request is what stands in the parentheses of E.
+#[derive(Clone, Copy)]
+pub(crate) enum Deed<'a> {
+    Plain(Action),
+    Embed(&'a [u8]),
+    AccumulateAndEmbed(&'a [u8]),
+}
+
+/// What the actions up to one say.
+#[derive(Clone, Copy)]
+pub(crate) struct SoFar<'a> {
+    deed: Option<Deed<'a>>,
+    keep: bool,
+}
+
+/// What all actions of an entry say.
+#[derive(Clone, Copy)]
+pub(crate) struct Said<'a> {
+    deed: Deed<'a>,
+    keep: bool,
+}
+
+/// What an entry says.
+#[derive(Clone, Copy)]
+pub(crate) struct Rule<'a> {
+    pub events: Events,
+    pub deed: Deed<'a>,
+    pub keep: bool,
+}
+
+fn word_named(name: &[u8]) -> Result<Word<'static>, u16>
+    ensures { seen_as word_seen result ≡ word_named name.now }
+{
+    if same_no_case(name, b"N") {
+        Ok(Word::Acts(Action::Notify))
+    } else if same_no_case(name, b"A") {
+        Ok(Word::Acts(Action::Accumulate))
+    } else if same_no_case(name, b"D") {
+        Ok(Word::Acts(Action::Dial))
+    } else if same_no_case(name, b"I") {
+        Ok(Word::Acts(Action::Ignore))
+    } else if same_no_case(name, b"K") {
+        Ok(Word::Keeps)
+    } else {
+        Err(523)
+    }
+}
+
+#[tactic(auto, unfolding(crate::specs::Actions::word_of))]
+fn word_of(action: &[u8]) -> Result<Word<'_>, u16>
+    ensures { seen_as word_seen result ≡ word_of action.now }
+{
+    let Some(form) = form_of(action) else {
+        return Err(523);
+    };
+    match form.inside {
+        Inside::Nothing => word_named(form.head),
+        Inside::Single(inside) | Inside::Double(inside, _) => Ok(Word::Embeds(inside)),
+    }
+}
+
+fn and_action<'a>(so_far: Option<Deed<'a>>, action: Action) -> Result<Deed<'a>, u16>
+    ensures { seen_as deed_seen result ≡ and_action (option_map deed_seen so_far.entry) action }
+{
+    match (so_far, action) {
+        (None, action) => Ok(Deed::Plain(action)),
+        (Some(Deed::Embed(inside)), Action::Accumulate) => Ok(Deed::AccumulateAndEmbed(inside)),
+        _ => Err(523),
+    }
+}
+
+fn and_embed<'a>(so_far: Option<Deed<'a>>, inside: &'a [u8]) -> Result<Deed<'a>, u16>
+    ensures { seen_as deed_seen result ≡ and_embed (option_map deed_seen so_far.entry) inside.now }
+{
+    match so_far {
+        None => Ok(Deed::Embed(inside)),
+        Some(Deed::Plain(Action::Accumulate)) => Ok(Deed::AccumulateAndEmbed(inside)),
+        _ => Err(523),
+    }
+}
+
+// The actions so far with one more, where that may be.
+fn and_word<'a>(so_far: SoFar<'a>, word: Word<'a>) -> Result<SoFar<'a>, u16>
+    ensures { seen_as so_far_seen result ≡ and_word (so_far_seen so_far.entry) (word_seen word.entry) }
+{
+    match word {
+        Word::Keeps => {
+            if so_far.keep {
+                return Err(523);
+            }
+            Ok(SoFar {
+                keep: true,
+                ..so_far
+            })
+        }
+        Word::Acts(action) => {
+            let deed = Some(and_action(so_far.deed, action)?);
+            Ok(SoFar { deed, ..so_far })
+        }
+        Word::Embeds(inside) => {
+            let deed = Some(and_embed(so_far.deed, inside)?);
+            Ok(SoFar { deed, ..so_far })
+        }
+    }
+}
+
+fn deed_or_notify(deed: Option<Deed<'_>>) -> Deed<'_>
+    ensures { deed_seen result ≡ deed_or_notify (option_map deed_seen deed.entry) }
+{
+    match deed {
+        Some(deed) => deed,
+        None => Deed::Plain(Action::Notify),
+    }
+}
+
+fn said_of(actions: &[u8]) -> Result<Said<'_>, u16>
+    ensures { seen_as said_seen result ≡ said_of (items actions.now) }
+{
+    let mut so_far = SoFar {
+        deed: None,
+        keep: false,
+    };
+    for action in items(actions) {
+        so_far = and_word(so_far, word_of(action)?)?;
+    }
+    Ok(Said {
+        deed: deed_or_notify(so_far.deed),
+        keep: so_far.keep,
+    })
+}
+
+#[tactic(auto, unfolding(crate::specs::Actions::said_of, crate::specs::Faults::each))]
+fn said_in(inside: Inside<'_>) -> Result<Said<'_>, u16>
+    ensures { seen_as said_seen result ≡ said_in (inside_seen inside.entry) }
+{
+    match inside {
+        Inside::Nothing => Ok(Said {
+            deed: Deed::Plain(Action::Notify),
+            keep: false,
+        }),
+        Inside::Single(actions) => said_of(actions),
+        Inside::Double(_, _) => Err(538),
+    }
+}
+
+fn takes(events: Events, deed: Deed<'_>) -> bool
+    ensures { result ≡ takes events (deed_seen deed.entry) }
+{
+    match (events, deed) {
+        (Events::Letters(_), Deed::Plain(Action::Dial)) => true,
+        (Events::Letters(set), _) => !set[16],
+        (_, Deed::Plain(Action::Dial)) => false,
+        _ => true,
+    }
+}
+
+fn ruled_by(events: Events, said: Said<'_>) -> Result<Rule<'_>, u16>
+    ensures { seen_as rule_seen result ≡ ruled_by events (said_seen said.entry) }
+{
+    if !takes(events, said.deed) {
+        return Err(523);
+    }
+    Ok(Rule {
+        events,
+        deed: said.deed,
+        keep: said.keep,
+    })
+}
+
+/// What an entry of R that is spelled says by itself: 518, 512 or 522 for its events, 538 for parameters, and then 523
+/// for its actions.
+#[tactic(auto, unfolding(crate::specs::Actions::rule_of))]
+pub(crate) fn rule_of(entry: &[u8]) -> Result<Rule<'_>, u16>
+    ensures { seen_as rule_seen result ≡ rule_of entry.now }
+{
+    let Some(form) = form_of(entry) else {
+        return Err(510);
+    };
+    let events = events_called(form.head)?;
+    let said = said_in(form.inside)?;
+    ruled_by(events, said)
+}

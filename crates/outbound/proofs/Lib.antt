@@ -1,0 +1,3 @@
+pub mod FlightLaws
+pub mod LifeLaws
+pub mod Computing

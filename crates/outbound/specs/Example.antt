@@ -1,0 +1,36 @@
+-- What the worked examples speak of.
+use Rattle.std.specs.Prelude.{ℕ, zero, suc, List, [], ◌∷◌, codes}
+use Rattle.std.specs.declared.net.socket_addr.SocketAddrV4.{SocketAddrV4}
+use Rattle.outbound.specs.declared.repeat.Repeat.{Repeat}
+use Rattle.outbound.specs.declared.repeat.Repeat.TheVariants.{Sent, GivenUp}
+use Rattle.outbound.specs.Sends.{Occasion, Sends}
+use Rattle.outbound.specs.Flight.{InFlight, begun, repeat_of, repeated}
+
+abbrev pub agent : SocketAddrV4
+agent = record { ip = record { octets = 127 ∷ 0 ∷ 0 ∷ 1 ∷ [] }; port = 2727 }
+
+-- a notification that is first sent at this moment
+abbrev pub notified_at : ℕ → InFlight
+notified_at moment = begun 10000000 agent (codes "NTFY 10000000 aaln/1@rgw.example.net MGCP 1.0\r\n") moment
+
+-- the same that was repeated so often
+abbrev pub repeated_times : ℕ → ℕ → InFlight
+repeated_times repeats moment = record (notified_at moment) { repeats = repeats }
+
+-- sends from a first moment on
+abbrev pub since : ℕ → List Occasion → Sends
+since first occasions = record { first = first; since = occasions }
+
+-- what is done at a moment: the message goes out again, or it is given up
+pub data Told : Type 0 where
+  goes_out : (moment : ℕ) → Told
+  is_given_up : (moment : ℕ) → Told
+
+abbrev pub told_as : Repeat → ℕ → List Told → List Told
+told_as Sent moment later = goes_out moment ∷ later
+told_as GivenUp moment later = is_given_up moment ∷ []
+
+-- what is done with a message to which no response comes, at its own due moments, at most so many
+unfoldable pub told : ℕ → InFlight → List Told
+told zero message = []
+told (suc n) message = told_as (repeat_of message message.due) message.due (told n (repeated message message.due))

@@ -1,0 +1,4 @@
+pub mod Sends
+pub mod Flight
+pub mod Life
+pub mod Example

@@ -1,0 +1,229 @@
+//! A message of our own that is in flight.
+ghost use Rattle.std.specs.Prelude.{◌≡◌, ◌<◌, ◌^◌, ◌==◌, if◌then◌else◌, [], IfOk};
+ghost use Rattle.outbound.specs.declared.reply.Reply.TheVariants.{Stranger};
+ghost use Rattle.outbound.specs.Sends.{wait_after, may_repeat, Sends, due_of, repeat_at, after_repeat, after_reply};
+ghost use Rattle.outbound.specs.Flight.{Follows, begun, repeat_of, repeated, reply_by, reply_of, heard};
+
+use crate::repeat::Repeat;
+use crate::reply::Reply;
+use mg_bytes::{OutOfMemory, Text};
+use mgcp_text::TransactionId;
+use std::alloc::Global;
+use std::marker::Model;
+use std::net::SocketAddrV4;
+
+// How long an answer is waited for after a provisional response, in ms (this gateway's profile).
+const PROVISIONAL_WAIT: u64 = 5_000;
+
+// A message is repeated so often, and no more (this gateway's profile).
+const MOST_REPEATS: u8 = 7;
+
+// It is repeated less than this many ms after it was first sent (RFC 3435, 4.3; the number is this gateway's profile).
+const SENDING_TIME: u64 = 20_000;
+
+/// A command of our own that is in flight: it was sent, and isn't answered yet (RFC 3435, 3.5).
+///
+/// At the moment that `due` says its owner calls `repeat`, and sends the message again where that is `Sent`. For each
+/// response that comes it calls `answer`. After `GivenUp` and `Answered` nothing is in flight any more, and the owner
+/// drops the message.
+#[derive(Drop)]
+pub struct Pending {
+    alloc: Global,
+    id: TransactionId,
+    to: SocketAddrV4,
+    text: Text,
+    first: u64,
+    repeats: u8,
+    due: u64,
+}
+
+impl Model for Pending {
+    ghost use Rattle.outbound.specs.Flight.{InFlight};
+
+    ghost Value = { InFlight };
+
+    ghost view = { λ p. record { id = p.id; to = p.to; text = p.text; first = p.first; repeats = p.repeats; due = p.due } };
+}
+
+impl Pending {
+    /// A message that is first sent at this moment, in ms, to this address (RFC 3435, 3.5.3). The text is copied.
+    pub fn begin(
+        alloc: Global,
+        id: TransactionId,
+        to: SocketAddrV4,
+        text: &[u8],
+        moment: u64,
+    ) -> Result<Pending, OutOfMemory>
+        requires { moment < 2 ^ 62 }
+        ensures kept { IfOk result (λ pending. pending ≡ begun id to text.now moment) }
+        // It follows its sends: so far there is the first one.
+        ensures sends { IfOk result (λ pending. Follows pending (record { first = moment; since = [] })) }
+    {
+        started(alloc, id, to, text, moment)
+    }
+
+    /// An equal message. After an error nothing was done.
+    pub fn try_copy(&self) -> Result<Pending, OutOfMemory>
+        ensures { IfOk result (λ copy. copy ≡ self.now) }
+    {
+        Ok(Pending {
+            alloc: self.alloc,
+            id: self.id,
+            to: self.to,
+            text: copied(self.alloc, self.text.as_bytes())?,
+            first: self.first,
+            repeats: self.repeats,
+            due: self.due,
+        })
+    }
+
+    /// Its transaction id (RFC 3435, 3.2.1.2).
+    pub fn id(&self) -> TransactionId
+        ensures { result ≡ self.now.id }
+    {
+        self.id
+    }
+
+    /// Where it goes, each time that it is sent.
+    pub fn to(&self) -> SocketAddrV4
+        ensures { result ≡ self.now.to }
+    {
+        self.to
+    }
+
+    /// Its text.
+    pub fn text(&self) -> &[u8]
+        ensures { result.now ≡ self.now.text }
+    {
+        self.text.as_bytes()
+    }
+
+    /// The moment, in ms, at which it is repeated or given up (RFC 3435, 3.5.3).
+    pub fn due(&self) -> u64
+        ensures kept { result ≡ self.now.due }
+        // It is what the sends of the message say.
+        ensures sends { (sends : Sends) → Follows self.now sends → result ≡ due_of sends }
+    {
+        self.due
+    }
+
+    /// What is done with it now, where something is due (RFC 3435, 3.5.3 and 4.3). Where that is `Sent`, the owner sends
+    /// it again; else it is as it was. This takes no memory.
+    pub fn repeat(&mut self, moment: u64) -> Repeat
+        requires { moment < 2 ^ 62 }
+        ensures done { result ≡ repeat_of self.old moment }
+        ensures kept { self.new ≡ repeated self.old moment }
+        // It is what the sends of the message say, and it goes on to follow them.
+        ensures sends { (sends : Sends) → Follows self.old sends →
+            (result ≡ repeat_at moment sends) × Follows self.new (after_repeat result moment sends) }
+    {
+        self.send_again(moment)
+    }
+
+    /// What a response with this id and return code is to it now (RFC 3435, 2.4 and 3.5.6): the id alone joins them. A
+    /// provisional one puts off what is due; else it is as it was. This takes no memory.
+    pub fn answer(&mut self, id: TransactionId, code: u16, moment: u64) -> Reply
+        requires { moment < 2 ^ 62 }
+        ensures reply { result ≡ reply_of self.old id code }
+        ensures kept { self.new ≡ heard self.old id code moment }
+        // It goes on to follow its sends and provisional responses.
+        ensures sends { (sends : Sends) → Follows self.old sends → Follows self.new (after_reply result moment sends) }
+    {
+        self.hear(id, code, moment)
+    }
+
+    #[tactic(auto, unfolding(crate::specs::Flight::repeated))]
+    fn send_again(&mut self, moment: u64) -> Repeat
+        requires { moment < 2 ^ 62 }
+        ensures done { result ≡ repeat_of self.old moment }
+        ensures kept { self.new ≡ repeated self.old moment }
+    {
+        if !may_repeat(self.first, self.repeats, moment) {
+            return Repeat::GivenUp;
+        }
+        self.repeats += 1;
+        self.due = moment + wait_after(self.repeats);
+        Repeat::Sent
+    }
+
+    #[tactic(auto, unfolding(crate::specs::Flight::heard))]
+    fn hear(&mut self, id: TransactionId, code: u16, moment: u64) -> Reply
+        requires { moment < 2 ^ 62 }
+        ensures reply { result ≡ reply_of self.old id code }
+        ensures kept { self.new ≡ heard self.old id code moment }
+    {
+        let reply = reply_of(self.id, id, code);
+        match reply {
+            Reply::Provisional => self.due = moment + PROVISIONAL_WAIT,
+            Reply::Answered | Reply::Stranger => {}
+        }
+        reply
+    }
+}
+
+fn started(
+    alloc: Global,
+    id: TransactionId,
+    to: SocketAddrV4,
+    text: &[u8],
+    moment: u64,
+) -> Result<Pending, OutOfMemory>
+    requires { moment < 2 ^ 62 }
+    ensures { IfOk result (λ pending. pending ≡ begun id to text.now moment) }
+{
+    Ok(Pending {
+        alloc,
+        id,
+        to,
+        text: copied(alloc, text)?,
+        first: moment,
+        repeats: 0,
+        due: moment + wait_after(0),
+    })
+}
+
+fn copied(alloc: Global, text: &[u8]) -> Result<Text, OutOfMemory>
+    ensures { IfOk result (λ copy. copy ≡ text.now) }
+{
+    let mut bytes = Vec::new(alloc);
+    bytes.extend_from_slice(text)?;
+    Ok(Text::of(bytes))
+}
+
+// How long an answer is waited for after so many repeats, in ms: the wait is doubled up to 4,000 ms (RFC 3435, 3.5.3).
+fn wait_after(repeats: u8) -> u64
+    ensures { result ≡ wait_after repeats }
+{
+    match repeats {
+        0 => 500,
+        1 => 1_000,
+        2 => 2_000,
+        _ => 4_000,
+    }
+}
+
+fn may_repeat(first: u64, repeats: u8, moment: u64) -> bool
+    ensures { result ≡ may_repeat first repeats moment }
+{
+    repeats < MOST_REPEATS && moment.saturating_sub(first) < SENDING_TIME
+}
+
+fn reply_by(code: u16) -> Reply
+    ensures { result ≡ reply_by code }
+{
+    match code {
+        100..=199 => Reply::Provisional,
+        200..=999 => Reply::Answered,
+        _ => Reply::Stranger,
+    }
+}
+
+fn reply_of(own: TransactionId, id: TransactionId, code: u16) -> Reply
+    ensures { result ≡ (if own == id then reply_by code else Stranger) }
+{
+    if own.number() == id.number() {
+        reply_by(code)
+    } else {
+        Reply::Stranger
+    }
+}

@@ -1,0 +1,10 @@
+//! What is done with a message at its due moment.
+
+/// What is done with a message that is in flight, where something is due (RFC 3435, 3.5.3 and 4.3).
+#[derive(Clone, Copy, Debug, PartialEq, Eq)]
+pub enum Repeat {
+    /// It is sent again, to the same address.
+    Sent,
+    /// It was sent often or long enough: it isn't sent any more.
+    GivenUp,
+}

@@ -1,0 +1,53 @@
+//! Worked examples of the definitions, as theorems.
+#![tactic(auto, unfolding(crate::proofs::Computing::on_examples))]
+
+ghost use Rattle.std.specs.Prelude.{◌≡◌, [], ◌∷◌, ◌++◌, Some, None, replicate};
+ghost use Rattle.quarantine.specs.Held.{most_lost, nothing_held, holding, first_of, without_first, cleared};
+ghost use Rattle.quarantine.specs.Given.{is_taken, coming};
+ghost use Rattle.quarantine.specs.Example.{happened, come, held_of, given_of, holds};
+
+use event_syntax::Observed;
+use mg_packages::{Event, Signal};
+
+/// Events are held in the order in which they come, and each as often as it comes.
+pub fn events_are_held_in_order()
+    ensures none { nothing_held 64 ≡ holds 64 [] 0 }
+    ensures three { held_of 64 (come (Event.OnHook ∷ Event.OffHook ∷ Event.OnHook ∷ []))
+        ≡ holds 64 (Event.OnHook ∷ Event.OffHook ∷ Event.OnHook ∷ []) 0 }
+    ensures behind { holding (holds 2 (Event.Flash ∷ []) 7) (Observed.Happened Event.OnHook)
+        ≡ holds 2 (Event.Flash ∷ Event.OnHook ∷ []) 7 }
+    ensures signal { (holding (nothing_held 1) (Observed.Ended Signal.DialTone)).events
+        ≡ Observed.Ended Signal.DialTone ∷ [] }
+{}
+
+/// An event that finds no room is lost: 64 flashes are held, and the 65th is counted.
+pub fn an_event_without_room_is_lost()
+    ensures held_64 { held_of 64 (come (replicate 64 Event.Flash)) ≡ holds 64 (replicate 64 Event.Flash) 0 }
+    ensures lost_65 { held_of 64 (come (replicate 64 Event.Flash ++ Event.OnHook ∷ []))
+        ≡ holds 64 (replicate 64 Event.Flash) 1 }
+    ensures no_room { held_of 0 (come (Event.Flash ∷ Event.OnHook ∷ [])) ≡ holds 0 [] 2 }
+    ensures most { holding (holds 0 [] 18446744073709551614) (Observed.Happened Event.Flash) ≡ holds 0 [] most_lost }
+    ensures stays { holding (holds 0 [] 18446744073709551615) (Observed.Happened Event.Flash)
+        ≡ holds 0 [] 18446744073709551615 }
+{}
+
+/// Events are taken from the front, and a place that is taken is free again.
+pub fn events_are_taken_from_the_front()
+    ensures first { first_of (happened (Event.OnHook ∷ Event.Flash ∷ [])) ≡ Some (Observed.Happened Event.OnHook) }
+    ensures none { first_of [] ≡ None }
+    ensures rest { without_first (holds 64 (Event.OnHook ∷ Event.Flash ∷ []) 3) ≡ holds 64 (Event.Flash ∷ []) 3 }
+    ensures rest_of_none { without_first (holds 64 [] 3) ≡ holds 64 [] 3 }
+    ensures room_again { held_of 1 (come (Event.OnHook ∷ []) ++ is_taken ∷ come (Event.Flash ∷ []))
+        ≡ holds 1 (Event.Flash ∷ []) 0 }
+    ensures given { given_of 2 (come (Event.OnHook ∷ Event.OffHook ∷ Event.Flash ∷ []) ++ is_taken ∷ is_taken
+        ∷ is_taken ∷ []) ≡ happened (Event.OnHook ∷ Event.OffHook ∷ []) }
+    ensures given_in_turn { given_of 1 (come (Event.OnHook ∷ []) ++ is_taken ∷ come (Event.Flash ∷ [])
+        ++ is_taken ∷ []) ≡ happened (Event.OnHook ∷ Event.Flash ∷ []) }
+    ensures came { coming (come (Event.OnHook ∷ []) ++ is_taken ∷ come (Event.Flash ∷ []))
+        ≡ happened (Event.OnHook ∷ Event.Flash ∷ []) }
+{}
+
+/// Clearing drops the events, and keeps room and count.
+pub fn clearing_keeps_the_count()
+    ensures { cleared (holds 64 (Event.OnHook ∷ Event.Flash ∷ []) 3) ≡ holds 64 [] 3 }
+{}
