@@ -1,0 +1,180 @@
+//! How a session is written (RFC 2327, 6; RFC 3435, 3.4).
+ghost use Rattle.std.specs.Prelude.{◌≡◌, ◌≤◌, ◌++◌, IfOk, OnOk, Some, decimal, length};
+ghost use Rattle.std.specs.List.{AllByRecursion, flat_map};
+ghost use Rattle.sdp_subset.specs.declared.session.Session.{Session};
+ghost use Rattle.sdp_subset.specs.Writing.{address_text, origin_line, origin_lines, connection_line, time_lines};
+ghost use Rattle.sdp_subset.specs.Writing.{payloads_text, audio_line, ptime_lines};
+ghost use Rattle.sdp_subset.specs.Writing.{ended, written, as_read, IsSession};
+ghost use Rattle.sdp_subset.specs.Spelling.{Reads};
+
+use crate::session::{Origin, Session};
+use mg_bytes::{OutOfMemory, Text, put_decimal};
+use std::alloc::Global;
+use std::net::Ipv4Addr;
+
+fn put_octet(alloc: Global, out: &mut Vec<u8>, octet: u8) -> Result<(), OutOfMemory>
+    ensures { OnOk result (out.new.items ≡ out.old.items ++ decimal octet) }
+{
+    put_decimal(alloc, out, u64::from(octet))?;
+    Ok(())
+}
+
+// The four octets of an address, each of which has eight bits.
+fn octets_of(address: Ipv4Addr) -> [u8; 4]
+    ensures value { result ≡ address.octets }
+    ensures four { length result ≡ 4 }
+    ensures each { AllByRecursion (λ octet. octet ≤ 255) result }
+{
+    let [a, b, c, d] = address.octets();
+    [a, b, c, d]
+}
+
+fn put_address(alloc: Global, out: &mut Vec<u8>, address: Ipv4Addr) -> Result<(), OutOfMemory>
+    ensures { OnOk result (out.new.items ≡ out.old.items ++ address_text address) }
+{
+    let [a, b, c, d] = octets_of(address);
+    put_octet(alloc, out, a)?;
+    out.push(b'.')?;
+    put_octet(alloc, out, b)?;
+    out.push(b'.')?;
+    put_octet(alloc, out, c)?;
+    out.push(b'.')?;
+    put_octet(alloc, out, d)?;
+    Ok(())
+}
+
+#[tactic(auto, unfolding(crate::specs::Writing::origin_line))]
+fn put_origin(
+    alloc: Global,
+    out: &mut Vec<u8>,
+    origin: Origin,
+    address: Ipv4Addr,
+) -> Result<(), OutOfMemory>
+    ensures { OnOk result (out.new.items ≡ out.old.items ++ ended (origin_line origin address)) }
+{
+    out.extend_from_slice(b"o=- ")?;
+    put_decimal(alloc, out, u64::from(origin.number))?;
+    out.push(b' ')?;
+    put_decimal(alloc, out, u64::from(origin.version))?;
+    out.extend_from_slice(b" IN IP4 ")?;
+    put_address(alloc, out, address)?;
+    out.extend_from_slice(b"\r\n")?;
+    Ok(())
+}
+
+fn put_origin_lines(
+    alloc: Global,
+    out: &mut Vec<u8>,
+    origin: Option<Origin>,
+    address: Ipv4Addr,
+) -> Result<(), OutOfMemory>
+    ensures { OnOk result (out.new.items ≡ out.old.items ++ flat_map ended (origin_lines origin address)) }
+{
+    if let Some(origin) = origin {
+        put_origin(alloc, out, origin, address)?;
+        out.extend_from_slice(b"s=-\r\n")?;
+    }
+    Ok(())
+}
+
+#[tactic(auto, unfolding(crate::specs::Writing::connection_line))]
+fn put_connection(alloc: Global, out: &mut Vec<u8>, address: Ipv4Addr) -> Result<(), OutOfMemory>
+    ensures { OnOk result (out.new.items ≡ out.old.items ++ ended (connection_line address)) }
+{
+    out.extend_from_slice(b"c=IN IP4 ")?;
+    put_address(alloc, out, address)?;
+    out.extend_from_slice(b"\r\n")?;
+    Ok(())
+}
+
+fn put_time_lines(out: &mut Vec<u8>, origin: Option<Origin>) -> Result<(), OutOfMemory>
+    ensures { OnOk result (out.new.items ≡ out.old.items ++ flat_map ended (time_lines origin)) }
+{
+    if origin.is_some() {
+        out.extend_from_slice(b"t=0 0\r\n")?;
+    }
+    Ok(())
+}
+
+fn put_payloads(alloc: Global, out: &mut Vec<u8>, payloads: &[u8]) -> Result<(), OutOfMemory>
+    ensures { OnOk result (out.new.items ≡ out.old.items ++ payloads_text payloads.now) }
+{
+    for payload in payloads {
+        out.push(b' ')?;
+        put_decimal(alloc, out, u64::from(*payload))?;
+    }
+    Ok(())
+}
+
+#[tactic(auto, unfolding(crate::specs::Writing::audio_line))]
+fn put_audio(
+    alloc: Global,
+    out: &mut Vec<u8>,
+    port: u16,
+    payloads: &[u8],
+) -> Result<(), OutOfMemory>
+    ensures { OnOk result (out.new.items ≡ out.old.items ++ ended (audio_line port payloads.now)) }
+{
+    out.extend_from_slice(b"m=audio ")?;
+    put_decimal(alloc, out, u64::from(port))?;
+    out.extend_from_slice(b" RTP/AVP")?;
+    put_payloads(alloc, out, payloads)?;
+    out.extend_from_slice(b"\r\n")?;
+    Ok(())
+}
+
+#[tactic(auto, unfolding(crate::specs::Writing::ptime_line))]
+fn put_ptime_lines(alloc: Global, out: &mut Vec<u8>, ptime: Option<u16>) -> Result<(), OutOfMemory>
+    ensures { OnOk result (out.new.items ≡ out.old.items ++ flat_map ended (ptime_lines ptime)) }
+{
+    if let Some(ms) = ptime {
+        out.extend_from_slice(b"a=ptime:")?;
+        put_decimal(alloc, out, u64::from(ms))?;
+        out.extend_from_slice(b"\r\n")?;
+    }
+    Ok(())
+}
+
+#[tactic(auto, unfolding(crate::specs::Writing::written, crate::specs::Writing::session_lines))]
+fn session_text(alloc: Global, session: &Session) -> Result<Text, OutOfMemory>
+    ensures { IfOk result (λ text. text ≡ written session.now) }
+{
+    let mut out = Vec::new(alloc);
+    out.extend_from_slice(b"v=0\r\n")?;
+    put_origin_lines(alloc, &mut out, session.origin, session.address)?;
+    put_connection(alloc, &mut out, session.address)?;
+    put_time_lines(&mut out, session.origin)?;
+    put_audio(alloc, &mut out, session.port, session.payloads.as_slice())?;
+    put_ptime_lines(alloc, &mut out, session.ptime)?;
+    Ok(Text::of(out))
+}
+
+// The port, which has 16 bits.
+fn port_in(session: &Session) -> u16
+    ensures value { result ≡ session.now.port }
+    ensures low { result ≤ 65535 }
+{
+    session.port
+}
+
+// What the types of its parts say of a session.
+fn bounds_of(session: &Session)
+    ensures { IsSession session.now }
+{
+    let _octets = octets_of(session.address);
+    let _port = port_in(session);
+    let _payloads = session.payloads.as_slice();
+}
+
+/// The text of a session (RFC 2327, 6; RFC 3435, 3.4): `v=0`; with an origin `o=- number version IN IP4 a.b.c.d` and
+/// `s=-`; `c=IN IP4 a.b.c.d`; with an origin `t=0 0`; `m=audio port RTP/AVP` and the payload types; with a packet time
+/// `a=ptime:ms`. Each line has CRLF. An error is for want of memory only.
+pub fn write_sdp(alloc: Global, session: &Session) -> Result<Text, OutOfMemory>
+    ensures form { IfOk result (λ text. text ≡ written session.now) }
+    // It is read with the same address, port and payload types.
+    ensures reads { IfOk result (λ text. Reads text (Some (as_read session.now))) }
+{
+    // The second clause stands on what these types say.
+    bounds_of(session);
+    session_text(alloc, session)
+}
