@@ -85,6 +85,7 @@ pub fn the_action_d_wants_a_digit_map()
     ensures known { wants_map true (codes "D/5(D)") ≡ false }
     ensures none { wants_map false (codes "L/hd,D/5(D)") ≡ true }
     ensures other { wants_map false (codes "L/hd(A),D/5(N)") ≡ false }
+    ensures ignored { wants_map false (codes "D/5(I)") ≡ false }
     ensures embedded { wants_map false (codes "L/hd(E(R(D/5(D))))") ≡ true }
     ensures accumulated { wants_map false (codes "L/hd(A,E(R(D/5(D))))") ≡ true }
     ensures embedded_known { wants_map true (codes "L/hd(E(R(D/5(D))))") ≡ false }
