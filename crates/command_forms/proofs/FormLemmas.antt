@@ -1,6 +1,6 @@
 -- What holds where a command asks for something.
 use Rattle.std.proofs.Common.{◌≡◌, ℕ, ◌≤◌, zero, suc, Bool, true, false, List, [], ◌∷◌, codes, refl, sym, ap, ◌∙◌, arith, ⊎_elim, subst, Option, Some, None, Result, Ok, Err}
-use Rattle.std.specs.Prelude.{is_some}
+use Rattle.std.specs.Prelude.{is_some, option_map}
 use Rattle.std.specs.List.{list_all}
 use Rattle.std.specs.Result.{result_err, result_unwrap_or}
 use Rattle.std.proofs.lemmas.Bool.{cases_Bool}
@@ -22,9 +22,17 @@ use Rattle.endpoint_names.specs.declared.names.Names.{Names}
 use Rattle.endpoint_names.specs.declared.table.Host.{Host}
 use Rattle.endpoint_names.specs.declared.entity.Entity.{Entity}
 use Rattle.endpoint_names.specs.Name.{local_name, line_named, names_all, names_any, one_of, pattern_of, name_from, name_of}
-use Rattle.event_syntax.specs.declared.signals.SignalRequest.{SignalRequest}
+use Rattle.digit_map.specs.declared.change.MapChange.{MapChange}
+use Rattle.digit_map.specs.declared.change.MapChange.TheVariants.{Keep}
+use Rattle.digit_map.specs.declared.fault.MapFault.{MapFault}
+use Rattle.event_syntax.specs.declared.request.RequestedEvent.{RequestedEvent}
+use Rattle.event_syntax.specs.RequestSpelling.{are_requested}
+use Rattle.event_syntax.specs.Requested.{requested_in as requested_entries, requested_of, are_writable_requested}
+use Rattle.event_syntax.specs.Detect.{detected_of}
 use Rattle.event_syntax.specs.Signals.{signals_of}
 use Rattle.event_syntax.proofs.ReadLemmas.{read_is_writable}
+use Rattle.event_syntax.proofs.DetectLaws.{read_is_writable as detected_is_writable}
+use Rattle.event_syntax.proofs.RequestReading.{read_is_writable as requested_is_writable}
 use Rattle.command_forms.specs.declared.forms.Form.{Form}
 use Rattle.command_forms.specs.declared.forms.RequestForm.{RequestForm}
 use Rattle.command_forms.specs.declared.forms.Form.TheVariants as forms
@@ -35,7 +43,7 @@ use Rattle.command_forms.specs.declared.verbs.VerbRow.{VerbRow}
 use Rattle.command_forms.specs.Command.{Command}
 use Rattle.command_forms.specs.Verbs.{row_of}
 use Rattle.command_forms.specs.Params.{params_fault, has_all, value_in, value_at}
-use Rattle.command_forms.specs.Values.{k_fault, n_fault, x_fault, s_fault, entity_in, signals_in, values_in}
+use Rattle.command_forms.specs.Values.{k_fault, n_fault, x_fault, q_fault, d_fault, r_fault, t_fault, s_fault, entity_in, identifier_in, step_and_process, handling_at, handling_in, change_at, map_code, change_in, requested_in, detected_in, signals_in, values_in}
 use Rattle.command_forms.specs.Order.{named, takes, fault_of, form_as, form_of}
 use Rattle.command_forms.specs.Codes.{name_codes, param_codes, has_code, endpoints_of, pattern_in, AreOf, HasValues}
 use Rattle.command_forms.proofs.CodeLemmas.{Gives, checks_behind, behind_gives}
@@ -192,6 +200,10 @@ record Passed (row : VerbRow) (pattern : Pattern) (params : List Param) (hosts :
   taken : takes row params pattern ≡ true
   complete : has_all row.must params ≡ true
   identifier : x_fault (param_at (codes "X") params) ≡ None
+  handling : q_fault (param_at (codes "Q") params) ≡ None
+  map : d_fault (param_at (codes "D") params) ≡ None
+  requested : r_fault (value_at (codes "R") params) ≡ None
+  detected : t_fault (value_at (codes "T") params) ≡ None
   signals : s_fault (value_at (codes "S") params) ≡ None
 
 passed : (row : VerbRow) (pattern : Pattern) (params : List Param) (hosts : List Host) → fault_of row pattern params hosts ≡ None → Passed row pattern params hosts
@@ -203,8 +215,21 @@ passed row pattern params hosts e =
     let confirmed = first_none (k_fault (k_of params)) _ complete.1 in
     let entity = first_none (n_fault hosts (param_at (codes "N") params)) _ confirmed.1 in
     let identifier = first_none (x_fault (param_at (codes "X") params)) _ entity.1 in
-    let signals = first_none (s_fault (value_at (codes "S") params)) _ identifier.1 in
-    record { taken = unless_none _ 503 taken.0; complete = unless_none _ 510 complete.0; identifier = identifier.0; signals = signals.0 }
+    let handling = first_none (q_fault (param_at (codes "Q") params)) _ identifier.1 in
+    let map = first_none (d_fault (param_at (codes "D") params)) _ handling.1 in
+    let requested = first_none (r_fault (value_at (codes "R") params)) _ map.1 in
+    let detected = first_none (t_fault (value_at (codes "T") params)) _ requested.1 in
+    let signals = first_none (s_fault (value_at (codes "S") params)) _ detected.1 in
+    record {
+      taken = unless_none _ 503 taken.0;
+      complete = unless_none _ 510 complete.0;
+      identifier = identifier.0;
+      handling = handling.0;
+      map = map.0;
+      requested = requested.0;
+      detected = detected.0;
+      signals = signals.0;
+    }
 
 meant_taken : (command : Command) (row : VerbRow) (pattern : Pattern) → takes row command.params pattern ≡ true → meant_on command row pattern ≡ Ok pattern
 meant_taken command row pattern h = rw h refl
@@ -292,15 +317,20 @@ audit_has_items command names pattern items e =
 
 -- the values of a request are those of its parameters
 record Same (hosts : List Host) (params : List Param) (notified : Option Entity) (request : RequestForm) : Type 0 where
-  identifier : request.identifier ≡ value_at (codes "X") params
+  identifier : request.identifier ≡ identifier_in (param_at (codes "X") params)
   entity : notified ≡ entity_in hosts (param_at (codes "N") params)
+  handling : request.handling ≡ handling_in (param_at (codes "Q") params)
+  map : request.map ≡ change_in (param_at (codes "D") params)
+  requested : request.requested ≡ requested_in (value_at (codes "R") params)
+  detected : request.detected ≡ detected_in (value_at (codes "T") params)
   signals : request.signals ≡ signals_in (value_at (codes "S") params)
 
 same_values : (kind : FormKind) (pattern : Pattern) (hosts : List Host) (params : List Param) (named_on : Pattern) (notified : Option Entity) (request : RequestForm)
     → form_as kind pattern (values_in hosts params) ≡ forms.Request named_on notified request → Same hosts params notified request
 unfolding values_in
 same_values Audit pattern hosts params named_on notified request e = absurd cc
-same_values Request pattern hosts params named_on notified request e = record { identifier = cc; entity = cc; signals = cc }
+same_values Request pattern hosts params named_on notified request e =
+    record { identifier = cc; entity = cc; handling = cc; map = cc; requested = cc; detected = cc; signals = cc }
 
 -- a verb that requests must have X
 must_have : (verb : Verb) (row : VerbRow) (pattern : Pattern) (values : Values) (named_on : Pattern) (notified : Option Entity) (request : RequestForm)
@@ -316,9 +346,27 @@ hex_digits : (found : Option Param) → list_all (λ (letter : ℕ). is_some fou
 hex_digits None all none = absurd cc
 hex_digits (Some param) all none = unless_none (is_hex_text param.value) 510 none
 
-read_whole : (read : Result (List SignalRequest) ℕ) → result_err read ≡ None → read ≡ Ok (result_unwrap_or read [])
-read_whole (Ok signals) none = refl
-read_whole (Err code) none = absurd cc
+-- where X stands there, its value is the identifier
+identifier_there : (found : Option Param) → list_all (λ (letter : ℕ). is_some found) (codes "X") ≡ true → identifier_in found ≡ value_in found
+identifier_there None all = absurd cc
+identifier_there (Some param) all = refl
+
+read_whole : {A : Type 0} (read : Result A ℕ) (instead : A) → result_err read ≡ None → read ≡ Ok (result_unwrap_or read instead)
+read_whole (Ok value) instead none = refl
+read_whole (Err code) instead none = absurd cc
+
+map_whole : (read : Result MapChange MapFault) → option_map map_code (result_err read) ≡ None → read ≡ Ok (result_unwrap_or read Keep)
+map_whole (Ok change) none = refl
+map_whole (Err fault) none = absurd cc
+
+-- what is read of R can be written
+requested_writable : (value : List ℕ) (list : List RequestedEvent) → requested_of value ≡ Ok list → are_writable_requested list ≡ true
+unfolding requested_of
+requested_writable value list read =
+    ⊎_elim
+    (λ (h : are_requested value ≡ true). let gives : requested_entries value ≡ Ok list = (rw h at read) in requested_is_writable value (Ok list) h gives)
+    (λ (h : are_requested value ≡ false). let no : Err 510 ≡ Ok list = (rw h at read) in absurd cc)
+    (cases_Bool (are_requested value))
 
 pub request_has_values : (command : Command) (names : Names) (pattern : Pattern) (notified : Option Entity) (request : RequestForm)
     → form_of command names ≡ Ok (forms.Request pattern notified request) → HasValues command names notified request
@@ -328,11 +376,22 @@ request_has_values command names pattern notified request e =
     let s = same_values f.row.kind f.pattern names.table command.params pattern notified request f.is in
     let must = must_have command.verb f.row f.pattern (values_in names.table command.params) pattern notified request f.served f.is in
     let all : has_all (codes "X") command.params ≡ true = (rw must at p.complete) in
-    let read = read_whole (signals_of (value_at (codes "S") command.params)) p.signals in
+    let identifier : request.identifier ≡ value_at (codes "X") command.params = s.identifier ∙ identifier_there (param_at (codes "X") command.params) all in
+    let handled = read_whole (handling_at (param_at (codes "Q") command.params)) step_and_process p.handling in
+    let changed = map_whole (change_at (param_at (codes "D") command.params)) p.map in
+    let requested = read_whole (requested_of (value_at (codes "R") command.params)) [] p.requested in
+    let detected = read_whole (detected_of (value_at (codes "T") command.params)) [] p.detected in
+    let signals = read_whole (signals_of (value_at (codes "S") command.params)) [] p.signals in
     record {
-      identifier = s.identifier;
-      digits = rw (s.identifier) (hex_digits (param_at (codes "X") command.params) all p.identifier);
+      identifier = identifier;
+      digits = rw (identifier) (hex_digits (param_at (codes "X") command.params) all p.identifier);
       entity = s.entity;
-      signals = rw (s.signals) read;
-      writable = rw (s.signals) (read_is_writable (value_at (codes "S") command.params) _ read);
+      handling = rw (s.handling) handled;
+      map = rw (s.map) changed;
+      requested = rw (s.requested) requested;
+      detected = rw (s.detected) detected;
+      signals = rw (s.signals) signals;
+      writable_requested = rw (s.requested) (requested_writable (value_at (codes "R") command.params) _ requested);
+      writable_detected = rw (s.detected) (detected_is_writable (value_at (codes "T") command.params) _ detected);
+      writable_signals = rw (s.signals) (read_is_writable (value_at (codes "S") command.params) _ signals);
     }

@@ -17,7 +17,7 @@ use Rattle.command_forms.specs.declared.verbs.VerbRow.{VerbRow}
 use Rattle.command_forms.specs.Command.{Command}
 use Rattle.command_forms.specs.Verbs.{row_of}
 use Rattle.command_forms.specs.Params.{params_fault, has_all, value_at}
-use Rattle.command_forms.specs.Values.{k_fault, n_fault, x_fault, s_fault, values_in}
+use Rattle.command_forms.specs.Values.{k_fault, n_fault, x_fault, q_fault, d_fault, r_fault, t_fault, s_fault, values_in}
 use Rattle.command_forms.specs.Order.{named, takes, fault_of, form_as, form_of}
 
 -- what the checks behind others give, where these give nothing
@@ -34,7 +34,8 @@ place_checks row pattern params =
 abbrev pub value_checks : List Host → List Param → List (Option ℕ)
 value_checks hosts params =
     k_fault (k_of params) ∷ n_fault hosts (param_at (codes "N") params) ∷ x_fault (param_at (codes "X") params)
-    ∷ s_fault (value_at (codes "S") params) ∷ []
+    ∷ q_fault (param_at (codes "Q") params) ∷ d_fault (param_at (codes "D") params) ∷ r_fault (value_at (codes "R") params)
+    ∷ t_fault (value_at (codes "T") params) ∷ s_fault (value_at (codes "S") params) ∷ []
 
 behind_place : (row : VerbRow) (pattern : Pattern) (params : List Param) (hosts : List Host) → first_fault (place_checks row pattern params) ≡ None
     → fault_of row pattern params hosts ≡ first_fault (value_checks hosts params)

@@ -9,6 +9,8 @@ use Rattle.endpoint_names.specs.declared.name.Pattern.{Pattern}
 use Rattle.endpoint_names.specs.declared.name.Pattern.TheVariants.{One, All, Any}
 use Rattle.endpoint_names.specs.declared.names.Names.{Names}
 use Rattle.endpoint_names.specs.Name.{name_of}
+use Rattle.event_syntax.specs.Requested.{requested_of, are_writable_requested}
+use Rattle.event_syntax.specs.Detect.{detected_of, are_writable_events}
 use Rattle.event_syntax.specs.Signals.{signals_of, are_writable_signals}
 use Rattle.command_forms.specs.declared.forms.Form.{Form}
 use Rattle.command_forms.specs.declared.forms.RequestForm.{RequestForm}
@@ -16,7 +18,7 @@ use Rattle.command_forms.specs.declared.forms.Form.TheVariants.{Audit, Request}
 use Rattle.command_forms.specs.Command.{Command}
 use Rattle.command_forms.specs.Verbs.{row_of}
 use Rattle.command_forms.specs.Params.{value_at}
-use Rattle.command_forms.specs.Values.{entity_in}
+use Rattle.command_forms.specs.Values.{entity_in, handling_at, change_at}
 use Rattle.command_forms.specs.Order.{named, takes}
 
 -- the codes of the verb and the name
@@ -25,7 +27,7 @@ name_codes = 500 ∷ 503 ∷ 504 ∷ []
 
 -- the codes of the parameters and their values
 abbrev pub param_codes : List ℕ
-param_codes = 502 ∷ 510 ∷ 511 ∷ 513 ∷ 518 ∷ 522 ∷ 538 ∷ 539 ∷ []
+param_codes = 502 ∷ 508 ∷ 510 ∷ 511 ∷ 512 ∷ 513 ∷ 518 ∷ 522 ∷ 523 ∷ 538 ∷ 539 ∷ []
 
 abbrev pub has_code : List ℕ → ℕ → Bool
 has_code known code = list_any (λ one. one == code) known
@@ -49,10 +51,16 @@ AreOf lines All = Unit {0}
 AreOf lines Any = ⊥
 
 -- what a request has: its values are those of the command's parameters, its identifier is 1 to 32 hexadecimal digits, and
--- its signals are at most 8 and can be written
+-- its events, 32 of R and of T at most, and its signals, at most 8, can be written
 pub record HasValues (command : Command) (names : Names) (notified : Option Entity) (request : RequestForm) : Type 0 where
   pub identifier : request.identifier ≡ value_at (codes "X") command.params
   pub digits : is_hex_text request.identifier ≡ true
   pub entity : notified ≡ entity_in names.table (param_at (codes "N") command.params)
+  pub handling : handling_at (param_at (codes "Q") command.params) ≡ Ok request.handling
+  pub map : change_at (param_at (codes "D") command.params) ≡ Ok request.map
+  pub requested : requested_of (value_at (codes "R") command.params) ≡ Ok request.requested
+  pub detected : detected_of (value_at (codes "T") command.params) ≡ Ok request.detected
   pub signals : signals_of (value_at (codes "S") command.params) ≡ Ok request.signals
-  pub writable : are_writable_signals request.signals ≡ true
+  pub writable_requested : are_writable_requested request.requested ≡ true
+  pub writable_detected : are_writable_events request.detected ≡ true
+  pub writable_signals : are_writable_signals request.signals ≡ true

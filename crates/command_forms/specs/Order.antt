@@ -15,6 +15,7 @@ use Rattle.endpoint_names.specs.declared.table.Host.{Host}
 use Rattle.endpoint_names.specs.Name.{name_of}
 use Rattle.command_forms.specs.declared.forms.Form.{Form}
 use Rattle.command_forms.specs.declared.forms.Form.TheVariants as forms
+use Rattle.command_forms.specs.declared.forms.RequestForm.{RequestForm}
 use Rattle.command_forms.specs.declared.values.Values.{Values}
 use Rattle.command_forms.specs.declared.verbs.AllLines.{AllLines}
 use Rattle.command_forms.specs.declared.verbs.AllLines.TheVariants.{Always, WithoutItems}
@@ -24,7 +25,7 @@ use Rattle.command_forms.specs.declared.verbs.VerbRow.{VerbRow}
 use Rattle.command_forms.specs.Command.{Command, command_in}
 use Rattle.command_forms.specs.Verbs.{row_of}
 use Rattle.command_forms.specs.Params.{params_fault, has_all, value_at}
-use Rattle.command_forms.specs.Values.{k_fault, n_fault, x_fault, s_fault, values_in}
+use Rattle.command_forms.specs.Values.{k_fault, n_fault, x_fault, q_fault, d_fault, r_fault, t_fault, s_fault, values_in}
 
 -- what comes next for the endpoints that a name means; an unknown name is 500, a wildcard in another place 503
 abbrev pub named : {A : Type 0} → Result Pattern NameFault → (Pattern → Result A ℕ) → Result A ℕ
@@ -57,14 +58,28 @@ fault_of row pattern params hosts = first_fault
     ∷ k_fault (k_of params)
     ∷ n_fault hosts (param_at (codes "N") params)
     ∷ x_fault (param_at (codes "X") params)
+    ∷ q_fault (param_at (codes "Q") params)
+    ∷ d_fault (param_at (codes "D") params)
+    ∷ r_fault (value_at (codes "R") params)
+    ∷ t_fault (value_at (codes "T") params)
     ∷ s_fault (value_at (codes "S") params)
     ∷ [])
+
+-- what is requested by these values
+abbrev pub request_as : Values → RequestForm
+request_as values = record {
+  identifier = values.identifier;
+  requested = values.requested;
+  detected = values.detected;
+  signals = values.signals;
+  handling = values.handling;
+  map = values.map;
+}
 
 -- what these values ask of these endpoints
 abbrev pub form_as : FormKind → Pattern → Values → Form
 form_as Audit pattern values = forms.Audit pattern values.items
-form_as Request pattern values =
-    forms.Request pattern values.entity (record { identifier = values.identifier; signals = values.signals })
+form_as Request pattern values = forms.Request pattern values.entity (request_as values)
 
 -- what a command asks for, or the code of its first fault: a verb that isn't served is 504
 unfoldable pub form_of : Command → Names → Result Form ℕ

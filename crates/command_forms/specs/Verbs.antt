@@ -15,7 +15,7 @@ row must may all_lines kind = Some (record { must = must; may = may; all_lines =
 
 -- the table
 abbrev pub row_of : Verb → Option VerbRow
-row_of Rqnt = row (codes "X") (codes "NS") Always Request
+row_of Rqnt = row (codes "X") (codes "NRSDTQ") Always Request
 row_of Auep = row [] (codes "F") WithoutItems Audit
 row_of Epcf = None
 row_of Ntfy = None

@@ -1,16 +1,26 @@
 //! Worked examples of the definitions, as theorems: each sentence of a definition has one that a slip in it breaks.
 #![tactic(auto, unfolding(crate::proofs::Computing::on_examples))]
 
-ghost use Rattle.std.specs.Prelude.{◌≡◌, ◌++◌, codes, replicate, [], ◌∷◌, Some, Ok, Err};
+ghost use Rattle.std.specs.Prelude.{◌≡◌, ◌++◌, codes, replicate, [], ◌∷◌, Some, None, Ok, Err};
+ghost use Rattle.std.specs.List.{repeat};
 ghost use Rattle.mgcp_text.specs.declared.message.Message.TheVariants as messages;
 ghost use Rattle.endpoint_names.specs.declared.name.Pattern.TheVariants as patterns;
+ghost use Rattle.mg_packages.specs.declared.event.Event.TheVariants.{OffHook, OnHook, Flash, GenericComplete};
 ghost use Rattle.mg_packages.specs.declared.signal.Signal.TheVariants.{DialTone, Ringing, MessageWaiting};
+ghost use Rattle.digit_map.specs.declared.change.MapChange.TheVariants.{Remove, Replace};
+ghost use Rattle.event_syntax.specs.declared.events.Events.TheVariants.{AllOfLine, One, Letters};
+ghost use Rattle.event_syntax.specs.declared.handling.Notifying.TheVariants.{Step, Loop};
+ghost use Rattle.event_syntax.specs.declared.handling.Quarantined.TheVariants.{Process, Discard};
+ghost use Rattle.event_syntax.specs.declared.request.Action.TheVariants.{Notify, Accumulate, Dial};
 ghost use Rattle.event_syntax.specs.declared.signals.Setting.TheVariants.{Start, Stop, Lasting};
+ghost use Rattle.event_syntax.specs.Ranges.{letters_in};
+ghost use Rattle.command_forms.specs.Values.{d_fault, values_in};
 ghost use Rattle.command_forms.specs.Order.{form_in};
 ghost use Rattle.command_forms.specs.Example.{gateway, asked, command_on, request_on, audit_on, request, audit, refused, bare_request, request_for, request_with, taken, asks, audit_of};
+ghost use Rattle.command_forms.specs.Example.{requests, request_at, request_meanwhile, request_handling, request_changing, handled, does};
 
 /// A request has an identifier as it was given, and may have signals and an entity. What follows the parameters is
-/// ignored.
+/// ignored. A command without an identifier, which is no request, has `0`.
 pub fn requests_are_read()
     ensures identifier { request (codes "X: 1\r\n") ≡ taken }
     ensures as_given { request (codes "X: 0a0F\r\n") ≡ bare_request (patterns.One 1) (codes "0a0F") }
@@ -22,7 +32,36 @@ pub fn requests_are_read()
     ensures confirming { request (codes "K: 7-9, 12\r\nX: 1\r\n") ≡ taken }
     ensures confirming_none { request (codes "X: 1\r\nK:\r\n") ≡ taken }
     ensures description { request (codes "X: 1\r\n\r\nX+Y: 1\r\n") ≡ taken }
+    ensures without { (values_in [] []).identifier ≡ codes "0" }
     ensures lower_case { command_on (codes "rqnt") (codes "AALN/1") (codes "x: 1\r\nk: 1\r\ns:\r\n") ≡ taken }
+{}
+
+/// A request may say what is done at which events (R), which events to look for meanwhile (T), how events are handled (Q)
+/// and what becomes of the digit map (D). What is absent is no events, step and process, and that the map stays.
+pub fn requests_ask_for_events()
+    ensures requested { request (codes "X: 1\r\nR: L/hd(N), G/oc(A)\r\n")
+        ≡ request_at (does (One OffHook) Notify ∷ does (One GenericComplete) Accumulate ∷ []) }
+    ensures dialled { request (codes "R: D/5(D)\r\nX: 1\r\n") ≡ request_at (does (Letters (letters_in (codes "5"))) Dial ∷ []) }
+    ensures none_requested { request (codes "X: 1\r\nR:\r\n") ≡ taken }
+    ensures detected { request (codes "X: 1\r\nT: L/hu,L/all\r\n") ≡ request_meanwhile (One OnHook ∷ AllOfLine ∷ []) }
+    ensures none_detected { request (codes "T:\r\nX: 1\r\n") ≡ taken }
+    ensures looping { request (codes "X: 1\r\nQ: loop\r\n") ≡ request_handling Loop Process }
+    ensures discarding { request (codes "X: 1\r\nQ: discard\r\n") ≡ request_handling Step Discard }
+    ensures both { request (codes "X: 1\r\nQ: DISCARD , loop\r\n") ≡ request_handling Loop Discard }
+    ensures neither { request (codes "X: 1\r\nQ: process,step\r\n") ≡ taken }
+    ensures map { request (codes "X: 1\r\nD: (0T | 8x)\r\n") ≡ request_changing (Replace (codes "(0T|8x)")) }
+    ensures no_map { request (codes "X: 1\r\nD:\r\n") ≡ request_changing Remove }
+    ensures blank_map { request (codes "D: \t \r\nX: 1\r\n") ≡ request_changing Remove }
+    ensures lower_case { request (codes "x: 1\r\nr:\r\nt:\r\nq: step\r\nd: xx\r\n") ≡ request_changing (Replace (codes "xx")) }
+    ensures all { request_on (codes "*") (codes "S: L/dl\r\nT: L/hf\r\nR: L/hu(N)\r\nD: xx\r\nQ: loop\r\nX: A7\r\n")
+        ≡ requests patterns.All (record {
+          identifier = codes "A7";
+          requested = does (One OnHook) Notify ∷ [];
+          detected = One Flash ∷ [];
+          signals = asks DialTone Start ∷ [];
+          handling = handled Loop Process;
+          map = Replace (codes "xx");
+        }) }
 {}
 
 /// An audit has the items that F asks for, with commas between them as they were given; an empty F is no F.
@@ -93,16 +132,24 @@ pub fn extensions_begin_with_x()
     ensures no_identifier { request (codes "X-: 1\r\n") ≡ refused 510 }
 {}
 
-/// A request must have X and may have N, S and K; an audit may have F and K.
+/// A request must have X and may have N, R, S, D, T, Q and K; an audit may have F and K.
 pub fn verbs_have_codes()
     ensures missing { request [] ≡ refused 510 }
     ensures missing_with_others { request (codes "S: L/rg\r\nK: 1\r\n") ≡ refused 510 }
+    ensures missing_with_events { request (codes "R:\r\nT:\r\n") ≡ refused 510 }
+    ensures missing_with_handling { request (codes "Q: step\r\n") ≡ refused 510 }
+    ensures missing_with_map { request (codes "D:\r\n") ≡ refused 510 }
+    ensures encoding { request (codes "X: 1\r\nB: e:mu\r\n") ≡ refused 539 }
     ensures foreign { request (codes "X: 1\r\nM: x\r\n") ≡ refused 539 }
     ensures items { request (codes "X: 1\r\nF: ES\r\n") ≡ refused 539 }
     ensures longer { request (codes "X: 1\r\nSS: L/rg\r\n") ≡ refused 539 }
     ensures audit_identifier { audit (codes "X: 1\r\n") ≡ refused 539 }
     ensures audit_entity { audit (codes "N: ca@ca.example.net\r\n") ≡ refused 539 }
     ensures audit_signals { audit (codes "S:\r\n") ≡ refused 539 }
+    ensures audit_requested { audit (codes "R:\r\n") ≡ refused 539 }
+    ensures audit_detected { audit (codes "T:\r\n") ≡ refused 539 }
+    ensures audit_handling { audit (codes "Q: step\r\n") ≡ refused 539 }
+    ensures audit_map { audit (codes "D:\r\n") ≡ refused 539 }
     ensures audit_foreign { audit (codes "M: x\r\n") ≡ refused 539 }
 {}
 
@@ -111,6 +158,10 @@ pub fn codes_stand_once()
     ensures identifier { request (codes "X: 1\r\nX: 1\r\n") ≡ refused 510 }
     ensures case { request (codes "X: 1\r\nx: 1\r\n") ≡ refused 510 }
     ensures apart { request (codes "S:\r\nX: 1\r\ns:\r\n") ≡ refused 510 }
+    ensures requested { request (codes "X: 1\r\nR:\r\nr:\r\n") ≡ refused 510 }
+    ensures detected { request (codes "X: 1\r\nT:\r\nT:\r\n") ≡ refused 510 }
+    ensures handling { request (codes "X: 1\r\nQ: step\r\nQ: step\r\n") ≡ refused 510 }
+    ensures map { request (codes "X: 1\r\nD:\r\nD:\r\n") ≡ refused 510 }
     ensures entity { request (codes "X: 1\r\nN: ca@ca.example.net\r\nN: ca@ca.example.net\r\n") ≡ refused 510 }
     ensures confirming { audit (codes "K: 1\r\nK: 2\r\n") ≡ refused 510 }
     ensures items { audit (codes "F: ES\r\nF: ES\r\n") ≡ refused 510 }
@@ -135,6 +186,32 @@ pub fn values_have_codes()
     ensures nine { request (codes "X: 1\r\nS: dl,dl,dl,dl,dl,dl,dl,dl,dl\r\n") ≡ refused 502 }
 {}
 
+/// So have R, T, Q and D: the codes of R and T are those of their first faults, another Q is 508, and a D that is no map
+/// is 510, a map that is too large 502.
+pub fn values_of_events_have_codes()
+    ensures handling { request (codes "X: 1\r\nQ: fast\r\n") ≡ refused 508 }
+    ensures no_handling { request (codes "X: 1\r\nQ:\r\n") ≡ refused 508 }
+    ensures map { request (codes "X: 1\r\nD: [9-1]\r\n") ≡ refused 510 }
+    ensures large_map { d_fault (Some (record { code = codes "D"; value = replicate 2049 49 })) ≡ Some 502 }
+    ensures largest_map { d_fault (Some (record { code = codes "D"; value = replicate 2048 49 })) ≡ None }
+    ensures spelling { request (codes "X: 1\r\nR: L/hd(N\r\n") ≡ refused 510 }
+    ensures package { request (codes "X: 1\r\nR: Q/a(N)\r\n") ≡ refused 518 }
+    ensures unknown { request (codes "X: 1\r\nR: L/wt(N)\r\n") ≡ refused 512 }
+    ensures connection { request (codes "X: 1\r\nR: L/hd@1(N)\r\n") ≡ refused 512 }
+    ensures signal { request (codes "X: 1\r\nR: L/dl(N)\r\n") ≡ refused 522 }
+    ensures parameter { request (codes "X: 1\r\nR: L/hd(Z)(p)\r\n") ≡ refused 538 }
+    ensures timer { request (codes "X: 1\r\nR: D/T(N)\r\n") ≡ refused 523 }
+    ensures two_actions { request (codes "X: 1\r\nR: L/hd(N,A)\r\n") ≡ refused 523 }
+    ensures embedded_signal { request (codes "X: 1\r\nR: L/hd(E(S(L/wt)))\r\n") ≡ refused 513 }
+    ensures entries_33 { request (codes "X: 1\r\nR: " ++ repeat 32 (codes "hd,") ++ codes "hd\r\n") ≡ refused 502 }
+    ensures detected_spelling { request (codes "X: 1\r\nT: L/hd,\r\n") ≡ refused 510 }
+    ensures detected_package { request (codes "X: 1\r\nT: Q/a\r\n") ≡ refused 518 }
+    ensures detected_unknown { request (codes "X: 1\r\nT: L/wt\r\n") ≡ refused 512 }
+    ensures detected_signal { request (codes "X: 1\r\nT: L/dl\r\n") ≡ refused 522 }
+    ensures detected_parameter { request (codes "X: 1\r\nT: L/hd(N)\r\n") ≡ refused 538 }
+    ensures detected_33 { request (codes "X: 1\r\nT: " ++ repeat 32 (codes "hd,") ++ codes "hd\r\n") ≡ refused 502 }
+{}
+
 /// The verb comes first, then the name, then the parameters, then what is missing, then the values.
 pub fn a_command_is_checked_in_order()
     ensures verb_before_name { command_on (codes "NTFY") (codes "aaln/17") [] ≡ refused 504 }
@@ -147,6 +224,9 @@ pub fn a_command_is_checked_in_order()
     ensures parameters_before_missing { request (codes "M: x\r\n") ≡ refused 539 }
     ensures parameters_before_values { request (codes "X: g\r\nS: Q/a\r\nM: x\r\n") ≡ refused 539 }
     ensures missing_before_entity { request (codes "N: x\r\n") ≡ refused 510 }
+    ensures missing_before_handling { request (codes "Q: fast\r\n") ≡ refused 510 }
+    ensures missing_before_requested { request (codes "R: Q/a\r\n") ≡ refused 510 }
+    ensures missing_before_detected { request (codes "T: Q/a\r\n") ≡ refused 510 }
     ensures missing_before_signals { request (codes "S: Q/a\r\n") ≡ refused 510 }
 {}
 
@@ -158,7 +238,7 @@ pub fn the_first_faulty_line_counts()
     ensures foreign_before_second { request (codes "X: 1\r\nM: x\r\nX: 1\r\n") ≡ refused 539 }
 {}
 
-/// The values are judged in the order K, N, X, S, wherever their lines stand.
+/// The values are judged in the order K, N, X, Q, D, R, T, S, wherever their lines stand.
 pub fn values_are_judged_in_order()
     ensures k_before_n { request (codes "X: 1\r\nN: x\r\nK: x\r\n") ≡ refused 510 }
     ensures k_above_n { request (codes "K: x\r\nN: x\r\nX: 1\r\n") ≡ refused 510 }
@@ -168,4 +248,19 @@ pub fn values_are_judged_in_order()
     ensures n_before_s { request (codes "S: Q/a\r\nX: 1\r\nN: x\r\n") ≡ refused 539 }
     ensures x_before_s { request (codes "S: Q/a\r\nX: g\r\n") ≡ refused 510 }
     ensures x_above_s { request (codes "X: g\r\nS: Q/a\r\n") ≡ refused 510 }
+    ensures k_before_q { request (codes "Q: fast\r\nX: 1\r\nK: x\r\n") ≡ refused 510 }
+    ensures n_before_q { request (codes "Q: fast\r\nX: 1\r\nN: x\r\n") ≡ refused 539 }
+    ensures x_before_q { request (codes "Q: fast\r\nX: g\r\n") ≡ refused 510 }
+    ensures x_above_q { request (codes "X: g\r\nQ: fast\r\n") ≡ refused 510 }
+    ensures q_before_d { request (codes "X: 1\r\nD: [9-1]\r\nQ: fast\r\n") ≡ refused 508 }
+    ensures q_above_d { request (codes "X: 1\r\nQ: fast\r\nD: [9-1]\r\n") ≡ refused 508 }
+    ensures q_before_r { request (codes "R: Q/a\r\nX: 1\r\nQ: fast\r\n") ≡ refused 508 }
+    ensures d_before_r { request (codes "R: Q/a\r\nX: 1\r\nD: [9-1]\r\n") ≡ refused 510 }
+    ensures d_above_r { request (codes "D: [9-1]\r\nR: Q/a\r\nX: 1\r\n") ≡ refused 510 }
+    ensures d_before_t { request (codes "T: Q/a\r\nX: 1\r\nD: [9-1]\r\n") ≡ refused 510 }
+    ensures r_before_t { request (codes "T: L/dl\r\nX: 1\r\nR: Q/a\r\n") ≡ refused 518 }
+    ensures r_above_t { request (codes "R: Q/a\r\nT: L/dl\r\nX: 1\r\n") ≡ refused 518 }
+    ensures t_before_s { request (codes "S: L/wt\r\nX: 1\r\nT: Q/a\r\n") ≡ refused 518 }
+    ensures t_above_s { request (codes "T: Q/a\r\nS: L/wt\r\nX: 1\r\n") ≡ refused 518 }
+    ensures r_before_s { request (codes "S: L/wt\r\nR: Q/a\r\nX: 1\r\n") ≡ refused 518 }
 {}

@@ -1,16 +1,26 @@
 //! What commands ask for.
 
+use digit_map::MapChange;
 use endpoint_names::{Entity, Pattern};
-use event_syntax::SignalRequests;
+use event_syntax::{DetectedEvents, Handling, RequestedEvents, SignalRequests};
+use mg_bytes::Identifier;
 use mgcp_text::Bytes;
 
 /// What is requested of lines (RFC 3435, 2.3.3).
 #[derive(Drop)]
-pub struct RequestForm<'m> {
-    /// The identifier of the request as it was given (X): 1 to 32 hexadecimal digits.
-    pub identifier: Bytes<'m>,
+pub struct RequestForm {
+    /// The identifier of the request as it was given (X).
+    pub identifier: Identifier,
+    /// The events that are asked for (R), none where R is empty or absent.
+    pub requested: RequestedEvents,
+    /// The events to look for while a notification isn't answered (T), none where T is empty or absent.
+    pub detected: DetectedEvents,
     /// The signals that are asked for (S), none where S is empty or absent.
     pub signals: SignalRequests,
+    /// How quarantined events are handled (Q): step and process where Q is absent.
+    pub handling: Handling,
+    /// What it does with the digit map (D).
+    pub map: MapChange,
 }
 
 /// What a command asks for.
@@ -27,6 +37,6 @@ pub enum Form<'m> {
     Request {
         pattern: Pattern,
         entity: Option<Entity>,
-        request: RequestForm<'m>,
+        request: RequestForm,
     },
 }

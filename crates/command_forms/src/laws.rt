@@ -38,7 +38,8 @@ pub fn an_audit_has_its_items()
 {}
 
 /// A request has the values of its parameters: an identifier of 1 to 32 hexadecimal digits, the entity that N names
-/// where it stands there, and the signals that are read of S, which can be written again and so are at most 8.
+/// where it stands there, how Q handles events, what D does with the digit map, and what is read of R, T and S, which can
+/// be written again and so is at most 32 entries of R and of T, and 8 of S.
 pub fn a_request_has_its_values()
     ensures { (command : Command) (names : Names) (pattern : Pattern) (notified : Option Entity) (request : RequestForm)
         → form_of command names ≡ Ok (forms.Request pattern notified request) → HasValues command names notified request }

@@ -6,12 +6,15 @@ ghost use Rattle.mgcp_text.specs.Message.{params_in, param_at};
 ghost use Rattle.mgcp_text.specs.Confirmation.{k_of};
 ghost use Rattle.endpoint_names.specs.Name.{name_of};
 ghost use Rattle.command_forms.specs.Params.{params_fault, has_all, value_at};
-ghost use Rattle.command_forms.specs.Values.{k_fault, n_fault, x_fault, s_fault, values_in};
+ghost use Rattle.command_forms.specs.Values.{k_fault, n_fault, x_fault, q_fault, d_fault, r_fault, t_fault, s_fault, values_in};
 ghost use Rattle.command_forms.specs.Order.{takes_all, takes, named, form_as, form_in};
 
 use crate::forms::{Form, RequestForm};
 use crate::params::{has_all, params_fault, value_at};
-use crate::values::{Values, entity_in, identifier_in, k_fault, signals_in};
+use crate::values::{
+    Values, change_in, detected_in, entity_in, handling_in, identifier_in, k_fault, requested_in,
+    signals_in,
+};
 use crate::verbs::{AllLines, FormKind, VerbRow, row_of};
 use endpoint_names::{NameFault, Names, Pattern, Table, read_name};
 use mg_bytes::CodeFault;
@@ -79,7 +82,11 @@ fn form_as<'m>(kind: FormKind, pattern: Pattern, values: Values<'m>) -> Form<'m>
             entity: values.entity,
             request: RequestForm {
                 identifier: values.identifier,
+                requested: values.requested,
+                detected: values.detected,
                 signals: values.signals,
+                handling: values.handling,
+                map: values.map,
             },
         },
     }
@@ -99,6 +106,10 @@ fn asked<'m>(
         (k_fault (k_of params)
         ∷ n_fault table.now (param_at (codes "N") params)
         ∷ x_fault (param_at (codes "X") params)
+        ∷ q_fault (param_at (codes "Q") params)
+        ∷ d_fault (param_at (codes "D") params)
+        ∷ r_fault (value_at (codes "R") params)
+        ∷ t_fault (value_at (codes "T") params)
         ∷ s_fault (value_at (codes "S") params)
         ∷ []))
         (Ok (form_as kind pattern (values_in table.now params)))) result }
@@ -111,6 +122,10 @@ fn asked<'m>(
         items: Bytes::of(value_at(b"F", params)),
         entity: entity_in(table, params)?,
         identifier: identifier_in(params)?,
+        handling: handling_in(params)?,
+        map: change_in(alloc, params)?,
+        requested: requested_in(alloc, params)?,
+        detected: detected_in(params)?,
         signals: signals_in(params)?,
     };
     Ok(form_as(kind, pattern, values))
@@ -121,8 +136,8 @@ fn asked<'m>(
 /// Else the return code of the first fault, in this order: 504 for a verb that isn't served, and for a message that is
 /// no command; 500 for a name that no endpoint has, 503 for a wildcard that isn't taken; then the parameters from top to
 /// bottom, 511 for an extension that isn't understood, 539 for a code that isn't the verb's, 510 for one that stood
-/// before; 510 where one is missing; then the values of K (510), N (539), X (510) and S. It takes memory only to read
-/// K, and without it answers `OutOfMemory`.
+/// before; 510 where one is missing; then the values of K (510), N (539), X (510), Q (508), D (510, and 502 for a map that
+/// is too large), R, T and S. It takes memory to read K, D and R, and without it answers `OutOfMemory`.
 #[tactic(auto, unfolding(crate::specs::Order::form_of, crate::specs::Order::fault_of))]
 pub fn form<'m>(
     alloc: Global,

@@ -37,7 +37,7 @@ pub(crate) fn row_of(verb: Verb) -> Option<VerbRow>
     match verb {
         Verb::Rqnt => Some(VerbRow {
             must: Bytes::of(b"X"),
-            may: Bytes::of(b"NS"),
+            may: Bytes::of(b"NRSDTQ"),
             all_lines: AllLines::Always,
             kind: FormKind::Request,
         }),

@@ -23,9 +23,9 @@ fault_of text =
 unfoldable pub map_of : List ℕ → Result (List ℕ) MapFault
 map_of text = checked (fault_of (without_blanks text)) (Ok (without_blanks text))
 
--- the map or the fault is what is said, unless memory was refused
-abbrev pub AnswersAs : Result (List ℕ) MapFault → Result (List ℕ) MapFault → Type 0
-AnswersAs said (Ok map) = said ≡ Ok map
+-- the value or the fault is what is said, unless memory was refused
+abbrev pub AnswersAs : {A : Type 0} → Result A MapFault → Result A MapFault → Type 0
+AnswersAs said (Ok value) = said ≡ Ok value
 AnswersAs said (Err OutOfMemory) = ⊤
 AnswersAs said (Err Syntax) = said ≡ Err Syntax
 AnswersAs said (Err TooLarge) = said ≡ Err TooLarge

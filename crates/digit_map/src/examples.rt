@@ -1,14 +1,16 @@
 //! Worked examples of the definitions, as theorems: each sentence of a definition has one that a slip in it breaks.
 #![tactic(auto, unfolding(crate::proofs::Computing::on_examples))]
 
-ghost use Rattle.std.specs.Prelude.{◌≡◌, codes, true, false, [], ◌∷◌, ◌++◌, Ok, Err};
+ghost use Rattle.std.specs.Prelude.{◌≡◌, ℕ, List, codes, true, false, [], ◌∷◌, ◌++◌, Some, None, Ok, Err};
 ghost use Rattle.std.specs.List.{list_all};
 ghost use Rattle.digit_map.specs.Cuts.{left_parenthesis, right_parenthesis, bar, strings_of, positions_of, set_of, parts_of};
 ghost use Rattle.digit_map.specs.Spelling.{is_position, is_map};
 ghost use Rattle.digit_map.specs.Reading.{map_of, AnswersAs};
+ghost use Rattle.digit_map.specs.Change.{change_of};
 ghost use Rattle.digit_map.specs.Words.{is_word};
 ghost use Rattle.digit_map.specs.Example.{dialled, verdict, critical, copies, letters_of};
 
+use crate::change::MapChange;
 use crate::fault::MapFault;
 use crate::part::Part;
 use crate::verdict::Verdict;
@@ -144,16 +146,29 @@ pub fn maps_have_at_most_2_048_bytes()
 /// What is answered is what the text is read as, or that memory was refused; nothing else is.
 pub fn answers_are_what_is_read()
     ensures map { AnswersAs (Ok (codes "1")) (Ok (codes "1")) }
-    ensures no_map { AnswersAs (Err MapFault.Syntax) (Err MapFault.Syntax) }
-    ensures large { AnswersAs (Err MapFault.TooLarge) (Err MapFault.TooLarge) }
+    ensures no_map { AnswersAs {A = List ℕ} (Err MapFault.Syntax) (Err MapFault.Syntax) }
+    ensures large { AnswersAs {A = List ℕ} (Err MapFault.TooLarge) (Err MapFault.TooLarge) }
     ensures memory { AnswersAs (Ok (codes "1")) (Err MapFault.OutOfMemory) }
-    ensures memory_first { AnswersAs (Err MapFault.Syntax) (Err MapFault.OutOfMemory) }
+    ensures memory_first { AnswersAs {A = List ℕ} (Err MapFault.Syntax) (Err MapFault.OutOfMemory) }
     ensures other_map { ¬ AnswersAs (Ok (codes "1")) (Ok (codes "2")) }
     ensures map_of_none { ¬ AnswersAs (Err MapFault.Syntax) (Ok (codes "1")) }
     ensures false_syntax { ¬ AnswersAs (Ok (codes "1")) (Err MapFault.Syntax) }
-    ensures syntax_for_large { ¬ AnswersAs (Err MapFault.TooLarge) (Err MapFault.Syntax) }
+    ensures syntax_for_large { ¬ AnswersAs {A = List ℕ} (Err MapFault.TooLarge) (Err MapFault.Syntax) }
     ensures false_large { ¬ AnswersAs (Ok (codes "1")) (Err MapFault.TooLarge) }
-    ensures large_for_syntax { ¬ AnswersAs (Err MapFault.Syntax) (Err MapFault.TooLarge) }
+    ensures large_for_syntax { ¬ AnswersAs {A = List ℕ} (Err MapFault.Syntax) (Err MapFault.TooLarge) }
+{}
+
+/// Without D the map stays; a D of blanks alone removes it; another replaces it, or has the fault of its text.
+pub fn requests_change_maps()
+    ensures absent { change_of None ≡ Ok MapChange.Keep }
+    ensures empty { change_of (Some []) ≡ Ok MapChange.Remove }
+    ensures blank { change_of (Some (codes " \t ")) ≡ Ok MapChange.Remove }
+    ensures map { change_of (Some (codes "(0T|8xxx)")) ≡ Ok (MapChange.Replace (codes "(0T|8xxx)")) }
+    ensures without_blanks { change_of (Some (codes " 8 x\t")) ≡ Ok (MapChange.Replace (codes "8x")) }
+    ensures no_strings { change_of (Some (codes "()")) ≡ Err MapFault.Syntax }
+    ensures downwards { change_of (Some (codes "[9-1]")) ≡ Err MapFault.Syntax }
+    ensures most { change_of (Some (copies 2048 (codes "1"))) ≡ Ok (MapChange.Replace (copies 2048 (codes "1"))) }
+    ensures large { change_of (Some (copies 2049 (codes "1"))) ≡ Err MapFault.TooLarge }
 {}
 
 /// A position has the letters that its text names: a letter in any case, any digit for `X`, the digits of a span.

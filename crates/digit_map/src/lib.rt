@@ -4,6 +4,7 @@
 //! come, by the words of the map alone. Matching takes no memory and never goes back in the letters.
 #![tactic(auto)]
 
+mod change;
 mod cut;
 pub mod examples;
 mod fault;
@@ -16,6 +17,7 @@ mod spelling;
 mod verdict;
 mod walk;
 
+pub use crate::change::{MapChange, read_change};
 pub use crate::fault::MapFault;
 pub use crate::map_text::{MapText, read_map};
 pub use crate::matcher::Matcher;

@@ -57,6 +57,13 @@ impl SlowMap {
         })
     }
 
+    /// Its map.
+    pub fn map(&self) -> &MapText
+        ensures { result.now ≡ self.now.map }
+    {
+        &self.map
+    }
+
     // How far its letters have come.
     fn verdict(&self) -> Verdict
         ensures { result ≡ verdict_of self.now.map self.now.letters }

@@ -1,9 +1,13 @@
 -- What is read of O can be written, and its faults are return codes; and what is written of O is read again.
-use Rattle.std.proofs.Common.{◌≡◌, ℕ, ◌≤◌, true, false, leb, List, [], ◌∷◌, length, refl, lit≤, ⊎_elim, Option, Some, None}
+use Rattle.std.proofs.Common.{◌≡◌, ℕ, ◌≤◌, Bool, true, false, leb, List, [], ◌∷◌, map, length, refl, ◌∙◌, lit≤, ⊎_elim, Option, Some, None}
 use Rattle.std.specs.Prelude.{Result, Ok, Err}
-use Rattle.std.specs.List.{list_all}
+use Rattle.std.specs.List.{list_all, list_any, join_with_byte}
+use Rattle.std.proofs.lemmas.List.Folds.{list_any-append}
 use Rattle.std.proofs.lemmas.Bool.{cases_Bool, leb-true}
 use Rattle.mg_bytes.proofs.DigitLemmas.{both_true}
+use Rattle.mg_bytes.specs.Bytes.{comma}
+use Rattle.mg_bytes.specs.Blanks.{is_blank}
+use Rattle.mg_bytes.specs.Lines.{is_line_feed}
 use Rattle.mg_bytes.specs.declared.letter.Letter.TheVariants.{Zero}
 use Rattle.mg_packages.specs.declared.event.Event.{Event}
 use Rattle.mg_packages.specs.declared.event.Event.TheVariants.{LineComplete, GenericComplete, Letter}
@@ -109,3 +113,33 @@ told_again _ ok = refl
 pub observed_again : (list : List Observed) → are_writable_observed list ≡ true → observed_of (observed_text list) ≡ Ok list
 unfolding observed_of observed_text are_writable_observed
 observed_again list ok = listed_again is_writable_observed observed_entry_text observed_entry list told_entry told_again ok
+
+-- The written form of O is one word
+
+told_solid : (told : Observed) → list_any is_blank (observed_entry_text told) ≡ false
+unfolding on_examples
+told_solid (Happened (Letter Zero)) = refl
+told_solid (Ended RingSplash) = refl
+told_solid _ = refl
+
+told_in_line : (told : Observed) → list_any is_line_feed (observed_entry_text told) ≡ false
+unfolding on_examples
+told_in_line (Happened (Letter Zero)) = refl
+told_in_line (Ended RingSplash) = refl
+told_in_line _ = refl
+
+none_joined : (p : ℕ → Bool) → p comma ≡ false → ((told : Observed) → list_any p (observed_entry_text told) ≡ false)
+    → (list : List Observed) → list_any p (join_with_byte comma (map observed_entry_text list)) ≡ false
+none_joined p out each [] = refl
+none_joined p out each (told ∷ []) = each told
+none_joined p out each (told ∷ next ∷ list) =
+    list_any-append p (observed_entry_text told) (comma ∷ join_with_byte comma (map observed_entry_text (next ∷ list)))
+    ∙ rw (each told, out) (none_joined p out each (next ∷ list))
+
+pub observed_no_blanks : (list : List Observed) → list_any is_blank (observed_text list) ≡ false
+unfolding observed_text
+observed_no_blanks list = none_joined is_blank refl told_solid list
+
+pub observed_one_line : (list : List Observed) → list_any is_line_feed (observed_text list) ≡ false
+unfolding observed_text
+observed_one_line list = none_joined is_line_feed refl told_in_line list

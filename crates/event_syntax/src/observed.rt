@@ -1,5 +1,8 @@
 //! The events that a notification tells: the value of O (RFC 3435, 2.3.4).
-ghost use Rattle.std.specs.Prelude.{◌≡◌, ◌++◌, true, IfOk, OnOk};
+ghost use Rattle.std.specs.Prelude.{◌≡◌, ◌++◌, true, false, IfOk, OnOk};
+ghost use Rattle.std.specs.List.{list_any};
+ghost use Rattle.mg_bytes.specs.Blanks.{is_blank};
+ghost use Rattle.mg_bytes.specs.Lines.{is_line_feed};
 ghost use Rattle.mg_bytes.specs.CodeFault.{AnswersAs};
 ghost use Rattle.mg_packages.specs.Looking.{package_of, completion_of};
 ghost use Rattle.event_syntax.specs.Cuts.{inside_seen, form_of};
@@ -167,9 +170,11 @@ fn put_observed(out: &mut Vec<u8>, observed: Observed) -> Result<(), OutOfMemory
 }
 
 /// The written form of O (RFC 3435, 2.3.4): the events with commas between them and nothing blank, each with its package;
-/// the end of a signal as `L/oc(L/dl)`. An error is for want of memory only.
+/// the end of a signal as `L/oc(L/dl)`. It is one word. An error is for want of memory only.
 pub fn write_observed(alloc: Global, list: &[Observed]) -> Result<Text, OutOfMemory>
-    ensures { IfOk result (λ text. text ≡ observed_text list.now) }
+    ensures value { IfOk result (λ text. text ≡ observed_text list.now) }
+    ensures no_blanks { IfOk result (λ text. list_any is_blank text ≡ false) }
+    ensures one_line { IfOk result (λ text. list_any is_line_feed text ≡ false) }
 {
     let mut out = Vec::new(alloc);
     for (place, told) in list.iter().enumerate() {

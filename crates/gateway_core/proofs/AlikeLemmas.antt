@@ -12,9 +12,9 @@ use Rattle.history.proofs.RecallLaws.{recalls_later, recalls_entry, recalls_purg
 use Rattle.plain_machine.specs.declared.setup.Setup.{Setup}
 use Rattle.plain_machine.specs.Event.{GatewayEvent, datagram, phone, tick}
 use Rattle.plain_machine.specs.Message.{Sent}
-use Rattle.plain_machine.specs.Machine.{Endpoints, Machine, Effect}
+use Rattle.plain_machine.specs.Machine.{Endpoints, Machine, Effect, Told, told_in}
 use Rattle.plain_machine.specs.Arriving.{texts_of}
-use Rattle.plain_machine.specs.Answering.{Transaction, executed, transacted_by, transacted, transaction_of, handled_as, handled, took_all}
+use Rattle.plain_machine.specs.Answering.{Transaction, executed, transacted_by, transacted, transaction_of, heard_as, handled_as, handled, took_all}
 use Rattle.plain_machine.specs.Falling.{pass, is_due}
 use Rattle.plain_machine.specs.Happening.{effect}
 use Rattle.plain_machine.specs.Refusing.{refusal_of, tick_refusal, takes_none}
@@ -56,10 +56,23 @@ transacted_alike : (n : ℕ) (e : Endpoints) (ks ms : List Entry) (source : Sock
 transacted_alike n e ks ms source t r =
     rw (recalls_look ks ms n t.id n r (omega arith)) (by_told (look_of most_firsts ms t.id n) n e ks ms source t r)
 
-as_alike : (found : Option Transaction) (n : ℕ) (e : Endpoints) (ks ms : List Entry) (source : SocketAddrV4) → Recalls ks ms n
-    → AlikeEffects (handled_as found (machine_with n e ks) source) (handled_as found (machine_with n e ms) source)
-as_alike None n e ks ms source r = record { machine = record { now = refl; endpoints = refl; history = r }; sent = refl }
-as_alike (Some t) n e ks ms source r = transacted_alike n e ks ms source t r
+-- what is no command doesn't touch the history
+heard_alike : (setup : Setup) (n : ℕ) (e : Endpoints) (ks ms : List Entry) (source : SocketAddrV4) (outcome : Outcome)
+    → heard_as outcome setup (machine_with n e ks) source ≡ heard_as outcome setup (machine_with n e ms) source
+heard_alike setup n e ks ms source no_header = refl
+heard_alike setup n e ks ms source (bad_version id) = refl
+heard_alike setup n e ks ms source (bad_body id) = refl
+heard_alike setup n e ks ms source (message (messages.Command verb id name params body)) = refl
+heard_alike setup n e ks ms source (message (messages.Response code id params body)) = refl
+
+told_alike : (n : ℕ) (e : Endpoints) (ks ms : List Entry) (some other : Told) → some ≡ other → Recalls ks ms n
+    → AlikeEffects (told_in (machine_with n e ks) some) (told_in (machine_with n e ms) other)
+told_alike n e ks ms some other same r = rw same (record { machine = record { now = refl; endpoints = refl; history = r }; sent = refl })
+
+as_alike : (found : Option Transaction) (setup : Setup) (n : ℕ) (e : Endpoints) (ks ms : List Entry) (source : SocketAddrV4) (outcome : Outcome) → Recalls ks ms n
+    → AlikeEffects (handled_as found setup (machine_with n e ks) source outcome) (handled_as found setup (machine_with n e ms) source outcome)
+as_alike None setup n e ks ms source outcome r = told_alike n e ks ms _ _ (heard_alike setup n e ks ms source outcome) r
+as_alike (Some t) setup n e ks ms source outcome r = transacted_alike n e ks ms source t r
 
 -- what a command is doesn't depend on the history
 transaction_alike : (setup : Setup) (n : ℕ) (e : Endpoints) (ks ms : List Entry) (outcome : Outcome)
@@ -72,8 +85,8 @@ transaction_alike setup n e ks ms (message (messages.Response code id params bod
 
 handled_alike : (setup : Setup) (k m : Machine) (source : SocketAddrV4) (outcome : Outcome) → Alike k m → AlikeEffects (handled setup k source outcome) (handled setup m source outcome)
 unfolding handled
-handled_alike setup k m source outcome a = by_fields (λ x. handled_as (transaction_of setup x outcome) x source) k m a
-    (λ n e ks ms r. rw (transaction_alike setup n e ks ms outcome) (as_alike (transaction_of setup (machine_with n e ms) outcome) n e ks ms source r))
+handled_alike setup k m source outcome a = by_fields (λ x. handled_as (transaction_of setup x outcome) setup x source outcome) k m a
+    (λ n e ks ms r. rw (transaction_alike setup n e ks ms outcome) (as_alike (transaction_of setup (machine_with n e ms) outcome) setup n e ks ms source outcome r))
 
 took_alike : (setup : Setup) (k m : Machine) (source : SocketAddrV4) (texts : List (List ℕ)) → Alike k m → AlikeEffects (took_all setup k source texts) (took_all setup m source texts)
 unfolding took_all

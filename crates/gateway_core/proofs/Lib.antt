@@ -4,3 +4,5 @@ pub mod AlikeLemmas
 pub mod StandLemmas
 pub mod TextLemmas
 pub mod WorkLemmas
+pub mod TellLemmas
+pub mod RespondLemmas

@@ -2,13 +2,14 @@
 use Rattle.std.specs.Prelude.{◌≡◌, List, [], ◌∷◌, ◌++◌, slice_set}
 use Rattle.history.specs.declared.entry.Entry.{Entry}
 use Rattle.history.specs.Kept.{from_young}
-use Rattle.mgcp_text.specs.Answer.{Answer}
 use Rattle.plain_machine.specs.Done.{Done}
 use Rattle.plain_machine.specs.declared.station.Station.{Station}
 use Rattle.plain_machine.specs.declared.output.OutDatagram.{OutDatagram}
 use Rattle.plain_machine.specs.Message.{datagrams_of}
 use Rattle.plain_machine.specs.Packing.{put_out}
 use Rattle.plain_machine.specs.Machine.{Endpoints, Machine, Effect}
+use Rattle.plain_machine.specs.Notifying.{Turn}
+use Rattle.gateway_core.specs.declared.commanding.Reaction.{Reaction}
 use Rattle.gateway_core.specs.declared.state.State.{State}
 use Rattle.gateway_core.specs.declared.state.Saved.{Saved}
 
@@ -51,12 +52,17 @@ pub record PutsOut (effect : Effect) (is : State) (were are : List OutDatagram) 
   pub machine : machine_in is ≡ effect.machine
   pub outputs : are ≡ were ++ put_out effect.sent
 
--- The endpoints become what the command results in, and this is its answer; the rest is as it was. So far no line has
--- anything to tell because of it.
-pub record Results (done : Done) (given : Answer) (was is : State) : Type 0 where
+-- The endpoints become what the command results in, this is its answer, and this is what lines send because of it; the rest
+-- is as it was.
+pub record Results (done : Done) (given : Reaction) (was is : State) : Type 0 where
   pub endpoints : endpoints_in is ≡ done.endpoints
-  pub answer : given ≡ done.answer
-  pub notices : done.notices ≡ []
+  pub answer : given.answer ≡ done.answer
+  pub sent : given.sent.items ≡ datagrams_of done.sent
   pub clock : is.clock ≡ was.clock
   pub outbox : is.outbox.items ≡ was.outbox.items
   pub history : is.history ≡ was.history
+
+-- a station becomes what its turn says, and what it sends goes behind what there was
+pub record HasTurn (turn : Turn) (becomes : Station) (were are : List OutDatagram) : Type 0 where
+  pub station : becomes ≡ turn.station
+  pub sent : are ≡ were ++ datagrams_of turn.sent

@@ -10,59 +10,40 @@ ghost use Rattle.plain_machine.specs.Arriving.{texts_of};
 ghost use Rattle.mgcp_text.specs.Answer.{response_of};
 ghost use Rattle.mgcp_text.specs.Writing.{written};
 ghost use Rattle.command_forms.specs.Order.{form_in};
-ghost use Rattle.plain_machine.specs.Done.{only_answer};
+ghost use Rattle.mgcp_text.specs.declared.message.Message.TheVariants.{Command};
+ghost use Rattle.plain_machine.specs.Message.{datagrams_of};
+ghost use Rattle.plain_machine.specs.Done.{Done};
 ghost use Rattle.plain_machine.specs.Commanding.{done_by};
 ghost use Rattle.gateway_core.specs.Sound.{IsSound};
 ghost use Rattle.plain_machine.specs.Answering.{fitting, transaction, span_of, spans_of, executed, transacted, refusing, handled, took_all};
 ghost use Rattle.gateway_core.specs.State.{endpoints_in, machine_in, before_in, Does};
 
-use crate::commanding::commanded;
+use crate::commanding::{Reaction, commanded};
 use crate::context::Context;
+use crate::responding::respond;
+use crate::sending::{Origin, send};
 use crate::state::State;
 use history::{IdSpan, Look};
 use mg_bytes::{OutOfMemory, Sequence, Text};
 use mgcp_text::{Answer, IdRange, KValue, Message, TextFault, TransactionId, read_k, read_message};
 use piggyback::parts;
-use plain_machine::OutDatagram;
 use std::alloc::{AllocError, Global};
 use std::net::SocketAddrV4;
 
 /// The largest datagram that is taken, in bytes (RFC 3435, 3.5.4).
 pub(crate) const LARGEST_DATAGRAM: usize = 4000;
 
-/// Where a command came from, and its transaction id.
-#[derive(Clone, Copy)]
-pub(crate) struct Request {
-    pub source: SocketAddrV4,
-    pub id: TransactionId,
-}
-
-/// What a first confirms, and its answer.
+// What a first confirms, and what its command results in.
 #[derive(Drop)]
-pub(crate) struct Reply {
-    pub confirms: Sequence<IdSpan>,
-    pub answer: Answer,
+struct Executed {
+    confirms: Sequence<IdSpan>,
+    reaction: Reaction,
 }
 
 fn copy_of(alloc: Global, text: &[u8]) -> Result<Text, OutOfMemory>
     ensures { IfOk result (λ copy. copy ≡ text.now) }
 {
     Ok(Text::of(Vec::from_slice(alloc, text)?))
-}
-
-// A text goes to the source, now.
-fn send(state: &mut State, source: SocketAddrV4, text: Text) -> Result<(), OutOfMemory>
-    ensures ok { OnOk result (state.new.outbox.items ≡ state.old.outbox.items
-        ++ (record { to = source; moment = state.old.clock; bytes = text }) ∷ []) }
-    ensures machine { machine_in state.new ≡ machine_in state.old }
-    ensures before { before_in state.new ≡ before_in state.old }
-{
-    state.outbox.push(OutDatagram {
-        to: source,
-        moment: state.clock,
-        bytes: text,
-    })?;
-    Ok(())
 }
 
 // The text of the response that an answer is, or of 533 where that would be longer than a datagram may be.
@@ -81,35 +62,40 @@ fn text_of(context: Context<'_>, id: TransactionId, wanted: &Answer) -> Result<T
 fn execute(
     context: Context<'_>,
     state: &mut State,
-    request: Request,
-    reply: Reply,
+    origin: Origin,
+    done: Executed,
 ) -> Result<(), OutOfMemory>
-    ensures ok { (line : _) → OnOk result (Does (executed (machine_in state.old) request.source
-        (transaction request.id line reply.confirms (only_answer (endpoints_in state.old) reply.answer))) state.old state.new) }
+    ensures ok { (line : _) (whole : Done) → done.reaction.answer ≡ whole.answer → done.reaction.sent.items ≡ datagrams_of whole.sent →
+        whole.endpoints ≡ endpoints_in state.old →
+        OnOk result (Does (executed (machine_in state.old) origin.source
+        (transaction origin.id line done.confirms whole)) state.old state.new) }
     ensures before { before_in state.new ≡ before_in state.old }
 {
-    let Reply { confirms, answer } = reply;
-    let text = text_of(context, request.id, &answer)?;
+    let Executed { confirms, reaction } = done;
+    let Reaction { answer, mut sent } = reaction;
+    let text = text_of(context, origin.id, &answer)?;
     let kept = copy_of(context.alloc, text.as_bytes())?;
     state.history.confirm(confirms)?;
-    state.history.first(request.id.number(), state.clock, kept)?;
-    send(state, request.source, text)
+    state.history.first(origin.id.number(), state.clock, kept)?;
+    send(state, origin.source, text)?;
+    state.outbox.append(&mut sent)?;
+    Ok(())
 }
 
 // Whether a command is new; another one is a repeat, which gets the stored answer again or silence, or is lost.
-fn is_new(context: Context<'_>, state: &mut State, request: Request) -> Result<bool, OutOfMemory>
+fn is_new(context: Context<'_>, state: &mut State, origin: Origin) -> Result<bool, OutOfMemory>
     ensures new { IfOk result (λ is_new. OnTrue is_new
-        ((look_of most_firsts state.old.history.kept request.id state.old.clock ≡ new) × (state.new ≡ state.old))) }
+        ((look_of most_firsts state.old.history.kept origin.id state.old.clock ≡ new) × (state.new ≡ state.old))) }
     ensures other { (line : _) (confirms : _) (done : _) → IfOk result (λ is_new. OnFalse is_new
-        (Does (transacted (machine_in state.old) request.source (transaction request.id line confirms done)) state.old state.new)) }
+        (Does (transacted (machine_in state.old) origin.source (transaction origin.id line confirms done)) state.old state.new)) }
     ensures before { before_in state.new ≡ before_in state.old }
 {
-    let text = match state.history.look(request.id.number(), state.clock) {
+    let stored = match state.history.look(origin.id.number(), state.clock) {
         Look::New => return Ok(true),
         Look::Confirmed | Look::Full => return Ok(false),
         Look::Repeat(answer) => copy_of(context.alloc, answer.as_bytes())?,
     };
-    send(state, request.source, text)?;
+    send(state, origin.source, stored)?;
     Ok(false)
 }
 
@@ -117,22 +103,22 @@ fn is_new(context: Context<'_>, state: &mut State, request: Request) -> Result<b
 fn refuse(
     context: Context<'_>,
     state: &mut State,
-    request: Request,
+    from: Origin,
     code: u16,
 ) -> Result<(), OutOfMemory>
     requires { code ≤ 999 }
-    ensures ok { OnOk result (Does (transacted (machine_in state.old) request.source (refusing (machine_in state.old) request.id code))
+    ensures ok { OnOk result (Does (transacted (machine_in state.old) from.source (refusing (machine_in state.old) from.id code))
         state.old state.new) }
     ensures before { before_in state.new ≡ before_in state.old }
 {
-    if !is_new(context, state, request)? {
+    if !is_new(context, state, from)? {
         return Ok(());
     }
-    let reply = Reply {
+    let done = Executed {
         confirms: Sequence::new(context.alloc),
-        answer: Answer::plain(context.alloc, code),
+        reaction: Reaction::answer(context, Answer::plain(context.alloc, code)),
     };
-    execute(context, state, request, reply)
+    execute(context, state, from, done)
 }
 
 fn span_of(range: &IdRange) -> IdSpan
@@ -162,21 +148,41 @@ fn spans_of(alloc: Global, said: &Message<'_>) -> Result<Sequence<IdSpan>, OutOf
 fn execute_command(
     context: Context<'_>,
     state: &mut State,
-    request: Request,
+    origin: Origin,
     said: &Message<'_>,
 ) -> Result<(), OutOfMemory>
     requires { IsSound context.setup.now (machine_in state.old) }
-    ensures ok { (line : _) → OnOk result (Does (executed (machine_in state.old) request.source
-        (transaction request.id line (spans_of (k_of (params_in said.now)))
+    ensures ok { (line : _) → OnOk result (Does (executed (machine_in state.old) origin.source
+        (transaction origin.id line (spans_of (k_of (params_in said.now)))
         (done_by (form_in said.now context.entry.setup.now.names) context.entry.setup.now (endpoints_in state.old) state.old.clock)))
         state.old state.new) }
     ensures before { before_in state.new ≡ before_in state.old }
 {
-    let reply = Reply {
+    let done = Executed {
         confirms: spans_of(context.alloc, said)?,
-        answer: commanded(context, state, said)?,
+        reaction: commanded(context, state, said)?,
     };
-    execute(context, state, request, reply)
+    execute(context, state, origin, done)
+}
+
+// A command that was read.
+#[tactic(auto, unfolding(plain_machine::specs::Answering::handled))]
+fn take_command(
+    context: Context<'_>,
+    state: &mut State,
+    origin: Origin,
+    said: &Message<'_>,
+) -> Result<(), OutOfMemory>
+    requires { IsSound context.setup.now (machine_in state.old) }
+    ensures ok { (verb : _) (name params body : _) → said.now ≡ Command verb origin.id name params body →
+        OnOk result (Does (handled context.entry.setup.now (machine_in state.old) origin.source (message said.now))
+        state.old state.new) }
+    ensures before { before_in state.new ≡ before_in state.old }
+{
+    if !is_new(context, state, origin)? {
+        return Ok(());
+    }
+    execute_command(context, state, origin, said)
 }
 
 // A message that was read.
@@ -192,14 +198,14 @@ fn handle_message(
         state.old state.new) }
     ensures before { before_in state.new ≡ before_in state.old }
 {
-    let Message::Command { id, .. } = said else {
-        return Ok(());
-    };
-    let request = Request { source, id: *id };
-    if !is_new(context, state, request)? {
-        return Ok(());
+    match said {
+        Message::Command { id, .. } => {
+            take_command(context, state, Origin { source, id: *id }, said)
+        }
+        Message::Response { code, id, .. } => {
+            respond(context, state, Origin { source, id: *id }, *code, said)
+        }
     }
-    execute_command(context, state, request, said)
 }
 
 // A text.
@@ -219,9 +225,9 @@ fn take(
         Err(TextFault::OutOfMemory) => Err(AllocError),
         Err(TextFault::NoHeader) => Ok(()),
         Err(TextFault::BadVersion { id }) => {
-            refuse(context, state, Request { source, id: *id }, 528)
+            refuse(context, state, Origin { source, id: *id }, 528)
         }
-        Err(TextFault::BadBody { id }) => refuse(context, state, Request { source, id: *id }, 510),
+        Err(TextFault::BadBody { id }) => refuse(context, state, Origin { source, id: *id }, 510),
         Ok(said) => handle_message(context, state, source, said),
     }
 }

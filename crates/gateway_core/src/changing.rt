@@ -5,6 +5,7 @@ ghost use Rattle.gateway_core.specs.State.{endpoints_in, machine_in, before_in, 
 
 use crate::state::{Saved, State};
 use mg_bytes::OutOfMemory;
+use outbound::Pending;
 use plain_machine::Station;
 use std::alloc::AllocError;
 use std::mem;
@@ -21,6 +22,16 @@ pub(crate) fn station_at(state: &State, number: u16) -> Option<&Station>
     state.stations.get(usize::from(number) - 1)
 }
 
+// An equal command in flight, if there is one.
+fn pending_of(pending: &Option<Pending>) -> Result<Option<Pending>, OutOfMemory>
+    ensures { IfOk result (λ copy. copy ≡ pending.now) }
+{
+    match pending {
+        None => Ok(None),
+        Some(message) => Ok(Some(message.try_copy()?)),
+    }
+}
+
 /// An equal station.
 pub(crate) fn copy_of(station: &Station) -> Result<Station, OutOfMemory>
     ensures { IfOk result (λ copy. copy ≡ station.now) }
@@ -28,6 +39,8 @@ pub(crate) fn copy_of(station: &Station) -> Result<Station, OutOfMemory>
     Ok(Station {
         line: station.line.try_copy()?,
         entity: station.entity,
+        number: station.number,
+        pending: pending_of(&station.pending)?,
     })
 }
 

@@ -39,7 +39,7 @@ impl Model for Gateway {
 
 impl Gateway {
     ghost use Rattle.plain_machine.specs.Refusing.{Ends, refused_by};
-    ghost use Rattle.plain_machine.specs.Lists.{plain, hook_of, signals_of};
+    ghost use Rattle.plain_machine.specs.Lists.{plain, hook_of, signals_of, lost_of};
     ghost use Rattle.gateway_core.specs.Stands.{Stands, Opens, Took, StoppedAt};
 
     /// A gateway of this configuration, at moment 0.
@@ -89,6 +89,17 @@ impl Gateway {
             signals_of (plain self.now.setup events) line ≡ Some result.items }
     {
         self.state.stations[usize::from(line) - 1].line.signals()
+    }
+
+    /// How many events of a line, from 1 to the number of lines, found no room in its quarantine, up to
+    /// 18,446,744,073,709,551,615 (RFC 3435, 4.4.1).
+    pub fn lost(&self, line: u16) -> u64
+        requires low { 1 ≤ line }
+        requires high { line ≤ self.now.setup.names.lines }
+        ensures { (events : List GatewayEvent) → Stands self.now events →
+            lost_of (plain self.now.setup events) line ≡ Some result }
+    {
+        self.state.stations[usize::from(line) - 1].line.lost()
     }
 
     /// The moment of the last tick that was taken, in ms; 0 before any. It is below 2^62.

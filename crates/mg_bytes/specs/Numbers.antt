@@ -15,3 +15,7 @@ decimal_of text = if is_decimal text then Some (digits_value 10 text) else None
 -- 1 to 32 hexadecimal digits (RFC 3435, appendix A: 1*32HEXDIG)
 abbrev pub is_hex_text : List ℕ → Bool
 is_hex_text text = nat_le 1 (length text) && nat_le (length text) 32 && list_all is_ascii_hexdigit text
+
+-- an identifier of a call, a connection or a request: 1 to 32 hexadecimal digits, as they are spelled
+abbrev pub identifier_of : List ℕ → Option (List ℕ)
+identifier_of text = if is_hex_text text then Some text else None

@@ -10,7 +10,7 @@ ghost use Rattle.mg_bytes.specs.Lines.{lines_of, is_dot_line};
 ghost use Rattle.mg_bytes.specs.Blanks.{trimmed};
 ghost use Rattle.mg_bytes.specs.Words.{words, split_once};
 ghost use Rattle.mg_bytes.specs.Items.{items_of};
-ghost use Rattle.mg_bytes.specs.Numbers.{decimal_of, is_hex_text};
+ghost use Rattle.mg_bytes.specs.Numbers.{decimal_of, is_hex_text, identifier_of};
 ghost use Rattle.mg_bytes.specs.Case.{same_but_case};
 ghost use Rattle.mg_bytes.specs.Address.{ipv4_of, port_of};
 ghost use Rattle.mg_bytes.specs.Letter.{all_letters, byte_of, letter_of};
@@ -110,6 +110,13 @@ pub fn hexadecimal_has_1_to_32_digits()
     ensures too_long { is_hex_text (codes "0123456789abcdefABCDEF01234567890") ≡ false }
     ensures empty { is_hex_text [] ≡ false }
     ensures other { is_hex_text (codes "1g") ≡ false }
+{}
+
+/// An identifier is what was spelled, in its own case and with its leading zeros.
+pub fn identifiers_are_hexadecimal_texts()
+    ensures spelled { identifier_of (codes "0a1F") ≡ Some (codes "0a1F") }
+    ensures other { identifier_of (codes "x1") ≡ None }
+    ensures empty { identifier_of [] ≡ None }
 {}
 
 /// Letters are compared without case, and nothing else is.

@@ -1,7 +1,10 @@
 //! Digit maps and what is dialled by them, with memory at hand (RFC 3435, 2.1.5).
 ghost use Rattle.std.specs.Prelude.{◌≤◌, length};
 
-use digit_map::{MapFault, MapText, Matcher, SlowMap, Verdict, is_in_range, is_range, read_map};
+use digit_map::{
+    MapChange, MapFault, MapText, Matcher, SlowMap, Verdict, is_in_range, is_range, read_change,
+    read_map,
+};
 use mg_bytes::{Letter, letter_of};
 use std::alloc::Global;
 use std::process::Abort;
@@ -145,6 +148,30 @@ fn maps_have_2_048_bytes_at_most(rt: HostRuntime) -> Result<(), Fail> {
     }
     is_said(&rt, alloc, b"x.", &sixty_four, (Verdict::Perfect, false))?;
     is_said(&rt, alloc, b"1.T", &sixty_four, (Verdict::Partial, true))
+}
+
+#[test]
+fn maps_are_changed(rt: HostRuntime) -> Result<(), Fail> {
+    let alloc = rt.alloc();
+    assert!(rt; matches!(read_change(alloc, None), Ok(MapChange::Keep)));
+    for blank in [b"".as_slice(), b" \t"] {
+        assert!(rt; matches!(read_change(alloc, Some(blank)), Ok(MapChange::Remove)));
+    }
+    let longest = repeated(alloc, b"1", 2048, b"")?;
+    for (text, kept) in [
+        (b" 8 x".as_slice(), b"8x".as_slice()),
+        (b"(0T|8xxx)", b"(0T|8xxx)"),
+        (longest.as_slice(), longest.as_slice()),
+    ] {
+        assert!(rt;
+            matches!(read_change(alloc, Some(text)), Ok(MapChange::Replace(map)) if map.as_bytes() == kept),
+            "{text:?}"
+        );
+    }
+    assert!(rt; matches!(read_change(alloc, Some(b"1|2")), Err(MapFault::Syntax)));
+    let longer = repeated(alloc, b"1", 2049, b"")?;
+    assert!(rt; matches!(read_change(alloc, Some(&longer)), Err(MapFault::TooLarge)));
+    Ok(())
 }
 
 #[test]

@@ -1,9 +1,12 @@
 //! The calls of the crates that read what a request asks for, with memory at hand.
-use command_forms::{Form, form};
+use command_forms::{Form, RequestForm, form};
+use digit_map::MapChange;
 use endpoint_names::{Names, Pattern, Table, matches, write_name};
-use event_syntax::{Setting, SignalRequest, read_signals, write_signals};
+use event_syntax::{
+    Events, Handling, Notifying, Quarantined, Setting, SignalRequest, read_signals, write_signals,
+};
 use mg_bytes::{CodeFault, OutOfMemory, Text};
-use mg_packages::{Hook, Signal};
+use mg_packages::{Event, Hook, Signal};
 use mgcp_text::read_message;
 use signals::{SignalSet, refused};
 use std::alloc::Global;
@@ -81,14 +84,19 @@ fn asked(alloc: Global, names: &Names, text: &[u8]) -> Result<Pattern, CodeFault
     }
 }
 
-#[test]
-fn commands_are_judged(rt: HostRuntime) -> Result<(), Fail> {
-    let alloc = rt.alloc();
-    let names = Names {
+// Sixteen lines of rgw.example.net, which knows no host.
+fn names(alloc: Global) -> Result<Names, OutOfMemory> {
+    Ok(Names {
         domain: Text::of(Vec::from_slice(alloc, b"rgw.example.net")?),
         lines: 16,
         table: Table::new(),
-    };
+    })
+}
+
+#[test]
+fn commands_are_judged(rt: HostRuntime) -> Result<(), Fail> {
+    let alloc = rt.alloc();
+    let names = names(alloc)?;
     for (text, want) in [
         (
             b"AUEP 1 aaln/16@rgw.example.net MGCP 1.0\r\nF: ES\r\n".as_slice(),
@@ -106,6 +114,23 @@ fn commands_are_judged(rt: HostRuntime) -> Result<(), Fail> {
             b"RQNT 1 aaln/1@rgw.example.net MGCP 1.0\r\nX: 1\r\nN: [127.0.0.1]\r\n",
             Ok(Pattern::One(1)),
         ),
+        (WHOLE, Ok(Pattern::One(1))),
+        (
+            b"RQNT 1 aaln/1@rgw.example.net MGCP 1.0\r\nX: 1\r\nR: L/hd(E(R(L/hu(N)),S(L/dl),D(xx)))\r\n",
+            Ok(Pattern::One(1)),
+        ),
+        (
+            b"RQNT 1 aaln/1@rgw.example.net MGCP 1.0\r\nX: 1\r\nD: 1|2\r\nQ: fast\r\n",
+            Err(CodeFault::Code(508)),
+        ),
+        (
+            b"RQNT 1 aaln/1@rgw.example.net MGCP 1.0\r\nX: 1\r\nD: 1|2\r\n",
+            Err(CodeFault::Code(510)),
+        ),
+        (
+            b"RQNT 1 aaln/1@rgw.example.net MGCP 1.0\r\nX: 1\r\nB: e:mu\r\n",
+            Err(CodeFault::Code(539)),
+        ),
         (
             b"RQNT 1 aaln/1@rgw.example.net MGCP 1.0\r\n",
             Err(CodeFault::Code(510)),
@@ -117,6 +142,54 @@ fn commands_are_judged(rt: HostRuntime) -> Result<(), Fail> {
     ] {
         assert_eq!(rt; asked(alloc, &names, text), want);
     }
+    Ok(())
+}
+
+// A request with each of its parameters but S and N.
+const WHOLE: &[u8] =
+    b"RQNT 1 aaln/1@rgw.example.net MGCP 1.0\r\nX: 1aF\r\nR: L/hd(N),D/[0-9T](D,K)\r\nD: (0T|8xxx)\r\nT: L/hu\r\nQ: loop\r\n";
+
+// What a text requests.
+fn requested(alloc: Global, text: &[u8]) -> Result<RequestForm, Fail> {
+    let names = names(alloc)?;
+    let message = read_message(alloc, text).map_err(|_| "a message")?;
+    match form(alloc, &message, &names).map_err(|_| "a form")? {
+        Form::Request { request, .. } => Ok(request),
+        Form::Audit { .. } => Err("a request".into()),
+    }
+}
+
+#[test]
+fn a_request_has_its_values(rt: HostRuntime) -> Result<(), Fail> {
+    let alloc = rt.alloc();
+    let request = requested(alloc, WHOLE)?;
+    assert_eq!(rt; request.identifier.as_slice(), b"1aF".as_slice());
+    assert_eq!(rt; request.requested.as_slice().len(), 2);
+    assert_eq!(rt;
+        request.detected.as_slice(),
+        [Events::One(Event::OnHook)].as_slice()
+    );
+    assert!(rt; request.handling.notifying == Notifying::Loop);
+    assert!(rt;
+        matches!(&request.map, MapChange::Replace(map) if map.as_bytes() == b"(0T|8xxx)".as_slice())
+    );
+    let bare = requested(alloc, b"RQNT 1 aaln/1@rgw.example.net MGCP 1.0\r\nX: 1\r\n")?;
+    assert_eq!(rt; bare.requested.as_slice().len(), 0);
+    assert_eq!(rt; bare.detected.as_slice().len(), 0);
+    assert_eq!(rt; bare.signals.as_slice().len(), 0);
+    assert!(rt;
+        bare.handling
+            == Handling {
+                notifying: Notifying::Step,
+                quarantined: Quarantined::Process,
+            }
+    );
+    assert!(rt; matches!(&bare.map, MapChange::Keep));
+    let removing = requested(
+        alloc,
+        b"RQNT 1 aaln/1@rgw.example.net MGCP 1.0\r\nX: 1\r\nD:\r\n",
+    )?;
+    assert!(rt; matches!(&removing.map, MapChange::Remove));
     Ok(())
 }
 

@@ -13,6 +13,8 @@ mod forms;
 #[cfg(test)]
 mod histories;
 #[cfg(test)]
+mod line;
+#[cfg(test)]
 mod names;
 #[cfg(test)]
 mod packing;

@@ -12,14 +12,16 @@ use Rattle.mg_line.specs.declared.phone.Act.{Act}
 use Rattle.plain_machine.specs.declared.setup.Setup.{Setup}
 use Rattle.plain_machine.specs.declared.station.Station.{Station}
 use Rattle.plain_machine.specs.Event.{GatewayEvent, datagram, phone, tick}
-use Rattle.mg_line.specs.Line.{LineDone}
+use Rattle.mg_line.specs.Line.{LineDone, still}
 use Rattle.mg_line.specs.Acting.{phoned}
-use Rattle.plain_machine.specs.Machine.{Endpoints, Machine, Effect, told, station_at}
+use Rattle.plain_machine.specs.Notifying.{silent, noted}
+use Rattle.plain_machine.specs.Machine.{Endpoints, Machine, Effect, told, station_at, with_turn}
 use Rattle.plain_machine.specs.Arriving.{texts_of, clock_after}
 use Rattle.history.specs.Memory.{most_firsts}
 use Rattle.history.specs.Looking.{Told as Looked, new, repeat, confirmed, full, look_of}
-use Rattle.plain_machine.specs.Acting.{noted, acted, acted_at}
-use Rattle.plain_machine.specs.Falling.{due_by, happened_on, happened, go_on, passed, room, pass}
+use Rattle.plain_machine.specs.Acting.{acted, acted_at}
+use Rattle.plain_machine.specs.Falling.{due_by, happened_at, happened, go_on, passed, room, pass}
+use Rattle.plain_machine.specs.Responding.{line_of_id, responded_at, responded}
 use Rattle.plain_machine.specs.declared.due_item.DueItem.{DueItem}
 use Rattle.plain_machine.specs.Done.{Done}
 use Rattle.plain_machine.specs.Requesting.{refused_by, where_meant, all_requested, unless_refused}
@@ -29,10 +31,7 @@ use Rattle.command_forms.specs.declared.forms.Form.TheVariants as forms
 use Rattle.command_forms.specs.Order.{form_of}
 use Rattle.endpoint_names.specs.declared.name.Pattern.{Pattern}
 use Rattle.endpoint_names.specs.declared.entity.Entity.{Entity}
-use Rattle.mg_line.specs.declared.due.Due.{Due}
-use Rattle.mg_line.specs.declared.due.Due.TheVariants.{SignalEnd}
 use Rattle.mg_line.specs.declared.request.Request.{Request}
-use Rattle.mg_line.specs.Falling.{fired}
 use Rattle.plain_machine.specs.Answering.{Transaction, executed, transacted_by, handled, took_all}
 use Rattle.plain_machine.specs.Happening.{effect}
 
@@ -67,18 +66,26 @@ mapped_lines : (f : ℕ × Station → Station) (n : ℕ) (stations : List Stati
 mapped_lines f n [] = refl
 mapped_lines f n (station ∷ stations) = ap suc (mapped_lines f (n + 1) stations)
 
-asked_lines : (refusal : Option ℕ) (endpoints : Endpoints) (lines : Pattern) (entity : Option Entity) (request : Request) (moment : ℕ) (done : Done)
-    → done.endpoints ≡ all_requested endpoints lines entity request moment → lines_in (unless_refused refusal endpoints done).endpoints ≡ lines_in endpoints
+asked_lines : (refusal : Option ℕ) (setup : Setup) (endpoints : Endpoints) (lines : Pattern) (entity : Option Entity) (request : Request) (moment : ℕ) (done : Done)
+    → done.endpoints ≡ all_requested setup endpoints lines entity request moment → lines_in (unless_refused refusal endpoints done).endpoints ≡ lines_in endpoints
 unfolding all_requested
-asked_lines None endpoints lines entity request moment done is =
-    ap lines_in is ∙ mapped_lines (where_meant lines entity request moment) 1 endpoints.stations
-asked_lines (Some code) endpoints lines entity request moment done is = refl
+asked_lines None setup endpoints lines entity request moment done is =
+    ap lines_in is ∙ mapped_lines (λ one. (where_meant setup lines entity request moment one).station) 1 endpoints.stations
+asked_lines (Some code) setup endpoints lines entity request moment done is = refl
 
 done_lines : (form : Result Form ℕ) (setup : Setup) (endpoints : Endpoints) (moment : ℕ) → lines_in (done_by form setup endpoints moment).endpoints ≡ lines_in endpoints
 done_lines (Err code) setup endpoints moment = refl
 done_lines (Ok (forms.Audit pattern items)) setup endpoints moment = refl
 done_lines (Ok (forms.Request pattern entity request)) setup endpoints moment =
-    asked_lines (refused_by endpoints pattern (line_request request)) endpoints pattern entity (line_request request) moment _ refl
+    asked_lines (refused_by endpoints pattern (line_request request)) setup endpoints pattern entity (line_request request) moment _ refl
+
+-- a response changes a station, and adds none
+pub responded_lines : (setup : Setup) (endpoints : Endpoints) (moment code id : ℕ) → length (responded setup endpoints moment code id).endpoints.stations ≡ length endpoints.stations
+unfolding responded
+responded_lines setup endpoints moment code id = by_station (station_at endpoints (line_of_id id)) where
+  by_station : (found : Option Station) → lines_in (responded_at found setup endpoints (line_of_id id) moment code id).endpoints ≡ lines_in endpoints
+  by_station None = refl
+  by_station (Some station) = set_same endpoints.stations (line_of_id id - 1) _
 
 handled_keeps : (setup : Setup) (m : Machine) (source : SocketAddrV4) (outcome : Outcome) → Keeps m (handled setup m source outcome)
 unfolding handled
@@ -87,7 +94,7 @@ handled_keeps setup m source (bad_version id) = transacted_keeps (look_of most_f
 handled_keeps setup m source (bad_body id) = transacted_keeps (look_of most_firsts m.history id m.now) m source _ refl
 handled_keeps setup m source (message (messages.Command verb id name params body)) =
     transacted_keeps (look_of most_firsts m.history id m.now) m source _ (done_lines (form_of (record { verb = verb; name = name; params = params }) setup.names) setup m.endpoints m.now)
-handled_keeps setup m source (message (messages.Response code id params body)) = record { lines = refl; now = refl }
+handled_keeps setup m source (message (messages.Response code id params body)) = record { lines = responded_lines setup m.endpoints m.now code id; now = refl }
 
 pub handled_now : (setup : Setup) (m : Machine) (source : SocketAddrV4) (outcome : Outcome) → (handled setup m source outcome).machine.now ≡ m.now
 handled_now setup m source outcome = (handled_keeps setup m source outcome).now
@@ -103,11 +110,11 @@ took_keeps setup m source (text ∷ texts) =
     let rest = took_keeps setup (handled setup m source (read_text text)).machine source texts in
     record { lines = rest.lines ∙ first.lines; now = rest.now ∙ first.now }
 
--- what falls due changes stations, and adds none
+-- what falls due changes a station, and adds none
 pub happened_lines : (setup : Setup) (endpoints : Endpoints) (item : DueItem) → lines_in (happened setup endpoints item).endpoints ≡ lines_in endpoints
 unfolding happened
 happened_lines setup endpoints item = by_station (station_at endpoints item.line) where
-  by_station : (found : Option Station) → lines_in (happened_on found setup endpoints item).endpoints ≡ lines_in endpoints
+  by_station : (found : Option Station) → lines_in (happened_at found setup endpoints item).endpoints ≡ lines_in endpoints
   by_station None = refl
   by_station (Some station) = set_same endpoints.stations (item.line - 1) _
 
@@ -122,28 +129,7 @@ passed_lines (suc n) setup endpoints moment = by_due (due_by endpoints moment) (
 
 pass_lines : (setup : Setup) (endpoints : Endpoints) (moment : ℕ) → lines_in (pass setup endpoints moment).endpoints ≡ lines_in endpoints
 unfolding pass
-pass_lines setup endpoints moment = passed_lines (room endpoints) setup endpoints moment
-
--- so far nothing is told of what falls due
-happened_tells_nothing : (setup : Setup) (endpoints : Endpoints) (item : DueItem) → (happened setup endpoints item).sent ≡ []
-unfolding happened fired
-happened_tells_nothing setup endpoints item = by_station (station_at endpoints item.line) item.due where
-  by_station : (found : Option Station) (due : Due) → (happened_on found setup endpoints (record item { due = due })).sent ≡ []
-  by_station None due = refl
-  by_station (Some station) (SignalEnd signal) = refl
-
-passed_tells_nothing : (n : ℕ) (setup : Setup) (endpoints : Endpoints) (moment : ℕ) → (passed n setup endpoints moment).sent ≡ []
-unfolding passed
-passed_tells_nothing zero setup endpoints moment = refl
-passed_tells_nothing (suc n) setup endpoints moment = by_due (due_by endpoints moment) (λ item. passed_tells_nothing n setup (happened setup endpoints item).endpoints moment) where
-  by_due : (found : Option DueItem) → ((item : DueItem) → (passed n setup (happened setup endpoints item).endpoints moment).sent ≡ [])
-      → (go_on found setup endpoints (λ next. passed n setup next moment)).sent ≡ []
-  by_due None rest = refl
-  by_due (Some item) rest = rw (happened_tells_nothing setup endpoints item) (rest item)
-
-pub pass_tells_nothing : (setup : Setup) (endpoints : Endpoints) (moment : ℕ) → (pass setup endpoints moment).sent ≡ []
-unfolding pass
-pass_tells_nothing setup endpoints moment = passed_tells_nothing (room endpoints) setup endpoints moment
+pass_lines setup endpoints moment = passed_lines (room endpoints moment) setup endpoints moment
 
 -- no line is lost
 pub effect_lines : (setup : Setup) (m : Machine) (event : GatewayEvent)
@@ -167,12 +153,26 @@ same_station true stations place station at = absurd cc
 same_station false stations place station at =
     ap (λ (x : Station). slice_set stations place x) (sym (get_or_from_slice_get stations place station station at)) ∙ set-get_or stations place station
 
+-- and the others stand where they stood
+pub other_station : (stations : List Station) (place other : ℕ) (station : Station) → (other ≡ place → ⊥) → slice_get (slice_set stations place station) other ≡ slice_get stations other
+other_station [] place other station apart = refl
+other_station (first ∷ stations) zero zero station apart = absurd (apart refl)
+other_station (first ∷ stations) zero (suc other) station apart = refl
+other_station (first ∷ stations) (suc place) zero station apart = refl
+other_station (first ∷ stations) (suc place) (suc other) station apart = other_station stations place other station (λ same. apart (ap suc same))
+
+-- a station that stays as it is, and sends nothing
+pub turned_still : (endpoints : Endpoints) (line : ℕ) (station : Station) → station_at endpoints line ≡ Some station
+    → with_turn endpoints line (silent station) ≡ told endpoints []
+turned_still endpoints line station at =
+    let same : slice_set endpoints.stations (line - 1) station ≡ endpoints.stations = same_station (line == 0) endpoints.stations (line - 1) station at in
+    ap (λ (x : List Station). let e : Endpoints = record { stations = x } in told e []) same
+
 -- an act that a line doesn't heed
 pub acted_still : (setup : Setup) (endpoints : Endpoints) (number moment : ℕ) (act : Act) (station : Station) → station_at endpoints number ≡ Some station
-    → phoned station.line act moment ≡ record { line = station.line; notice = None } → acted setup endpoints number moment act ≡ told endpoints []
-unfolding acted
-acted_still setup endpoints number moment act station at still =
-    let same : slice_set endpoints.stations (number - 1) station ≡ endpoints.stations = same_station (number == 0) endpoints.stations (number - 1) station at in
+    → phoned station.line act moment ≡ still station.line → acted setup endpoints number moment act ≡ told endpoints []
+unfolding acted noted
+acted_still setup endpoints number moment act station at unheeded =
     ap (λ (x : Option Station). acted_at x setup endpoints number moment act) at
-    ∙ ap (λ (x : LineDone). noted setup endpoints number moment station x) still
-    ∙ ap (λ (x : List Station). let e : Endpoints = record { stations = x } in told e []) same
+    ∙ ap (λ (x : LineDone). with_turn endpoints number (noted setup number moment station x)) unheeded
+    ∙ turned_still endpoints number station at

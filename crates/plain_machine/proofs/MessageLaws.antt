@@ -1,8 +1,8 @@
 -- Every message that is sent ends in a line end, has no dot line, and is no longer than a datagram may be.
-use Rattle.std.proofs.Common.{◌≡◌, ◌≢◌, ℕ, ◌+◌, ◌<◌, ◌≤◌, ◌^◌, Bool, true, false, ◌&&◌, ◌||◌, ◌==◌, if◌then◌else◌, List, [], ◌∷◌, ◌++◌, length, map, codes, Option, Some, None, Result, Ok, Err, inl, inr, refl, sym, ap, ◌∙◌, arith, lit<, ⊎_elim}
-use Rattle.std.specs.Prelude.{◌⊎◌, All, Any, IfSome, flat_map, is_some, nat_le}
+use Rattle.std.proofs.Common.{◌≡◌, ℕ, ◌<◌, ◌≤◌, ◌^◌, Bool, true, false, ◌||◌, ◌==◌, if◌then◌else◌, List, [], ◌∷◌, ◌++◌, length, map, codes, Option, Some, None, Result, Ok, Err, inl, inr, refl, sym, ap, ◌∙◌, arith, lit<}
+use Rattle.std.specs.Prelude.{◌⊎◌, All, Any, IfSome, flat_map, nat_le}
 use Rattle.std.specs.Fmt.{decimal}
-use Rattle.std.specs.List.{list_all, slice_index_or, enumerate_from}
+use Rattle.std.specs.List.{list_all, slice_index_or}
 use Rattle.std.specs.Str.{str_to_ascii_lowercase}
 use Rattle.std.proofs.lemmas.Bool.{leb-true}
 use Rattle.std.proofs.lemmas.Bool.Decides.{nat_tests}
@@ -15,18 +15,15 @@ use Rattle.std.specs.declared.net.socket_addr.SocketAddrV4.{SocketAddrV4}
 use Rattle.mg_bytes.specs.Bytes.{space}
 use Rattle.mg_bytes.specs.Blanks.{trimmed, trimmed_end}
 use Rattle.mg_bytes.specs.Case.{same_but_case}
-use Rattle.mg_bytes.specs.Checks.{first_fault}
 use Rattle.mg_bytes.specs.Items.{items_of}
 use Rattle.mgcp_text.specs.declared.message.Param.{Param}
 use Rattle.mgcp_text.specs.declared.message.Message.TheVariants as messages
-use Rattle.mgcp_text.specs.Message.{param_at}
 use Rattle.mgcp_text.specs.Reading.{Outcome, message, no_header, bad_version, bad_body, id_in, read_text}
 use Rattle.mgcp_text.specs.Writing.{code_text, comment, response_line, ended, written, is_writable_param, is_writable_body}
 use Rattle.mgcp_text.specs.Answer.{Answer, IsAnswer, plain_code, response_of}
 use Rattle.mgcp_text.proofs.AnswerLemmas.{answer_writable}
 use Rattle.mgcp_text.proofs.IdLemmas.{IsId, read_id}
 use Rattle.mgcp_text.proofs.WholeLemmas.{whole_written}
-use Rattle.piggyback.specs.Packing.{is_joinable}
 use Rattle.piggyback.proofs.PackingLaws.{joinable-from}
 use Rattle.history.specs.declared.entry.First.{First as KeptFirst}
 use Rattle.history.specs.declared.entry.Entry.{Entry}
@@ -37,22 +34,18 @@ use Rattle.history.specs.Looking.{Told as Looked, new, repeat, confirmed, full, 
 use Rattle.history.proofs.LookLaws.{repeat_kept}
 use Rattle.endpoint_names.specs.declared.name.Pattern.{Pattern}
 use Rattle.endpoint_names.specs.declared.name.Pattern.TheVariants.{One, All as AllLines, Any as AnyLine}
-use Rattle.mg_line.specs.declared.request.Request.{Request}
-use Rattle.mg_line.specs.declared.notice.Notice.{Notice}
-use Rattle.mg_line.specs.declared.phone.Act.{Act}
 use Rattle.mg_packages.specs.declared.hook.Hook.{Hook}
 use Rattle.mg_packages.specs.declared.hook.Hook.TheVariants.{OnHook, OffHook}
 use Rattle.mg_line.specs.Line.{LineState}
-use Rattle.mg_line.specs.Acting.{phoned}
 use Rattle.plain_machine.specs.declared.setup.Setup.{Setup}
 use Rattle.plain_machine.specs.declared.station.Station.{Station}
 use Rattle.plain_machine.specs.declared.output.OutDatagram.{OutDatagram}
 use Rattle.plain_machine.specs.Event.{GatewayEvent, datagram, phone, tick}
-use Rattle.plain_machine.specs.Message.{Sent, answer as answers, again, datagram_of, datagrams_of}
+use Rattle.plain_machine.specs.Message.{Sent, of_none, answer as answers, again, acknowledgement, datagram_of, datagrams_of}
 use Rattle.plain_machine.specs.Machine.{Endpoints, Machine, Effect, opening, station_at, numbered}
 use Rattle.plain_machine.specs.Arriving.{largest_datagram, texts_of}
 use Rattle.plain_machine.specs.Packing.{messages_in, put_out}
-use Rattle.plain_machine.specs.Reporting.{hook_event, item_of, with_item, with_items, name_param, names_of}
+use Rattle.plain_machine.specs.Reporting.{hook_event, with_item, with_items, name_param, names_of}
 use Rattle.command_forms.specs.declared.forms.Form.{Form}
 use Rattle.command_forms.specs.declared.forms.Form.TheVariants as forms
 use Rattle.command_forms.specs.Command.{Command}
@@ -63,16 +56,18 @@ use Rattle.command_forms.proofs.FormLemmas.{name_first, name_code, param_code}
 use Rattle.plain_machine.specs.declared.config.Config.{Config}
 use Rattle.plain_machine.specs.Setup.{setup_of, IsSetUp}
 use Rattle.plain_machine.specs.Done.{Done}
-use Rattle.plain_machine.specs.Requesting.{refusal_on, refused_by, unless_refused}
+use Rattle.plain_machine.specs.Requesting.{refused_by, unless_refused}
 use Rattle.plain_machine.specs.Commanding.{reported, line_audited, audited, line_request, done_by, commanded}
-use Rattle.plain_machine.proofs.EffectLaws.{effect_lines, handled_lines, pass_tells_nothing}
+use Rattle.plain_machine.proofs.CommandLaws.{Goes, IsOut, Sound, sound_turns, opening_is_sound}
+use Rattle.plain_machine.proofs.TurnLemmas.{OnAll, acted_goes, responded_goes, pass_goes, command_goes, handled_on_all, event_on_all}
+use Rattle.plain_machine.proofs.EffectLaws.{effect_lines, handled_lines}
 use Rattle.plain_machine.proofs.ListLaws.{lines_of_opening}
 use Rattle.plain_machine.proofs.CodeLemmas.{IsCode, refusal_code}
 use Rattle.plain_machine.proofs.NameLemmas.{setup_is, names_writable}
-use Rattle.plain_machine.specs.Answering.{Transaction, fitting, response_to, answer_text, reply, history_with, executed, transacted_by, refusing, handled, took_all}
-use Rattle.plain_machine.specs.Acting.{acted, acted_at}
+use Rattle.plain_machine.specs.Answering.{Transaction, fitting, response_to, answer_text, reply, executed, transacted_by, refusing, handled, took_all}
+use Rattle.plain_machine.specs.Responding.{asks_for_acknowledgement, acknowledged}
 use Rattle.plain_machine.specs.Happening.{effect}
-use Rattle.plain_machine.specs.Lists.{machine_after, outputs_from, sent_from}
+use Rattle.plain_machine.specs.Lists.{outputs_from, sent_from}
 use Rattle.plain_machine.proofs.PackingLaws.{IsMessage, IsWithin, packed_messages, packed_within}
 
 -- An answer
@@ -90,9 +85,6 @@ first_line code id small =
     let three = length-append (code_text code) (space ∷ decimal id) in
     let whole = length-append ((code_text code ++ (space ∷ decimal id)) ++ comment code) (13 ∷ 10 ∷ []) in
     omega (arith, digits, behind, two, three, whole)
-
-abbrev Goes : List ℕ → Type 0
-Goes text = is_joinable largest_datagram text ≡ true
 
 short_goes : (id : ℕ) (answer : Answer) → IsId id → IsAnswer answer → length (written (response_of id answer)) ≤ largest_datagram → Goes (written (response_of id answer))
 short_goes id answer has is short =
@@ -120,6 +112,16 @@ answer_goes id answer has is = by_length (nat_le (length (written (response_of i
   by_length : (b : Bool) → nat_le (length (written (response_of id answer))) largest_datagram ≡ b → Goes (written (response_of id (if b then answer else plain_code 533)))
   by_length true short = short_goes id answer has is (leb-true _ _ short)
   by_length false long = short_goes id (plain_code 533) has (code_is 533 (omega arith)) (code_short 533 id has.1)
+
+-- An acknowledgement
+
+acknowledgement_out : (moment : ℕ) (source : SocketAddrV4) (code id : ℕ) (params : List Param) → IsId id → All IsOut (acknowledged moment source code id params)
+acknowledgement_out moment source code id params has = by_test (asks_for_acknowledgement code params) where
+  by_test : (b : Bool)
+      → All IsOut (if b then (record { to = source; moment = moment; owner = of_none; said = acknowledgement (messages.Response 0 id [] []) }) ∷ [] else [])
+  by_test true =
+      All-cons IsOut _ [] (short_goes id (plain_code 0) has (code_is 0 (omega arith)) (code_short 0 id has.1)) (All-nil IsOut)
+  by_test false = All-nil IsOut
 
 -- A report
 
@@ -173,10 +175,11 @@ requested_is : (endpoints : Endpoints) (refusal : Option ℕ) (done : Done) → 
 requested_is endpoints None done small is = is
 requested_is endpoints (Some code) done small is = code_is code small
 
--- a machine that belongs to a setup
+-- a machine that belongs to a setup, and whose commands in flight can go out again
 record Fits (setup : Setup) (m : Machine) : Type 0 where
   set_up : IsSetUp setup
   lines : length m.endpoints.stations ≡ setup.names.lines
+  stations : OnAll Sound 1 m.endpoints.stations
 
 audit_is : (setup : Setup) (endpoints : Endpoints) (pattern : Pattern) (items : List ℕ) → IsSetUp setup → length endpoints.stations ≡ setup.names.lines → IsAnswer (audited setup endpoints pattern items)
 unfolding audited names_of
@@ -239,58 +242,76 @@ again_goes text entries all kept =
 
 record GoesOut (done : Effect) : Type 0 where
   kept : AreKept done.machine.history
-  sent : All IsMessage (datagrams_of done.sent)
+  sent : All IsOut done.sent
 
-one_sent : (one : Sent) → Goes (datagram_of one).bytes → All IsMessage (datagrams_of (one ∷ []))
-one_sent one goes = All-cons IsMessage (datagram_of one) [] goes (All-nil IsMessage)
+one_sent : (one : Sent) → Goes (datagram_of one).bytes → All IsOut (one ∷ [])
+one_sent one goes = All-cons IsOut one [] goes (All-nil IsOut)
 
-transacted_goes : (told : Looked) (m : Machine) (source : SocketAddrV4) (t : Transaction) → AreKept m.history → Goes (answer_text t)
+transacted_goes : (told : Looked) (m : Machine) (source : SocketAddrV4) (t : Transaction) → AreKept m.history → Goes (answer_text t) → All IsOut t.done.sent
     → told ≡ look_of most_firsts m.history t.id m.now → GoesOut (transacted_by told m source t)
 unfolding executed
-transacted_goes new m source t all goes is = record {
+transacted_goes new m source t all goes more is = record {
   kept = kept_more (m.history ++ Confirmation t.confirms ∷ []) _ (kept_more m.history (Confirmation t.confirms ∷ []) all (All-nil (λ (first : KeptFirst). Goes first.answer)))
       (All-cons (λ (first : KeptFirst). Goes first.answer) _ [] goes (All-nil (λ (first : KeptFirst). Goes first.answer)));
-  sent = one_sent (reply m source t.line (answers (response_to t))) goes;
+  sent = All-cons IsOut (reply m source t.line (answers (response_to t))) t.done.sent goes more;
 }
-transacted_goes (repeat text) m source t all goes is =
+transacted_goes (repeat text) m source t all goes more is =
     record { kept = all; sent = one_sent (reply m source t.line (again text)) (again_goes text m.history all (repeat_kept most_firsts m.history t.id m.now text (sym is))) }
-transacted_goes confirmed m source t all goes is = record { kept = all; sent = All-nil IsMessage }
-transacted_goes full m source t all goes is = record { kept = all; sent = All-nil IsMessage }
+transacted_goes confirmed m source t all goes more is = record { kept = all; sent = All-nil IsOut }
+transacted_goes full m source t all goes more is = record { kept = all; sent = All-nil IsOut }
 
 handled_goes : (setup : Setup) (m : Machine) (source : SocketAddrV4) (outcome : Outcome) → Fits setup m → AreKept m.history → IfSome (id_in outcome) IsId → GoesOut (handled setup m source outcome)
 unfolding handled
-handled_goes setup m source no_header fits all has = record { kept = all; sent = All-nil IsMessage }
-handled_goes setup m source (bad_version id) fits all has = transacted_goes _ m source (refusing m id 528) all (answer_goes id (plain_code 528) has (code_is 528 (omega arith))) refl
-handled_goes setup m source (bad_body id) fits all has = transacted_goes _ m source (refusing m id 510) all (answer_goes id (plain_code 510) has (code_is 510 (omega arith))) refl
+handled_goes setup m source no_header fits all has = record { kept = all; sent = All-nil IsOut }
+handled_goes setup m source (bad_version id) fits all has =
+    transacted_goes _ m source (refusing m id 528) all (answer_goes id (plain_code 528) has (code_is 528 (omega arith))) (All-nil IsOut) refl
+handled_goes setup m source (bad_body id) fits all has =
+    transacted_goes _ m source (refusing m id 510) all (answer_goes id (plain_code 510) has (code_is 510 (omega arith))) (All-nil IsOut) refl
 handled_goes setup m source (message (messages.Command verb id name params body)) fits all has =
     let command : Command = record { verb = verb; name = name; params = params } in
-    transacted_goes _ m source _ all (answer_goes id (commanded setup m.endpoints m.now command).answer has (command_is setup m command fits)) refl
-handled_goes setup m source (message (messages.Response code id params body)) fits all has = record { kept = all; sent = All-nil IsMessage }
+    transacted_goes _ m source _ all (answer_goes id (commanded setup m.endpoints m.now command).answer has (command_is setup m command fits))
+    (command_goes setup Sound IsOut (sound_turns setup fits.set_up) command m.endpoints m.now fits.stations).sent refl
+handled_goes setup m source (message (messages.Response code id params body)) fits all has = record {
+  kept = all;
+  sent = All-append IsOut (acknowledged m.now source code id params) _ (acknowledgement_out m.now source code id params has)
+      (responded_goes setup Sound IsOut (sound_turns setup fits.set_up) m.endpoints m.now code id fits.stations).sent;
+}
 
-sent_more : (some more : List Sent) → All IsMessage (datagrams_of some) → All IsMessage (datagrams_of more) → All IsMessage (datagrams_of (some ++ more))
-sent_more some more one two = rw (map-append datagram_of some more) (All-append IsMessage (datagrams_of some) (datagrams_of more) one two)
+handled_fits : (setup : Setup) (m : Machine) (source : SocketAddrV4) (outcome : Outcome) → Fits setup m → Fits setup (handled setup m source outcome).machine
+handled_fits setup m source outcome fits = record {
+  set_up = fits.set_up;
+  lines = handled_lines setup m source outcome ∙ fits.lines;
+  stations = handled_on_all setup Sound IsOut (sound_turns setup fits.set_up) m source outcome fits.stations;
+}
 
 texts_go : (setup : Setup) (m : Machine) (source : SocketAddrV4) (texts : List (List ℕ)) → Fits setup m → AreKept m.history → GoesOut (took_all setup m source texts)
 unfolding took_all
-texts_go setup m source [] fits all = record { kept = all; sent = All-nil IsMessage }
+texts_go setup m source [] fits all = record { kept = all; sent = All-nil IsOut }
 texts_go setup m source (text ∷ texts) fits all =
     let first = handled_goes setup m source (read_text text) fits all (read_id text) in
-    let rest = texts_go setup (handled setup m source (read_text text)).machine source texts (record { set_up = fits.set_up; lines = handled_lines setup m source (read_text text) ∙ fits.lines }) first.kept in
-    record { kept = rest.kept; sent = sent_more (handled setup m source (read_text text)).sent _ first.sent rest.sent }
-
-acted_goes : (setup : Setup) (endpoints : Endpoints) (number moment : ℕ) (found : Option Station) (act : Act) → All IsMessage (datagrams_of (acted_at found setup endpoints number moment act).sent)
-unfolding phoned
-acted_goes setup endpoints number moment None act = All-nil IsMessage
-acted_goes setup endpoints number moment (Some station) act = All-nil IsMessage
+    let rest = texts_go setup (handled setup m source (read_text text)).machine source texts (handled_fits setup m source (read_text text) fits) first.kept in
+    record { kept = rest.kept; sent = All-append IsOut (handled setup m source (read_text text)).sent _ first.sent rest.sent }
 
 event_goes : (setup : Setup) (m : Machine) (event : GatewayEvent) → Fits setup m → AreKept m.history → GoesOut (effect setup m event)
-unfolding effect acted
+unfolding effect
 event_goes setup m (datagram source bytes) fits all = texts_go setup m source (texts_of bytes) fits all
-event_goes setup m (phone line act) fits all = record { kept = all; sent = acted_goes setup m.endpoints line m.now (station_at m.endpoints line) act }
-event_goes setup m (tick moment) fits all = record { kept = all; sent = rw (pass_tells_nothing setup m.endpoints moment) (All-nil IsMessage) }
+event_goes setup m (phone line act) fits all =
+    record { kept = all; sent = (acted_goes setup Sound IsOut (sound_turns setup fits.set_up) m.endpoints line m.now act fits.stations).sent }
+event_goes setup m (tick moment) fits all =
+    record { kept = all; sent = (pass_goes setup Sound IsOut (sound_turns setup fits.set_up) m.endpoints moment fits.stations).sent }
 
 event_fits : (setup : Setup) (m : Machine) (event : GatewayEvent) → Fits setup m → Fits setup (effect setup m event).machine
-event_fits setup m event fits = record { set_up = fits.set_up; lines = effect_lines setup m event ∙ fits.lines }
+event_fits setup m event fits = record {
+  set_up = fits.set_up;
+  lines = effect_lines setup m event ∙ fits.lines;
+  stations = event_on_all setup Sound IsOut (sound_turns setup fits.set_up) m event fits.stations;
+}
+
+-- What goes out
+
+all_messages : (sent : List Sent) → All IsOut sent → All IsMessage (datagrams_of sent)
+all_messages [] all = All-nil IsMessage
+all_messages (one ∷ sent) all = All-cons IsMessage (datagram_of one) (datagrams_of sent) (All-head IsOut one sent all) (all_messages sent (All-tail IsOut one sent all))
 
 outputs_hold : (setup : Setup) (m : Machine) (events : List GatewayEvent) → Fits setup m → AreKept m.history
     → flat_map messages_in (outputs_from setup m events) ≡ datagrams_of (sent_from setup m events)
@@ -300,7 +321,7 @@ outputs_hold setup m (event ∷ events) fits all =
     let done = effect setup m event in
     let goes = event_goes setup m event fits all in
     flat_map-append messages_in (put_out done.sent) (outputs_from setup done.machine events)
-    ∙ ap (λ (front : List OutDatagram). front ++ flat_map messages_in (outputs_from setup done.machine events)) (packed_messages (datagrams_of done.sent) goes.sent)
+    ∙ ap (λ (front : List OutDatagram). front ++ flat_map messages_in (outputs_from setup done.machine events)) (packed_messages (datagrams_of done.sent) (all_messages done.sent goes.sent))
     ∙ ap (λ (rest : List OutDatagram). datagrams_of done.sent ++ rest) (outputs_hold setup done.machine events (event_fits setup m event fits) goes.kept)
     ∙ sym (map-append datagram_of done.sent (sent_from setup done.machine events))
 
@@ -310,13 +331,14 @@ outputs_fit setup m [] fits all = All-nil IsWithin
 outputs_fit setup m (event ∷ events) fits all =
     let done = effect setup m event in
     let goes = event_goes setup m event fits all in
-    All-append IsWithin (put_out done.sent) (outputs_from setup done.machine events) (packed_within (datagrams_of done.sent) goes.sent) (outputs_fit setup done.machine events (event_fits setup m event fits) goes.kept)
+    All-append IsWithin (put_out done.sent) (outputs_from setup done.machine events) (packed_within (datagrams_of done.sent) (all_messages done.sent goes.sent))
+    (outputs_fit setup done.machine events (event_fits setup m event fits) goes.kept)
 
 pub nothing_kept : (setup : Setup) → AreKept (opening setup).history
 nothing_kept setup = All-nil (λ (first : KeptFirst). Goes first.answer)
 
 opening_fits : (setup : Setup) → IsSetUp setup → Fits setup (opening setup)
-opening_fits setup set_up = record { set_up = set_up; lines = lines_of_opening setup }
+opening_fits setup set_up = record { set_up = set_up; lines = lines_of_opening setup; stations = opening_is_sound setup set_up }
 
 pub sent_as_messages : (config : Config) (setup : Setup) (events : List GatewayEvent) → setup_of config ≡ Ok setup
     → flat_map messages_in (outputs_from setup (opening setup) events) ≡ datagrams_of (sent_from setup (opening setup) events)

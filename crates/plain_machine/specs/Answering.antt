@@ -21,9 +21,10 @@ use Rattle.endpoint_names.specs.declared.name.NameFault.{NameFault}
 use Rattle.endpoint_names.specs.Name.{name_of}
 use Rattle.plain_machine.specs.declared.setup.Setup.{Setup}
 use Rattle.plain_machine.specs.Message.{answer_of, Said, answer, again, Sent}
-use Rattle.plain_machine.specs.Machine.{Endpoints, Machine, Effect, Told, told, idle}
+use Rattle.plain_machine.specs.Machine.{Machine, Effect, Told, told, told_in, idle}
 use Rattle.plain_machine.specs.Arriving.{largest_datagram}
-use Rattle.plain_machine.specs.Done.{Noted, Done, only_answer}
+use Rattle.plain_machine.specs.Done.{Done, only_answer}
+use Rattle.plain_machine.specs.Responding.{heard_from}
 use Rattle.plain_machine.specs.Commanding.{commanded}
 
 -- the line that a name reads as
@@ -35,10 +36,6 @@ line_meant (Err fault) = None
 
 abbrev pub line_of_name : Setup → List ℕ → Option ℕ
 line_of_name setup name = line_meant (name_of name setup.names.domain setup.names.lines)
-
--- the messages that the notices of a command go out in: so far a line gives none
-abbrev pub notified : Endpoints → List Noted → Told
-notified endpoints notices = told endpoints []
 
 -- a message to where a command came from
 abbrev pub reply : Machine → SocketAddrV4 → Option ℕ → Said → Sent
@@ -81,14 +78,11 @@ history_with m t =
     (m.history ++ Confirmation t.confirms ∷ []) ++ First (record { id = t.id; moment = m.now; answer = answer_text t }) ∷ []
 
 -- A first is executed: what it confirms is confirmed, the endpoints become what it makes of them, and its answer goes to
--- its source, before what lines have to tell because of it.
+-- its source, before what lines send because of it.
 unfoldable pub executed : Machine → SocketAddrV4 → Transaction → Effect
 executed m source t = record {
-  machine = record m {
-    endpoints = (notified t.done.endpoints t.done.notices).endpoints;
-    history = history_with m t;
-  };
-  sent = reply m source t.line (answer (response_to t)) ∷ (notified t.done.endpoints t.done.notices).sent;
+  machine = record m { endpoints = t.done.endpoints; history = history_with m t };
+  sent = reply m source t.line (answer (response_to t)) ∷ t.done.sent;
 }
 
 -- a command, by what is told of its id: a first is executed, a repeat gets the stored answer, what is confirmed gets
@@ -116,13 +110,22 @@ transaction_of setup m (message (messages.Command verb id name params body)) =
     (commanded setup m.endpoints m.now (record { verb = verb; name = name; params = params })))
 transaction_of setup m (message (messages.Response code id params body)) = None
 
-abbrev pub handled_as : Option Transaction → Machine → SocketAddrV4 → Effect
-handled_as None m source = idle m
-handled_as (Some t) m source = transacted m source t
+-- what is done at what is no command: a response is heard, and what has no header does nothing
+abbrev pub heard_as : Outcome → Setup → Machine → SocketAddrV4 → Told
+heard_as (message (messages.Response code id params body)) setup m source =
+    heard_from setup m.endpoints m.now source code id params
+heard_as (message (messages.Command verb id name params body)) setup m source = told m.endpoints []
+heard_as no_header setup m source = told m.endpoints []
+heard_as (bad_version id) setup m source = told m.endpoints []
+heard_as (bad_body id) setup m source = told m.endpoints []
+
+abbrev pub handled_as : Option Transaction → Setup → Machine → SocketAddrV4 → Outcome → Effect
+handled_as None setup m source outcome = told_in m (heard_as outcome setup m source)
+handled_as (Some t) setup m source outcome = transacted m source t
 
 -- what is done at what arrived
 unfoldable pub handled : Setup → Machine → SocketAddrV4 → Outcome → Effect
-handled setup m source outcome = handled_as (transaction_of setup m outcome) m source
+handled setup m source outcome = handled_as (transaction_of setup m outcome) setup m source outcome
 
 abbrev pub after : Effect → (Machine → Effect) → Effect
 after first next = record { machine = (next first.machine).machine; sent = first.sent ++ (next first.machine).sent }

@@ -6,6 +6,7 @@ use Rattle.plain_machine.specs.declared.setup.Setup.{Setup}
 use Rattle.plain_machine.specs.declared.station.Station.{Station}
 use Rattle.history.specs.declared.entry.Entry.{Entry}
 use Rattle.plain_machine.specs.Message.{Sent}
+use Rattle.plain_machine.specs.Notifying.{Turn}
 
 -- all that changes but the clock: the stations, of which the first is line 1
 pub record Endpoints : Type 0 where
@@ -37,9 +38,9 @@ told endpoints sent = record { endpoints = endpoints; sent = sent }
 abbrev pub told_in : Machine → Told → Effect
 told_in m change = record { machine = record m { endpoints = change.endpoints }; sent = change.sent }
 
--- every line is as a line opens, and reports to the configured agent
+-- every line is as a line opens, reports to the configured agent, and sent nothing
 abbrev pub opening_station : Setup → Station
-opening_station setup = record { line = opening_line; entity = setup.agent }
+opening_station setup = record { line = opening_line; entity = setup.agent; number = 0; pending = None }
 
 abbrev pub opening_endpoints : Setup → Endpoints
 opening_endpoints setup = record { stations = replicate setup.names.lines (opening_station setup) }
@@ -49,10 +50,14 @@ opening setup = record { now = 0; endpoints = opening_endpoints setup; history =
 
 -- the station of the line with this number, if there is one: the numbers begin with 1
 abbrev pub station_at : Endpoints → ℕ → Option Station
-station_at endpoints number = if number == 0 then None else slice_get endpoints.stations (number - 1)
+station_at endpoints line = if line == 0 then None else slice_get endpoints.stations (line - 1)
 
 abbrev pub with_station : Endpoints → ℕ → Station → Endpoints
-with_station endpoints number station = record { stations = slice_set endpoints.stations (number - 1) station }
+with_station endpoints line station = record { stations = slice_set endpoints.stations (line - 1) station }
+
+-- the station of this line has its turn
+abbrev pub with_turn : Endpoints → ℕ → Turn → Told
+with_turn endpoints line turn = told (with_station endpoints line turn.station) turn.sent
 
 -- the stations with the numbers of their lines
 abbrev pub numbered : Endpoints → List (ℕ × Station)

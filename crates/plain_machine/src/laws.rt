@@ -1,6 +1,6 @@
 //! Laws of the plain machine, for every setup and every list of events.
 ghost use Rattle.std.specs.declared.net.socket_addr.SocketAddrV4.{SocketAddrV4};
-ghost use Rattle.std.specs.Prelude.{ℕ, if◌then◌else◌, ◌<◌, Ok, ◌≡◌, ◌≢◌, ◌++◌, ◌∷◌, ◌-◌, [], ◌≤◌, List, length, map, flat_map, All, AllPairs, Option, Some, None, true, false};
+ghost use Rattle.std.specs.Prelude.{ℕ, if◌then◌else◌, ◌<◌, Ok, ◌≡◌, ◌≢◌, ◌++◌, ◌∷◌, ◌-◌, [], ◌≤◌, List, length, map, filter, flat_map, All, AllPairs, Option, Some, None, true, false};
 ghost use Rattle.history.specs.Memory.{memory_time, most_firsts};
 ghost use Rattle.history.specs.Arrival.{Arrival as Command};
 ghost use Rattle.history.specs.Firsts.{Copied, a_first, a_repeat, lost, kind_of, firsts_of};
@@ -11,13 +11,12 @@ ghost use Rattle.plain_machine.specs.declared.output.OutDatagram.{OutDatagram};
 ghost use Rattle.plain_machine.specs.declared.refusal.Refusal.{Refusal};
 ghost use Rattle.plain_machine.specs.declared.refusal.Refusal.TheVariants as refusals;
 ghost use Rattle.plain_machine.specs.Event.{GatewayEvent};
-ghost use Rattle.plain_machine.specs.Message.{again, datagrams_of};
+ghost use Rattle.plain_machine.specs.Message.{again, is_answer, Sent, datagrams_of};
 ghost use Rattle.plain_machine.specs.Machine.{Machine, Endpoints, idle, told};
 ghost use Rattle.plain_machine.specs.Falling.{due_at, due_by, happened, afterwards, pass};
 ghost use Rattle.plain_machine.specs.declared.due_item.DueItem.{DueItem};
 ghost use Rattle.plain_machine.specs.declared.config.Config.{Config};
 ghost use Rattle.plain_machine.specs.Setup.{setup_of, IsSetUp};
-ghost use Rattle.mg_line.specs.declared.due.Due.{Due};
 ghost use Rattle.plain_machine.specs.Answering.{Transaction, reply, executed, transacted};
 ghost use Rattle.plain_machine.specs.Packing.{messages_in};
 ghost use Rattle.plain_machine.specs.Arriving.{largest_datagram, arrivals_at, clock_after, arrivals_of};
@@ -72,11 +71,11 @@ pub fn commands_are_what_arrives()
         ≡ map (λ (a : Asked). a.confirms) (asked_of events) }
 {}
 
-/// What is sent is what the commands that arrived are answered, a first, a repeat and what is lost as the standard says,
-/// in their order, each to where its command came from and at the moment at which that arrived.
-pub fn what_is_sent_is_what_commands_are_answered()
+/// The answers that are sent are those that the commands which arrived get, a first, a repeat and what is lost as the
+/// standard says, in their order, each to where its command came from and at the moment at which that arrived.
+pub fn what_is_answered_is_what_commands_get()
     ensures { (setup : Setup) (events : List GatewayEvent) →
-        datagrams_of (sent_of setup events) ≡ replies (asked_of events) (answers_of most_firsts (commands_of setup events)) }
+        datagrams_of (filter (λ (sent : Sent). is_answer sent.said) (sent_of setup events)) ≡ replies (asked_of events) (answers_of most_firsts (commands_of setup events)) }
 {}
 
 /// Where a machine keeps the firsts of all that arrived, a command that is one of them is executed; a repeat changes
@@ -126,15 +125,15 @@ pub fn what_is_due_happens_in_its_order()
         due_by (pass setup endpoints moment).endpoints moment ≡ None }
 {}
 
-/// What falls due first is due on its line; nothing on any line is due earlier, and nothing on a lesser line as early.
+/// What falls due first is the first on its line; nothing on any line is due earlier, and nothing on a lesser line as early.
 pub fn the_first_due_is_the_earliest()
     ensures due { (endpoints : Endpoints) (moment : ℕ) (item : DueItem) → due_by endpoints moment ≡ Some item →
-        (due_at endpoints item.line ≡ Some (item.moment, item.due)) × (item.moment ≤ moment) }
-    ensures earliest { (endpoints : Endpoints) (moment line : ℕ) (item : DueItem) (other : ℕ × Due) →
+        (due_at endpoints item.line ≡ Some item) × (item.moment ≤ moment) }
+    ensures earliest { (endpoints : Endpoints) (moment line : ℕ) (item other : DueItem) →
         due_by endpoints moment ≡ Some item → due_at endpoints line ≡ Some other →
-        (item.moment ≤ other.0) × (item.moment ≡ other.0 → item.line ≤ line) }
-    ensures none { (endpoints : Endpoints) (moment line : ℕ) (other : ℕ × Due) →
-        due_by endpoints moment ≡ None → due_at endpoints line ≡ Some other → moment < other.0 }
+        (item.moment ≤ other.moment) × (item.moment ≡ other.moment → item.line ≤ line) }
+    ensures none { (endpoints : Endpoints) (moment line : ℕ) (other : DueItem) →
+        due_by endpoints moment ≡ None → due_at endpoints line ≡ Some other → moment < other.moment }
 {}
 
 /// A step ends as the machine says: a refused event is refused for its reason, another one is taken, and want of memory

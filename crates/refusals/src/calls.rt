@@ -79,7 +79,8 @@ fn example(alloc: Global) -> Result<Config, OutOfMemory> {
     })
 }
 
-fn opened(alloc: Global) -> Result<Gateway, ConfigFault> {
+/// The gateway of the examples.
+pub fn opened(alloc: Global) -> Result<Gateway, ConfigFault> {
     Gateway::new(alloc, example(alloc)?)
 }
 
@@ -102,7 +103,8 @@ fn show_signals<R: Print>(rt: &R, gateway: &Gateway) -> io::Result<()> {
     Ok(())
 }
 
-fn show<R: Print>(rt: &R, outputs: &Outputs) -> io::Result<()> {
+/// Prints what a step sent.
+pub fn show<R: Print>(rt: &R, outputs: &Outputs) -> io::Result<()> {
     for datagram in outputs.as_slice() {
         println!(rt; "> {} {}", datagram.moment, datagram.to)?;
         io::writer(rt).write_all(datagram.bytes.as_bytes())?;

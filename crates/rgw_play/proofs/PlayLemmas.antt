@@ -17,7 +17,7 @@ use Rattle.gateway_core.specs.GatewayState.{GatewayState}
 use Rattle.mg_packages.specs.declared.hook.Hook.{Hook}
 use Rattle.gateway_core.specs.Stands.{Stands, Took}
 use Rattle.plain_machine.specs.Refusing.{tick_refusal, refusal_of, Ends}
-use Rattle.plain_machine.specs.Lists.{plain, outputs_from, refusal_at, hook_of, signals_of}
+use Rattle.plain_machine.specs.Lists.{plain, outputs_from, refusal_at, hook_of, signals_of, lost_of}
 use Rattle.signals.specs.declared.active.ActiveSignal.{ActiveSignal}
 use Rattle.plain_machine.proofs.EndLaws.{ends_fine, ends_cause}
 use Rattle.rgw_play.specs.declared.step.Step.{Step}
@@ -208,15 +208,16 @@ both_not line lines none = ⊎_elim
     (λ (low : nat_le 1 line ≡ false). rw low refl)
     (cases_Bool (nat_le 1 line))
 
-pub told_moved : (p q : Player) (line : ℕ) (hook : Hook) (signals : List ActiveSignal) → q.gateway ≡ p.gateway → 1 ≤ line → line ≤ p.gateway.setup.names.lines
+pub told_moved : (p q : Player) (line : ℕ) (hook : Hook) (signals : List ActiveSignal) (lost : ℕ) → q.gateway ≡ p.gateway → 1 ≤ line → line ≤ p.gateway.setup.names.lines
     → ((before : List GatewayEvent) → Stands p.gateway before → hook_of (plain p.gateway.setup before) line ≡ Some hook)
     → ((before : List GatewayEvent) → Stands p.gateway before → signals_of (plain p.gateway.setup before) line ≡ Some signals)
-    → Prints p (tells line hook signals ∷ []) q → Moved p (ask line ∷ []) q
+    → ((before : List GatewayEvent) → Stands p.gateway before → lost_of (plain p.gateway.setup before) line ≡ Some lost)
+    → Prints p (tells line hook signals lost ∷ []) q → Moved p (ask line ∷ []) q
 unfolding move_went
-told_moved p q line hook signals kept low high is active prints =
+told_moved p q line hook signals lost kept low high is active gone prints =
     moved_one p q (ask line) (ap (λ (g : GatewayState). g.setup) kept)
     (λ before s. subst (λ (g : GatewayState). Stands g before) (sym kept) s)
-    (λ before s. rw (le-leb 1 line low, le-leb line p.gateway.setup.names.lines high, is before s, active before s) prints)
+    (λ before s. rw (le-leb 1 line low, le-leb line p.gateway.setup.names.lines high, is before s, active before s, gone before s) prints)
 
 pub untold_moved : (p q : Player) (line : ℕ) → q.gateway ≡ p.gateway → (1 ≤ line → line ≤ p.gateway.setup.names.lines → ⊥)
     → Prints p (refuses NoSuchLine ∷ []) q → Moved p (ask line ∷ []) q

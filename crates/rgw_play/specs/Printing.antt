@@ -47,8 +47,14 @@ unfoldable pub signals_shown : List ActiveSignal → List ℕ
 signals_shown [] = codes "-"
 signals_shown (active ∷ more) = signal_shown active ++ flat_map (λ next. codes "," ++ signal_shown next) more
 
--- what a line is: its hook state and its signals; connections and lost events aren't there yet
-abbrev pub shown_line : ℕ → Hook → List ActiveSignal → List ℕ
-shown_line line hook signals =
-    codes "line " ++ decimal line ++ codes " " ++ hook_word hook ++ codes " signals " ++ signals_shown signals
-    ++ codes " connections - lost 0"
+-- which line it is, and its hook state
+unfoldable pub line_head : ℕ → Hook → List ℕ
+line_head line hook = codes "line " ++ decimal line ++ codes " " ++ hook_word hook ++ codes " signals "
+
+-- how many events it lost; connections aren't there yet
+unfoldable pub lost_shown : ℕ → List ℕ
+lost_shown lost = codes " connections - lost " ++ decimal lost
+
+-- what a line is: its hook state, its signals, and how many events it lost
+abbrev pub shown_line : ℕ → Hook → List ActiveSignal → ℕ → List ℕ
+shown_line line hook signals lost = line_head line hook ++ signals_shown signals ++ lost_shown lost

@@ -203,17 +203,18 @@ pub fn what_is_shown_is_printed()
     ensures back { printed (refuses refusals.ClockBack) ≡ codes "! 3 ClockBack\n" }
     ensures no_line { printed (refuses refusals.NoSuchLine) ≡ codes "! 4 NoSuchLine\n" }
     ensures state { printed (refuses refusals.PhoneState) ≡ codes "! 5 PhoneState\n" }
-    ensures off { printed (tells 1 hooks.OffHook [])
+    ensures off { printed (tells 1 hooks.OffHook [] 0)
         ≡ codes "line 1 off signals - connections - lost 0\n" }
-    ensures on { printed (tells 16 hooks.OnHook []) ≡ codes "line 16 on signals - connections - lost 0\n" }
-    ensures tone { printed (tells 1 hooks.OffHook ((record { signal = signals.DialTone; end = Some 17000 }) ∷ []))
+    ensures on { printed (tells 16 hooks.OnHook [] 0) ≡ codes "line 16 on signals - connections - lost 0\n" }
+    ensures tone { printed (tells 1 hooks.OffHook ((record { signal = signals.DialTone; end = Some 17000 }) ∷ []) 0)
         ≡ codes "line 1 off signals L/dl:17000 connections - lost 0\n" }
     ensures tones { printed (tells 1 hooks.OffHook ((record { signal = signals.MessageWaiting; end = None })
-        ∷ (record { signal = signals.Congestion; end = None }) ∷ (record { signal = signals.Confirm; end = Some 1500 }) ∷ []))
+        ∷ (record { signal = signals.Congestion; end = None }) ∷ (record { signal = signals.Confirm; end = Some 1500 }) ∷ []) 0)
         ≡ codes "line 1 off signals L/vmwi:-,G/cg:-,G/cf:1500 connections - lost 0\n" }
+    ensures lost { printed (tells 2 hooks.OnHook [] 12) ≡ codes "line 2 on signals - connections - lost 12\n" }
     ensures counted { is_refused (refuses refusals.PhoneState) ≡ true }
     ensures not_sent { is_refused (sends []) ≡ false }
-    ensures not_told { is_refused (tells 1 hooks.OnHook []) ≡ false }
+    ensures not_told { is_refused (tells 1 hooks.OnHook [] 0) ≡ false }
 {}
 
 /// Moves are made one after the other.
@@ -227,6 +228,6 @@ pub fn moves_show_what_they_do()
         (pass 1001 ∷ give (phone 1 acts.OnHook) ∷ give (phone 17 acts.OffHook) ∷ [])
         ≡ codes "! 2 TickTooFar\n! 5 PhoneState\n! 4 NoSuchLine\n" }
     ensures shown { output_of (give (phone 1 acts.OffHook) ∷ ask 1 ∷ ask 16 ∷ [])
-        ≡ codes "line 1 off signals - connections - lost 0\nline 16 on signals - connections - lost 0\n" }
+        ≡ codes "> 0 127.0.0.1:2727\nNTFY 10000000 aaln/1@rgw.example.net MGCP 1.0\nX: 0\nO: L/hd\n--\nline 1 off signals - connections - lost 0\nline 16 on signals - connections - lost 0\n" }
     ensures no_lines { output_of (ask 0 ∷ ask 17 ∷ []) ≡ codes "! 4 NoSuchLine\n! 4 NoSuchLine\n" }
 {}

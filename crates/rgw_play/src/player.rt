@@ -60,11 +60,17 @@ impl Player {
     }
 
     // Prints what a line is.
-    fn tell(&mut self, line: u16, hook: Hook, signals: &[ActiveSignal]) -> Result<(), OutOfMemory>
+    fn tell(
+        &mut self,
+        line: u16,
+        hook: Hook,
+        signals: &[ActiveSignal],
+        lost: u64,
+    ) -> Result<(), OutOfMemory>
         ensures kept { OnOk result (self.new.gateway ≡ self.old.gateway) }
-        ensures printed { OnOk result (Prints self.old (tells line hook signals.now ∷ []) self.new) }
+        ensures printed { OnOk result (Prints self.old (tells line hook signals.now lost ∷ []) self.new) }
     {
-        put_line(self.alloc, &mut self.out, line, hook, signals)?;
+        put_line(self.alloc, &mut self.out, line, hook, signals, lost)?;
         Ok(())
     }
 
@@ -117,7 +123,8 @@ impl Player {
         if line >= 1 && line <= self.gateway.lines() {
             let hook = self.gateway.hook(line);
             let signals = self.gateway.signals(line);
-            return self.tell(line, hook, signals.as_slice());
+            let lost = self.gateway.lost(line);
+            return self.tell(line, hook, signals.as_slice(), lost);
         }
         self.refuse(Refusal::NoSuchLine)
     }

@@ -2,7 +2,7 @@
 ghost use Rattle.std.specs.Prelude.{◌≡◌, ◌≤◌, ◌++◌, length, codes, IfOk, OnOk, string_bytes};
 ghost use Rattle.std.specs.List.{flat_map};
 ghost use Rattle.mg_bytes.specs.Lines.{lines_of};
-ghost use Rattle.rgw_play.specs.Printing.{printed_line, datagram_line, printed_datagram, refusal_line, hook_word, end_shown, signal_shown, signals_shown, shown_line};
+ghost use Rattle.rgw_play.specs.Printing.{printed_line, datagram_line, printed_datagram, refusal_line, hook_word, end_shown, signal_shown, signals_shown, line_head, lost_shown, shown_line};
 
 use gateway_core::{OutDatagram, Refusal};
 use mg_bytes::{OutOfMemory, lines, put_decimal};
@@ -145,16 +145,9 @@ fn put_signals(
     }
 }
 
-/// Prints what a line is.
-pub fn put_line(
-    alloc: Global,
-    out: &mut Vec<u8>,
-    line: u16,
-    hook: Hook,
-    signals: &[ActiveSignal],
-) -> Result<(), OutOfMemory>
-    ensures ok { OnOk result (out.new.items ≡ out.old.items
-        ++ printed_line (shown_line line hook signals.now)) }
+#[tactic(auto, unfolding(crate::specs::Printing::line_head))]
+fn put_head(alloc: Global, out: &mut Vec<u8>, line: u16, hook: Hook) -> Result<(), OutOfMemory>
+    ensures ok { OnOk result (out.new.items ≡ out.old.items ++ line_head line hook) }
     ensures grows { length out.old.items ≤ length out.new.items }
 {
     out.extend_from_slice(b"line ")?;
@@ -162,7 +155,34 @@ pub fn put_line(
     out.push(b' ')?;
     out.extend_from_slice(hook_word(hook))?;
     out.extend_from_slice(b" signals ")?;
+    Ok(())
+}
+
+#[tactic(auto, unfolding(crate::specs::Printing::lost_shown))]
+fn put_lost(alloc: Global, out: &mut Vec<u8>, lost: u64) -> Result<(), OutOfMemory>
+    ensures ok { OnOk result (out.new.items ≡ out.old.items ++ lost_shown lost) }
+    ensures grows { length out.old.items ≤ length out.new.items }
+{
+    out.extend_from_slice(b" connections - lost ")?;
+    put_decimal(alloc, out, lost)
+}
+
+/// Prints what a line is.
+pub fn put_line(
+    alloc: Global,
+    out: &mut Vec<u8>,
+    line: u16,
+    hook: Hook,
+    signals: &[ActiveSignal],
+    lost: u64,
+) -> Result<(), OutOfMemory>
+    ensures ok { OnOk result (out.new.items ≡ out.old.items
+        ++ printed_line (shown_line line hook signals.now lost)) }
+    ensures grows { length out.old.items ≤ length out.new.items }
+{
+    put_head(alloc, out, line, hook)?;
     put_signals(alloc, out, signals)?;
-    out.extend_from_slice(b" connections - lost 0\n")?;
+    put_lost(alloc, out, lost)?;
+    out.push(b'\n')?;
     Ok(())
 }

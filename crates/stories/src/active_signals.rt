@@ -21,7 +21,7 @@ fn a_request_of_all_lines_is_done_on_all_or_none(rt: HostRuntime) -> Result<(), 
     let stories = [all_taken(
         9,
         "tick 1000\nphone 3 off\nfrom 127.0.0.1:2727\nRQNT 1801 *@rgw.example.net MGCP 1.0\nX: B2\nS: L/rg\n--\nshow 1\nshow 16\nphone 3 on\nfrom 127.0.0.1:2727\nRQNT 1802 aaln/*@rgw.example.net MGCP 1.0\nX: B2\nS: L/rg\n--\nshow 1\nshow 16\n",
-        "> 1000 127.0.0.1:2727\n401 1801\n--\nline 1 on signals - connections - lost 0\nline 16 on signals - connections - lost 0\n> 1000 127.0.0.1:2727\n200 1802 OK\n--\nline 1 on signals L/rg:181000 connections - lost 0\nline 16 on signals L/rg:181000 connections - lost 0\n",
+        "> 1000 127.0.0.1:2727\nNTFY 30000000 aaln/3@rgw.example.net MGCP 1.0\nX: 0\nO: L/hd\n--\n> 1000 127.0.0.1:2727\n401 1801\n--\nline 1 on signals - connections - lost 0\nline 16 on signals - connections - lost 0\n> 1000 127.0.0.1:2727\n200 1802 OK\n--\nline 1 on signals L/rg:181000 connections - lost 0\nline 16 on signals L/rg:181000 connections - lost 0\n",
     )];
     tell(&rt, rt.alloc(), &stories)
 }
@@ -89,13 +89,13 @@ fn signals_end_and_stop(rt: HostRuntime) -> Result<(), Fail> {
         all_taken(
             8,
             "from 127.0.0.1:2727\nRQNT 1 *@rgw.example.net MGCP 1.0\nX: 1\nS: L/rs,L/rg,L/vmwi\n--\ntick 499\nshow 1\ntick 1\nshow 1\nshow 16\nphone 16 off\nshow 16\n",
-            "> 0 127.0.0.1:2727\n200 1 OK\n--\nline 1 on signals L/rg:180000,L/rs:500,L/vmwi:- connections - lost 0\nline 1 on signals L/rg:180000,L/vmwi:- connections - lost 0\nline 16 on signals L/rg:180000,L/vmwi:- connections - lost 0\nline 16 off signals L/vmwi:- connections - lost 0\n",
+            "> 0 127.0.0.1:2727\n200 1 OK\n--\nline 1 on signals L/rg:180000,L/rs:500,L/vmwi:- connections - lost 0\nline 1 on signals L/rg:180000,L/vmwi:- connections - lost 0\nline 16 on signals L/rg:180000,L/vmwi:- connections - lost 0\n> 500 127.0.0.1:2727\nNTFY 160000000 aaln/16@rgw.example.net MGCP 1.0\nX: 1\nO: L/hd\n--\nline 16 off signals L/vmwi:- connections - lost 0\n",
         ),
         // Off hook: tones of both packages in the order of the table, one past its end, one without, one stopped by name.
         all_taken(
-            9,
-            "phone 2 off\nfrom 127.0.0.1:2727\nRQNT 1 aaln/2@rgw.example.net MGCP 1.0\nX: 1\nS: G/cf,G/cg,dl(to=1000),L/vmwi\n--\nshow 2\ntick 1000\nshow 2\nfrom 127.0.0.1:2727\nRQNT 2 aaln/2@rgw.example.net MGCP 1.0\nX: 2\nS: L/vmwi(-)\n--\nshow 2\nphone 2 on\nshow 2\n",
-            "> 0 127.0.0.1:2727\n200 1 OK\n--\nline 2 off signals L/dl:1000,L/vmwi:-,G/cg:-,G/cf:500 connections - lost 0\nline 2 off signals L/vmwi:-,G/cg:- connections - lost 0\n> 1000 127.0.0.1:2727\n200 2 OK\n--\nline 2 off signals - connections - lost 0\nline 2 on signals - connections - lost 0\n",
+            10,
+            "phone 2 off\nfrom 127.0.0.1:2727\n200 20000000 OK\n--\nfrom 127.0.0.1:2727\nRQNT 1 aaln/2@rgw.example.net MGCP 1.0\nX: 1\nS: G/cf,G/cg,dl(to=1000),L/vmwi\n--\nshow 2\ntick 1000\nshow 2\nfrom 127.0.0.1:2727\nRQNT 2 aaln/2@rgw.example.net MGCP 1.0\nX: 2\nS: L/vmwi(-)\n--\nshow 2\nphone 2 on\nshow 2\n",
+            "> 0 127.0.0.1:2727\nNTFY 20000000 aaln/2@rgw.example.net MGCP 1.0\nX: 0\nO: L/hd\n--\n> 0 127.0.0.1:2727\n200 1 OK\n--\nline 2 off signals L/dl:1000,L/vmwi:-,G/cg:-,G/cf:500 connections - lost 0\nline 2 off signals L/vmwi:-,G/cg:- connections - lost 0\n> 1000 127.0.0.1:2727\n200 2 OK\n--\nline 2 off signals - connections - lost 0\n> 1000 127.0.0.1:2727\nNTFY 20000001 aaln/2@rgw.example.net MGCP 1.0\nX: 2\nO: L/hu\n--\nline 2 on signals - connections - lost 0\n",
         ),
         // A refused tick ends nothing.
         some_refused(

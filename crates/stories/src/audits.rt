@@ -62,12 +62,12 @@ fn an_audit_tells_the_hook_state(rt: HostRuntime) -> Result<(), Fail> {
         all_taken(
             3,
             "from 127.0.0.1:2727\nAUEP 30 aaln/1@rgw.example.net MGCP 1.0\nF: ES\n--\nphone 1 off\nfrom 127.0.0.1:2727\nAUEP 31 aaln/1@rgw.example.net MGCP 1.0\nF: ES\n--\n",
-            "> 0 127.0.0.1:2727\n200 30 OK\nES: L/hu\n--\n> 0 127.0.0.1:2727\n200 31 OK\nES: L/hd\n--\n",
+            "> 0 127.0.0.1:2727\n200 30 OK\nES: L/hu\n--\n> 0 127.0.0.1:2727\nNTFY 10000000 aaln/1@rgw.example.net MGCP 1.0\nX: 0\nO: L/hd\n--\n> 0 127.0.0.1:2727\n200 31 OK\nES: L/hd\n--\n",
         ),
         all_taken(
             2,
             "phone 1 off\nfrom 127.0.0.1:2727\nAUEP 30 aaln/2@rgw.example.net MGCP 1.0\nF: ES\n--\n",
-            "> 0 127.0.0.1:2727\n200 30 OK\nES: L/hu\n--\n",
+            "> 0 127.0.0.1:2727\nNTFY 10000000 aaln/1@rgw.example.net MGCP 1.0\nX: 0\nO: L/hd\n--\n> 0 127.0.0.1:2727\n200 30 OK\nES: L/hu\n--\n",
         ),
     ];
     tell(&rt, rt.alloc(), &stories)
@@ -81,7 +81,7 @@ fn the_configuration_counts(rt: HostRuntime) -> Result<(), Fail> {
             "lines",
             "lines = 2",
             "phone 2 off\nphone 3 off\nshow 2\nshow 3\nfrom 127.0.0.1:2727\nAUEP 6 aaln/2@rgw.example.net MGCP 1.0\nF: ES\n--\nfrom 127.0.0.1:2727\nAUEP 7 aaln/3@rgw.example.net MGCP 1.0\n--\n",
-            "! 4 NoSuchLine\nline 2 off signals - connections - lost 0\n! 4 NoSuchLine\n> 0 127.0.0.1:2727\n200 6 OK\nES: L/hd\n--\n> 0 127.0.0.1:2727\n500 7\n--\n",
+            "> 0 127.0.0.1:2727\nNTFY 20000000 aaln/2@rgw.example.net MGCP 1.0\nX: 0\nO: L/hd\n--\n! 4 NoSuchLine\nline 2 off signals - connections - lost 0\n! 4 NoSuchLine\n> 0 127.0.0.1:2727\n200 6 OK\nES: L/hd\n--\n> 0 127.0.0.1:2727\n500 7\n--\n",
         ),
         (
             "domain",

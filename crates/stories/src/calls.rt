@@ -1,7 +1,10 @@
 //! The calls of a gateway and of a line, where a script can't say it.
+use event_syntax::Observed;
 use gateway_core::{Config, ConfigFault, Event, Gateway, NamedAddress, Outputs, Refusal};
 use mg_bytes::{OutOfMemory, Sequence, Text};
 use mg_line::{Act, Hook, Key, Line};
+use mg_packages::Event as LineEvent;
+use plain_machine::CommandNumber;
 use std::alloc::Global;
 use std::net::{Ipv4Addr, SocketAddrV4};
 use std::process::Abort;
@@ -159,7 +162,8 @@ fn a_run_stops_at_a_refusal(rt: HostRuntime) -> Result<(), Fail> {
         b"200 30 OK\r\nES: L/hu\r\n".as_slice(),
         b"200 31 OK\r\nES: L/hd\r\n".as_slice(),
     );
-    are_sent(&rt, &outputs, &[on, off]);
+    let told = b"NTFY 10000000 aaln/1@rgw.example.net MGCP 1.0\r\nX: 0\r\nO: L/hd\r\n".as_slice();
+    are_sent(&rt, &outputs, &[on, told, off]);
     let Err(stopped) = gateway.run(&events) else {
         return Err("a stop".into());
     };
@@ -200,13 +204,18 @@ fn refusals_and_faults_have_their_numbers_and_names(rt: HostRuntime) {
 
 #[test]
 fn a_line_is_lifted_and_put_back(rt: HostRuntime) -> Result<(), Fail> {
-    let mut line = Line::new(rt.alloc());
+    let mut line = Line::new(rt.alloc())?;
     assert!(rt; line.hook() == Hook::OnHook);
     assert!(rt;
         !line.takes(Act::OnHook) && !line.takes(Act::Flash) && !line.takes(Act::Key(Key::Star))
     );
     assert!(rt; line.takes(Act::OffHook));
-    assert!(rt; line.phone(Act::OffHook, 0)?.is_none());
+    // The first act is told; what follows waits for the answer.
+    let Some(told) = line.phone(Act::OffHook, 0)? else {
+        return Err("a notice".into());
+    };
+    assert_eq!(rt; told.identifier().as_slice(), b"0".as_slice());
+    assert!(rt; told.observed() == [Observed::Happened(LineEvent::OffHook)].as_slice());
     let copy = line.try_copy()?;
     assert!(rt; copy.hook() == Hook::OffHook && !copy.takes(Act::OffHook));
     assert!(rt; line.takes(Act::Key(Key::D)));
@@ -215,4 +224,19 @@ fn a_line_is_lifted_and_put_back(rt: HostRuntime) -> Result<(), Fail> {
     assert!(rt; line.phone(Act::OnHook, 0)?.is_none());
     assert!(rt; line.hook() == Hook::OnHook);
     Ok(())
+}
+
+#[test]
+fn the_number_of_a_command_goes_round(rt: HostRuntime) {
+    let first = CommandNumber::first();
+    let mut number = first;
+    for _ in 1..10_000_000u32 {
+        number = number.after();
+        assert!(rt; number != first);
+    }
+    assert_eq!(rt; number.id_on(1).number(), 19_999_999);
+    assert_eq!(rt; number.id_on(16).number(), 169_999_999);
+    assert!(rt; number.after() == first);
+    assert_eq!(rt; first.id_on(1).number(), 10_000_000);
+    assert_eq!(rt; first.id_on(16).number(), 160_000_000);
 }

@@ -8,7 +8,7 @@ fn telephones_are_played(rt: HostRuntime) -> Result<(), Fail> {
         all_taken(
             5,
             "show 1\nphone 1 off\nshow 1\nphone 1 on\nshow 1\n",
-            "line 1 on signals - connections - lost 0\nline 1 off signals - connections - lost 0\nline 1 on signals - connections - lost 0\n",
+            "line 1 on signals - connections - lost 0\n> 0 127.0.0.1:2727\nNTFY 10000000 aaln/1@rgw.example.net MGCP 1.0\nX: 0\nO: L/hd\n--\nline 1 off signals - connections - lost 0\nline 1 on signals - connections - lost 0\n",
         ),
         some_refused(
             4,
@@ -20,7 +20,7 @@ fn telephones_are_played(rt: HostRuntime) -> Result<(), Fail> {
             3,
             1,
             "phone 1 off\nphone 1 off\nshow 1\n",
-            "! 5 PhoneState\nline 1 off signals - connections - lost 0\n",
+            "> 0 127.0.0.1:2727\nNTFY 10000000 aaln/1@rgw.example.net MGCP 1.0\nX: 0\nO: L/hd\n--\n! 5 PhoneState\nline 1 off signals - connections - lost 0\n",
         ),
         some_refused(
             4,
@@ -38,12 +38,12 @@ fn telephones_are_played(rt: HostRuntime) -> Result<(), Fail> {
             4,
             1,
             "phone 01 off\nphone 1 off\nshow 1\nshow 16\n",
-            "! 5 PhoneState\nline 1 off signals - connections - lost 0\nline 16 on signals - connections - lost 0\n",
+            "> 0 127.0.0.1:2727\nNTFY 10000000 aaln/1@rgw.example.net MGCP 1.0\nX: 0\nO: L/hd\n--\n! 5 PhoneState\nline 1 off signals - connections - lost 0\nline 16 on signals - connections - lost 0\n",
         ),
         all_taken(
             7,
             "phone 2 off\nphone 2 *\nphone 2 #\nphone 2 0\nphone 2 A\nphone 2 flash\nshow 2\n",
-            "line 2 off signals - connections - lost 0\n",
+            "> 0 127.0.0.1:2727\nNTFY 20000000 aaln/2@rgw.example.net MGCP 1.0\nX: 0\nO: L/hd\n--\nline 2 off signals - connections - lost 0\n",
         ),
     ];
     tell(&rt, rt.alloc(), &stories)

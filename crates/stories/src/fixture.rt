@@ -108,3 +108,69 @@ pub fn tell(rt: &impl Abort, alloc: Global, stories: &[Story<'_>]) -> Result<(),
     }
     Ok(())
 }
+
+/// A part of a tale: a step of the script, or what is printed after it. In texts `~` is `rgw.example.net MGCP 1.0`.
+#[derive(Clone, Copy)]
+pub enum Part<'a> {
+    /// The clock goes to 1,000 ms; a response comes before, to a message that nothing has sent.
+    Ready,
+    /// One line of the script.
+    Step(&'a str),
+    /// A datagram comes from the agent.
+    Hears(&'a str),
+    /// A datagram comes from this address.
+    HearsFrom(&'a str, &'a str),
+    /// A datagram goes to the agent, at this moment.
+    Sends(u64, &'a str),
+    /// A datagram goes to this address, at this moment.
+    SendsTo(&'a str, u64, &'a str),
+    /// A line is printed.
+    Prints(&'a str),
+}
+
+// A text with its last line's end.
+fn put_text(out: &mut String, text: &str) -> Result<(), OutOfMemory> {
+    for (place, piece) in text.split('~').enumerate() {
+        if place > 0 {
+            out.push_str("rgw.example.net MGCP 1.0")?;
+        }
+        out.push_str(piece)?;
+    }
+    out.push_str("\n")
+}
+
+fn put_heard(script: &mut String, from: &str, text: &str) -> Result<(), OutOfMemory> {
+    writeln!(script, "from {from}")?;
+    put_text(script, text)?;
+    script.push_str("--\n")
+}
+
+fn put_sent(printed: &mut String, to: &str, moment: u64, text: &str) -> Result<(), OutOfMemory> {
+    writeln!(printed, "> {moment} {to}")?;
+    put_text(printed, text)?;
+    printed.push_str("--\n")
+}
+
+/// Plays the steps of a tale with the example's configuration: it prints what the tale says, and nothing else.
+pub fn tell_parts(rt: &impl Abort, alloc: Global, tale: &[Part<'_>]) -> Result<(), Fail> {
+    let agent = "127.0.0.1:2727";
+    let mut script = String::new(alloc);
+    let mut printed = String::new(alloc);
+    for part in tale {
+        match *part {
+            Part::Ready => {
+                script.push_str("tick 1\nfrom 127.0.0.1:2727\n200 1 OK\n--\nat 1000\n")?
+            }
+            Part::Step(line) => put_text(&mut script, line)?,
+            Part::Hears(text) => put_heard(&mut script, agent, text)?,
+            Part::HearsFrom(from, text) => put_heard(&mut script, from, text)?,
+            Part::Sends(moment, text) => put_sent(&mut printed, agent, moment, text)?,
+            Part::SendsTo(to, moment, text) => put_sent(&mut printed, to, moment, text)?,
+            Part::Prints(line) => put_text(&mut printed, line)?,
+        }
+    }
+    let (outcome, output) = played(alloc, &input_of(alloc, script.as_bytes())?);
+    assert!(rt; outcome.is_ok(), "at {script}");
+    assert_eq!(rt; output.as_slice(), printed.as_bytes(), "at {script}");
+    Ok(())
+}

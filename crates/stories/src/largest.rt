@@ -142,7 +142,7 @@ fn each_number_of_lines_is_taken(rt: HostRuntime) -> Result<(), Fail> {
         let (outcome, output) = played(alloc, &input);
         assert!(rt; outcome.is_ok(), "at {lines}");
         let want = format!(in alloc;
-            "line {lines} off signals - connections - lost 0\n! 4 NoSuchLine\n"
+            "> 0 127.0.0.1:2727\nNTFY {lines}0000000 aaln/{lines}@rgw.example.net MGCP 1.0\nX: 0\nO: L/hd\n--\nline {lines} off signals - connections - lost 0\n! 4 NoSuchLine\n"
         )?;
         assert_eq!(rt; output.as_slice(), want.as_bytes(), "at {lines}");
     }
@@ -162,6 +162,10 @@ fn each_act_is_taken_at_each_line(rt: HostRuntime) -> Result<(), Fail> {
         writeln!(
             script,
             "phone {line} flash\nshow {line}\nphone {line} on\nshow {line}"
+        )?;
+        writeln!(
+            want,
+            "> 0 127.0.0.1:2727\nNTFY {line}0000000 aaln/{line}@rgw.example.net MGCP 1.0\nX: 0\nO: L/hd\n--"
         )?;
         writeln!(want, "line {line} off signals - connections - lost 0")?;
         writeln!(want, "line {line} on signals - connections - lost 0")?;

@@ -15,9 +15,19 @@ mod command_line;
 #[cfg(test)]
 mod configurations;
 #[cfg(test)]
+mod dialling;
+#[cfg(test)]
 mod fixture;
 #[cfg(test)]
 mod largest;
+#[cfg(test)]
+mod notifications;
+#[cfg(test)]
+mod request_effects;
+#[cfg(test)]
+mod request_values;
+#[cfg(test)]
+mod responses;
 #[cfg(test)]
 mod scripts;
 #[cfg(test)]

@@ -19,7 +19,7 @@ fn a_repeat_gets_the_stored_answer(rt: HostRuntime) -> Result<(), Fail> {
         all_taken(
             3,
             "from 127.0.0.1:2727\nAUEP 3401 aaln/1@rgw.example.net MGCP 1.0\nF: ES\n--\nphone 2 off\nfrom 10.0.0.1:2427\nAUEP 3401 aaln/2@rgw.example.net MGCP 1.0\nF: ES\n--\n",
-            "> 0 127.0.0.1:2727\n200 3401 OK\nES: L/hu\n--\n> 0 10.0.0.1:2427\n200 3401 OK\nES: L/hu\n--\n",
+            "> 0 127.0.0.1:2727\n200 3401 OK\nES: L/hu\n--\n> 0 127.0.0.1:2727\nNTFY 20000000 aaln/2@rgw.example.net MGCP 1.0\nX: 0\nO: L/hd\n--\n> 0 10.0.0.1:2427\n200 3401 OK\nES: L/hu\n--\n",
         ),
         // The id alone makes a repeat: the verb may be another, and the text need not be readable.
         all_taken(
@@ -44,16 +44,16 @@ fn a_first_is_known_for_30_seconds(rt: HostRuntime) -> Result<(), Fail> {
     // The copy before doesn't count: the seconds run from the first.
     for (wait, hook) in [(29_999, "hu"), (30_000, "hd"), (30_001, "hd")] {
         let script = format!(in alloc;
-            "{AUDIT}phone 1 off\nwait 15000\n{AUDIT}wait {}\n{AUDIT}",
+            "{AUDIT}phone 1 off\nfrom 127.0.0.1:2727\n200 10000000 OK\n--\nwait 15000\n{AUDIT}wait {}\n{AUDIT}",
             wait - 15_000
         )?;
         let printed = format!(in alloc;
-            "> 0 127.0.0.1:2727\n200 1 OK\nES: L/hu\n--\n> 15000 127.0.0.1:2727\n200 1 OK\nES: L/hu\n--\n> {wait} 127.0.0.1:2727\n200 1 OK\nES: L/{hook}\n--\n"
+            "> 0 127.0.0.1:2727\n200 1 OK\nES: L/hu\n--\n> 0 127.0.0.1:2727\nNTFY 10000000 aaln/1@rgw.example.net MGCP 1.0\nX: 0\nO: L/hd\n--\n> 15000 127.0.0.1:2727\n200 1 OK\nES: L/hu\n--\n> {wait} 127.0.0.1:2727\n200 1 OK\nES: L/{hook}\n--\n"
         )?;
         tell(
             &rt,
             alloc,
-            &[all_taken(6, script.as_str(), printed.as_str())],
+            &[all_taken(7, script.as_str(), printed.as_str())],
         )?;
     }
     Ok(())

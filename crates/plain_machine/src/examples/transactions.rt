@@ -5,14 +5,14 @@ ghost use Rattle.std.specs.Prelude.{◌≡◌, ◌++◌, codes, [], ◌∷◌};
 ghost use Rattle.mg_line.specs.declared.phone.Act.TheVariants as acts;
 ghost use Rattle.plain_machine.specs.Lists.{outputs_of, outputs_from};
 ghost use Rattle.plain_machine.specs.Event.{datagram, phone, tick};
-ghost use Rattle.plain_machine.specs.Example.{example, agent, other_agent, from_agent, to_agent_at, to_other_at, answers_to, one_answer, machine_at, audit, audit_of_hook};
+ghost use Rattle.plain_machine.specs.Example.{example, agent, other_agent, from_agent, to_agent_at, to_other_at, answers_to, answers_from, one_answer, machine_at, audit, audit_of_hook};
 
 /// A copy of a command gets the stored answer, to its own source, whatever the state is now; 30,000 ms after its first it
 /// is new.
 pub fn a_copy_gets_the_stored_answer()
-    ensures young { outputs_from example (machine_at 1000) (from_agent audit_of_hook ∷ phone 1 acts.OffHook ∷ tick 30999 ∷ datagram other_agent audit_of_hook ∷ [])
+    ensures young { answers_from (machine_at 1000) (from_agent audit_of_hook ∷ phone 1 acts.OffHook ∷ tick 30999 ∷ datagram other_agent audit_of_hook ∷ [])
         ≡ to_agent_at 1000 (codes "200 3001 OK\r\nES: L/hu\r\n") ∷ to_other_at 30999 (codes "200 3001 OK\r\nES: L/hu\r\n") ∷ [] }
-    ensures old { outputs_from example (machine_at 1000) (from_agent audit_of_hook ∷ phone 1 acts.OffHook ∷ tick 31000 ∷ datagram other_agent audit_of_hook ∷ [])
+    ensures old { answers_from (machine_at 1000) (from_agent audit_of_hook ∷ phone 1 acts.OffHook ∷ tick 31000 ∷ datagram other_agent audit_of_hook ∷ [])
         ≡ to_agent_at 1000 (codes "200 3001 OK\r\nES: L/hu\r\n") ∷ to_other_at 31000 (codes "200 3001 OK\r\nES: L/hd\r\n") ∷ [] }
     ensures refused { answers_to (codes "AUEP 1202 aaln/1@rgw.example.net MGCP 2.0\r\n.\r\nAUEP 1202 aaln/1@rgw.example.net MGCP 1.0\r\n")
         ≡ one_answer (codes "528 1202\r\n.\r\n528 1202\r\n") }

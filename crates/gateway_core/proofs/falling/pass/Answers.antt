@@ -1,14 +1,17 @@
 use Rattle.std.proofs.Common.{sym, ◌∙◌}
-use Rattle.gateway_core.proofs.WorkLemmas.{pass_next, pass_end, room_less, count_same}
+use Rattle.gateway_core.proofs.WorkLemmas.{pass_next, pass_end, left_less, due_early, happened_sound}
 use Rattle.gateway_core.proofs.falling.pass.Goals as goal
 
+pub happen-requires-clause-early : goal.happen-requires-clause-early
+happen-requires-clause-early c = due_early _ _ _ (sym c.in-Some.ensures) c.requires.early
+
 pub loop-item-smaller : goal.loop-item-smaller
-loop-item-smaller c = room_less _ _ _ _ _ (sym c.in-Some.ensures) c.in_ok-happen.ensures.ok
+loop-item-smaller c = left_less _ _ _ _ _ (sym c.in-Some.ensures) c.in_ok-happen.ensures.ok
 
 pub loop-item-preserved : goal.loop-item-preserved
 loop-item-preserved c = record {
   completes = λ is rest. c.loop-item.invariant.completes is (pass_next _ _ _ _ _ is (sym c.in-Some.ensures) c.in_ok-happen.ensures.ok rest);
-  count = count_same _ _ _ _ c.in_ok-happen.ensures.ok ∙ c.loop-item.invariant.count;
+  sound = happened_sound _ _ _ _ c.loop-item.invariant.sound c.in_ok-happen.ensures.ok;
   before = c.in_ok-happen.ensures.before ∙ c.loop-item.invariant.before;
 }
 

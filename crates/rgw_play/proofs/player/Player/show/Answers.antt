@@ -8,7 +8,7 @@ returns-then-line-lines c =
     let low : 1 ≤ c.args.line = omega arith in
     let high : c.args.line ≤ c.args.self.now.gateway.setup.names.lines = omega arith in
     on_ok_both c.tell.result (λ kept printed.
-    told_moved c.args.self.now c.tell.new.self c.args.line c.hook-hook.result c.as_slice.result.now kept low high c.hook-hook.ensures (λ before s. c.signals-signals.ensures before s ∙ ap Some (sym c.as_slice.ensures.value)) printed) c.tell.ensures.kept c.tell.ensures.printed
+    told_moved c.args.self.now c.tell.new.self c.args.line c.hook-hook.result c.as_slice.result.now c.lost-lost.result kept low high c.hook-hook.ensures (λ before s. c.signals-signals.ensures before s ∙ ap Some (sym c.as_slice.ensures.value)) c.lost-lost.ensures printed) c.tell.ensures.kept c.tell.ensures.printed
 
 pub returns : goal.returns
 returns c =

@@ -5,4 +5,4 @@ use Rattle.rgw_play.proofs.player.Player.tell.Goals as goal
 
 pub returns-clause-printed : goal.returns-clause-printed
 unfolding printed is_refused
-returns-clause-printed c = prints_one _ _ (tells c.args.line c.args.hook c.args.signals.now) c.in_ok-put_line.ensures.ok (sym (add-zero c.args.self.now.refused))
+returns-clause-printed c = prints_one _ _ (tells c.args.line c.args.hook c.args.signals.now c.args.lost) c.in_ok-put_line.ensures.ok (sym (add-zero c.args.self.now.refused))

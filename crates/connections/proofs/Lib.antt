@@ -1,0 +1,9 @@
+pub mod NameLemmas
+pub mod DigitLemmas
+pub mod PlaceLemmas
+pub mod StandingLemmas
+pub mod LifeLaws
+pub mod OrderLaws
+pub mod VersionLaws
+pub mod CodeLaws
+pub mod Computing

@@ -1,0 +1,9 @@
+pub mod Codecs
+pub mod Modes
+pub mod Options
+pub mod Numbers
+pub mod Connection
+pub mod Places
+pub mod Standing
+pub mod Life
+pub mod Example

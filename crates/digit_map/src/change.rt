@@ -1,0 +1,45 @@
+//! What a request does with the digit map of a line.
+ghost use Rattle.std.specs.Prelude.{◌≡◌, option_map};
+ghost use Rattle.std.specs.List.{list_all};
+ghost use Rattle.mg_bytes.specs.Blanks.{is_blank};
+ghost use Rattle.digit_map.specs.Reading.{AnswersAs};
+ghost use Rattle.digit_map.specs.Change.{change_of};
+
+use crate::fault::MapFault;
+use crate::map_text::{MapText, read_map};
+use std::alloc::Global;
+
+/// What a request does with the digit map of a line (RFC 3435, 2.3.3).
+#[derive(Drop)]
+pub enum MapChange {
+    /// It has no D: the map stays.
+    Keep,
+    /// Its D is empty: there is no map any more.
+    Remove,
+    /// This map replaces the one before.
+    Replace(MapText),
+}
+
+fn all_blank(text: &[u8]) -> bool
+    ensures { result ≡ list_all is_blank text.now }
+{
+    text.iter().all(|byte| *byte == b' ' || *byte == b'\t')
+}
+
+/// What a request with this value of D, if it has one, does with the digit map of a line (RFC 3435, 2.3.3): without D
+/// the map stays, a D of blanks alone removes it, and another replaces it.
+///
+/// A text that `read_map` doesn't read has that fault: `Syntax`, or `TooLarge` for more than 2,048 bytes without blanks.
+/// Want of memory is `OutOfMemory`.
+#[tactic(auto, unfolding(crate::specs::Change::change_of))]
+pub fn read_change(alloc: Global, value: Option<&[u8]>) -> Result<MapChange, MapFault>
+    ensures { AnswersAs (change_of (option_map (λ text. text.now) value.entry)) result }
+{
+    let Some(text) = value else {
+        return Ok(MapChange::Keep);
+    };
+    if all_blank(text) {
+        return Ok(MapChange::Remove);
+    }
+    Ok(MapChange::Replace(read_map(alloc, text)?))
+}
