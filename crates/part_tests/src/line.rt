@@ -416,7 +416,7 @@ fn the_65th_quarantined_event_is_lost(rt: HostRuntime) -> Result<(), Fail> {
 #[test]
 fn the_64th_accumulated_event_notifies(rt: HostRuntime) -> Result<(), Fail> {
     let accumulates = Asked {
-        x: b"D1",
+        x: b"F1",
         r: b"L/hd(I),L/hf(A)",
         q: b"loop",
         ..BARE
@@ -435,7 +435,7 @@ fn the_64th_accumulated_event_notifies(rt: HostRuntime) -> Result<(), Fail> {
         line.accumulated().last().copied(),
         Some(Observed::Happened(Event::Flash))
     );
-    let want = flashes(rt.alloc(), b"D1", 64)?;
+    let want = flashes(rt.alloc(), b"F1", 64)?;
     let line = played(
         &rt,
         rt.alloc(),
