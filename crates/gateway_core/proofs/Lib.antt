@@ -1,6 +1,7 @@
 pub mod SavedLemmas
 pub mod SetupLemmas
 pub mod AlikeLemmas
+pub mod PassLemmas
 pub mod StandLemmas
 pub mod TextLemmas
 pub mod WorkLemmas

@@ -2,7 +2,7 @@
 ghost use Rattle.std.specs.Prelude.{◌≡◌, ◌<◌, ◌^◌, length};
 ghost use Rattle.plain_machine.specs.Event.{event_of};
 ghost use Rattle.plain_machine.specs.Machine.{station_at};
-ghost use Rattle.plain_machine.specs.Refusing.{act_refusal, tick_refusal, refusal_of, takes_none};
+ghost use Rattle.plain_machine.specs.Refusing.{act_refusal, tick_refusal, refusal_of, is_unheeded, takes_none};
 ghost use Rattle.gateway_core.specs.State.{endpoints_in, machine_in};
 
 use crate::answering::LARGEST_DATAGRAM;
@@ -55,6 +55,16 @@ pub(crate) fn refusal_of(state: &State, event: Event<'_>) -> Option<Refusal>
     }
 }
 
+// Whether the line with this number, if there is one, doesn't heed an act.
+fn is_unheeded(state: &State, number: u16, act: Act) -> bool
+    ensures { result ≡ is_unheeded (station_at (endpoints_in state.now) number) act }
+{
+    match station_at(state, number) {
+        None => true,
+        Some(station) => !station.line.heeds(act),
+    }
+}
+
 /// Whether an event takes no memory.
 pub(crate) fn takes_none(context: Context<'_>, state: &State, event: Event<'_>) -> bool
     requires { length state.now.stations.items < 2 ^ 16 }
@@ -62,7 +72,7 @@ pub(crate) fn takes_none(context: Context<'_>, state: &State, event: Event<'_>) 
 {
     match event {
         Event::Datagram { bytes, .. } => bytes.len() > LARGEST_DATAGRAM,
-        Event::Phone { .. } => false,
+        Event::Phone { line, act } => is_unheeded(state, line, act),
         Event::Tick { moment } => !is_due(context, state, moment),
     }
 }

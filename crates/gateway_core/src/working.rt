@@ -8,7 +8,7 @@ ghost use Rattle.gateway_core.specs.Sound.{IsSound};
 ghost use Rattle.gateway_core.specs.Alike.{Alike, GoesOn};
 ghost use Rattle.gateway_core.specs.State.{machine_in, before_in, purged_in, Does, IsAtRest, PutsOut};
 
-use crate::acting::act_on;
+use crate::acting::{act_on, pass_over};
 use crate::answering::take_datagram;
 use crate::changing::put_all_back;
 use crate::context::Context;
@@ -109,7 +109,8 @@ fn attempt(
     }
 }
 
-// An event that isn't refused and takes no memory: a datagram that is too long, or a tick up to which nothing is due.
+// An event that isn't refused and takes no memory: a datagram that is too long, an act that isn't heeded, or a tick up to
+// which nothing is due.
 #[tactic(auto, unfolding(plain_machine::specs::Happening::effect, plain_machine::specs::Arriving::texts_of, plain_machine::specs::Answering::took_all))]
 fn pass_by(context: Context<'_>, state: &mut State, event: Event<'_>)
     requires { takes_none context.setup.now (machine_in state.old) (event_of event) ≡ true }
@@ -120,7 +121,8 @@ fn pass_by(context: Context<'_>, state: &mut State, event: Event<'_>)
 {
     let _ = context;
     match event {
-        Event::Datagram { .. } | Event::Phone { .. } => {}
+        Event::Datagram { .. } => {}
+        Event::Phone { line, act } => pass_over(state, line, act),
         Event::Tick { moment } => state.clock = moment,
     }
 }

@@ -1,6 +1,5 @@
 //! The line, and what an act at its telephone, a request, the answer to its notification, and what falls due make of it.
-ghost use Rattle.std.specs.Prelude.{◌≡◌, ◌<◌, ◌^◌, ℕ, IsTrue, IfOk, OnErr};
-ghost use Rattle.std.specs.Bool.{OnFalse};
+ghost use Rattle.std.specs.Prelude.{◌≡◌, ◌<◌, ◌^◌, ℕ, false, IsTrue, IfOk, OnErr};
 ghost use Rattle.mg_line.specs.Line.{opening_line, still};
 ghost use Rattle.mg_line.specs.Acting.{is_possible, is_heeded, phoned};
 ghost use Rattle.mg_line.specs.Requesting.{refusal_of, asked};
@@ -206,12 +205,19 @@ impl Line {
         is_possible(self.kept.hook, act)
     }
 
-    /// Whether an act, which the hook state allows, changes the line or makes it tell something.
-    #[tactic(auto, using(crate::proofs::HeedLemmas::unheeded))]
+    /// Whether the event of an act, which the hook state allows, occurs and does something.
     pub fn heeds(&self, act: Act) -> bool
-        ensures value { result ≡ is_heeded self.now act }
-        ensures unheeded { OnFalse result ((moment : ℕ) → phoned self.now act moment ≡ still self.now) }
+        ensures { result ≡ is_heeded self.now act }
     {
         self.kept.heeds(act)
+    }
+
+    /// An act that the line doesn't heed, at any moment: the hook state changes, and where no event occurs, its event is
+    /// quarantined (RFC 3435, 4.4.1). It takes no memory.
+    pub fn pass_over(&mut self, act: Act)
+        requires { is_heeded self.old act ≡ false }
+        ensures { (moment : ℕ) → still self.new ≡ phoned self.old act moment }
+    {
+        self.kept.pass_over(act);
     }
 }

@@ -56,6 +56,8 @@ enum Turn {
     Does(Act),
     // A key is pressed.
     Presses(Key),
+    // The same as Does, where the line doesn't heed the act.
+    Passes(Act),
     // The notification is answered.
     Answered,
     // This falls due, at the moment that the line says.
@@ -101,6 +103,14 @@ fn after(
         }
         Turn::Does(act) => act_at(line, act, moment),
         Turn::Presses(key) => act_at(line, Act::Key(key), moment),
+        Turn::Passes(act) => {
+            assert!(rt; line.takes(act));
+            if line.heeds(act) {
+                return Err("an act that the line doesn't heed".into());
+            }
+            line.pass_over(act);
+            Ok(None)
+        }
         Turn::Answered => Ok(line.answered(moment)?),
         Turn::Falls(due) => {
             assert_eq!(rt; line.due(), Some((moment, due)));
@@ -379,6 +389,49 @@ fn quarantined_events_wait_for_requests(rt: HostRuntime) -> Result<(), Fail> {
             (1_000, Turn::Does(Act::OnHook), b""),
             (1_000, Turn::Answered, b"A7 L/hu"),
         ],
+    )?;
+    Ok(())
+}
+
+#[test]
+fn acts_that_are_not_heeded_change_the_hook_and_are_quarantined(
+    rt: HostRuntime,
+) -> Result<(), Fail> {
+    let hook = Asked {
+        x: b"A5",
+        r: b"L/hd(N),L/hu(N)",
+        ..BARE
+    };
+    let ignored = Asked {
+        x: b"A6",
+        r: b"L/hd(I),L/hu(N),D/5(N)",
+        ..BARE
+    };
+    let line = opened(
+        &rt,
+        rt.alloc(),
+        &[
+            (1_000, Turn::Does(Act::OffHook), b"0 L/hd"),
+            (1_000, Turn::Passes(Act::OnHook), b""),
+            (1_000, Turn::Passes(Act::OffHook), b""),
+            (1_000, Turn::Passes(Act::Key(Key::Five)), b""),
+            (1_000, Turn::Answered, b""),
+            (1_000, Turn::Asks(hook), b"A5 L/hu"),
+            (1_000, Turn::Answered, b""),
+            (1_000, Turn::Asks(ignored), b""),
+            (1_000, Turn::Passes(Act::Key(Key::Six)), b""),
+            (1_000, Turn::Does(Act::OnHook), b"A6 L/hu"),
+            (1_000, Turn::Answered, b""),
+            (1_000, Turn::Asks(ignored), b""),
+            (1_000, Turn::Passes(Act::OffHook), b""),
+        ],
+    )?;
+    assert_eq!(rt; line.hook(), Hook::OffHook);
+    played(
+        &rt,
+        rt.alloc(),
+        line,
+        &[(1_000, Turn::Presses(Key::Five), b"A6 D/5")],
     )?;
     Ok(())
 }

@@ -12,14 +12,12 @@ use Rattle.mg_line.specs.declared.phone.Act.{Act}
 use Rattle.plain_machine.specs.declared.setup.Setup.{Setup}
 use Rattle.plain_machine.specs.declared.station.Station.{Station}
 use Rattle.plain_machine.specs.Event.{GatewayEvent, datagram, phone, tick}
-use Rattle.mg_line.specs.Line.{LineDone, still}
-use Rattle.mg_line.specs.Acting.{phoned}
-use Rattle.plain_machine.specs.Notifying.{silent, noted}
-use Rattle.plain_machine.specs.Machine.{Endpoints, Machine, Effect, told, station_at, with_turn}
+use Rattle.plain_machine.specs.Notifying.{Turn, silent}
+use Rattle.plain_machine.specs.Machine.{Endpoints, Machine, Effect, told, station_at, with_station, with_turn}
 use Rattle.plain_machine.specs.Arriving.{texts_of, clock_after}
 use Rattle.history.specs.Memory.{most_firsts}
 use Rattle.history.specs.Looking.{Told as Looked, new, repeat, confirmed, full, look_of}
-use Rattle.plain_machine.specs.Acting.{acted, acted_at}
+use Rattle.plain_machine.specs.Acting.{acted, acted_at, acted_on}
 use Rattle.plain_machine.specs.Falling.{due_by, happened_at, happened, go_on, passed, room, pass}
 use Rattle.plain_machine.specs.Responding.{line_of_id, responded_at, responded}
 use Rattle.plain_machine.specs.declared.due_item.DueItem.{DueItem}
@@ -168,11 +166,17 @@ turned_still endpoints line station at =
     let same : slice_set endpoints.stations (line - 1) station ≡ endpoints.stations = same_station (line == 0) endpoints.stations (line - 1) station at in
     ap (λ (x : List Station). let e : Endpoints = record { stations = x } in told e []) same
 
--- an act that a line doesn't heed
-pub acted_still : (setup : Setup) (endpoints : Endpoints) (number moment : ℕ) (act : Act) (station : Station) → station_at endpoints number ≡ Some station
-    → phoned station.line act moment ≡ still station.line → acted setup endpoints number moment act ≡ told endpoints []
-unfolding acted noted
-acted_still setup endpoints number moment act station at unheeded =
+-- an act that a line doesn't heed: its station becomes this
+pub acted_over : (setup : Setup) (endpoints : Endpoints) (number moment : ℕ) (act : Act) (station becomes : Station) → station_at endpoints number ≡ Some station
+    → silent becomes ≡ acted_on setup number moment act station
+    → acted setup endpoints number moment act ≡ told (with_station endpoints number becomes) []
+unfolding acted
+acted_over setup endpoints number moment act station becomes at passed =
     ap (λ (x : Option Station). acted_at x setup endpoints number moment act) at
-    ∙ ap (λ (x : LineDone). with_turn endpoints number (noted setup number moment station x)) unheeded
-    ∙ turned_still endpoints number station at
+    ∙ ap (λ (x : Turn). with_turn endpoints number x) (sym passed)
+
+-- where there is no such line
+pub acted_nowhere : (setup : Setup) (endpoints : Endpoints) (number moment : ℕ) (act : Act) → station_at endpoints number ≡ None
+    → acted setup endpoints number moment act ≡ told endpoints []
+unfolding acted
+acted_nowhere setup endpoints number moment act at = ap (λ (x : Option Station). acted_at x setup endpoints number moment act) at

@@ -1,4 +1,3 @@
-use Rattle.std.proofs.Common.{◌∙◌}
 use Rattle.plain_machine.proofs.CodeLemmas.{refusal_small}
 use Rattle.gateway_core.proofs.WorkLemmas.{requests_done}
 use Rattle.gateway_core.proofs.commanding.request.Goals as goal

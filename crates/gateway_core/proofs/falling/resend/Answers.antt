@@ -1,4 +1,4 @@
-use Rattle.std.proofs.Common.{sym, ◌∙◌}
+use Rattle.std.proofs.Common.{sym}
 use Rattle.gateway_core.proofs.TellLemmas.{sent_again}
 use Rattle.gateway_core.proofs.falling.resend.Goals as goal
 

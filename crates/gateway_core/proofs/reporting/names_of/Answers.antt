@@ -1,6 +1,6 @@
 use Rattle.gateway_core.proofs.WorkLemmas.{names_end}
 use Rattle.plain_machine.proofs.NameLemmas.{names_writable}
-use Rattle.std.proofs.Common.{◌≡◌, ◌<◌, ◌^◌, length, arith}
+use Rattle.std.proofs.Common.{◌<◌, ◌^◌, length, arith}
 use Rattle.gateway_core.proofs.reporting.names_of.Goals as goal
 
 pub returns-clause-writable : goal.returns-clause-writable

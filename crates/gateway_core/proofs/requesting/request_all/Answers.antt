@@ -1,6 +1,6 @@
 use Rattle.std.proofs.Common.{◌<◌, ◌∙◌, length, arith}
 use Rattle.gateway_core.specs.State.{endpoints_in}
-use Rattle.gateway_core.proofs.WorkLemmas.{station_asked, asked_at, asked_count, told_at, told_end, asked_sound}
+use Rattle.gateway_core.proofs.WorkLemmas.{station_asked, asked_at, asked_count, told_at, asked_sound}
 use Rattle.gateway_core.proofs.requesting.request_all.Goals as goal
 
 pub request_where_meant-requires : goal.request_where_meant-requires

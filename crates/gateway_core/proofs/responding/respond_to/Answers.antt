@@ -1,4 +1,4 @@
-use Rattle.std.proofs.Common.{sym, ◌∙◌}
+use Rattle.std.proofs.Common.{sym}
 use Rattle.gateway_core.proofs.RespondLemmas.{none_in_flight, other_in_flight}
 use Rattle.gateway_core.proofs.responding.respond_to.Goals as goal
 

@@ -1,4 +1,4 @@
-use Rattle.std.proofs.Common.{sym, refl, ◌∙◌}
+use Rattle.std.proofs.Common.{sym, ◌∙◌}
 use Rattle.plain_machine.specs.Event.{event_of}
 use Rattle.gateway_core.specs.State.{machine_in, purged_in}
 use Rattle.gateway_core.proofs.AlikeLemmas.{refusal_purged}
