@@ -8,7 +8,7 @@ use mg_bytes::same_no_case;
 use sdp_subset::Payloads;
 
 /// A codec of this gateway (RFC 3551, 6).
-#[derive(Clone, Copy, Debug, PartialEq, Eq)]
+#[derive(Clone, Copy)]
 pub enum Codec {
     /// G.711 with mu-law, payload type 0.
     Pcmu,
@@ -17,7 +17,7 @@ pub enum Codec {
 }
 
 /// A list of codecs, each at one place: it has one at least.
-#[derive(Clone, Copy, Debug, PartialEq, Eq)]
+#[derive(Clone, Copy)]
 pub enum Codecs {
     /// This one alone.
     Only(Codec),
@@ -26,7 +26,7 @@ pub enum Codecs {
 }
 
 /// The encoding of a line (RFC 3435, 2.1.6).
-#[derive(Clone, Copy, Debug, PartialEq, Eq)]
+#[derive(Clone, Copy)]
 pub enum Encoding {
     /// Mu-law.
     Mu,

@@ -10,7 +10,7 @@ use mg_bytes::Identifier;
 use sdp_subset::Session;
 
 /// The codecs of a connection.
-#[derive(Clone, Copy, Debug, PartialEq, Eq)]
+#[derive(Clone, Copy)]
 pub struct Agreement {
     /// The local list, by the options and the encoding when the connection was created or last modified.
     pub local: Codecs,

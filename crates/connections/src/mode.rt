@@ -5,7 +5,7 @@ ghost use Rattle.connections.specs.Modes.{mode_text as text_of, mode_named, send
 use mg_bytes::same_no_case;
 
 /// In which directions a connection carries media. Loopback and the test modes aren't served.
-#[derive(Clone, Copy, Debug, PartialEq, Eq)]
+#[derive(Clone, Copy)]
 pub enum Mode {
     /// `sendonly`
     SendOnly,

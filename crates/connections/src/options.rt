@@ -10,7 +10,7 @@ use mg_bytes::{OutOfMemory, Text, put_decimal};
 use std::alloc::Global;
 
 /// Which codecs are asked for.
-#[derive(Clone, Copy, Debug, PartialEq, Eq)]
+#[derive(Clone, Copy)]
 pub enum CodecChoice {
     /// None: those of the line's encoding are meant.
     ByEncoding,
@@ -21,7 +21,7 @@ pub enum CodecChoice {
 }
 
 /// What L asks of a connection.
-#[derive(Clone, Copy, Debug, PartialEq, Eq)]
+#[derive(Clone, Copy)]
 pub struct Options {
     /// The codecs that `a` names.
     pub codecs: CodecChoice,

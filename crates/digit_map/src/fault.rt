@@ -2,7 +2,7 @@
 use mg_bytes::OutOfMemory;
 
 /// Why a text gives no digit map.
-#[derive(Clone, Copy, Debug, PartialEq, Eq)]
+#[derive(Clone, Copy)]
 pub enum MapFault {
     /// Memory was refused.
     OutOfMemory,

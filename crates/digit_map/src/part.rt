@@ -5,7 +5,7 @@ ghost use Rattle.digit_map.specs.Cuts.{parts_of, parts_split};
 use std::marker::Model;
 
 /// A part of what stands at a position.
-#[derive(Clone, Copy, Debug, PartialEq, Eq)]
+#[derive(Clone, Copy)]
 pub(crate) enum Part {
     /// A byte that stands for itself, as `5`.
     Single(u8),

@@ -88,7 +88,7 @@ fn walk_position(position: &[u8], letters: &[Letter], row: &mut [bool])
 }
 
 /// What a string says of letters.
-#[derive(Clone, Copy, Debug, PartialEq, Eq)]
+#[derive(Clone, Copy)]
 struct Walk {
     /// It spells them.
     spelled: bool,

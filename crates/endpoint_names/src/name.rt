@@ -11,7 +11,7 @@ use mg_bytes::{OutOfMemory, Text, decimal, put_decimal, same_no_case, split_once
 use std::alloc::Global;
 
 /// The endpoints that a name means.
-#[derive(Clone, Copy, Debug, PartialEq, Eq)]
+#[derive(Clone, Copy)]
 pub enum Pattern {
     /// The line with this number, from 1.
     One(u16),
@@ -22,7 +22,7 @@ pub enum Pattern {
 }
 
 /// Why a name means no endpoint of this gateway.
-#[derive(Clone, Copy, Debug, PartialEq, Eq)]
+#[derive(Clone, Copy)]
 pub enum NameFault {
     /// No endpoint has it, or it is of another domain.
     Unknown = 1,

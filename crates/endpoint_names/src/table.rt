@@ -29,7 +29,7 @@ impl Default for Host {
 }
 
 /// Why a name was not added to the table.
-#[derive(Clone, Copy, Debug, PartialEq, Eq)]
+#[derive(Clone, Copy)]
 pub enum TableFault {
     /// The name isn't 1 to 64 letters, digits, `-` and `.`.
     NotADomain = 1,

@@ -8,7 +8,7 @@ use mg_bytes::trimmed;
 use std::marker::Model;
 
 /// Where a text is cut.
-#[derive(Clone, Copy, Debug, PartialEq, Eq)]
+#[derive(Clone, Copy)]
 pub(crate) enum Cut {
     /// At the commas outside of all parentheses.
     Commas,

@@ -8,7 +8,7 @@ use mg_bytes::{OutOfMemory, same_no_case, split_once};
 use mg_packages::{Event, Package, event_in, event_name, in_package};
 
 /// The events that an entry of R or T names (RFC 3435, 2.1.7).
-#[derive(Clone, Copy, Debug, PartialEq, Eq)]
+#[derive(Clone, Copy)]
 pub enum Events {
     /// `L/all`: hd, hu, hf and oc of L.
     AllOfLine,

@@ -8,7 +8,7 @@ use mg_bytes::{CodeFault, OutOfMemory, Text, list_items, same_no_case};
 use std::alloc::Global;
 
 /// Whether a line that has notified notifies again without a new request (RFC 3435, 4.4.1).
-#[derive(Clone, Copy, Debug, PartialEq, Eq)]
+#[derive(Clone, Copy, PartialEq, Eq)]
 pub enum Notifying {
     /// It waits for the next request: `step`.
     Step,
@@ -17,7 +17,7 @@ pub enum Notifying {
 }
 
 /// What a request makes of the events that are quarantined when it comes (RFC 3435, 4.4.1).
-#[derive(Clone, Copy, Debug, PartialEq, Eq)]
+#[derive(Clone, Copy, PartialEq, Eq)]
 pub enum Quarantined {
     /// They are processed: `process`.
     Process,
@@ -26,7 +26,7 @@ pub enum Quarantined {
 }
 
 /// The value of Q.
-#[derive(Clone, Copy, Debug, PartialEq, Eq)]
+#[derive(Clone, Copy, PartialEq, Eq)]
 pub struct Handling {
     pub notifying: Notifying,
     pub quarantined: Quarantined,

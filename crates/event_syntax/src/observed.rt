@@ -20,7 +20,7 @@ use mg_packages::{
 use std::alloc::Global;
 
 /// An event that a line observed.
-#[derive(Clone, Copy, Debug, PartialEq, Eq)]
+#[derive(Clone, Copy, PartialEq, Eq)]
 pub enum Observed {
     /// This event happened.
     Happened(Event),

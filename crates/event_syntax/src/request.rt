@@ -9,7 +9,7 @@ use std::marker::Model;
 use std::rc::Rc;
 
 /// What is done at an event, but for an embedded request (RFC 3435, 2.3.3).
-#[derive(Clone, Copy, Debug, PartialEq, Eq)]
+#[derive(Clone, Copy)]
 pub enum Action {
     /// The line notifies at once: `N`.
     Notify,
@@ -22,7 +22,7 @@ pub enum Action {
 }
 
 /// An entry of R in an embedded request, in which no request is embedded once more.
-#[derive(Clone, Copy, Debug, PartialEq, Eq)]
+#[derive(Clone, Copy)]
 pub struct EmbeddedEvent {
     pub events: Events,
     pub action: Action,

@@ -23,7 +23,7 @@ const MOST_SIGNALS: usize = 8;
 const LONGEST_TIME: u64 = 3_600_000;
 
 /// What is asked of a signal.
-#[derive(Clone, Copy, Debug, PartialEq, Eq)]
+#[derive(Clone, Copy)]
 pub enum Setting {
     /// It starts, for its own time: `+`, or no parameter.
     Start,
@@ -34,7 +34,7 @@ pub enum Setting {
 }
 
 /// An entry of S: a signal, and what is asked of it.
-#[derive(Clone, Copy, Debug, PartialEq, Eq)]
+#[derive(Clone, Copy)]
 pub struct SignalRequest {
     pub signal: Signal,
     pub setting: Setting,

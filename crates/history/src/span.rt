@@ -3,7 +3,7 @@ ghost use Rattle.std.specs.Prelude.{◌≡◌};
 ghost use Rattle.history.specs.Span.{has_id, is_named};
 
 /// The ids from the first to the last (RFC 3435, 3.2.2.1).
-#[derive(Clone, Copy, Debug, PartialEq, Eq)]
+#[derive(Clone, Copy)]
 pub struct IdSpan {
     pub first: u32,
     pub last: u32,

@@ -2,7 +2,7 @@
 use crate::owned::OutOfMemory;
 
 /// Why there is no value: memory was refused, or there is a fault, which is answered with a return code.
-#[derive(Clone, Copy, Debug, PartialEq, Eq)]
+#[derive(Clone, Copy, Debug)]
 pub enum CodeFault {
     /// Memory was refused.
     OutOfMemory,

@@ -4,7 +4,7 @@ ghost use Rattle.mg_bytes.specs.Letter.{letter_of, byte_of};
 
 /// A letter of a digit map (RFC 3435, 2.1.5), which is also the name of an event of the package D (RFC 3660, 2.2): one
 /// of the sixteen keys of a telephone, or T, at which a timer runs out.
-#[derive(Clone, Copy, Debug, PartialEq, Eq)]
+#[derive(Clone, Copy, PartialEq, Eq)]
 pub enum Letter {
     Zero,
     One,

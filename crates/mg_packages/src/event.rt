@@ -6,7 +6,7 @@ use crate::package::Package;
 use mg_bytes::Letter;
 
 /// An event of the packages.
-#[derive(Clone, Copy, Debug, PartialEq, Eq)]
+#[derive(Clone, Copy, PartialEq, Eq)]
 pub enum Event {
     /// `L/hd`
     OffHook,

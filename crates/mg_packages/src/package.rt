@@ -5,7 +5,7 @@ ghost use Rattle.mg_packages.specs.Looking.{package_named, in_package, seen};
 use mg_bytes::{same_no_case, split_once};
 
 /// A package of events and signals (RFC 3435, 2.1.6).
-#[derive(Clone, Copy, Debug, PartialEq, Eq)]
+#[derive(Clone, Copy, PartialEq, Eq)]
 pub enum Package {
     /// L (RFC 3660, 2.5)
     Line,

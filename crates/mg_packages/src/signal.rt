@@ -42,7 +42,7 @@ pub const SIGNALS: [Signal; 9] = [
 ];
 
 /// How a signal ends (RFC 3435, 2.1.7).
-#[derive(Clone, Copy, Debug, PartialEq, Eq)]
+#[derive(Clone, Copy)]
 pub enum Kind {
     /// After its time, unless it is stopped before.
     TimeOut,

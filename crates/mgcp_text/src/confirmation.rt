@@ -11,7 +11,7 @@ use mg_bytes::{OutOfMemory, Sequence, list_items, split_once};
 use std::alloc::Global;
 
 /// Transaction ids from a first to a last.
-#[derive(Clone, Copy, Debug, PartialEq, Eq)]
+#[derive(Clone, Copy)]
 pub struct IdRange {
     pub first: TransactionId,
     pub last: TransactionId,

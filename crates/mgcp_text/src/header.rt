@@ -10,7 +10,7 @@ use crate::message::Verb;
 use mg_bytes::{Words, decimal, same_no_case, words};
 
 /// What the first word of a header says.
-#[derive(Clone, Copy, Debug, PartialEq, Eq)]
+#[derive(Clone, Copy)]
 pub enum Start {
     /// A command begins, with this verb (RFC 3435, 3.2.1.1).
     Command(Verb),

@@ -6,7 +6,7 @@ use mg_bytes::decimal;
 use std::marker::Model;
 
 /// A transaction id: a number from 1 to 999,999,999 (RFC 3435, 3.2.1.2). A contract sees the number.
-#[derive(Clone, Copy, Debug, PartialEq, Eq)]
+#[derive(Clone, Copy)]
 pub struct TransactionId {
     number: u32,
 }

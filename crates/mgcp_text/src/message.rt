@@ -16,7 +16,7 @@ pub struct Param<'a> {
 pub type Params<'a> = Sequence<Param<'a>>;
 
 /// What a command asks for (RFC 3435, 3.2.1.1).
-#[derive(Clone, Copy, Debug, PartialEq, Eq)]
+#[derive(Clone, Copy)]
 pub enum Verb {
     /// EndpointConfiguration.
     Epcf,
@@ -75,7 +75,7 @@ impl<'a> Message<'a> {
 }
 
 /// Why a text is no message.
-#[derive(Clone, Copy, Debug, PartialEq, Eq)]
+#[derive(Clone, Copy)]
 pub enum TextFault {
     /// Memory was refused.
     OutOfMemory,

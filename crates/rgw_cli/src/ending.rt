@@ -6,7 +6,7 @@ use rgw_play::{PlayFault, name_of_config_fault};
 use std::fmt;
 
 /// How the program ends.
-#[derive(Clone, Copy, Debug, PartialEq, Eq)]
+#[derive(Clone, Copy)]
 pub enum Ending {
     /// The script was played.
     Played,

@@ -45,7 +45,7 @@ impl Model for ScriptReader {
 }
 
 /// Why a script has no steps.
-#[derive(Clone, Copy, Debug, PartialEq, Eq)]
+#[derive(Clone, Copy)]
 pub enum ScriptFault {
     OutOfMemory,
     /// This line, counted from 1, may not stand where it does.

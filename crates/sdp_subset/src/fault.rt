@@ -2,7 +2,7 @@
 use mg_bytes::OutOfMemory;
 
 /// Why there is no session.
-#[derive(Clone, Copy, Debug, PartialEq, Eq)]
+#[derive(Clone, Copy)]
 pub enum SdpFault {
     /// Memory was refused.
     OutOfMemory = 1,

@@ -4,7 +4,7 @@ use mg_bytes::OutOfMemory;
 use std::net::Ipv4Addr;
 
 /// The numbers by which a description of our own is told from others (RFC 2327, 6).
-#[derive(Clone, Copy, Debug, PartialEq, Eq)]
+#[derive(Clone, Copy)]
 pub struct Origin {
     /// The number of the session.
     pub number: u32,

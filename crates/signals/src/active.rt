@@ -5,7 +5,7 @@ ghost use Rattle.signals.specs.Active.{is_time_out, is_forbidden};
 use mg_packages::{Hook, Kind, Signal, kind_of, refused_in};
 
 /// A signal that is active (RFC 3435, 2.1.7), and the moment in ms at which it ends; `None` where no time ends it.
-#[derive(Clone, Copy, Debug, PartialEq, Eq)]
+#[derive(Clone, Copy, PartialEq, Eq)]
 pub struct ActiveSignal {
     pub signal: Signal,
     pub end: Option<u64>,

@@ -1,8 +1,0 @@
-//! The program `rgw` once more, run on words that it refuses.
-#![tactic(auto)]
-
-use std::process::ExitCode;
-
-fn main(rt: HostRuntime) -> ExitCode {
-    ExitCode::from(rgw_cli::run(&rt))
-}
