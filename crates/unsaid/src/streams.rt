@@ -5,7 +5,8 @@ use std::io::{self, Read, Write};
 use std::test::Fail;
 
 // The example's configuration, and a script of two steps: 214 bytes, which 31 calls of seven bytes give.
-const INPUT: &[u8] = b"domain = \"rgw.example.net\"
+fn input() -> &'static [u8] {
+    b"domain = \"rgw.example.net\"
 lines = 16
 agent = \"ca@ca.example.net\"
 restart_wait = 1
@@ -17,10 +18,13 @@ media_base = 3000
 %%
 show 1
 phone 1 on
-";
+"
+}
 
 // What is printed: 56 bytes, which eight calls of seven bytes write.
-const PRINTED: &[u8] = b"line 1 on signals - connections - lost 0\n! 5 PhoneState\n";
+fn printed() -> &'static [u8] {
+    b"line 1 on signals - connections - lost 0\n! 5 PhoneState\n"
+}
 
 // Fails at a call, counted from 1, and gives seven bytes at each other.
 #[derive(Drop)]
@@ -59,7 +63,7 @@ fn played(alloc: Global, text: &[u8], fails_at: u64) -> (Result<Played, PlayFaul
 fn a_failed_read_is_told_and_nothing_written(rt: HostRuntime) {
     // The call after the last bytes gives none, and counts too.
     for fails_at in 1..33u64 {
-        let (outcome, output) = played(rt.alloc(), INPUT, fails_at);
+        let (outcome, output) = played(rt.alloc(), input(), fails_at);
         assert!(rt;
             outcome == Err(PlayFault::Read) && output.is_empty(),
             "at {fails_at}"
@@ -69,14 +73,17 @@ fn a_failed_read_is_told_and_nothing_written(rt: HostRuntime) {
 
 #[test]
 fn reading_ends_where_no_bytes_come(rt: HostRuntime) {
-    let (_, output) = played(rt.alloc(), INPUT, 33);
-    assert_eq!(rt; output.as_slice(), PRINTED);
+    let (_, output) = played(rt.alloc(), input(), 33);
+    assert_eq!(rt; output.as_slice(), printed());
 }
 
 #[test]
 fn reading_ends_after_the_limit(rt: HostRuntime) -> Result<(), Fail> {
     // One byte more than is taken ends it; 149,797 calls give 1,048,577 bytes and more.
-    let long = b"\n".as_slice().repeat(rt.alloc(), 1_048_600)?;
+    let mut long = Vec::new(rt.alloc());
+    for _ in 0..1_048_600u32 {
+        long.push(b'\n')?;
+    }
     let (outcome, _) = played(rt.alloc(), &long, 149_798);
     assert_eq!(rt; outcome, Err(PlayFault::Script { line: 0 }));
     Ok(())
@@ -121,10 +128,10 @@ fn a_failed_write_is_told(rt: HostRuntime) {
             text: Vec::new(rt.alloc()),
             calls_left,
         };
-        let mut reader = INPUT;
+        let mut reader = input();
         let is_told = play(rt.alloc(), &mut reader, &mut writer) == Err(PlayFault::Write);
         assert!(rt; is_told == (calls_left < 8), "at {calls_left}");
-        assert!(rt; PRINTED.starts_with(&writer.text), "at {calls_left}");
+        assert!(rt; printed().starts_with(&writer.text), "at {calls_left}");
     }
 }
 
@@ -151,7 +158,7 @@ impl Read for InterruptedReader<'_> {
 #[test]
 fn an_interrupted_read_goes_on(rt: HostRuntime) {
     let mut reader = InterruptedReader {
-        text: INPUT,
+        text: input(),
         interrupts: false,
     };
     let mut output = Vec::new(rt.alloc());
@@ -160,5 +167,5 @@ fn an_interrupted_read_goes_on(rt: HostRuntime) {
         commands: 2,
         refused: 1,
     };
-    assert!(rt; outcome == Ok(whole) && output.as_slice() == PRINTED);
+    assert!(rt; outcome == Ok(whole) && output.as_slice() == printed());
 }
