@@ -1,6 +1,6 @@
-pub mod OrderLemmas
+pub mod StepLemmas
 pub mod ValueCodes
-pub mod EventCodes
 pub mod CodeLemmas
 pub mod FormLemmas
+pub mod ExplainingLaws
 pub mod Computing

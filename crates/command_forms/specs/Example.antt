@@ -1,9 +1,9 @@
 -- What the worked examples share.
-use Rattle.std.specs.Prelude.{ℕ, false, List, [], ◌∷◌, ◌++◌, codes, Option, Some, None, Result, Ok, Err}
+use Rattle.std.specs.Prelude.{ℕ, false, List, [], ◌∷◌, ◌++◌, codes, Option, Some, None, option_map, Result, Ok, Err}
 use Rattle.std.specs.declared.net.ipv4_addr.Ipv4Addr.{Ipv4Addr}
 use Rattle.mgcp_text.specs.Reading.{Outcome, message, no_header, bad_version, bad_body, read_text}
-use Rattle.endpoint_names.specs.declared.name.Pattern.{Pattern}
-use Rattle.endpoint_names.specs.declared.name.Pattern.TheVariants.{One}
+use Rattle.mgcp_text.specs.Confirmation.{k_of}
+use Rattle.mgcp_text.specs.Message.{params_in}
 use Rattle.endpoint_names.specs.declared.names.Names.{Names}
 use Rattle.mg_packages.specs.declared.signal.Signal.{Signal}
 use Rattle.digit_map.specs.declared.change.MapChange.{MapChange}
@@ -19,10 +19,14 @@ use Rattle.event_syntax.specs.declared.request.RequestedEvent.{RequestedEvent}
 use Rattle.event_syntax.specs.declared.request.Response.TheVariants.{Plain}
 use Rattle.event_syntax.specs.declared.signals.Setting.{Setting}
 use Rattle.event_syntax.specs.declared.signals.SignalRequest.{SignalRequest}
-use Rattle.command_forms.specs.declared.forms.Form.{Form}
-use Rattle.command_forms.specs.declared.forms.Form.TheVariants.{Audit, Request}
+use Rattle.command_forms.specs.declared.forms.Asks.{Asks}
+use Rattle.command_forms.specs.declared.forms.Asks.TheVariants.{Reports, Does}
+use Rattle.command_forms.specs.declared.forms.Deed.{Deed}
 use Rattle.command_forms.specs.declared.forms.RequestForm.{RequestForm}
+use Rattle.command_forms.specs.declared.forms.Target.{Target}
+use Rattle.command_forms.specs.declared.forms.Target.TheVariants.{One}
 use Rattle.command_forms.specs.Order.{form_in}
+use Rattle.command_forms.specs.Explaining.{refused_in, explanation_of}
 
 -- 127.0.0.1
 abbrev pub local_host : Ipv4Addr
@@ -38,21 +42,24 @@ gateway = record {
 
 -- what is read, or the code, where a text is a message
 abbrev pub Reply : Type 0
-Reply = Option (Result Form ℕ)
+Reply = Option (Result Asks ℕ)
 
 abbrev pub form_from : Outcome → Reply
-form_from (message said) = Some (form_in said gateway)
+form_from (message said) = Some (form_in said (k_of (params_in said)) gateway)
 form_from no_header = None
 form_from (bad_version id) = None
 form_from (bad_body id) = None
 
 -- what a text asks of this gateway
-abbrev pub asked : List ℕ → Reply
-asked text = form_from (read_text text)
+abbrev pub reply_to : List ℕ → Reply
+reply_to text = form_from (read_text text)
 
 -- a command of this verb, on this local name, with these lines
+abbrev pub command_text : List ℕ → List ℕ → List ℕ → List ℕ
+command_text verb local lines = verb ++ codes " 2001 " ++ local ++ codes "@rgw.example.net MGCP 1.0\r\n" ++ lines
+
 abbrev pub command_on : List ℕ → List ℕ → List ℕ → Reply
-command_on verb local lines = asked (verb ++ codes " 2001 " ++ local ++ codes "@rgw.example.net MGCP 1.0\r\n" ++ lines)
+command_on verb local lines = reply_to (command_text verb local lines)
 
 abbrev pub request_on : List ℕ → List ℕ → Reply
 request_on local lines = command_on (codes "RQNT") local lines
@@ -86,13 +93,17 @@ only identifier = record {
   map = Keep;
 }
 
--- this is requested of these endpoints
-abbrev pub requests : Pattern → RequestForm → Reply
-requests pattern request = Some (Ok (Request pattern None request))
+-- this is done on these lines
+abbrev pub does_on : Target → Deed → Reply
+does_on target deed = Some (Ok (Does target deed))
 
--- a request on these endpoints, with this identifier, and nothing more
-abbrev pub bare_request : Pattern → List ℕ → Reply
-bare_request pattern identifier = requests pattern (only identifier)
+-- this is requested of these lines
+abbrev pub requests : Target → RequestForm → Reply
+requests target request = does_on target (record { entity = None; request = Some request })
+
+-- a request on these lines, with this identifier, and nothing more
+abbrev pub bare_request : Target → List ℕ → Reply
+bare_request target identifier = requests target (only identifier)
 
 -- the request 1 on line 1, which has nothing more than these signals, these entries of R or of T, this handling, or this
 -- change of the digit map
@@ -113,9 +124,10 @@ request_changing map = requests (One 1) (record (only (codes "1")) { map = map }
 
 -- the request 1 on line 1, with this entity at 127.0.0.1 and this port
 abbrev pub request_with : List ℕ → ℕ → Reply
-request_with text port =
-    Some (Ok (Request (One 1) (Some (record { text = text; address = record { ip = local_host; port = port } }))
-    (only (codes "1"))))
+request_with text port = does_on (One 1) (record {
+  entity = Some (record { text = text; address = record { ip = local_host; port = port } });
+  request = Some (only (codes "1"));
+})
 
 -- the request 1 on line 1, and nothing more
 abbrev pub taken : Reply
@@ -128,6 +140,23 @@ does events action = record { events = events; response = Plain action; keep = f
 abbrev pub asks : Signal → Setting → SignalRequest
 asks signal setting = record { signal = signal; setting = setting }
 
--- an audit of these endpoints, which asks for these items
-abbrev pub audit_of : Pattern → List ℕ → Reply
-audit_of pattern items = Some (Ok (Audit pattern items))
+-- an audit of these lines, which asks for these items
+abbrev pub audit_of : Target → List ℕ → Reply
+audit_of target items = Some (Ok (Reports target (record { items = items })))
+
+-- why a text is refused, where it is a message, as a line for people
+abbrev pub why_from : Outcome → Option (List ℕ)
+why_from (message said) = option_map explanation_of (refused_in said (k_of (params_in said)) gateway)
+why_from no_header = None
+why_from (bad_version id) = None
+why_from (bad_body id) = None
+
+abbrev pub why_on : List ℕ → List ℕ → List ℕ → Option (List ℕ)
+why_on verb local lines = why_from (read_text (command_text verb local lines))
+
+-- on line 1
+abbrev pub why_request : List ℕ → Option (List ℕ)
+why_request lines = why_on (codes "RQNT") (codes "aaln/1") lines
+
+abbrev pub why_audit : List ℕ → Option (List ℕ)
+why_audit lines = why_on (codes "AUEP") (codes "aaln/1") lines

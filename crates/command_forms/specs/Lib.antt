@@ -1,7 +1,9 @@
 pub mod Command
 pub mod Verbs
 pub mod Params
+pub mod Meaning
 pub mod Values
 pub mod Order
+pub mod Explaining
 pub mod Codes
 pub mod Example

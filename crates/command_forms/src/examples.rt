@@ -1,10 +1,10 @@
 //! Worked examples of the definitions, as theorems: each sentence of a definition has one that a slip in it breaks.
 #![tactic(auto, unfolding(crate::proofs::Computing::on_examples))]
 
-ghost use Rattle.std.specs.Prelude.{◌≡◌, ◌++◌, codes, replicate, [], ◌∷◌, Some, None, Ok, Err};
+ghost use Rattle.std.specs.Prelude.{◌≡◌, ◌++◌, true, false, codes, replicate, [], ◌∷◌, Some, None, Ok, Err};
 ghost use Rattle.std.specs.List.{repeat};
 ghost use Rattle.mgcp_text.specs.declared.message.Message.TheVariants as messages;
-ghost use Rattle.endpoint_names.specs.declared.name.Pattern.TheVariants as patterns;
+ghost use Rattle.mgcp_text.specs.declared.message.Verb.TheVariants.{Auep};
 ghost use Rattle.mg_packages.specs.declared.event.Event.TheVariants.{OffHook, OnHook, Flash, GenericComplete};
 ghost use Rattle.mg_packages.specs.declared.signal.Signal.TheVariants.{DialTone, Ringing, MessageWaiting};
 ghost use Rattle.digit_map.specs.declared.change.MapChange.TheVariants.{Remove, Replace};
@@ -14,16 +14,19 @@ ghost use Rattle.event_syntax.specs.declared.handling.Quarantined.TheVariants.{P
 ghost use Rattle.event_syntax.specs.declared.request.Action.TheVariants.{Notify, Accumulate, Dial};
 ghost use Rattle.event_syntax.specs.declared.signals.Setting.TheVariants.{Start, Stop, Lasting};
 ghost use Rattle.event_syntax.specs.Ranges.{letters_in};
-ghost use Rattle.command_forms.specs.Values.{d_fault, values_in};
+ghost use Rattle.mgcp_text.specs.declared.confirmation.KValue.TheVariants.{Absent, Unreadable};
+ghost use Rattle.command_forms.specs.declared.forms.Target.TheVariants as targets;
+ghost use Rattle.command_forms.specs.Meaning.{is_for, meant_in};
+ghost use Rattle.command_forms.specs.Values.{change_at, deed_of};
 ghost use Rattle.command_forms.specs.Order.{form_in};
-ghost use Rattle.command_forms.specs.Example.{gateway, asked, command_on, request_on, audit_on, request, audit, refused, bare_request, request_for, request_with, taken, asks, audit_of};
+ghost use Rattle.command_forms.specs.Example.{gateway, reply_to, command_on, request_on, audit_on, request, audit, refused, bare_request, request_for, request_with, taken, asks, audit_of};
 ghost use Rattle.command_forms.specs.Example.{requests, request_at, request_meanwhile, request_handling, request_changing, handled, does};
 
 /// A request has an identifier as it was given, and may have signals and an entity. What follows the parameters is
-/// ignored. A command without an identifier, which is no request, has `0`.
+/// ignored. A command without an identifier requests nothing.
 pub fn requests_are_read()
     ensures identifier { request (codes "X: 1\r\n") ≡ taken }
-    ensures as_given { request (codes "X: 0a0F\r\n") ≡ bare_request (patterns.One 1) (codes "0a0F") }
+    ensures as_given { request (codes "X: 0a0F\r\n") ≡ bare_request (targets.One 1) (codes "0a0F") }
     ensures signals { request (codes "X: 1\r\nS: L/rg(to=5),vmwi(-),L/dl\r\n") ≡ request_for (asks Ringing (Lasting 5)
         ∷ asks MessageWaiting Stop ∷ asks DialTone Start ∷ []) }
     ensures no_signals { request (codes "X: 1\r\nS:\r\n") ≡ taken }
@@ -32,7 +35,7 @@ pub fn requests_are_read()
     ensures confirming { request (codes "K: 7-9, 12\r\nX: 1\r\n") ≡ taken }
     ensures confirming_none { request (codes "X: 1\r\nK:\r\n") ≡ taken }
     ensures description { request (codes "X: 1\r\n\r\nX+Y: 1\r\n") ≡ taken }
-    ensures without { (values_in [] []).identifier ≡ codes "0" }
+    ensures without { deed_of [] [] ≡ Ok (record { entity = None; request = None }) }
     ensures lower_case { command_on (codes "rqnt") (codes "AALN/1") (codes "x: 1\r\nk: 1\r\ns:\r\n") ≡ taken }
 {}
 
@@ -54,7 +57,7 @@ pub fn requests_ask_for_events()
     ensures blank_map { request (codes "D: \t \r\nX: 1\r\n") ≡ request_changing Remove }
     ensures lower_case { request (codes "x: 1\r\nr:\r\nt:\r\nq: step\r\nd: xx\r\n") ≡ request_changing (Replace (codes "xx")) }
     ensures all { request_on (codes "*") (codes "S: L/dl\r\nT: L/hf\r\nR: L/hu(N)\r\nD: xx\r\nQ: loop\r\nX: A7\r\n")
-        ≡ requests patterns.All (record {
+        ≡ requests targets.All (record {
           identifier = codes "A7";
           requested = does (One OnHook) Notify ∷ [];
           detected = One Flash ∷ [];
@@ -66,11 +69,11 @@ pub fn requests_ask_for_events()
 
 /// An audit has the items that F asks for, with commas between them as they were given; an empty F is no F.
 pub fn audits_are_read()
-    ensures bare { audit [] ≡ audit_of (patterns.One 1) [] }
-    ensures items { audit (codes "F: es , X\r\n") ≡ audit_of (patterns.One 1) (codes "es , X") }
-    ensures no_items { audit (codes "F:\r\n") ≡ audit_of (patterns.One 1) [] }
-    ensures confirming { audit (codes "K: 1\r\nf: ES\r\n") ≡ audit_of (patterns.One 1) (codes "ES") }
-    ensures last_line { audit_on (codes "aaln/16") [] ≡ audit_of (patterns.One 16) [] }
+    ensures bare { audit [] ≡ audit_of (targets.One 1) [] }
+    ensures items { audit (codes "F: es , X\r\n") ≡ audit_of (targets.One 1) (codes "es , X") }
+    ensures no_items { audit (codes "F:\r\n") ≡ audit_of (targets.One 1) [] }
+    ensures confirming { audit (codes "K: 1\r\nf: ES\r\n") ≡ audit_of (targets.One 1) (codes "ES") }
+    ensures last_line { audit_on (codes "aaln/16") [] ≡ audit_of (targets.One 16) [] }
 {}
 
 /// The verbs without a row are 504, and so is a message that is no command.
@@ -83,7 +86,8 @@ pub fn other_verbs_are_not_served()
     ensures aucx { command_on (codes "AUCX") (codes "aaln/1") [] ≡ refused 504 }
     ensures rsip { command_on (codes "RSIP") (codes "aaln/1") [] ≡ refused 504 }
     ensures unknown { command_on (codes "PING") (codes "aaln/1") [] ≡ refused 504 }
-    ensures response { form_in (messages.Response 200 2001 [] []) gateway ≡ Err 504 }
+    ensures response { form_in (messages.Response 200 2001 [] []) Absent gateway ≡ Err 504 }
+    ensures response_means_nothing { meant_in (messages.Response 200 2001 [] []) gateway ≡ Err 504 }
 {}
 
 /// A name that no endpoint has is 500; a wildcard in another place is 503.
@@ -91,19 +95,19 @@ pub fn names_are_of_endpoints()
     ensures beyond { request_on (codes "aaln/17") (codes "X: 1\r\n") ≡ refused 500 }
     ensures audit_beyond { audit_on (codes "aaln/17") [] ≡ refused 500 }
     ensures no_wildcard { audit_on (codes "aaln/*x") [] ≡ refused 500 }
-    ensures other_domain { asked (codes "AUEP 2001 aaln/1@ca.example.net MGCP 1.0\r\n") ≡ refused 500 }
+    ensures other_domain { reply_to (codes "AUEP 2001 aaln/1@ca.example.net MGCP 1.0\r\n") ≡ refused 500 }
     ensures complicated { request_on (codes "aaln/*/1") (codes "X: 1\r\n") ≡ refused 503 }
     ensures audit_complicated { audit_on (codes "*/aaln") [] ≡ refused 503 }
 {}
 
 /// A request may be on all lines; an audit may where it asks for no items. Nothing may be on any one line.
 pub fn some_names_may_mean_all_lines()
-    ensures request_all { request_on (codes "*") (codes "X: A2\r\n") ≡ bare_request patterns.All (codes "A2") }
-    ensures request_after { request_on (codes "aaln/*") (codes "X: A2\r\n") ≡ bare_request patterns.All (codes "A2") }
+    ensures request_all { request_on (codes "*") (codes "X: A2\r\n") ≡ bare_request targets.All (codes "A2") }
+    ensures request_after { request_on (codes "aaln/*") (codes "X: A2\r\n") ≡ bare_request targets.All (codes "A2") }
     ensures request_any { request_on (codes "$") (codes "X: A2\r\n") ≡ refused 503 }
-    ensures audit_all { audit_on (codes "*") [] ≡ audit_of patterns.All [] }
-    ensures audit_after { audit_on (codes "aaln/*") (codes "K: 1\r\n") ≡ audit_of patterns.All [] }
-    ensures empty_items { audit_on (codes "*") (codes "F:\r\n") ≡ audit_of patterns.All [] }
+    ensures audit_all { audit_on (codes "*") [] ≡ audit_of targets.All [] }
+    ensures audit_after { audit_on (codes "aaln/*") (codes "K: 1\r\n") ≡ audit_of targets.All [] }
+    ensures empty_items { audit_on (codes "*") (codes "F:\r\n") ≡ audit_of targets.All [] }
     ensures audit_items { audit_on (codes "*") (codes "F: ES\r\n") ≡ refused 503 }
     ensures lower_case { audit_on (codes "*") (codes "f: ES\r\n") ≡ refused 503 }
     ensures comma { audit_on (codes "*") (codes "F: ,\r\n") ≡ refused 503 }
@@ -111,6 +115,15 @@ pub fn some_names_may_mean_all_lines()
     // The first F counts here, and a second one is found later.
     ensures first_empty { audit_on (codes "*") (codes "F:\r\nF: ES\r\n") ≡ refused 510 }
     ensures first_full { audit_on (codes "*") (codes "F: ES\r\nF:\r\n") ≡ refused 503 }
+{}
+
+/// A command for one line is for that line and no other; one for all lines is for each.
+pub fn a_target_is_for_its_lines()
+    ensures one { is_for (targets.One 2) 2 ≡ true }
+    ensures lesser { is_for (targets.One 2) 1 ≡ false }
+    ensures greater { is_for (targets.One 2) 3 ≡ false }
+    ensures first { is_for targets.All 1 ≡ true }
+    ensures last { is_for targets.All 16 ≡ true }
 {}
 
 /// An extension `X+..` or with a `/` isn't understood, and `X-..` is ignored, both in either case.
@@ -171,12 +184,14 @@ pub fn codes_stand_once()
 pub fn values_have_codes()
     ensures confirming { request (codes "X: 1\r\nK: x\r\n") ≡ refused 510 }
     ensures audit_confirming { audit (codes "K: x\r\n") ≡ refused 510 }
+    // What K confirms was read before, and isn't read again.
+    ensures told { form_in (messages.Command Auep 2001 (codes "aaln/1@rgw.example.net") [] []) Unreadable gateway ≡ Err 510 }
     ensures entity { request (codes "X: 1\r\nN: ca@other.example.net\r\n") ≡ refused 539 }
     ensures no_entity { request (codes "X: 1\r\nN:\r\n") ≡ refused 539 }
     ensures no_identifier { request (codes "X:\r\n") ≡ refused 510 }
     ensures no_digit { request (codes "X: 1g\r\n") ≡ refused 510 }
     ensures digits_32 { let digits = replicate 32 70 in
-        request (codes "X: " ++ digits ++ codes "\r\n") ≡ bare_request (patterns.One 1) digits }
+        request (codes "X: " ++ digits ++ codes "\r\n") ≡ bare_request (targets.One 1) digits }
     ensures digits_33 { request (codes "X: " ++ replicate 33 70 ++ codes "\r\n") ≡ refused 510 }
     ensures spelling { request (codes "X: 1\r\nS: L/dl()\r\n") ≡ refused 510 }
     ensures package { request (codes "X: 1\r\nS: Q/a\r\n") ≡ refused 518 }
@@ -192,8 +207,9 @@ pub fn values_of_events_have_codes()
     ensures handling { request (codes "X: 1\r\nQ: fast\r\n") ≡ refused 508 }
     ensures no_handling { request (codes "X: 1\r\nQ:\r\n") ≡ refused 508 }
     ensures map { request (codes "X: 1\r\nD: [9-1]\r\n") ≡ refused 510 }
-    ensures large_map { d_fault (Some (record { code = codes "D"; value = replicate 2049 49 })) ≡ Some 502 }
-    ensures largest_map { d_fault (Some (record { code = codes "D"; value = replicate 2048 49 })) ≡ None }
+    ensures large_map { change_at (Some (record { code = codes "D"; value = replicate 2049 49 })) ≡ Err 502 }
+    ensures largest_map { let digits = replicate 2048 49 in
+        change_at (Some (record { code = codes "D"; value = digits })) ≡ Ok (Replace digits) }
     ensures spelling { request (codes "X: 1\r\nR: L/hd(N\r\n") ≡ refused 510 }
     ensures package { request (codes "X: 1\r\nR: Q/a(N)\r\n") ≡ refused 518 }
     ensures unknown { request (codes "X: 1\r\nR: L/wt(N)\r\n") ≡ refused 512 }
@@ -223,6 +239,7 @@ pub fn a_command_is_checked_in_order()
     ensures items_before_parameters { audit_on (codes "*") (codes "M: x\r\nF: ES\r\n") ≡ refused 503 }
     ensures parameters_before_missing { request (codes "M: x\r\n") ≡ refused 539 }
     ensures parameters_before_values { request (codes "X: g\r\nS: Q/a\r\nM: x\r\n") ≡ refused 539 }
+    ensures parameters_before_confirming { request (codes "K: x\r\nX: 1\r\nM: x\r\n") ≡ refused 539 }
     ensures missing_before_entity { request (codes "N: x\r\n") ≡ refused 510 }
     ensures missing_before_handling { request (codes "Q: fast\r\n") ≡ refused 510 }
     ensures missing_before_requested { request (codes "R: Q/a\r\n") ≡ refused 510 }

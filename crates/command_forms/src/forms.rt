@@ -1,10 +1,40 @@
 //! What commands ask for.
+ghost use Rattle.std.specs.Prelude.{◌≡◌};
+ghost use Rattle.command_forms.specs.Meaning.{is_for};
 
 use digit_map::MapChange;
-use endpoint_names::{Entity, Pattern};
+use endpoint_names::Entity;
 use event_syntax::{DetectedEvents, Handling, RequestedEvents, SignalRequests};
 use mg_bytes::Identifier;
 use mgcp_text::Bytes;
+
+/// The lines that a command is for.
+#[derive(Clone, Copy, Debug, PartialEq, Eq)]
+pub enum Target {
+    /// The line with this number, from 1.
+    One(u16),
+    /// All lines.
+    All,
+}
+
+impl Target {
+    /// Whether the line with this number is among them.
+    pub fn is_for(self, line: u16) -> bool
+        ensures { result ≡ is_for self line }
+    {
+        match self {
+            Target::One(number) => number == line,
+            Target::All => true,
+        }
+    }
+}
+
+/// What is to be reported (RFC 3435, 2.3.10).
+#[derive(Drop)]
+pub struct Audit<'m> {
+    /// The value of F, items with commas between them. It is empty where F is absent, since an empty F is no F.
+    pub items: Bytes<'m>,
+}
 
 /// What is requested of lines (RFC 3435, 2.3.3).
 #[derive(Drop)]
@@ -23,20 +53,20 @@ pub struct RequestForm {
     pub map: MapChange,
 }
 
-/// What a command asks for.
+/// What is to be done on lines.
 #[derive(Drop)]
-pub enum Form<'m> {
-    /// AuditEndpoint (RFC 3435, 2.3.10): the endpoints that it names, and the value of F, items with commas between
-    /// them. It is empty where F is absent, since an empty F is no F.
-    Audit {
-        pattern: Pattern,
-        items: Bytes<'m>,
-    },
-    /// NotificationRequest (RFC 3435, 2.3.3): the endpoints that it names, the entity that it says is to be notified
-    /// (N), if it says one, and what it requests.
-    Request {
-        pattern: Pattern,
-        entity: Option<Entity>,
-        request: RequestForm,
-    },
+pub struct Deed {
+    /// The entity that is to be notified from now on (N), where one is said.
+    pub entity: Option<Entity>,
+    /// What is requested, where X stands in the command.
+    pub request: Option<RequestForm>,
+}
+
+/// What a command asks for. A new verb changes what a report or a deed holds, and adds no third.
+#[derive(Drop)]
+pub enum Asks<'m> {
+    /// A report of these lines, which changes nothing: AuditEndpoint (RFC 3435, 2.3.10).
+    Reports(Target, Audit<'m>),
+    /// A deed on these lines: NotificationRequest (RFC 3435, 2.3.3).
+    Does(Target, Deed),
 }

@@ -1,46 +1,71 @@
 //! Laws of what commands ask for. Each function has an empty body: its clauses are the theorems.
-ghost use Rattle.std.specs.Prelude.{◌≡◌, ℕ, List, codes, true, Option, Ok, Err};
-ghost use Rattle.endpoint_names.specs.declared.entity.Entity.{Entity};
-ghost use Rattle.endpoint_names.specs.declared.name.Pattern.{Pattern};
+ghost use Rattle.std.specs.Prelude.{◌≡◌, ℕ, List, codes, true, false, is_some, IfSome, Ok, Err};
+ghost use Rattle.mg_bytes.specs.ReturnCode.{code_with};
+ghost use Rattle.mgcp_text.specs.declared.confirmation.KValue.{KValue};
+ghost use Rattle.mgcp_text.specs.declared.message.Message.{Message};
+ghost use Rattle.mgcp_text.specs.declared.message.Param.{Param};
+ghost use Rattle.mgcp_text.specs.declared.message.Verb.TheVariants.{Rqnt};
 ghost use Rattle.endpoint_names.specs.declared.names.Names.{Names};
-ghost use Rattle.command_forms.specs.declared.forms.Form.{Form};
-ghost use Rattle.command_forms.specs.declared.forms.RequestForm.{RequestForm};
-ghost use Rattle.command_forms.specs.declared.forms.Form.TheVariants as forms;
+ghost use Rattle.endpoint_names.specs.declared.table.Host.{Host};
+ghost use Rattle.command_forms.specs.declared.forms.Asks.{Asks};
+ghost use Rattle.command_forms.specs.declared.forms.Asks.TheVariants.{Reports, Does};
+ghost use Rattle.command_forms.specs.declared.forms.Audit.{Audit};
+ghost use Rattle.command_forms.specs.declared.forms.Deed.{Deed};
+ghost use Rattle.command_forms.specs.declared.forms.Target.{Target};
+ghost use Rattle.command_forms.specs.declared.verbs.Meant.{Meant};
 ghost use Rattle.command_forms.specs.Command.{Command};
 ghost use Rattle.command_forms.specs.Params.{value_at};
-ghost use Rattle.command_forms.specs.Order.{form_of};
-ghost use Rattle.command_forms.specs.Codes.{name_codes, param_codes, has_code, endpoints_of, pattern_in, AreOf, HasValues};
+ghost use Rattle.command_forms.specs.Meaning.{meant};
+ghost use Rattle.command_forms.specs.Order.{asked, form_of, form_in};
+ghost use Rattle.command_forms.specs.Explaining.{code_in, refused_code, refused_in};
+ghost use Rattle.command_forms.specs.Codes.{name_codes, param_codes, has_code, target_in, AreOf, HasDeed};
 
-/// The verb and the name are judged before all else: their faults are 500, 503 and 504, and no other fault is one of
-/// these. A form is for the endpoints that the name means.
+/// The verb and the name are judged before all else: their faults are 500, 503 and 504, and no fault behind them is
+/// one of these. A form is for the lines that the name means.
 pub fn the_name_is_judged_first()
-    ensures first { (command : Command) (names : Names) (code : ℕ) → endpoints_of command names ≡ Err code
-        → form_of command names ≡ Err code }
-    ensures name_code { (command : Command) (names : Names) (code : ℕ) → endpoints_of command names ≡ Err code
+    ensures first { (command : Command) (confirms : KValue) (names : Names) (code : ℕ) → meant command names ≡ Err code
+        → form_of command confirms names ≡ Err code }
+    ensures behind { (command : Command) (confirms : KValue) (names : Names) (found : Meant)
+        → meant command names ≡ Ok found
+        → form_of command confirms names ≡ asked found command.params confirms names.table }
+    ensures name_code { (command : Command) (names : Names) (code : ℕ) → meant command names ≡ Err code
         → has_code name_codes code ≡ true }
-    ensures param_code { (command : Command) (names : Names) (pattern : Pattern) (code : ℕ)
-        → endpoints_of command names ≡ Ok pattern → form_of command names ≡ Err code
-        → has_code param_codes code ≡ true }
-    ensures same { (command : Command) (names : Names) (form : Form) → form_of command names ≡ Ok form
-        → endpoints_of command names ≡ Ok (pattern_in form) }
+    ensures param_code { (found : Meant) (params : List Param) (confirms : KValue) (hosts : List Host) (code : ℕ)
+        → asked found params confirms hosts ≡ Err code → has_code param_codes code ≡ true }
+    ensures apart { (code : ℕ) → has_code param_codes code ≡ true → has_code name_codes code ≡ false }
+    ensures same { (found : Meant) (params : List Param) (confirms : KValue) (hosts : List Host) (asks : Asks)
+        → asked found params confirms hosts ≡ Ok asks → target_in asks ≡ found.target }
 {}
 
 /// What a form is for: a line from 1 to the number of lines, or all of them.
 pub fn a_form_is_for_lines()
-    ensures { (command : Command) (names : Names) (form : Form) → form_of command names ≡ Ok form
-        → AreOf names.lines (pattern_in form) }
+    ensures { (command : Command) (confirms : KValue) (names : Names) (asks : Asks)
+        → form_of command confirms names ≡ Ok asks → AreOf names.lines (target_in asks) }
 {}
 
 /// An audit has the items of the first F.
 pub fn an_audit_has_its_items()
-    ensures { (command : Command) (names : Names) (pattern : Pattern) (items : List ℕ)
-        → form_of command names ≡ Ok (forms.Audit pattern items) → items ≡ value_at (codes "F") command.params }
+    ensures { (command : Command) (confirms : KValue) (names : Names) (target : Target) (audit : Audit)
+        → form_of command confirms names ≡ Ok (Reports target audit) → audit.items ≡ value_at (codes "F") command.params }
 {}
 
-/// A request has the values of its parameters: an identifier of 1 to 32 hexadecimal digits, the entity that N names
-/// where it stands there, how Q handles events, what D does with the digit map, and what is read of R, T and S, which can
-/// be written again and so is at most 32 entries of R and of T, and 8 of S.
-pub fn a_request_has_its_values()
-    ensures { (command : Command) (names : Names) (pattern : Pattern) (notified : Option Entity) (request : RequestForm)
-        → form_of command names ≡ Ok (forms.Request pattern notified request) → HasValues command names notified request }
+/// A deed has the entity that N names where it stands there, and a request exactly where X does, with the values of
+/// its parameters: an identifier of 1 to 32 hexadecimal digits, how Q handles events, what D does with the digit map,
+/// and what is read of R, T and S, which can be written again and so is at most 32 entries of R and of T, and 8 of S.
+/// That of a NotificationRequest has a request.
+pub fn a_deed_has_its_values()
+    ensures values { (command : Command) (confirms : KValue) (names : Names) (target : Target) (deed : Deed)
+        → form_of command confirms names ≡ Ok (Does target deed) → HasDeed command.params names.table deed }
+    ensures requests { (command : Command) (confirms : KValue) (names : Names) (target : Target) (deed : Deed)
+        → command.verb ≡ Rqnt → form_of command confirms names ≡ Ok (Does target deed) → is_some deed.request ≡ true }
+{}
+
+/// What is explained is the refusal: a message is refused for something exactly where it has no form, and with the same
+/// return code. That code is one of this gateway's profile, so it has words.
+#[tactic(auto, using(crate::proofs::ExplainingLaws::same_code, crate::proofs::ExplainingLaws::has_words))]
+pub fn what_is_explained_is_the_refusal()
+    ensures code { (message : Message) (confirms : KValue) (names : Names) →
+        refused_code (refused_in message confirms names) ≡ code_in (form_in message confirms names) }
+    ensures words { (message : Message) (confirms : KValue) (names : Names) →
+        IfSome (refused_in message confirms names) (λ refused. is_some (code_with refused.code) ≡ true) }
 {}

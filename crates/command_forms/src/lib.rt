@@ -1,17 +1,28 @@
 //! What a command asks for, by its verb, its name and its parameters, or the return code of its first fault
 //! (RFC 3435, 2.3, 2.4 and 3.2.2).
 //!
-//! The checks stand in one order, which is this gateway's profile, and the first that applies gives the code. Nothing
-//! here knows a line: what a line refuses is judged above. Only the reading of K, D and R takes memory.
+//! The checks stand in one order, which is this gateway's profile, and the first that applies gives the code: `meant`
+//! judges the verb and the name, `asked` the rest, and `form` is one behind the other. For people `explained` says what
+//! of a refused command is at fault, and `explain` puts it into words. Nothing here knows a line: what a line refuses is
+//! judged above. Only the reading of D and R and the words for people take memory.
 #![tactic(auto)]
 
+pub mod checking_examples;
 pub mod examples;
+mod explaining;
+pub mod explaining_examples;
 mod forms;
 pub mod laws;
+mod meaning;
 mod params;
 mod reading;
+mod refused;
 mod values;
 mod verbs;
 
-pub use crate::forms::{Form, RequestForm};
-pub use crate::reading::form;
+pub use crate::explaining::explained;
+pub use crate::forms::{Asks, Audit, Deed, RequestForm, Target};
+pub use crate::meaning::meant;
+pub use crate::reading::{asked, form};
+pub use crate::refused::{Place, Refused, explain};
+pub use crate::verbs::Meant;

@@ -5,7 +5,7 @@ ghost use Rattle.mgcp_text.specs.Message.{param_at};
 ghost use Rattle.command_forms.specs.Params.{is_slash, begins_x, is_critical, is_ignored, is_among, is_taken, param_fault, params_fault, has_all, value_at};
 
 use crate::verbs::VerbRow;
-use mg_bytes::same_no_case;
+use mg_bytes::{ReturnCode, same_no_case};
 use mgcp_text::{Param, param_at};
 
 fn has_slash(code: &[u8]) -> bool
@@ -50,22 +50,22 @@ fn is_taken(row: &VerbRow, code: &[u8]) -> bool
 }
 
 // What is wrong with a parameter of this verb after these.
-fn param_fault(row: &VerbRow, before: &[Param<'_>], param: &Param<'_>) -> Option<u16>
+pub(crate) fn param_fault(row: &VerbRow, before: &[Param<'_>], param: &Param<'_>) -> Option<u16>
     ensures value { result ≡ param_fault row.now before.now param.now }
     ensures three_digits { IfSome result (λ code. code ≤ 999) }
 {
     let code = param.code.as_slice();
     if is_critical(code) {
-        return Some(511);
+        return Some(ReturnCode::UnrecognizedExtension.number());
     }
     if is_ignored(code) {
         return None;
     }
     if !is_taken(row, code) {
-        return Some(539);
+        return Some(ReturnCode::UnsupportedParameter.number());
     }
     if param_at(code, before).is_some() {
-        return Some(510);
+        return Some(ReturnCode::ProtocolError.number());
     }
     None
 }
@@ -85,7 +85,7 @@ pub(crate) fn params_fault(row: &VerbRow, params: &[Param<'_>]) -> Option<u16>
     None
 }
 
-fn has_code(letter: u8, params: &[Param<'_>]) -> bool
+pub(crate) fn has_code(letter: u8, params: &[Param<'_>]) -> bool
     ensures { result ≡ is_some (param_at (letter ∷ []) params.now) }
 {
     param_at(&[letter], params).is_some()

@@ -1,80 +1,56 @@
 //! The values of a command's parameters.
-ghost use Rattle.std.specs.Prelude.{◌≡◌, ◌≤◌, codes, option_map, Ok, IfOk, IfSome};
-ghost use Rattle.mg_bytes.specs.Checks.{checked};
+ghost use Rattle.std.specs.Prelude.{◌≡◌, codes, option_map};
 ghost use Rattle.mg_bytes.specs.CodeFault.{AnswersAs};
-ghost use Rattle.mgcp_text.specs.Message.{params_in, param_at};
-ghost use Rattle.mgcp_text.specs.Confirmation.{k_of};
-ghost use Rattle.command_forms.specs.Params.{value_at};
-ghost use Rattle.command_forms.specs.Values.{k_fault, n_fault, x_fault, q_fault, d_fault, r_fault, t_fault, s_fault};
-ghost use Rattle.command_forms.specs.Values.{entity_in, identifier_in, handling_in, change_in, requested_in, detected_in, signals_in};
+ghost use Rattle.mgcp_text.specs.Message.{param_at};
+ghost use Rattle.command_forms.specs.Values.{is_readable, entity_at, identifier_from, handling_at, change_at, request_of, request_at, deed_of};
 
+use crate::forms::{Deed, RequestForm};
 use crate::params::value_at;
 use digit_map::{MapChange, MapFault, read_change};
 use endpoint_names::{Entity, Table, read_entity};
 use event_syntax::{
-    DetectedEvents, Handling, Notifying, Quarantined, RequestedEvents, SignalRequests, read_detect,
-    read_events, read_handling, read_signals,
+    Handling, Notifying, Quarantined, read_detect, read_events, read_handling, read_signals,
 };
-use mg_bytes::{CodeFault, Identifier, OutOfMemory};
-use mgcp_text::{Bytes, KValue, Message, Param, param_at, read_k};
+use mg_bytes::{CodeFault, Identifier, ReturnCode};
+use mgcp_text::{KValue, Param, param_at};
 use std::alloc::Global;
 
-/// The values of a command's parameters. What is absent is empty, none, or what stands for it.
-#[derive(Drop)]
-pub(crate) struct Values<'m> {
-    pub items: Bytes<'m>,
-    pub entity: Option<Entity>,
-    pub identifier: Identifier,
-    pub handling: Handling,
-    pub map: MapChange,
-    pub requested: RequestedEvents,
-    pub detected: DetectedEvents,
-    pub signals: SignalRequests,
-}
-
-/// What is wrong with K (RFC 3435, 3.2.2.1).
-pub(crate) fn k_fault(alloc: Global, message: &Message<'_>) -> Result<Option<u16>, OutOfMemory>
-    ensures value { IfOk result (λ fault. fault ≡ k_fault (k_of (params_in message.now))) }
-    ensures three_digits { IfOk result (λ fault. IfSome fault (λ code. code ≤ 999)) }
+/// Whether K can be read (RFC 3435, 3.2.2.1).
+pub(crate) fn is_readable(confirms: &KValue) -> bool
+    ensures { result ≡ is_readable confirms.now }
 {
-    match read_k(alloc, message)? {
-        KValue::Unreadable => Ok(Some(510)),
-        KValue::Absent | KValue::Items(_) => Ok(None),
+    match confirms {
+        KValue::Unreadable => false,
+        KValue::Absent | KValue::Items(_) => true,
     }
 }
 
-/// The entity that N says, if it stands there (RFC 3435, 2.1.4 and 2.3.3).
-pub(crate) fn entity_in(table: &Table, params: &[Param<'_>]) -> Result<Option<Entity>, CodeFault>
-    ensures { AnswersAs (checked (n_fault table.now (param_at (codes "N") params.now))
-        (Ok (entity_in table.now (param_at (codes "N") params.now)))) result }
+// The entity that N says, where it stands there.
+pub(crate) fn entity_at(table: &Table, params: &[Param<'_>]) -> Result<Option<Entity>, CodeFault>
+    ensures { AnswersAs (entity_at table.now (param_at (codes "N") params.now)) result }
 {
     let Some(param) = param_at(b"N", params) else {
         return Ok(None);
     };
     match read_entity(param.value.as_slice(), table) {
         Some(entity) => Ok(Some(entity)),
-        None => Err(CodeFault::Code(539)),
+        None => Err(CodeFault::of(ReturnCode::UnsupportedParameter)),
     }
 }
 
-/// The identifier that X is; `0` where X is absent (RFC 3435, 2.3.3).
-pub(crate) fn identifier_in(params: &[Param<'_>]) -> Result<Identifier, CodeFault>
-    ensures { AnswersAs (checked (x_fault (param_at (codes "X") params.now))
-        (Ok (identifier_in (param_at (codes "X") params.now)))) result }
+// The identifier of a request.
+pub(crate) fn identifier_from(value: &[u8]) -> Result<Identifier, CodeFault>
+    ensures { AnswersAs (identifier_from value.now) result }
 {
-    let Some(param) = param_at(b"X", params) else {
-        return Ok(Identifier::zero());
-    };
-    match Identifier::of(param.value.as_slice()) {
+    match Identifier::of(value) {
         Some(identifier) => Ok(identifier),
-        None => Err(CodeFault::Code(510)),
+        None => Err(CodeFault::of(ReturnCode::ProtocolError)),
     }
 }
 
-/// How quarantined events are handled by Q: step and process where Q is absent (RFC 3435, 2.3.3 and 4.4.1).
-pub(crate) fn handling_in(params: &[Param<'_>]) -> Result<Handling, CodeFault>
-    ensures { AnswersAs (checked (q_fault (param_at (codes "Q") params.now))
-        (Ok (handling_in (param_at (codes "Q") params.now)))) result }
+// How quarantined events are handled by Q: step and process where Q is absent.
+pub(crate) fn handling_at(params: &[Param<'_>]) -> Result<Handling, CodeFault>
+    ensures { AnswersAs (handling_at (param_at (codes "Q") params.now)) result }
 {
     match param_at(b"Q", params) {
         Some(param) => read_handling(param.value.as_slice()),
@@ -95,42 +71,55 @@ fn map_value<'m>(params: &'m [Param<'_>]) -> Option<&'m [u8]>
     }
 }
 
-/// What D does with the digit map: it stays where D is absent (RFC 3435, 2.3.3).
-pub(crate) fn change_in(alloc: Global, params: &[Param<'_>]) -> Result<MapChange, CodeFault>
-    ensures { AnswersAs (checked (d_fault (param_at (codes "D") params.now))
-        (Ok (change_in (param_at (codes "D") params.now)))) result }
+// What D does with the digit map: it stays where D is absent.
+pub(crate) fn change_at(alloc: Global, params: &[Param<'_>]) -> Result<MapChange, CodeFault>
+    ensures { AnswersAs (change_at (param_at (codes "D") params.now)) result }
 {
     match read_change(alloc, map_value(params)) {
         Ok(change) => Ok(change),
         Err(MapFault::OutOfMemory) => Err(CodeFault::OutOfMemory),
-        Err(MapFault::Syntax) => Err(CodeFault::Code(510)),
-        Err(MapFault::TooLarge) => Err(CodeFault::Code(502)),
+        Err(MapFault::Syntax) => Err(CodeFault::of(ReturnCode::ProtocolError)),
+        Err(MapFault::TooLarge) => Err(CodeFault::of(ReturnCode::InsufficientResources)),
     }
 }
 
-/// The events that R asks for; none where R is empty or absent (RFC 3435, 2.3.3).
-pub(crate) fn requested_in(
-    alloc: Global,
-    params: &[Param<'_>],
-) -> Result<RequestedEvents, CodeFault>
-    ensures { AnswersAs (checked (r_fault (value_at (codes "R") params.now))
-        (Ok (requested_in (value_at (codes "R") params.now)))) result }
+// What is requested with this identifier, by Q, D, R, T and S.
+#[tactic(auto, unfolding(crate::specs::Values::request_of))]
+fn request_of(alloc: Global, value: &[u8], params: &[Param<'_>]) -> Result<RequestForm, CodeFault>
+    ensures { AnswersAs (request_of value.now params.now) result }
 {
-    read_events(alloc, value_at(b"R", params))
+    let identifier = identifier_from(value)?;
+    let handling = handling_at(params)?;
+    let map = change_at(alloc, params)?;
+    let requested = read_events(alloc, value_at(b"R", params))?;
+    let detected = read_detect(value_at(b"T", params))?;
+    let signals = read_signals(value_at(b"S", params))?;
+    Ok(RequestForm {
+        identifier,
+        requested,
+        detected,
+        signals,
+        handling,
+        map,
+    })
 }
 
-/// The events that T says to look for; none where T is empty or absent (RFC 3435, 2.3.3).
-pub(crate) fn detected_in(params: &[Param<'_>]) -> Result<DetectedEvents, CodeFault>
-    ensures { AnswersAs (checked (t_fault (value_at (codes "T") params.now))
-        (Ok (detected_in (value_at (codes "T") params.now)))) result }
+// The request, where X stands there.
+fn request_at(alloc: Global, params: &[Param<'_>]) -> Result<Option<RequestForm>, CodeFault>
+    ensures { AnswersAs (request_at (param_at (codes "X") params.now) params.now) result }
 {
-    read_detect(value_at(b"T", params))
+    let Some(param) = param_at(b"X", params) else {
+        return Ok(None);
+    };
+    Ok(Some(request_of(alloc, param.value.as_slice(), params)?))
 }
 
-/// The signals that S asks for; none where S is empty or absent (RFC 3435, 2.3.3).
-pub(crate) fn signals_in(params: &[Param<'_>]) -> Result<SignalRequests, CodeFault>
-    ensures { AnswersAs (checked (s_fault (value_at (codes "S") params.now))
-        (Ok (signals_in (value_at (codes "S") params.now)))) result }
+/// What is to be done on a line, by N, and by X with what is requested.
+#[tactic(auto, unfolding(crate::specs::Values::deed_of))]
+pub(crate) fn deed_of(alloc: Global, params: &[Param<'_>], table: &Table) -> Result<Deed, CodeFault>
+    ensures { AnswersAs (deed_of params.now table.now) result }
 {
-    read_signals(value_at(b"S", params))
+    let entity = entity_at(table, params)?;
+    let request = request_at(alloc, params)?;
+    Ok(Deed { entity, request })
 }

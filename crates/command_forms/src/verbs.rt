@@ -2,6 +2,7 @@
 ghost use Rattle.std.specs.Prelude.{◌≡◌};
 ghost use Rattle.command_forms.specs.Verbs.{row_of};
 
+use crate::forms::Target;
 use mgcp_text::{Bytes, Verb};
 
 /// Where the name of a command may mean all lines.
@@ -15,9 +16,9 @@ pub(crate) enum AllLines {
 
 /// What a verb asks for.
 #[derive(Clone, Copy)]
-pub(crate) enum FormKind {
-    Audit,
-    Request,
+pub(crate) enum Purpose {
+    ForReport,
+    ForDeed,
 }
 
 /// A verb that is served: the codes of the parameters that it must have and of those that it may have, each a letter;
@@ -27,7 +28,14 @@ pub(crate) struct VerbRow {
     pub must: Bytes<'static>,
     pub may: Bytes<'static>,
     pub all_lines: AllLines,
-    pub kind: FormKind,
+    pub purpose: Purpose,
+}
+
+/// What the verb and the name of a command mean: a verb that is served, and the lines that the command is for.
+#[derive(Drop)]
+pub struct Meant {
+    pub(crate) row: VerbRow,
+    pub(crate) target: Target,
 }
 
 /// The row of a verb, if it is served.
@@ -39,13 +47,13 @@ pub(crate) fn row_of(verb: Verb) -> Option<VerbRow>
             must: Bytes::of(b"X"),
             may: Bytes::of(b"NRSDTQ"),
             all_lines: AllLines::Always,
-            kind: FormKind::Request,
+            purpose: Purpose::ForDeed,
         }),
         Verb::Auep => Some(VerbRow {
             must: Bytes::of(b""),
             may: Bytes::of(b"F"),
             all_lines: AllLines::WithoutItems,
-            kind: FormKind::Audit,
+            purpose: Purpose::ForReport,
         }),
         Verb::Epcf
         | Verb::Ntfy

@@ -6,7 +6,7 @@ ghost use Rattle.connections.specs.Connection.{given_or, remote_or, renewed, ren
 use crate::codec::{Codecs, Encoding, are_same_codecs, codecs_by, offered_of};
 use crate::mode::{Mode, sends};
 use crate::options::{CodecChoice, Options};
-use mg_bytes::Identifier;
+use mg_bytes::{Identifier, ReturnCode};
 use sdp_subset::Session;
 
 /// The codecs of a connection.
@@ -123,10 +123,10 @@ pub(crate) fn begun(encoding: Encoding, creation: Creation, number: u32) -> Resu
     ensures { result ≡ begun encoding creation number }
 {
     let Some(codecs) = agreed(creation.options.codecs, encoding, &creation.remote) else {
-        return Err(534);
+        return Err(ReturnCode::CodecNegotiationFailure.number());
     };
     if !can_be(creation.mode, &creation.remote) {
-        return Err(527);
+        return Err(ReturnCode::MissingRemoteDescription.number());
     }
     Ok(Connection {
         call: creation.call,
@@ -167,15 +167,15 @@ fn renewed_to(
     ensures { result ≡ renewed_to encoding was.now mode options remote }
 {
     let Some(codecs) = agreed(options.codecs, encoding, &remote) else {
-        return Err(534);
+        return Err(ReturnCode::CodecNegotiationFailure.number());
     };
     if !can_be(mode, &remote) {
-        return Err(527);
+        return Err(ReturnCode::MissingRemoteDescription.number());
     }
     let mut version = was.version;
     if is_changed(was, options, codecs) {
         if version == u32::MAX {
-            return Err(502);
+            return Err(ReturnCode::InsufficientResources.number());
         }
         version += 1;
     }

@@ -6,7 +6,7 @@ use crate::codec::{Encoding, payloads_of};
 use crate::connection::{Change, Connection, Creation, begun, is_changed, renewed};
 use crate::deletion::Deletion;
 use crate::places::{free_place, is_emptied, place_of, place_with, refused};
-use mg_bytes::{CodeFault, Identifier, OutOfMemory};
+use mg_bytes::{CodeFault, Identifier, OutOfMemory, ReturnCode};
 use sdp_subset::{Origin, Session};
 use std::marker::Model;
 use std::net::Ipv4Addr;
@@ -92,10 +92,10 @@ impl Connections {
         ensures left { self.new ≡ left_by self.old (created encoding creation self.old) }
     {
         let Some(place) = free_place(&self.places) else {
-            return Err(540);
+            return Err(ReturnCode::TooManyConnections.number());
         };
         if self.last == u32::MAX {
-            return Err(502);
+            return Err(ReturnCode::InsufficientResources.number());
         }
         let number = self.last + 1;
         let connection = begun(encoding, creation, number)?;
@@ -145,7 +145,7 @@ impl Connections {
     {
         let place = place_of(call, id, &self.places)?;
         let Some(was) = &self.places[place] else {
-            return Err(515);
+            return Err(ReturnCode::IncorrectConnection.number());
         };
         let connection = renewed(encoding, change, was)?;
         let mut shown = None;
@@ -204,10 +204,10 @@ impl Connections {
         ensures { result ≡ audited id.now self.now }
     {
         let Some(place) = place_with(id, &self.places) else {
-            return Err(515);
+            return Err(ReturnCode::IncorrectConnection.number());
         };
         let Some(connection) = &self.places[place] else {
-            return Err(515);
+            return Err(ReturnCode::IncorrectConnection.number());
         };
         Ok(Audited {
             connection: connection.copy(),

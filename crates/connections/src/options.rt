@@ -6,7 +6,7 @@ ghost use Rattle.connections.specs.Options.{codecs_text, options_text};
 
 use crate::codec::{Codec, Codecs};
 use crate::option_items::{are_options, bounds_of, codecs_in, time_within, value_of};
-use mg_bytes::{OutOfMemory, Text, put_decimal};
+use mg_bytes::{OutOfMemory, ReturnCode, Text, put_decimal};
 use std::alloc::Global;
 
 /// Which codecs are asked for.
@@ -63,10 +63,10 @@ fn options_with(codecs: CodecChoice, value: Option<&[u8]>) -> Result<Options, u1
         });
     };
     let Some(bounds) = bounds_of(value) else {
-        return Err(535);
+        return Err(ReturnCode::UnsupportedPacketTime.number());
     };
     let Some(packet_time) = time_within(bounds) else {
-        return Err(535);
+        return Err(ReturnCode::UnsupportedPacketTime.number());
     };
     Ok(Options {
         codecs,
@@ -84,7 +84,7 @@ pub fn read_options(value: &[u8]) -> Result<Options, u16>
     ensures { result ≡ options_of value.now }
 {
     if !are_options(value) {
-        return Err(541);
+        return Err(ReturnCode::UnsupportedConnectionOptions.number());
     }
     options_with(choice_from(value_of(b"a", value)), value_of(b"p", value))
 }

@@ -6,7 +6,7 @@ ghost use Rattle.connections.specs.Standing.{place_of, is_emptied, refused};
 
 use crate::connection::Connection;
 use crate::deletion::{Deletion, has_id, is_meant, is_of_call};
-use mg_bytes::Identifier;
+use mg_bytes::{Identifier, ReturnCode};
 
 fn is_free(held: &Option<Connection>) -> bool
     ensures { result ≡ is_free held.now }
@@ -106,11 +106,11 @@ pub(crate) fn place_of(
     ensures within { IfOk result (λ place. place < length places.now) }
 {
     if !has_call(call, places) {
-        return Err(516);
+        return Err(ReturnCode::UnknownCall.number());
     }
     match place_in(call, id, places) {
         Some(place) => Ok(place),
-        None => Err(515),
+        None => Err(ReturnCode::IncorrectConnection.number()),
     }
 }
 
@@ -134,14 +134,14 @@ pub(crate) fn refused(deletion: &Deletion, places: &[Option<Connection>]) -> Opt
             if has_call(call, places) {
                 None
             } else {
-                Some(516)
+                Some(ReturnCode::UnknownCall.number())
             }
         }
         Deletion::One(call, id) => {
             if !has_call(call, places) {
-                Some(516)
+                Some(ReturnCode::UnknownCall.number())
             } else if place_in(call, id, places).is_none() {
-                Some(515)
+                Some(ReturnCode::IncorrectConnection.number())
             } else {
                 None
             }

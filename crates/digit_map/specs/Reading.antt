@@ -29,3 +29,9 @@ AnswersAs said (Ok value) = said ≡ Ok value
 AnswersAs said (Err OutOfMemory) = ⊤
 AnswersAs said (Err Syntax) = said ≡ Err Syntax
 AnswersAs said (Err TooLarge) = said ≡ Err TooLarge
+
+-- a fault's number, from 1
+abbrev pub map_fault_number : MapFault → ℕ
+map_fault_number OutOfMemory = 1
+map_fault_number Syntax = 2
+map_fault_number TooLarge = 3

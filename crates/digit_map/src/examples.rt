@@ -5,7 +5,7 @@ ghost use Rattle.std.specs.Prelude.{◌≡◌, ℕ, List, codes, true, false, []
 ghost use Rattle.std.specs.List.{list_all};
 ghost use Rattle.digit_map.specs.Cuts.{left_parenthesis, right_parenthesis, bar, strings_of, positions_of, set_of, parts_of};
 ghost use Rattle.digit_map.specs.Spelling.{is_position, is_map};
-ghost use Rattle.digit_map.specs.Reading.{map_of, AnswersAs};
+ghost use Rattle.digit_map.specs.Reading.{map_of, map_fault_number, AnswersAs};
 ghost use Rattle.digit_map.specs.Change.{change_of};
 ghost use Rattle.digit_map.specs.Words.{is_word};
 ghost use Rattle.digit_map.specs.Example.{dialled, verdict, critical, copies, letters_of};
@@ -270,4 +270,11 @@ pub fn sixty_four_letters_have_verdicts()
     ensures one_more { verdict (copies 63 (codes "x")) (copies 64 (codes "5")) ≡ Verdict.Impossible }
     ensures longest { let map = copies 409 (codes "[0-9]") ++ codes "123" in
         verdict map (copies 64 (codes "5")) ≡ Verdict.Partial }
+{}
+
+/// Faults are numbered from 1, in the order in which they are declared.
+pub fn faults_have_numbers()
+    ensures memory { map_fault_number MapFault.OutOfMemory ≡ 1 }
+    ensures syntax { map_fault_number MapFault.Syntax ≡ 2 }
+    ensures size { map_fault_number MapFault.TooLarge ≡ 3 }
 {}

@@ -79,3 +79,8 @@ local_text Any = codes "$"
 -- the name that is written of endpoints on the gateway with this domain
 unfoldable pub name_text : Pattern → List ℕ → List ℕ
 name_text pattern domain = local_text pattern ++ at_sign ∷ domain
+
+-- a fault's number, from 1
+abbrev pub name_fault_number : NameFault → ℕ
+name_fault_number Unknown = 1
+name_fault_number TooComplicated = 2

@@ -35,3 +35,9 @@ fault_of hosts name = first_fault
     ∷ unless (not (has_name hosts name)) Twice
     ∷ unless (nat_lt (length hosts) 64) Full
     ∷ [])
+
+-- a fault's number, from 1
+abbrev pub table_fault_number : TableFault → ℕ
+table_fault_number NotADomain = 1
+table_fault_number Twice = 2
+table_fault_number Full = 3

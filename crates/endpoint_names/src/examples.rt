@@ -3,8 +3,8 @@
 
 ghost use Rattle.std.specs.Prelude.{◌≡◌, ◌++◌, ◌∷◌, codes, replicate, true, false, Ok, Err, Some, None};
 ghost use Rattle.mg_bytes.specs.Bytes.{at_sign};
-ghost use Rattle.endpoint_names.specs.Name.{means_line, name_text};
-ghost use Rattle.endpoint_names.specs.Table.{is_domain, fault_of};
+ghost use Rattle.endpoint_names.specs.Name.{means_line, name_fault_number, name_text};
+ghost use Rattle.endpoint_names.specs.Table.{is_domain, fault_of, table_fault_number};
 ghost use Rattle.endpoint_names.specs.Entity.{entity_of};
 ghost use Rattle.endpoint_names.specs.Examples.{meaning, table_of, hosts_named, read_at, IsAt, IsNoEntity};
 
@@ -144,4 +144,13 @@ pub fn tables_have_64_names()
         ≡ Some TableFault.NotADomain }
     ensures no_domain_twice { fault_of (hosts_named (codes "b_") 64) (codes "b_")
         ≡ Some TableFault.NotADomain }
+{}
+
+/// Faults are numbered from 1, in the order in which they are declared.
+pub fn faults_have_numbers()
+    ensures unknown { name_fault_number NameFault.Unknown ≡ 1 }
+    ensures complicated { name_fault_number NameFault.TooComplicated ≡ 2 }
+    ensures no_domain { table_fault_number TableFault.NotADomain ≡ 1 }
+    ensures twice { table_fault_number TableFault.Twice ≡ 2 }
+    ensures full { table_fault_number TableFault.Full ≡ 3 }
 {}

@@ -5,7 +5,7 @@ ghost use Rattle.mg_bytes.specs.Bytes.{digit_zero};
 ghost use Rattle.mg_bytes.specs.Case.{same_but_case};
 ghost use Rattle.mg_bytes.specs.Numbers.{decimal_of};
 ghost use Rattle.endpoint_names.specs.Name.{line_named, names_all, names_any, has_wildcard, is_wildcard, pattern_of, name_of};
-ghost use Rattle.endpoint_names.specs.Name.{means_line, local_text, name_text};
+ghost use Rattle.endpoint_names.specs.Name.{means_line, name_fault_number, local_text, name_text};
 
 use mg_bytes::{OutOfMemory, Text, decimal, put_decimal, same_no_case, split_once};
 use std::alloc::Global;
@@ -28,6 +28,15 @@ pub enum NameFault {
     Unknown = 1,
     /// A term of the local name is `*` or `$`, in a place where this gateway takes none.
     TooComplicated = 2,
+}
+
+impl NameFault {
+    /// Its number, from 1.
+    pub fn number(self) -> u8
+        ensures { result ≡ name_fault_number self }
+    {
+        self as u8
+    }
 }
 
 fn is_wildcard(term: &[u8]) -> bool

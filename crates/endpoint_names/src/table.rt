@@ -1,6 +1,6 @@
 //! The configured names of hosts, which stand for DNS (RFC 3435, 2.1.4).
 ghost use Rattle.std.specs.Prelude.{◌≡◌, ◌++◌, ◌∷◌, [], Some, None, OnOk, OnErr, IfErr, IsOk};
-ghost use Rattle.endpoint_names.specs.Table.{address_of, has_name, fault_of};
+ghost use Rattle.endpoint_names.specs.Table.{address_of, has_name, fault_of, table_fault_number};
 
 use crate::domain::is_domain;
 use crate::fixed::FixedText;
@@ -37,6 +37,15 @@ pub enum TableFault {
     Twice = 2,
     /// The table has 64 names.
     Full = 3,
+}
+
+impl TableFault {
+    /// Its number, from 1.
+    pub fn number(self) -> u8
+        ensures { result ≡ table_fault_number self }
+    {
+        self as u8
+    }
 }
 
 fn has_name(hosts: &[Host], name: &[u8]) -> bool

@@ -7,6 +7,7 @@ pub mod DetectLaws
 pub mod EachLemmas
 pub mod EventLemmas
 pub mod EventLaws
+pub mod FaultLaws
 pub mod EmbeddedLaws
 pub mod GiveLemmas
 pub mod HandlingLaws

@@ -1,4 +1,6 @@
--- What an entry of R asks for at its events (RFC 3435, 2.3.3).
+-- What an entry of R asks for at its events (RFC 3435, 2.3.3). An action that isn't known, or that
+-- doesn't go with the others or with its events, is 523 (illegal actions), parameters are 538 (parameter error), and
+-- what isn't spelled so is 510 (protocol error).
 use Rattle.std.specs.Prelude.{ℕ, nat_le, Bool, true, false, not, if◌then◌else◌, List, [], ◌∷◌, codes, count_by, filter, Option, Some, None, option_map, Result, Ok, Err}
 use Rattle.std.specs.List.{list_any, slice_index_or}
 use Rattle.mg_bytes.specs.Case.{same_but_case}

@@ -12,7 +12,7 @@ use Rattle.event_syntax.specs.Events.{events_called, events_text, is_writable}
 abbrev pub most_events : ℕ
 most_events = 32
 
--- no event takes parameters
+-- no event takes parameters: they are 538 (parameter error)
 abbrev pub without_parameters : List (List ℕ) → Events → Result Events ℕ
 without_parameters [] events = Ok events
 without_parameters (parameters ∷ rest) events = Err 538
@@ -29,7 +29,7 @@ detected entry = detected_from (form_of entry)
 unfoldable pub detected_in : List ℕ → Result (List Events) ℕ
 detected_in value = each_up_to most_events detected (entries value)
 
--- the value, or the code of its first fault
+-- the value, or the code of its first fault: 510 (protocol error) where it isn't spelled
 unfoldable pub detected_of : List ℕ → Result (List Events) ℕ
 detected_of value = if are_detected value then detected_in value else Err 510
 

@@ -1,4 +1,5 @@
--- Embedded requests (RFC 3435, 2.3.3): what stands in the parentheses of E.
+-- Embedded requests (RFC 3435, 2.3.3): what stands in the parentheses of E. What isn't spelled so is 510
+-- (protocol error).
 use Rattle.std.specs.Prelude.{◌≡◌, ⊤, ℕ, if◌then◌else◌, List, [], ◌∷◌, codes, Option, Some, None, Result, Ok, Err}
 use Rattle.mg_bytes.specs.Case.{same_but_case}
 use Rattle.mg_bytes.specs.declared.code_fault.CodeFault.{CodeFault}
@@ -14,7 +15,7 @@ use Rattle.event_syntax.specs.Signals.{signals_in}
 use Rattle.event_syntax.specs.Detect.{most_events}
 use Rattle.event_syntax.specs.Actions.{Deed, plain, embed, accumulate_and_embed, Rule, rule_of}
 
--- Its R: no request is embedded once more
+-- Its R: no request is embedded once more, which is 523 (illegal actions)
 
 abbrev pub embedded_event_by : Rule → Deed → Result EmbeddedEvent ℕ
 embedded_event_by rule (plain action) = Ok (record { events = rule.events; action = action; keep = rule.keep })

@@ -48,7 +48,7 @@ abbrev pub events_from : (Package × List ℕ) → Option (List ℕ × List ℕ)
 events_from place None = events_in place.0 place.1
 events_from place (Some sides) = Err 512
 
--- the events of a package; behind `@` stands a connection, on which this gateway has no events
+-- the events of a package; behind `@` stands a connection, on which this gateway has no events: 512 (unsupported event)
 abbrev pub events_at : (Package × List ℕ) → Result Events ℕ
 events_at place = events_from place (split_once at_sign place.1)
 

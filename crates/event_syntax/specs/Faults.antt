@@ -14,6 +14,6 @@ each read (text ∷ texts) = do
   rest ← each read texts
   Ok (first ∷ rest)
 
--- the same of at most so many; more are 502
+-- the same of at most so many; more are 502 (insufficient resources)
 abbrev pub each_up_to : {A : Type 0} → ℕ → (List ℕ → Result A ℕ) → List (List ℕ) → Result (List A) ℕ
 each_up_to most read texts = if nat_le (length texts) most then each read texts else Err 502

@@ -1,5 +1,5 @@
 -- The value of Q (RFC 3435, 2.3.3 and 4.4.1): whether quarantined events are processed, and whether notifications follow
--- one another without a request between them.
+-- one another without a request between them. Any other value is 508 (unsupported quarantine handling).
 use Rattle.std.specs.Prelude.{ℕ, if◌then◌else◌, List, [], ◌∷◌, ◌++◌, codes, Result, Ok, Err}
 use Rattle.mg_bytes.specs.Bytes.{comma}
 use Rattle.mg_bytes.specs.Case.{same_but_case}

@@ -60,7 +60,7 @@ observed_from (Some form) = do
   event ← event_of form.head
   observed_with event form.inside
 
--- every fault is 510
+-- every fault is 510 (protocol error)
 abbrev pub or_510 : Result Observed ℕ → Result Observed ℕ
 or_510 (Ok told) = Ok told
 or_510 (Err code) = Err 510

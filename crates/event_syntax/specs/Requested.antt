@@ -44,7 +44,7 @@ requested entry = do
 unfoldable pub requested_in : List ℕ → Result (List RequestedEvent) ℕ
 requested_in value = each_up_to most_events requested (entries value)
 
--- the value, or the code of its first fault
+-- the value, or the code of its first fault: 510 (protocol error) where it isn't spelled
 unfoldable pub requested_of : List ℕ → Result (List RequestedEvent) ℕ
 requested_of value = if are_requested value then requested_in value else Err 510
 

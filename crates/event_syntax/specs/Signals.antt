@@ -1,4 +1,5 @@
--- The value of S (RFC 3435, 2.3.3): what it is read as, and how it is written.
+-- The value of S (RFC 3435, 2.3.3): what it is read as, and how it is written. What isn't spelled so is 510 (protocol
+-- error), a signal on a connection 513 (unsupported signal), and another parameter 538 (parameter error).
 use Rattle.std.specs.Prelude.{ℕ, nat_le, Bool, true, false, ◌&&◌, if◌then◌else◌, List, [], ◌∷◌, ◌++◌, length, take, drop, map, codes, decimal, Option, Some, None, option_map, option_and_then, Result, Ok, Err}
 use Rattle.std.specs.List.{list_all, join_with_byte}
 use Rattle.std.specs.Str.{bytes_eq}

@@ -10,7 +10,7 @@ use crate::events::{Events, events_called, put_events};
 use crate::form::{Inside, form_of};
 use crate::spelling::{are_detected, has_at_most};
 use arrayvec::ArrayVec;
-use mg_bytes::{CodeFault, OutOfMemory, Text};
+use mg_bytes::{CodeFault, OutOfMemory, ReturnCode, Text};
 use std::alloc::Global;
 use std::marker::Model;
 
@@ -68,12 +68,12 @@ fn detected(entry: &[u8]) -> Result<Events, u16>
     ensures { result ≡ detected entry.now }
 {
     let Some(form) = form_of(entry) else {
-        return Err(510);
+        return Err(ReturnCode::ProtocolError.number());
     };
     let events = events_called(form.head)?;
     match form.inside {
         Inside::Nothing => Ok(events),
-        Inside::Single(_) | Inside::Double(_, _) => Err(538),
+        Inside::Single(_) | Inside::Double(_, _) => Err(ReturnCode::EventParameterError.number()),
     }
 }
 
@@ -94,7 +94,7 @@ fn detected_in(value: &[u8]) -> Result<DetectedEvents, u16>
     ensures { result ≡ detected_in value.now }
 {
     if !has_at_most(value, MOST_EVENTS) {
-        return Err(502);
+        return Err(ReturnCode::InsufficientResources.number());
     }
     each_detected(value)
 }
@@ -113,7 +113,7 @@ pub fn read_detect(value: &[u8]) -> Result<DetectedEvents, CodeFault>
     ensures writable { IfOk result (λ list. are_writable_events list ≡ true) }
 {
     if !are_detected(value) {
-        return Err(CodeFault::Code(510));
+        return Err(CodeFault::of(ReturnCode::ProtocolError));
     }
     match detected_in(value) {
         Ok(list) => Ok(list),

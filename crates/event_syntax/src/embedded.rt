@@ -15,7 +15,7 @@ use crate::rule::{Deed, rule_of};
 use crate::signals::{SignalRequests, signals_in};
 use crate::spelling::has_at_most;
 use digit_map::{MapFault, MapText, read_map};
-use mg_bytes::{CodeFault, same_no_case};
+use mg_bytes::{CodeFault, ReturnCode, same_no_case};
 use std::alloc::Global;
 
 // An entry of R, where no request can be embedded once more.
@@ -30,7 +30,7 @@ fn embedded_event(entry: &[u8]) -> Result<EmbeddedEvent, u16>
             action,
             keep: rule.keep,
         }),
-        Deed::Embed(_) | Deed::AccumulateAndEmbed(_) => Err(523),
+        Deed::Embed(_) | Deed::AccumulateAndEmbed(_) => Err(ReturnCode::IllegalActions.number()),
     }
 }
 
@@ -49,7 +49,7 @@ fn events_in(value: &[u8]) -> Result<EmbeddedEvents, u16>
     ensures { result ≡ each_up_to most_events embedded_event (entries value.now) }
 {
     if !has_at_most(value, MOST_EVENTS) {
-        return Err(502);
+        return Err(ReturnCode::InsufficientResources.number());
     }
     each_event(value)
 }
@@ -60,8 +60,8 @@ fn map_in(alloc: Global, value: &[u8]) -> Result<MapText, CodeFault>
     match read_map(alloc, value) {
         Ok(map) => Ok(map),
         Err(MapFault::OutOfMemory) => Err(CodeFault::OutOfMemory),
-        Err(MapFault::Syntax) => Err(CodeFault::Code(510)),
-        Err(MapFault::TooLarge) => Err(CodeFault::Code(502)),
+        Err(MapFault::Syntax) => Err(CodeFault::of(ReturnCode::ProtocolError)),
+        Err(MapFault::TooLarge) => Err(CodeFault::of(ReturnCode::InsufficientResources)),
     }
 }
 
@@ -95,10 +95,10 @@ fn with_part(
     ensures { Gives (with_part request part.now) result }
 {
     let Some(form) = form_of(part) else {
-        return Err(CodeFault::Code(510));
+        return Err(CodeFault::of(ReturnCode::ProtocolError));
     };
     match form.inside {
-        Inside::Nothing => Err(CodeFault::Code(510)),
+        Inside::Nothing => Err(CodeFault::of(ReturnCode::ProtocolError)),
         Inside::Single(value) | Inside::Double(value, _) => with_part_named(
             alloc, request, form.head, value,
         ),

@@ -4,7 +4,7 @@ ghost use Rattle.event_syntax.specs.Events.{one, one_in, is_all, letters_from, e
 ghost use Rattle.event_syntax.specs.Ranges.{in_brackets};
 
 use crate::range::{in_brackets, letters_in, put_letters};
-use mg_bytes::{OutOfMemory, same_no_case, split_once};
+use mg_bytes::{OutOfMemory, ReturnCode, same_no_case, split_once};
 use mg_packages::{Event, Package, event_in, event_name, in_package};
 
 /// The events that an entry of R or T names (RFC 3435, 2.1.7).
@@ -105,7 +105,7 @@ pub(crate) fn events_called(text: &[u8]) -> Result<Events, u16>
 {
     let (within, name) = in_package(text)?;
     match split_once(name, b'@') {
-        Some(_) => Err(512),
+        Some(_) => Err(ReturnCode::UnsupportedEvent.number()),
         None => events_in(within, name),
     }
 }

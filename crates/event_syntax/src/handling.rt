@@ -4,7 +4,7 @@ ghost use Rattle.mg_bytes.specs.CodeFault.{AnswersAs, answer_of};
 ghost use Rattle.event_syntax.specs.Handling.{word_of, by_one, by_two, handling_of};
 ghost use Rattle.event_syntax.specs.Handling.{notifying_text, quarantined_text, handling_text};
 
-use mg_bytes::{CodeFault, OutOfMemory, Text, list_items, same_no_case};
+use mg_bytes::{CodeFault, OutOfMemory, ReturnCode, Text, list_items, same_no_case};
 use std::alloc::Global;
 
 /// Whether a line that has notified notifies again without a new request (RFC 3435, 4.4.1).
@@ -68,7 +68,7 @@ fn by_one(word: Word) -> Result<Handling, u16>
             notifying: Notifying::Step,
             quarantined,
         }),
-        Word::Other => Err(508),
+        Word::Other => Err(ReturnCode::UnsupportedHandling.number()),
     }
 }
 
@@ -81,7 +81,7 @@ fn by_two(first: Word, second: Word) -> Result<Handling, u16>
             notifying,
             quarantined,
         }),
-        _ => Err(508),
+        _ => Err(ReturnCode::UnsupportedHandling.number()),
     }
 }
 
@@ -91,13 +91,13 @@ fn handling_of(value: &[u8]) -> Result<Handling, u16>
 {
     let mut words = list_items(value);
     let Some(first) = words.next() else {
-        return Err(508);
+        return Err(ReturnCode::UnsupportedHandling.number());
     };
     let Some(second) = words.next() else {
         return by_one(word_of(first));
     };
     if words.next().is_some() {
-        return Err(508);
+        return Err(ReturnCode::UnsupportedHandling.number());
     }
     by_two(word_of(first), word_of(second))
 }

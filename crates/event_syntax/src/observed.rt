@@ -13,7 +13,7 @@ ghost use Rattle.event_syntax.specs.Observed.{observed_entry_text, observed_text
 use crate::cut::entries;
 use crate::form::{Inside, form_of};
 use crate::signals::signal_called;
-use mg_bytes::{CodeFault, OutOfMemory, Sequence, Text};
+use mg_bytes::{CodeFault, OutOfMemory, ReturnCode, Sequence, Text};
 use mg_packages::{
     Event, Kind, Package, Signal, completion_of, event_name, event_of, kind_of, signal_name,
 };
@@ -75,7 +75,7 @@ fn happened(event: Event) -> Result<Observed, u16>
     ensures { result ≡ happened event }
 {
     if is_completion(event) {
-        Err(510)
+        Err(ReturnCode::ProtocolError.number())
     } else {
         Ok(Observed::Happened(event))
     }
@@ -87,7 +87,7 @@ fn ended(event: Event, signal: Signal) -> Result<Observed, u16>
     if tells(event, signal) {
         Ok(Observed::Ended(signal))
     } else {
-        Err(510)
+        Err(ReturnCode::ProtocolError.number())
     }
 }
 
@@ -97,7 +97,7 @@ fn observed_with(event: Event, inside: Inside<'_>) -> Result<Observed, u16>
     match inside {
         Inside::Nothing => happened(event),
         Inside::Single(name) => ended(event, signal_called(name)?),
-        Inside::Double(_, _) => Err(510),
+        Inside::Double(_, _) => Err(ReturnCode::ProtocolError.number()),
     }
 }
 
@@ -105,7 +105,7 @@ fn observed_in_form(entry: &[u8]) -> Result<Observed, u16>
     ensures { result ≡ observed_from (form_of entry.now) }
 {
     let Some(form) = form_of(entry) else {
-        return Err(510);
+        return Err(ReturnCode::ProtocolError.number());
     };
     let event = event_of(form.head)?;
     observed_with(event, form.inside)
@@ -117,7 +117,7 @@ fn observed_entry(entry: &[u8]) -> Result<Observed, u16>
 {
     match observed_in_form(entry) {
         Ok(told) => Ok(told),
-        Err(_) => Err(510),
+        Err(_) => Err(ReturnCode::ProtocolError.number()),
     }
 }
 

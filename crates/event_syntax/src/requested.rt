@@ -14,7 +14,7 @@ use crate::request::{Embedding, RequestedEvent, RequestedEvents, Response};
 use crate::request_spelling::are_requested;
 use crate::rule::{Deed, rule_of};
 use crate::spelling::has_at_most;
-use mg_bytes::CodeFault;
+use mg_bytes::{CodeFault, ReturnCode};
 use std::alloc::Global;
 
 fn embedding_in(alloc: Global, inside: &[u8]) -> Result<Embedding, CodeFault>
@@ -66,7 +66,7 @@ fn requested_in(alloc: Global, value: &[u8]) -> Result<RequestedEvents, CodeFaul
     ensures { Gives (requested_in value.now) result }
 {
     if !has_at_most(value, MOST_EVENTS) {
-        return Err(CodeFault::Code(502));
+        return Err(CodeFault::of(ReturnCode::InsufficientResources));
     }
     each_requested(alloc, value)
 }
@@ -92,7 +92,7 @@ pub fn read_events(alloc: Global, value: &[u8]) -> Result<RequestedEvents, CodeF
     ensures writable { IfOk result (λ list. are_writable_requested list ≡ true) }
 {
     if !are_requested(value) {
-        return Err(CodeFault::Code(510));
+        return Err(CodeFault::of(ReturnCode::ProtocolError));
     }
     requested_in(alloc, value)
 }

@@ -9,7 +9,7 @@ use crate::cut::items;
 use crate::events::{Events, events_called};
 use crate::form::{Inside, form_of};
 use crate::request::Action;
-use mg_bytes::same_no_case;
+use mg_bytes::{ReturnCode, same_no_case};
 
 /// What one action says.
 #[derive(Clone, Copy)]
@@ -66,7 +66,7 @@ fn word_named(name: &[u8]) -> Result<Word<'static>, u16>
     } else if same_no_case(name, b"K") {
         Ok(Word::Keeps)
     } else {
-        Err(523)
+        Err(ReturnCode::IllegalActions.number())
     }
 }
 
@@ -75,7 +75,7 @@ fn word_of(action: &[u8]) -> Result<Word<'_>, u16>
     ensures { seen_as word_seen result ≡ word_of action.now }
 {
     let Some(form) = form_of(action) else {
-        return Err(523);
+        return Err(ReturnCode::IllegalActions.number());
     };
     match form.inside {
         Inside::Nothing => word_named(form.head),
@@ -89,7 +89,7 @@ fn and_action<'a>(so_far: Option<Deed<'a>>, action: Action) -> Result<Deed<'a>, 
     match (so_far, action) {
         (None, action) => Ok(Deed::Plain(action)),
         (Some(Deed::Embed(inside)), Action::Accumulate) => Ok(Deed::AccumulateAndEmbed(inside)),
-        _ => Err(523),
+        _ => Err(ReturnCode::IllegalActions.number()),
     }
 }
 
@@ -99,7 +99,7 @@ fn and_embed<'a>(so_far: Option<Deed<'a>>, inside: &'a [u8]) -> Result<Deed<'a>,
     match so_far {
         None => Ok(Deed::Embed(inside)),
         Some(Deed::Plain(Action::Accumulate)) => Ok(Deed::AccumulateAndEmbed(inside)),
-        _ => Err(523),
+        _ => Err(ReturnCode::IllegalActions.number()),
     }
 }
 
@@ -110,7 +110,7 @@ fn and_word<'a>(so_far: SoFar<'a>, word: Word<'a>) -> Result<SoFar<'a>, u16>
     match word {
         Word::Keeps => {
             if so_far.keep {
-                return Err(523);
+                return Err(ReturnCode::IllegalActions.number());
             }
             Ok(SoFar {
                 keep: true,
@@ -163,7 +163,7 @@ fn said_in(inside: Inside<'_>) -> Result<Said<'_>, u16>
             keep: false,
         }),
         Inside::Single(actions) => said_of(actions),
-        Inside::Double(_, _) => Err(538),
+        Inside::Double(_, _) => Err(ReturnCode::EventParameterError.number()),
     }
 }
 
@@ -182,7 +182,7 @@ fn ruled_by(events: Events, said: Said<'_>) -> Result<Rule<'_>, u16>
     ensures { seen_as rule_seen result ≡ ruled_by events (said_seen said.entry) }
 {
     if !takes(events, said.deed) {
-        return Err(523);
+        return Err(ReturnCode::IllegalActions.number());
     }
     Ok(Rule {
         events,
@@ -198,7 +198,7 @@ pub(crate) fn rule_of(entry: &[u8]) -> Result<Rule<'_>, u16>
     ensures { seen_as rule_seen result ≡ rule_of entry.now }
 {
     let Some(form) = form_of(entry) else {
-        return Err(510);
+        return Err(ReturnCode::ProtocolError.number());
     };
     let events = events_called(form.head)?;
     let said = said_in(form.inside)?;

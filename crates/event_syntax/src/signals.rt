@@ -11,7 +11,9 @@ use crate::cut::{entries, items};
 use crate::form::{Inside, form_of};
 use crate::spelling::{are_signals, has_at_most};
 use arrayvec::ArrayVec;
-use mg_bytes::{CodeFault, OutOfMemory, Text, decimal, put_decimal, same_no_case, split_once};
+use mg_bytes::{
+    CodeFault, OutOfMemory, ReturnCode, Text, decimal, put_decimal, same_no_case, split_once,
+};
 use mg_packages::{Kind, Signal, in_package, kind_of, signal_in, signal_name};
 use std::alloc::Global;
 use std::marker::Model;
@@ -156,10 +158,10 @@ fn taken_by(kind: Kind, asked: Option<Setting>) -> Result<Setting, u16>
             if takes(kind, setting) {
                 Ok(setting)
             } else {
-                Err(538)
+                Err(ReturnCode::EventParameterError.number())
             }
         }
-        None => Err(538),
+        None => Err(ReturnCode::EventParameterError.number()),
     }
 }
 
@@ -168,10 +170,10 @@ fn setting_from(kind: Kind, parameters: &[u8]) -> Result<Setting, u16>
 {
     let mut rest = items(parameters);
     let Some(parameter) = rest.next() else {
-        return Err(538);
+        return Err(ReturnCode::EventParameterError.number());
     };
     if rest.next().is_some() {
-        return Err(538);
+        return Err(ReturnCode::EventParameterError.number());
     }
     taken_by(kind, asked_by(parameter))
 }
@@ -194,7 +196,7 @@ pub(crate) fn signal_called(text: &[u8]) -> Result<Signal, u16>
 {
     let (within, name) = in_package(text)?;
     match split_once(name, b'@') {
-        Some(_) => Err(513),
+        Some(_) => Err(ReturnCode::UnsupportedSignal.number()),
         None => signal_in(within, name),
     }
 }
@@ -204,7 +206,7 @@ fn signal_entry(entry: &[u8]) -> Result<SignalRequest, u16>
     ensures { result ≡ signal_entry entry.now }
 {
     let Some(form) = form_of(entry) else {
-        return Err(510);
+        return Err(ReturnCode::ProtocolError.number());
     };
     let signal = signal_called(form.head)?;
     let setting = setting_of(kind_of(signal), form.inside)?;
@@ -228,7 +230,7 @@ pub(crate) fn signals_in(value: &[u8]) -> Result<SignalRequests, u16>
     ensures { result ≡ signals_in value.now }
 {
     if !has_at_most(value, MOST_SIGNALS) {
-        return Err(502);
+        return Err(ReturnCode::InsufficientResources.number());
     }
     each_signal(value)
 }
@@ -249,7 +251,7 @@ pub fn read_signals(value: &[u8]) -> Result<SignalRequests, CodeFault>
     ensures writable { IfOk result (λ requests. are_writable_signals requests ≡ true) }
 {
     if !are_signals(value) {
-        return Err(CodeFault::Code(510));
+        return Err(CodeFault::of(ReturnCode::ProtocolError));
     }
     match signals_in(value) {
         Ok(requests) => Ok(requests),

@@ -10,7 +10,7 @@ use Rattle.plain_machine.specs.declared.output.OutDatagram.{OutDatagram}
 use Rattle.plain_machine.specs.declared.setup.Setup.{Setup}
 use Rattle.plain_machine.specs.Event.{GatewayEvent, datagram, phone, tick, event_of}
 use Rattle.plain_machine.specs.Packing.{put_out}
-use Rattle.plain_machine.specs.Machine.{Endpoints, Machine, Told, told, told_in, opening}
+use Rattle.plain_machine.specs.Machine.{Machine, Effect, opening}
 use Rattle.plain_machine.specs.Happening.{effect}
 use Rattle.plain_machine.specs.Refusing.{refusal_of, tick_refusal, Ends, refused_by}
 use Rattle.plain_machine.specs.Lists.{machine_after, outputs_from, plain, are_taken}
@@ -22,34 +22,32 @@ use Rattle.gateway_core.specs.Sound.{IsSound}
 use Rattle.history.proofs.RecallLaws.{recalls_itself}
 use Rattle.plain_machine.specs.Message.{Sent}
 use Rattle.gateway_core.proofs.AlikeLemmas.{effect_alike, refusal_alike, takes_alike, alike_purged, refusal_purged}
-use Rattle.gateway_core.specs.State.{endpoints_in, machine_in, purged_in, Does, PutsOut}
+use Rattle.gateway_core.specs.State.{machine_in, purged_in, PutsOut, AllOr}
 use Rattle.gateway_core.specs.Alike.{Alike, GoesOn}
 use Rattle.gateway_core.specs.GatewayState.{GatewayState}
 use Rattle.gateway_core.specs.Stands.{Stands, Took, before_place}
 
-pub on_err : {P : Type 0} (r : Result (Unit {0}) Refusal) → P → OnErr r P
-on_err (Ok x) p = tt
-on_err (Err refusal) p = p
-
 -- ---- one event, beside the plain machine
 
--- nothing changes, and nothing is sent
-pub does_nothing : (state : State) (change : Told) → change ≡ told (endpoints_in state) [] → Does (told_in (machine_in state) change) state state
-does_nothing state change none = rw none (record { machine = refl; outbox = sym (append-nil state.outbox.items) })
-
-pub goes_on : (setup : Setup) (k m : Machine) (is : State) (event : GatewayEvent) (were are : List OutDatagram) → Alike k m → refusal_of k event ≡ None
+goes_on : (setup : Setup) (k m : Machine) (is : State) (event : GatewayEvent) (were are : List OutDatagram) → Alike k m → refusal_of k event ≡ None
     → PutsOut (effect setup k event) is were are → GoesOn setup m event (machine_in is) were are
 goes_on setup k m is event were are a none p =
     let same = effect_alike setup k m event a none in
     record { alike = rw (p.machine) same.machine; outputs = p.outputs ∙ ap (λ (sent : List Sent). were ++ put_out sent) same.sent }
 
-pub goes_on_purged : (setup : Setup) (k m : Machine) (is : State) (event : GatewayEvent) (were are : List OutDatagram) → Alike k m → refusal_of k event ≡ None
-    → PutsOut (effect setup (purged_in k) event) is were are → GoesOn setup m event (machine_in is) were are
-goes_on_purged setup k m is event were are a none p =
-    goes_on setup (purged_in k) m is event were are (alike_purged k m a) (refusal_purged k event ∙ none) p
+pub step_goes : (setup : Setup) (k m : Machine) (is : State) (event : GatewayEvent) (were are : List OutDatagram) (result : Result (Unit {0}) Refusal) → Ends setup k event (refused_by result)
+    → AllOr (purged_in k) result (effect setup (purged_in k) event) is were are → Alike k m → OnOk result (GoesOn setup m event (machine_in is) were are)
+step_goes setup k m is event were are (Ok x) e all a = goes_on setup (purged_in k) m is event were are (alike_purged k m a) (refusal_purged k event ∙ ends_fine setup k event e) all
+step_goes setup k m is event were are (Err refusal) e all a = tt
 
-pub alike_after : (k k' m : Machine) → k' ≡ purged_in k → Alike k m → Alike k' m
-alike_after k k' m is a = rw is (alike_purged k m a)
+pub step_stays : (k m : Machine) (is : State) (change : Effect) (were are : List OutDatagram) (result : Result (Unit {0}) Refusal) → AllOr (purged_in k) result change is were are → Alike k m
+    → OnErr result (Alike (machine_in is) m)
+step_stays k m is change were are (Ok x) all a = tt
+step_stays k m is change were are (Err refusal) all a = rw all.machine (alike_purged k m a)
+
+pub step_silent : (k : Machine) (is : State) (change : Effect) (were are : List OutDatagram) (result : Result (Unit {0}) Refusal) → AllOr k result change is were are → OnErr result (are ≡ were)
+step_silent k is change were are (Ok x) all = tt
+step_silent k is change were are (Err refusal) all = all.outputs
 
 -- ---- what holds of every gateway
 
@@ -62,16 +60,22 @@ now_below setup m (datagram source bytes) lt none = rw (effect_now setup m (data
 now_below setup m (phone line act) lt none = rw (effect_now setup m (phone line act)) lt
 now_below setup m (tick moment) lt none = rw (effect_now setup m (tick moment)) (ticks_below m.now moment none)
 
-pub purged_sound : (setup : Setup) (m : Machine) → IsSound setup m → IsSound setup (purged_in m)
+purged_sound : (setup : Setup) (m : Machine) → IsSound setup m → IsSound setup (purged_in m)
 purged_sound setup m s = record { set_up = s.set_up; all = s.all; moment = s.moment }
 
-pub sound_after : (setup : Setup) (m : Machine) (is : State) (event : GatewayEvent) (were are : List OutDatagram) → IsSound setup m → refusal_of m event ≡ None
+sound_after : (setup : Setup) (m : Machine) (is : State) (event : GatewayEvent) (were are : List OutDatagram) → IsSound setup m → refusal_of m event ≡ None
     → PutsOut (effect setup m event) is were are → IsSound setup (machine_in is)
 sound_after setup m is event were are s none p = rw p.machine (record {
   set_up = s.set_up;
   all = effect_lines setup m event ∙ s.all;
   moment = now_below setup m event s.moment none;
 })
+
+pub step_sound : (setup : Setup) (k : Machine) (is : State) (event : GatewayEvent) (were are : List OutDatagram) (result : Result (Unit {0}) Refusal) → IsSound setup k
+    → Ends setup k event (refused_by result) → AllOr (purged_in k) result (effect setup (purged_in k) event) is were are → IsSound setup (machine_in is)
+step_sound setup k is event were are (Ok x) s e all =
+    sound_after setup (purged_in k) is event were are (purged_sound setup k s) (refusal_purged k event ∙ ends_fine setup k event e) all
+step_sound setup k is event were are (Err refusal) s e all = rw all.machine (purged_sound setup k s)
 
 -- ---- lists of events
 

@@ -1,6 +1,7 @@
 -- What a line tells can be written, and goes out.
-use Rattle.std.proofs.Common.{◌≡◌, ℕ, ◌<◌, ◌≤◌, ◌^◌, Bool, true, false, ◌&&◌, List, [], ◌∷◌, ◌++◌, Some, refl, sym, ap, ◌∙◌, arith}
+use Rattle.std.proofs.Common.{◌≡◌, ℕ, ◌<◌, ◌≤◌, ◌^◌, true, false, ◌&&◌, List, [], ◌∷◌, ◌++◌, Some, refl, sym, ap, ◌∙◌, arith}
 use Rattle.std.specs.Prelude.{nat_le, IsTrue}
+use Rattle.std.specs.declared.net.socket_addr.SocketAddrV4.{SocketAddrV4}
 use Rattle.std.specs.List.{list_all}
 use Rattle.std.proofs.lemmas.Bool.Decides.{nat_tests}
 use Rattle.mgcp_text.specs.declared.message.Param.{Param}
@@ -14,13 +15,12 @@ use Rattle.endpoint_names.specs.Table.{is_domain}
 use Rattle.outbound.specs.declared.repeat.Repeat.{Repeat}
 use Rattle.outbound.specs.declared.repeat.Repeat.TheVariants.{Sent as SentAgain, GivenUp}
 use Rattle.outbound.specs.Flight.{InFlight, repeat_of, repeated_as, repeated}
-use Rattle.plain_machine.specs.declared.due_item.Due.TheVariants.{Resend}
 use Rattle.plain_machine.specs.declared.output.OutDatagram.{OutDatagram}
+use Rattle.plain_machine.specs.declared.post.Post.{Post}
 use Rattle.plain_machine.specs.declared.setup.Setup.{Setup}
-use Rattle.plain_machine.specs.declared.station.Station.{Station}
-use Rattle.plain_machine.specs.Falling.{happened_on}
+use Rattle.plain_machine.specs.Posting.{resent_on}
 use Rattle.plain_machine.proofs.NameLemmas.{name_is_word}
-use Rattle.gateway_core.specs.State.{HasTurn}
+use Rattle.gateway_core.specs.Tells.{PostHasTurn}
 
 name_some : (domain : List ℕ) (line : ℕ) → is_empty (name_text (One line) domain) ≡ false
 unfolding name_text
@@ -44,13 +44,12 @@ kept_to message moment = by_repeat (repeat_of message moment) where
   by_repeat SentAgain = (refl, refl)
   by_repeat GivenUp = (refl, refl)
 
-pub sent_again : (setup : Setup) (line moment : ℕ) (station : Station) (message again : InFlight) (sent : OutDatagram) (were are : List OutDatagram) → station.pending ≡ Some message
-    → SentAgain ≡ repeat_of message moment → again ≡ repeated message moment → sent ≡ record { to = again.to; moment = moment; bytes = again.text }
-    → are ≡ were ++ sent ∷ [] → HasTurn (happened_on Resend setup line moment station) (record station { pending = Some again }) were are
-unfolding happened_on
-sent_again setup line moment station message again sent were are flying goes is same more =
+pub sent_again : (line moment : ℕ) (post becomes : Post) (message again : InFlight) (to : SocketAddrV4) (text : List ℕ) (were are : List OutDatagram) → post.pending ≡ Some message
+    → SentAgain ≡ repeat_of message moment → again ≡ repeated message moment → to ≡ again.to → text ≡ again.text
+    → are ≡ were ++ (record { to = to; moment = moment; bytes = text }) ∷ [] → becomes ≡ record post { pending = Some again } → PostHasTurn (resent_on line moment post) becomes were are
+sent_again line moment post becomes message again to text were are flying goes is to_same text_same more same =
     let kept = kept_to message moment in
     rw (flying, sym goes) (record {
-      station = ap (λ (m : InFlight). let s : Station = record station { pending = Some m } in s) is;
-      sent = more ∙ rw (same, is, kept.0, kept.1) refl;
+      post = same ∙ ap (λ (m : InFlight). let p : Post = record post { pending = Some m } in p) is;
+      sent = more ∙ rw (to_same, text_same, is, kept.0, kept.1) refl;
     })

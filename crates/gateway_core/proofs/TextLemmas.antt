@@ -1,48 +1,110 @@
 -- The texts of a datagram, one after the other.
-use Rattle.std.proofs.Common.{◌≡◌, ℕ, ◌<◌, ◌≤◌, true, false, List, [], ◌∷◌, ◌++◌, length, refl, sym, ◌∙◌, ap, append_assoc, append-nil, arith}
-use Rattle.std.specs.Prelude.{nat_lt}
+use Rattle.std.proofs.Common.{◌≡◌, ℕ, ◌<◌, ◌≤◌, Option, true, false, List, [], ◌∷◌, ◌++◌, length, refl, sym, ◌∙◌, ap, subst, append_assoc, append-nil, arith}
+use Rattle.std.specs.Prelude.{nat_lt, Bool, Result}
+use Rattle.std.specs.Bool.{OnTrue}
+use Rattle.std.specs.declared.alloc.AllocError.{AllocError}
+use Rattle.history.specs.Memory.{most_firsts}
+use Rattle.history.specs.Looking.{Told as Looked, new, look_of}
+use Rattle.mgcp_text.specs.Reading.{message}
+use Rattle.mgcp_text.specs.Writing.{written}
+use Rattle.mgcp_text.specs.Message.{params_in}
+use Rattle.mgcp_text.specs.Confirmation.{k_of}
+use Rattle.mgcp_text.specs.declared.message.Message.{Message}
+use Rattle.mgcp_text.specs.declared.message.Message.TheVariants as messages
+use Rattle.mgcp_text.specs.declared.message.Param.{Param}
+use Rattle.mgcp_text.specs.declared.message.Verb.{Verb}
+use Rattle.command_forms.specs.Order.{form_in}
+use Rattle.plain_machine.specs.Commanding.{done_by, commanded}
 use Rattle.std.proofs.lemmas.Bool.Decides.{nat_tests}
 use Rattle.std.proofs.lemmas.List.{map-append}
 use Rattle.std.specs.declared.net.socket_addr.SocketAddrV4.{SocketAddrV4}
+use Rattle.history.specs.declared.span.IdSpan.{IdSpan}
+use Rattle.mgcp_text.specs.Answer.{Answer, response_of}
 use Rattle.mgcp_text.specs.Reading.{read_text}
 use Rattle.plain_machine.specs.declared.setup.Setup.{Setup}
 use Rattle.plain_machine.specs.declared.output.OutDatagram.{OutDatagram}
-use Rattle.plain_machine.specs.Message.{Sent, datagram_of, datagrams_of}
-use Rattle.plain_machine.specs.Machine.{Machine, Effect}
+use Rattle.plain_machine.specs.Message.{datagram_of, datagrams_of}
+use Rattle.plain_machine.specs.Machine.{Machine, Effect, told}
+use Rattle.plain_machine.specs.Done.{Done, only_answer}
 use Rattle.piggyback.specs.Parts.{parts_of}
 use Rattle.plain_machine.specs.Arriving.{texts_of}
-use Rattle.plain_machine.specs.Answering.{handled, took_all}
+use Rattle.plain_machine.specs.Answering.{line_of_name, spans_of, Transaction, transaction, executed, transacted_by, transacted, transaction_of, handled_as, handled, took_all}
+use Rattle.gateway_core.specs.Tells.{Goes}
+use Rattle.plain_machine.proofs.EffectLaws.{handled_now}
 use Rattle.gateway_core.specs.declared.state.State.{State}
-use Rattle.gateway_core.specs.State.{machine_in, Does}
+use Rattle.gateway_core.specs.State.{machine_in, Went, Does, Happened}
 
-pub does_none : (setup : Setup) (source : SocketAddrV4) (was : State) → Does (took_all setup (machine_in was) source []) was was
-unfolding took_all
-does_none setup source was = record { machine = refl; outbox = sym (append-nil was.outbox.items) }
+-- a first is executed: its command changed the floor, then it was answered, and then comes what lines send because of it
+pub executed_then : (was mid is : State) (source : SocketAddrV4) (id : ℕ) (line : Option ℕ) (kept confirms : List IdSpan) (done : Done) (given : Answer) (caused were next are : List OutDatagram)
+    → kept ≡ confirms → given ≡ done.answer → mid.clock ≡ was.clock → mid.history ≡ was.history → Goes done.told was.floor mid.floor [] caused
+    → Went (executed (machine_in mid) source (transaction id line kept (only_answer mid.floor.endpoints given))) mid is were next → are ≡ next ++ caused
+    → Went (executed (machine_in was) source (transaction id line confirms done)) was is were are
+unfolding executed
+executed_then was mid is source id line kept confirms done given caused were next are same ok clock history goes last more = record {
+  machine = last.machine ∙ rw (same, ok, clock, history, goes.endpoints) refl;
+  found = last.found ∙ rw (history, goes.found) refl;
+  sent = more
+      ∙ ap (λ (x : List OutDatagram). x ++ caused) last.sent
+      ∙ append_assoc were (front id source mid.clock given ∷ []) caused
+      ∙ ap (λ (now : ℕ). were ++ front id source now given ∷ caused) clock
+      ∙ ap (λ (a : Answer). were ++ front id source was.clock a ∷ caused) ok
+      ∙ ap (λ (x : List OutDatagram). were ++ front id source was.clock done.answer ∷ x) goes.sent;
+} where
+  front : ℕ → SocketAddrV4 → ℕ → Answer → OutDatagram
+  front id source now a = record { to = source; moment = now; bytes = written (response_of id a) }
 
--- a text, and then the others
-pub does_text : (setup : Setup) (source : SocketAddrV4) (text : List ℕ) (texts : List (List ℕ)) (was between is : State)
-    → Does (handled setup (machine_in was) source (read_text text)) was between → Does (took_all setup (machine_in between) source texts) between is
-    → Does (took_all setup (machine_in was) source (text ∷ texts)) was is
-unfolding took_all
-does_text setup source text texts was between is first rest =
-    let one : Effect = handled setup (machine_in was) source (read_text text) in
-    record {
-      machine = rest.machine ∙ ap (λ (m : Machine). (took_all setup m source texts).machine) first.machine;
-      outbox = rest.outbox
-          ∙ ap (λ (m : Machine). between.outbox.items ++ datagrams_of (took_all setup m source texts).sent) first.machine
-          ∙ ap (λ (x : List OutDatagram). x ++ datagrams_of (took_all setup one.machine source texts).sent) first.outbox
-          ∙ append_assoc was.outbox.items _ _
-          ∙ ap (λ (x : List OutDatagram). was.outbox.items ++ x) (sym (map-append datagram_of one.sent (took_all setup one.machine source texts).sent));
-    }
+on_true : (b : Bool) (P : Type 0) → b ≡ true → OnTrue b P → P
+on_true true P is p = p
+on_true false P is p = absurd cc
+
+-- a command that is new is executed
+pub first_done : (was is : State) (source : SocketAddrV4) (t : Transaction) (were mid are : List OutDatagram) (is_new : Bool)
+    → is_new ≡ true → OnTrue is_new ((look_of most_firsts was.history.kept t.id was.clock ≡ new) × (mid ≡ were))
+    → Went (executed (machine_in was) source t) was is mid are → Went (transacted (machine_in was) source t) was is were are
+first_done was is source t were mid are is_new branch told went =
+    let both = on_true is_new _ branch told in
+    subst (λ (looked : Looked). Went (transacted_by looked (machine_in was) source t) was is were are) (sym both.0)
+    (subst (λ (out : List OutDatagram). Went (executed (machine_in was) source t) was is out are) both.1 went)
+
+pub command_done : (setup : Setup) (result : Result (Unit {0}) AllocError) (was is : State) (were mid are : List OutDatagram) (source : SocketAddrV4) (said : Message) (verb : Verb) (id : ℕ) (name : List ℕ) (params : List Param) (body : List ℕ) (is_new : Bool)
+    → said ≡ messages.Command verb id name params body → is_new ≡ true → OnTrue is_new ((look_of most_firsts was.history.kept id was.clock ≡ new) × (mid ≡ were))
+    → ((line : Option ℕ) → Does result (executed (machine_in was) source (transaction id line (spans_of (k_of (params_in said))) (done_by (form_in said (k_of (params_in said)) setup.names) setup was.floor.endpoints was.clock id))) was is mid are)
+    → Does result (handled setup (machine_in was) source (message said)) was is were are
+unfolding handled
+command_done setup result was is were mid are source said verb id name params body is_new same branch told done =
+    let both = on_true is_new _ branch told in
+    subst (λ (m : Message). Does result (handled_as (transaction_of setup (machine_in was) (message m)) setup (machine_in was) source (message m)) was is were are) (sym same)
+    (subst (λ (looked : Looked). Does result (transacted_by looked (machine_in was) source (asked setup was verb id name params)) was is were are) (sym both.0)
+    (subst (λ (out : List OutDatagram). Does result (executed (machine_in was) source (asked setup was verb id name params)) was is out are) both.1
+    (subst (λ (m : Message). Does result (executed (machine_in was) source (transaction id (line_of_name setup name) (spans_of (k_of (params_in m))) (done_by (form_in m (k_of (params_in m)) setup.names) setup was.floor.endpoints was.clock id))) was is mid are) same (done (line_of_name setup name))))) where
+      asked : Setup → State → Verb → ℕ → List ℕ → List Param → Transaction
+      asked setup was verb id name params = transaction id (line_of_name setup name) (spans_of (k_of params)) (commanded setup was.floor.endpoints was.clock id (record { verb = verb; name = name; params = params }) (k_of params))
 
 -- the first of these, and then the others
-pub does_next : (setup : Setup) (source : SocketAddrV4) (all texts : List (List ℕ)) (text : List ℕ) (was between is : State) → all ≡ text ∷ texts
-    → Does (handled setup (machine_in was) source (read_text text)) was between → Does (took_all setup (machine_in between) source texts) between is
-    → Does (took_all setup (machine_in was) source all) was is
-does_next setup source all texts text was between is same first rest = rw same (does_text setup source text texts was between is first rest)
+pub went_next : (setup : Setup) (source : SocketAddrV4) (all texts : List (List ℕ)) (text : List ℕ) (was between is : State) (were mid are : List OutDatagram) → all ≡ text ∷ texts
+    → Went (handled setup (machine_in was) source (read_text text)) was between were mid → Went (took_all setup (machine_in between) source texts) between is mid are
+    → Went (took_all setup (machine_in was) source all) was is were are
+unfolding took_all
+went_next setup source all texts text was between is were mid are same first rest =
+    let one : Effect = handled setup (machine_in was) source (read_text text) in
+    rw same (record {
+      machine = rest.machine ∙ ap (λ (m : Machine). (took_all setup m source texts).machine) first.machine;
+      found = rest.found ∙ first.found;
+      sent = rest.sent
+          ∙ ap (λ (m : Machine). mid ++ datagrams_of (took_all setup m source texts).sent) first.machine
+          ∙ ap (λ (x : List OutDatagram). x ++ datagrams_of (took_all setup one.machine source texts).sent) first.sent
+          ∙ append_assoc were _ _
+          ∙ ap (λ (x : List OutDatagram). were ++ x) (sym (map-append datagram_of one.sent (took_all setup one.machine source texts).sent));
+    })
 
-pub does_end : (setup : Setup) (source : SocketAddrV4) (all : List (List ℕ)) (was : State) → all ≡ [] → Does (took_all setup (machine_in was) source all) was was
-does_end setup source all was none = rw none (does_none setup source was)
+pub went_end : (setup : Setup) (source : SocketAddrV4) (all : List (List ℕ)) (was : State) (out : List OutDatagram) → all ≡ [] → Went (took_all setup (machine_in was) source all) was was out out
+unfolding took_all
+went_end setup source all was out none = rw none (record { machine = refl; found = refl; sent = sym (append-nil out) })
+
+-- a text doesn't move the clock
+pub went_on : (setup : Setup) (source : SocketAddrV4) (text : List ℕ) (was is : State) (were are : List OutDatagram)
+    → Went (handled setup (machine_in was) source (read_text text)) was is were are → is.clock ≡ was.clock
+went_on setup source text was is were are went = ap (λ (m : Machine). m.now) went.machine ∙ handled_now setup (machine_in was) source (read_text text)
 
 is_long : (bytes : List ℕ) → 4000 < length bytes → nat_lt 4000 (length bytes) ≡ true
 is_long bytes long = grind (arith, nat_tests)
@@ -50,9 +112,15 @@ is_long bytes long = grind (arith, nat_tests)
 is_short : (bytes : List ℕ) → length bytes ≤ 4000 → nat_lt 4000 (length bytes) ≡ false
 is_short bytes short = grind (arith, nat_tests)
 
-pub texts_of_long : (bytes : List ℕ) → 4000 < length bytes → texts_of bytes ≡ []
+texts_of_long : (bytes : List ℕ) → 4000 < length bytes → texts_of bytes ≡ []
 unfolding texts_of
 texts_of_long bytes long = rw (is_long bytes long) refl
+
+-- a datagram that is too long
+pub took_none : (setup : Setup) (was : State) (source : SocketAddrV4) (bytes : List ℕ) (sent : List OutDatagram) → sent ≡ [] → 4000 < length bytes
+    → Happened (took_all setup (machine_in was) source (texts_of bytes)) was was sent
+unfolding took_all
+took_none setup was source bytes sent none long = rw (texts_of_long bytes long, none) (record { machine = refl; found = tt; sent = refl })
 
 pub texts_of_short : (bytes : List ℕ) → length bytes ≤ 4000 → texts_of bytes ≡ parts_of bytes
 unfolding texts_of

@@ -1,68 +1,70 @@
 -- What changes in a gateway, and what a piece of work does to it.
-use Rattle.std.specs.Prelude.{◌≡◌, List, [], ◌∷◌, ◌++◌, slice_set}
+use Rattle.std.specs.Prelude.{◌≡◌, ⊤, List, [], ◌∷◌, ◌++◌, Result, Ok, Err}
+use Rattle.std.specs.Global.{Vec}
+use Rattle.std.specs.declared.alloc.AllocError.{AllocError}
 use Rattle.history.specs.declared.entry.Entry.{Entry}
 use Rattle.history.specs.Kept.{from_young}
-use Rattle.plain_machine.specs.Done.{Done}
-use Rattle.plain_machine.specs.declared.station.Station.{Station}
 use Rattle.plain_machine.specs.declared.output.OutDatagram.{OutDatagram}
+use Rattle.plain_machine.specs.declared.refusal.Refusal.{Refusal}
 use Rattle.plain_machine.specs.Message.{datagrams_of}
 use Rattle.plain_machine.specs.Packing.{put_out}
 use Rattle.plain_machine.specs.Machine.{Endpoints, Machine, Effect}
-use Rattle.plain_machine.specs.Notifying.{Turn}
-use Rattle.gateway_core.specs.declared.commanding.Reaction.{Reaction}
 use Rattle.gateway_core.specs.declared.state.State.{State}
-use Rattle.gateway_core.specs.declared.state.Saved.{Saved}
-
-abbrev pub endpoints_in : State → Endpoints
-endpoints_in state = record { stations = state.stations.items }
 
 -- the machine that is kept
 abbrev pub machine_in : State → Machine
-machine_in state = record { now = state.clock; endpoints = endpoints_in state; history = state.history.kept }
+machine_in state = record { now = state.clock; endpoints = state.floor.endpoints; history = state.history.kept }
 
--- the stations with what was saved put back, the last change first
-unfoldable pub restored : List Saved → List Station → List Station
-restored [] stations = stations
-restored (saved ∷ more) stations = slice_set (restored more stations) saved.place saved.station
-
--- what an event goes back to where it fails: the stations and the history
-pub record Before : Type 0 where
-  pub stations : List Station
+-- what an event goes back to where it fails
+pub record Found : Type 0 where
+  pub endpoints : Endpoints
   pub history : List Entry
 
-abbrev pub before_in : State → Before
-before_in state = record { stations = restored state.saved.items state.stations.items; history = state.history.settled }
+abbrev pub found_in : State → Found
+found_in state = record { endpoints = state.floor.found; history = state.history.settled }
 
--- The machine goes on as the effect says, and what it sends is to be sent next. What was before can still be had.
-pub record Does (effect : Effect) (was is : State) : Type 0 where
+-- the machine goes on as the effect says, the messages grow by what it sends, and what the event found can still be had
+pub record Went (effect : Effect) (was is : State) (were are : List OutDatagram) : Type 0 where
   pub machine : machine_in is ≡ effect.machine
-  pub outbox : is.outbox.items ≡ was.outbox.items ++ datagrams_of effect.sent
+  pub found : found_in is ≡ found_in was
+  pub sent : are ≡ were ++ datagrams_of effect.sent
+
+-- so it goes; or memory is refused, and what the event found can still be had
+abbrev pub Does : {A : Type 0} → Result A AllocError → Effect → State → State → List OutDatagram → List OutDatagram → Type 0
+Does (Ok x) effect was is were are = Went effect was is were are
+Does (Err fault) effect was is were are = found_in is ≡ found_in was
+
+-- where there is anything to send, what the event found can still be had
+abbrev pub CanGoBack : List OutDatagram → State → State → Type 0
+CanGoBack [] was is = ⊤
+CanGoBack (first ∷ more) was is = found_in is ≡ found_in was
+
+-- the machine went on as the effect says, and this is what is to be sent
+pub record Happened (effect : Effect) (was is : State) (out : List OutDatagram) : Type 0 where
+  pub machine : machine_in is ≡ effect.machine
+  pub found : CanGoBack out was is
+  pub sent : out ≡ datagrams_of effect.sent
+
+-- an event happened so; or it is refused, and what it found can still be had
+abbrev pub Happens : Result (Vec OutDatagram) Refusal → Effect → State → State → Type 0
+Happens (Ok out) effect was is = Happened effect was is out.items
+Happens (Err refusal) effect was is = found_in is ≡ found_in was
 
 -- the machine without what can't matter any more
 abbrev pub purged_in : Machine → Machine
 purged_in m = record m { history = from_young m.now m.history }
-
--- nothing is to be sent, and nothing was saved
-pub record IsAtRest (state : State) : Type 0 where
-  pub sent : state.outbox.items ≡ []
-  pub settled : state.saved.items ≡ []
 
 -- the machine goes on as the effect says, and the outputs gain what it sends
 pub record PutsOut (effect : Effect) (is : State) (were are : List OutDatagram) : Type 0 where
   pub machine : machine_in is ≡ effect.machine
   pub outputs : are ≡ were ++ put_out effect.sent
 
--- The endpoints become what the command results in, this is its answer, and this is what lines send because of it; the rest
--- is as it was.
-pub record Results (done : Done) (given : Reaction) (was is : State) : Type 0 where
-  pub endpoints : endpoints_in is ≡ done.endpoints
-  pub answer : given.answer ≡ done.answer
-  pub sent : given.sent.items ≡ datagrams_of done.sent
-  pub clock : is.clock ≡ was.clock
-  pub outbox : is.outbox.items ≡ was.outbox.items
-  pub history : is.history ≡ was.history
+-- nothing goes out, and this is the machine
+pub record Remains (m : Machine) (is : State) (were are : List OutDatagram) : Type 0 where
+  pub machine : machine_in is ≡ m
+  pub outputs : are ≡ were
 
--- a station becomes what its turn says, and what it sends goes behind what there was
-pub record HasTurn (turn : Turn) (becomes : Station) (were are : List OutDatagram) : Type 0 where
-  pub station : becomes ≡ turn.station
-  pub sent : are ≡ were ++ datagrams_of turn.sent
+-- all of it, or nothing but that the machine is this
+abbrev pub AllOr : {A : Type 0} → Machine → Result A Refusal → Effect → State → List OutDatagram → List OutDatagram → Type 0
+AllOr m (Ok x) effect is were are = PutsOut effect is were are
+AllOr m (Err refusal) effect is were are = Remains m is were are

@@ -1,69 +1,76 @@
 //! What an act at a telephone does.
-ghost use Rattle.std.specs.Prelude.{◌≡◌, ◌-◌, ◌<◌, None, Some, false, true, [], ℕ, OnOk, length, slice_get, slice_set};
-ghost use Rattle.mg_line.specs.Acting.{is_heeded};
-ghost use Rattle.plain_machine.specs.declared.setup.Setup.{Setup};
-ghost use Rattle.plain_machine.specs.Notifying.{silent};
-ghost use Rattle.plain_machine.specs.Machine.{told, told_in, station_at};
+ghost use Rattle.std.specs.Prelude.{IsTrue, IfOk};
+ghost use Rattle.mg_line.specs.Acting.{is_possible};
+ghost use Rattle.plain_machine.specs.Machine.{told_in, station_at};
 ghost use Rattle.plain_machine.specs.Acting.{acted_on, acted};
-ghost use Rattle.plain_machine.specs.Refusing.{act_refusal, is_unheeded};
-ghost use Rattle.gateway_core.specs.Sound.{IsSound};
-ghost use Rattle.gateway_core.specs.State.{endpoints_in, machine_in, before_in, Does};
+ghost use Rattle.plain_machine.specs.Refusing.{act_refusal, is_unheeded, ends, refused_by};
+ghost use Rattle.gateway_core.specs.Sound.{MayTell, IsLine};
+ghost use Rattle.gateway_core.specs.State.{machine_in, Happens};
+ghost use Rattle.gateway_core.specs.Tells.{HasTurn};
 
-use crate::changing::{copy_of, station_at};
 use crate::context::Context;
-use crate::notifying::{Occasion, put_noted};
+use crate::floor::with_line;
+use crate::notifying::{Occasion, tell};
 use crate::state::State;
 use mg_bytes::OutOfMemory;
 use mg_line::Act;
-use plain_machine::Station;
+use plain_machine::{OutDatagram, Refusal, Station};
 
-/// An act at the telephone of this line, which isn't refused.
-#[tactic(auto, unfolding(plain_machine::specs::Acting::acted, plain_machine::specs::Notifying::noted))]
+// An act at the telephone of a station.
+#[tactic(auto, unfolding(plain_machine::specs::Notifying::noted))]
+fn acted_on(
+    context: Context<'_>,
+    occasion: Occasion,
+    station: &Station,
+    act: Act,
+    out: &mut Vec<OutDatagram>,
+) -> Result<Station, OutOfMemory>
+    requires possible { IsTrue (is_possible station.now.line.hook act) }
+    requires line { IsLine occasion.line }
+    requires may { MayTell context.setup.now occasion.moment }
+    ensures { IfOk result (λ becomes. HasTurn (acted_on context.entry.setup.now occasion.line occasion.moment act station.now)
+        becomes out.old.items out.new.items) }
+{
+    let step = station.line.phone(act, occasion.moment)?;
+    tell(
+        context,
+        occasion,
+        with_line(station, step.line)?,
+        step.notice,
+        out,
+    )
+}
+
+/// An act at the telephone of a line: what is sent. One that the line doesn't heed takes no memory.
+#[tactic(auto, unfolding(plain_machine::specs::Machine::on_line))]
 pub(crate) fn act_on(
     context: Context<'_>,
     state: &mut State,
     line: u16,
     act: Act,
-) -> Result<(), OutOfMemory>
-    requires taken { act_refusal (station_at (endpoints_in state.old) line) act ≡ None }
-    requires sound { IsSound context.setup.now (machine_in state.old) }
-    ensures ok { OnOk result (Does (told_in (machine_in state.old)
-        (acted context.entry.setup.now (endpoints_in state.old) line state.old.clock act)) state.old state.new) }
-    ensures before { before_in state.new ≡ before_in state.old }
+) -> Result<Vec<OutDatagram>, Refusal>
+    requires { MayTell context.setup.now state.old.clock }
+    ensures happens { Happens result (told_in (machine_in state.old)
+        (acted context.entry.setup.now state.old.floor.endpoints line state.old.clock act)) state.old state.new }
+    ensures ends { ends (act_refusal (station_at state.old.floor.endpoints line) act)
+        (is_unheeded (station_at state.old.floor.endpoints line) act) (refused_by result) }
 {
-    let Some(station) = station_at(state, line) else {
-        return Ok(());
+    let Some(station) = state.floor.station(line) else {
+        return Err(Refusal::NoSuchLine);
     };
+    if !station.line.takes(act) {
+        return Err(Refusal::PhoneState);
+    }
+    let mut out = Vec::new(context.alloc);
+    if !station.line.heeds(act) {
+        state.floor.pass_over(line, act);
+        return Ok(out);
+    }
     let occasion = Occasion {
         line,
         moment: state.clock,
     };
-    let mut copy = copy_of(station)?;
-    let notice = copy.line.phone(act, occasion.moment)?;
-    put_noted(context, state, occasion, copy, notice)
-}
-
-// An act that the line of a station doesn't heed.
-#[tactic(auto, unfolding(plain_machine::specs::Notifying::noted))]
-fn pass_over_on(station: &mut Station, act: Act)
-    requires { is_heeded station.old.line act ≡ false }
-    ensures { (setup : Setup) (line moment : ℕ) → silent station.new ≡ acted_on setup line moment act station.old }
-{
-    station.line.pass_over(act);
-}
-
-/// An act at the telephone of this line, which doesn't heed it. It takes no memory.
-pub(crate) fn pass_over(state: &mut State, number: u16, act: Act)
-    requires { is_unheeded (station_at (endpoints_in state.old) number) act ≡ true }
-    ensures acted { (setup : Setup) (moment : ℕ) →
-        acted setup (endpoints_in state.old) number moment act ≡ told (endpoints_in state.new) [] }
-    ensures clock { state.new.clock ≡ state.old.clock }
-    ensures history { state.new.history ≡ state.old.history }
-    ensures outbox { state.new.outbox.items ≡ state.old.outbox.items }
-    ensures saved { state.new.saved.items ≡ state.old.saved.items }
-{
-    match station_at(state, number) {
-        None => {}
-        Some(_) => pass_over_on(&mut state.stations[usize::from(number) - 1], act),
-    }
+    let becomes = acted_on(context, occasion, station, act, &mut out)?;
+    state.floor.put(line, becomes)?;
+    Ok(out)
 }

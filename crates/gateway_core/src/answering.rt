@@ -1,44 +1,37 @@
 //! What is done at a text that came in a datagram.
-ghost use Rattle.std.specs.Prelude.{◌≡◌, ◌≤◌, ◌++◌, ◌∷◌, [], IfOk, OnOk, length};
+ghost use Rattle.std.specs.Prelude.{◌≡◌, ◌≤◌, nat_lt, [], length, None, IfOk};
 ghost use Rattle.std.specs.Bool.{OnTrue, OnFalse};
 ghost use Rattle.mgcp_text.specs.Reading.{message, read_text};
 ghost use Rattle.mgcp_text.specs.Message.{params_in};
 ghost use Rattle.mgcp_text.specs.Confirmation.{k_of};
 ghost use Rattle.history.specs.Memory.{most_firsts};
 ghost use Rattle.history.specs.Looking.{new, look_of};
-ghost use Rattle.plain_machine.specs.Arriving.{texts_of};
-ghost use Rattle.mgcp_text.specs.Answer.{response_of};
-ghost use Rattle.mgcp_text.specs.Writing.{written};
+ghost use Rattle.piggyback.specs.Parts.{parts_of};
+ghost use Rattle.plain_machine.specs.Arriving.{largest_datagram, texts_of};
+ghost use Rattle.plain_machine.specs.Refusing.{ends, refused_by};
 ghost use Rattle.command_forms.specs.Order.{form_in};
 ghost use Rattle.mgcp_text.specs.declared.message.Message.TheVariants.{Command};
-ghost use Rattle.plain_machine.specs.Message.{datagrams_of};
-ghost use Rattle.plain_machine.specs.Done.{Done};
+ghost use Rattle.plain_machine.specs.Done.{only_answer};
 ghost use Rattle.plain_machine.specs.Commanding.{done_by};
-ghost use Rattle.gateway_core.specs.Sound.{IsSound};
-ghost use Rattle.plain_machine.specs.Answering.{fitting, transaction, span_of, spans_of, executed, transacted, refusing, handled, took_all};
-ghost use Rattle.gateway_core.specs.State.{endpoints_in, machine_in, before_in, Does};
+ghost use Rattle.gateway_core.specs.Sound.{MayTell};
+ghost use Rattle.plain_machine.specs.Answering.{transaction, span_of, spans_of, executed, transacted, refusing, handled, took_all};
+ghost use Rattle.gateway_core.specs.State.{machine_in, Went, Does, Happens};
 
-use crate::commanding::{Reaction, commanded};
+use crate::commanding::commanded;
 use crate::context::Context;
 use crate::responding::respond;
-use crate::sending::{Origin, send};
+use crate::sending::{Origin, send, send_all};
 use crate::state::State;
 use history::{IdSpan, Look};
-use mg_bytes::{OutOfMemory, Sequence, Text};
-use mgcp_text::{Answer, IdRange, KValue, Message, TextFault, TransactionId, read_k, read_message};
+use mg_bytes::{OutOfMemory, ReturnCode, Sequence, Text};
+use mgcp_text::{Answer, IdRange, KValue, Message, TextFault, read_k, read_message};
 use piggyback::parts;
+use plain_machine::{OutDatagram, Refusal};
 use std::alloc::{AllocError, Global};
 use std::net::SocketAddrV4;
 
 /// The largest datagram that is taken, in bytes (RFC 3435, 3.5.4).
 pub(crate) const LARGEST_DATAGRAM: usize = 4000;
-
-// What a first confirms, and what its command results in.
-#[derive(Drop)]
-struct Executed {
-    confirms: Sequence<IdSpan>,
-    reaction: Reaction,
-}
 
 fn copy_of(alloc: Global, text: &[u8]) -> Result<Text, OutOfMemory>
     ensures { IfOk result (λ copy. copy ≡ text.now) }
@@ -46,56 +39,47 @@ fn copy_of(alloc: Global, text: &[u8]) -> Result<Text, OutOfMemory>
     Ok(Text::of(Vec::from_slice(alloc, text)?))
 }
 
-// The text of the response that an answer is, or of 533 where that would be longer than a datagram may be.
-fn text_of(context: Context<'_>, id: TransactionId, wanted: &Answer) -> Result<Text, OutOfMemory>
-    ensures { IfOk result (λ text. text ≡ written (response_of id (fitting id wanted.now))) }
-{
-    let text = wanted.text(context.alloc, id)?;
-    if text.as_bytes().len() <= LARGEST_DATAGRAM {
-        return Ok(text);
-    }
-    Answer::plain(context.alloc, 533).text(context.alloc, id)
-}
-
-// A first is executed: what it confirms is confirmed, and its answer is kept and goes to its source.
+// The answer to a first is kept, behind what that confirms, and goes to its source.
 #[tactic(auto, unfolding(plain_machine::specs::Answering::executed))]
-fn execute(
+fn answer(
     context: Context<'_>,
     state: &mut State,
     origin: Origin,
-    done: Executed,
+    confirms: Sequence<IdSpan>,
+    answer: &Answer,
+    out: &mut Vec<OutDatagram>,
 ) -> Result<(), OutOfMemory>
-    ensures ok { (line : _) (whole : Done) → done.reaction.answer ≡ whole.answer → done.reaction.sent.items ≡ datagrams_of whole.sent →
-        whole.endpoints ≡ endpoints_in state.old →
-        OnOk result (Does (executed (machine_in state.old) origin.source
-        (transaction origin.id line done.confirms whole)) state.old state.new) }
-    ensures before { before_in state.new ≡ before_in state.old }
+    ensures { (line : _) → Does result (executed (machine_in state.old) origin.source
+        (transaction origin.id line confirms (only_answer state.old.floor.endpoints answer.now)))
+        state.old state.new out.old.items out.new.items }
 {
-    let Executed { confirms, reaction } = done;
-    let Reaction { answer, mut sent } = reaction;
-    let text = text_of(context, origin.id, &answer)?;
+    let text = answer.text(context.alloc, origin.id)?;
     let kept = copy_of(context.alloc, text.as_bytes())?;
     state.history.confirm(confirms)?;
     state.history.first(origin.id.number(), state.clock, kept)?;
-    send(state, origin.source, text)?;
-    state.outbox.append(&mut sent)?;
+    send(out, origin.source, state.clock, text)?;
     Ok(())
 }
 
 // Whether a command is new; another one is a repeat, which gets the stored answer again or silence, or is lost.
-fn is_new(context: Context<'_>, state: &mut State, origin: Origin) -> Result<bool, OutOfMemory>
+fn is_new(
+    context: Context<'_>,
+    state: &State,
+    origin: Origin,
+    out: &mut Vec<OutDatagram>,
+) -> Result<bool, OutOfMemory>
     ensures new { IfOk result (λ is_new. OnTrue is_new
-        ((look_of most_firsts state.old.history.kept origin.id state.old.clock ≡ new) × (state.new ≡ state.old))) }
+        ((look_of most_firsts state.now.history.kept origin.id state.now.clock ≡ new) × (out.new.items ≡ out.old.items))) }
     ensures other { (line : _) (confirms : _) (done : _) → IfOk result (λ is_new. OnFalse is_new
-        (Does (transacted (machine_in state.old) origin.source (transaction origin.id line confirms done)) state.old state.new)) }
-    ensures before { before_in state.new ≡ before_in state.old }
+        (Went (transacted (machine_in state.now) origin.source (transaction origin.id line confirms done))
+        state.now state.now out.old.items out.new.items)) }
 {
     let stored = match state.history.look(origin.id.number(), state.clock) {
         Look::New => return Ok(true),
         Look::Confirmed | Look::Full => return Ok(false),
         Look::Repeat(answer) => copy_of(context.alloc, answer.as_bytes())?,
     };
-    send(state, origin.source, stored)?;
+    send(out, origin.source, state.clock, stored)?;
     Ok(false)
 }
 
@@ -105,20 +89,25 @@ fn refuse(
     state: &mut State,
     from: Origin,
     code: u16,
+    out: &mut Vec<OutDatagram>,
 ) -> Result<(), OutOfMemory>
     requires { code ≤ 999 }
-    ensures ok { OnOk result (Does (transacted (machine_in state.old) from.source (refusing (machine_in state.old) from.id code))
-        state.old state.new) }
-    ensures before { before_in state.new ≡ before_in state.old }
+    ensures { Does result (transacted (machine_in state.old) from.source (refusing (machine_in state.old) from.id code))
+        state.old state.new out.old.items out.new.items }
 {
-    if !is_new(context, state, from)? {
+    if !is_new(context, state, from, out)? {
         return Ok(());
     }
-    let done = Executed {
-        confirms: Sequence::new(context.alloc),
-        reaction: Reaction::answer(context, Answer::plain(context.alloc, code)),
-    };
-    execute(context, state, from, done)
+    let refusal = Answer::plain(context.alloc, code);
+    answer(
+        context,
+        state,
+        from,
+        Sequence::new(context.alloc),
+        &refusal,
+        out,
+    )?;
+    Ok(())
 }
 
 fn span_of(range: &IdRange) -> IdSpan
@@ -131,10 +120,10 @@ fn span_of(range: &IdRange) -> IdSpan
 }
 
 // The spans of ids that a readable K names (RFC 3435, 3.2.2.1).
-fn spans_of(alloc: Global, said: &Message<'_>) -> Result<Sequence<IdSpan>, OutOfMemory>
-    ensures { IfOk result (λ spans. spans ≡ spans_of (k_of (params_in said.now))) }
+fn spans_of(alloc: Global, confirms: &KValue) -> Result<Sequence<IdSpan>, OutOfMemory>
+    ensures { IfOk result (λ spans. spans ≡ spans_of confirms.now) }
 {
-    let KValue::Items(ranges) = read_k(alloc, said)? else {
+    let KValue::Items(ranges) = confirms else {
         return Ok(Sequence::new(alloc));
     };
     let mut spans = Vec::new(alloc);
@@ -144,25 +133,35 @@ fn spans_of(alloc: Global, said: &Message<'_>) -> Result<Sequence<IdSpan>, OutOf
     Ok(Sequence::of(spans))
 }
 
-// A command that is a first is executed.
-fn execute_command(
+// A command that is a first is executed, and its K is read once: its answer goes out before what lines send because of it.
+fn execute(
     context: Context<'_>,
     state: &mut State,
     origin: Origin,
     said: &Message<'_>,
+    out: &mut Vec<OutDatagram>,
 ) -> Result<(), OutOfMemory>
-    requires { IsSound context.setup.now (machine_in state.old) }
-    ensures ok { (line : _) → OnOk result (Does (executed (machine_in state.old) origin.source
+    requires { MayTell context.setup.now state.old.clock }
+    ensures { (line : _) → Does result (executed (machine_in state.old) origin.source
         (transaction origin.id line (spans_of (k_of (params_in said.now)))
-        (done_by (form_in said.now context.entry.setup.now.names) context.entry.setup.now (endpoints_in state.old) state.old.clock)))
-        state.old state.new) }
-    ensures before { before_in state.new ≡ before_in state.old }
+        (done_by (form_in said.now (k_of (params_in said.now)) context.entry.setup.now.names) context.entry.setup.now
+        state.old.floor.endpoints state.old.clock origin.id))) state.old state.new out.old.items out.new.items }
 {
-    let done = Executed {
-        confirms: spans_of(context.alloc, said)?,
-        reaction: commanded(context, state, said)?,
-    };
-    execute(context, state, origin, done)
+    let mut sent = Vec::new(context.alloc);
+    let confirms = read_k(context.alloc, said)?;
+    let spans = spans_of(context.alloc, &confirms)?;
+    let given = commanded(
+        context,
+        &mut state.floor,
+        state.clock,
+        origin.id,
+        said,
+        &confirms,
+        &mut sent,
+    )?;
+    answer(context, state, origin, spans, &given, out)?;
+    send_all(out, sent)?;
+    Ok(())
 }
 
 // A command that was read.
@@ -172,17 +171,17 @@ fn take_command(
     state: &mut State,
     origin: Origin,
     said: &Message<'_>,
+    out: &mut Vec<OutDatagram>,
 ) -> Result<(), OutOfMemory>
-    requires { IsSound context.setup.now (machine_in state.old) }
-    ensures ok { (verb : _) (name params body : _) → said.now ≡ Command verb origin.id name params body →
-        OnOk result (Does (handled context.entry.setup.now (machine_in state.old) origin.source (message said.now))
-        state.old state.new) }
-    ensures before { before_in state.new ≡ before_in state.old }
+    requires { MayTell context.setup.now state.old.clock }
+    ensures { (verb : _) (name params body : _) → said.now ≡ Command verb origin.id name params body →
+        Does result (handled context.entry.setup.now (machine_in state.old) origin.source (message said.now))
+        state.old state.new out.old.items out.new.items }
 {
-    if !is_new(context, state, origin)? {
+    if !is_new(context, state, origin, out)? {
         return Ok(());
     }
-    execute_command(context, state, origin, said)
+    execute(context, state, origin, said, out)
 }
 
 // A message that was read.
@@ -192,18 +191,29 @@ fn handle_message(
     state: &mut State,
     source: SocketAddrV4,
     said: &Message<'_>,
+    out: &mut Vec<OutDatagram>,
 ) -> Result<(), OutOfMemory>
-    requires { IsSound context.setup.now (machine_in state.old) }
-    ensures ok { OnOk result (Does (handled context.entry.setup.now (machine_in state.old) source (message said.now))
-        state.old state.new) }
-    ensures before { before_in state.new ≡ before_in state.old }
+    requires { MayTell context.setup.now state.old.clock }
+    ensures { Does result (handled context.entry.setup.now (machine_in state.old) source (message said.now))
+        state.old state.new out.old.items out.new.items }
 {
     match said {
         Message::Command { id, .. } => {
-            take_command(context, state, Origin { source, id: *id }, said)
+            take_command(context, state, Origin { source, id: *id }, said, out)?;
+            Ok(())
         }
         Message::Response { code, id, .. } => {
-            respond(context, state, Origin { source, id: *id }, *code, said)
+            let origin = Origin { source, id: *id };
+            respond(
+                context,
+                &mut state.floor,
+                state.clock,
+                origin,
+                *code,
+                said,
+                out,
+            )?;
+            Ok(())
         }
     }
 }
@@ -215,42 +225,72 @@ fn take(
     state: &mut State,
     source: SocketAddrV4,
     text: &[u8],
+    out: &mut Vec<OutDatagram>,
 ) -> Result<(), OutOfMemory>
-    requires { IsSound context.setup.now (machine_in state.old) }
-    ensures ok { OnOk result (Does (handled context.entry.setup.now (machine_in state.old) source (read_text text.now))
-        state.old state.new) }
-    ensures before { before_in state.new ≡ before_in state.old }
+    requires { MayTell context.setup.now state.old.clock }
+    ensures { Does result (handled context.entry.setup.now (machine_in state.old) source (read_text text.now))
+        state.old state.new out.old.items out.new.items }
 {
     match &read_message(context.alloc, text) {
         Err(TextFault::OutOfMemory) => Err(AllocError),
         Err(TextFault::NoHeader) => Ok(()),
         Err(TextFault::BadVersion { id }) => {
-            refuse(context, state, Origin { source, id: *id }, 528)
+            refuse(
+                context,
+                state,
+                Origin { source, id: *id },
+                ReturnCode::IncompatibleVersion.number(),
+                out,
+            )
         }
-        Err(TextFault::BadBody { id }) => refuse(context, state, Origin { source, id: *id }, 510),
-        Ok(said) => handle_message(context, state, source, said),
+        Err(TextFault::BadBody { id }) => {
+            refuse(
+                context,
+                state,
+                Origin { source, id: *id },
+                ReturnCode::ProtocolError.number(),
+                out,
+            )
+        }
+        Ok(said) => handle_message(context, state, source, said, out),
     }
 }
 
-/// A datagram: its texts in order, each completely. One that is too long does nothing.
-#[tactic(auto, unfolding(plain_machine::specs::Arriving::texts_of))]
+// The texts of a datagram in their order, each completely.
+fn take_all(
+    context: Context<'_>,
+    state: &mut State,
+    source: SocketAddrV4,
+    bytes: &[u8],
+    out: &mut Vec<OutDatagram>,
+) -> Result<(), OutOfMemory>
+    requires { MayTell context.setup.now state.old.clock }
+    ensures { Does result (took_all context.entry.setup.now (machine_in state.old) source (parts_of bytes.now))
+        state.old state.new out.old.items out.new.items }
+{
+    let mut texts = parts(bytes);
+    while let Some(text) = texts.next() {
+        take(context, state, source, text, out)?;
+    }
+    Ok(())
+}
+
+/// A datagram: what is sent. One that is too long does nothing, and takes no memory.
 pub(crate) fn take_datagram(
     context: Context<'_>,
     state: &mut State,
     source: SocketAddrV4,
     bytes: &[u8],
-) -> Result<(), OutOfMemory>
-    requires { IsSound context.setup.now (machine_in state.old) }
-    ensures ok { OnOk result (Does (took_all context.entry.setup.now (machine_in state.old) source (texts_of bytes.now))
-        state.old state.new) }
-    ensures before { before_in state.new ≡ before_in state.old }
+) -> Result<Vec<OutDatagram>, Refusal>
+    requires { MayTell context.setup.now state.old.clock }
+    ensures happens { Happens result (took_all context.entry.setup.now (machine_in state.old) source (texts_of bytes.now))
+        state.old state.new }
+    ensures ends { ends None (nat_lt largest_datagram (length bytes.now)) (refused_by result) }
 {
+    let mut out = Vec::new(context.alloc);
     if bytes.len() > LARGEST_DATAGRAM {
-        return Ok(());
+        return Ok(out);
     }
-    let mut texts = parts(bytes);
-    while let Some(text) = texts.next() {
-        take(context, state, source, text)?;
-    }
-    Ok(())
+    take_all(context, state, source, bytes, &mut out)?;
+    Ok(out)
 }

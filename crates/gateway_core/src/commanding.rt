@@ -1,86 +1,77 @@
-//! What a command does and answers.
-ghost use Rattle.std.specs.Prelude.{◌≡◌, [], IfOk};
+//! What a command does and answers: it asks for a report, or for a deed.
+ghost use Rattle.std.specs.Prelude.{◌≡◌, true, IfOk};
+ghost use Rattle.endpoint_names.specs.Table.{is_domain};
 ghost use Rattle.command_forms.specs.Order.{form_in};
-ghost use Rattle.plain_machine.specs.Requesting.{requested};
-ghost use Rattle.plain_machine.specs.Commanding.{audited, line_request, done_by};
-ghost use Rattle.gateway_core.specs.Sound.{IsSound};
-ghost use Rattle.gateway_core.specs.State.{endpoints_in, machine_in, before_in, Results};
+ghost use Rattle.plain_machine.specs.Requesting.{deed_done};
+ghost use Rattle.plain_machine.specs.Commanding.{audited, fitting, line_request, line_deed, done_by};
+ghost use Rattle.gateway_core.specs.Sound.{MayTell};
+ghost use Rattle.gateway_core.specs.Tells.{Tells};
 
-use crate::changing::station_at;
+use crate::answering::LARGEST_DATAGRAM;
 use crate::context::Context;
+use crate::floor::Floor;
 use crate::reporting::{names_of, report_of};
-use crate::requesting::{Asked, refused_by, request_all};
-use crate::state::State;
-use command_forms::{Form, RequestForm, form};
-use endpoint_names::Pattern;
+use crate::requesting::{deed_on_all, refused_by};
+use command_forms::{Asks, Audit, Deed, RequestForm, Target, form};
 use event_requests::Request as EventRequest;
-use mg_bytes::{CodeFault, OutOfMemory};
+use mg_bytes::{CodeFault, OutOfMemory, ReturnCode};
 use mg_line::Request;
-use mgcp_text::{Answer, Bytes, Message};
-use plain_machine::OutDatagram;
+use mgcp_text::{Answer, Bytes, KValue, Message, TransactionId};
+use plain_machine::{LineDeed, OutDatagram};
 use std::alloc::AllocError;
 
 // The answer to an audit: the items that are asked for of one line, or the names of all lines.
 #[tactic(auto, unfolding(plain_machine::specs::Commanding::audited, mgcp_text::specs::Writing::is_writable_body))]
-fn audit(
+fn audited(
     context: Context<'_>,
-    state: &State,
-    lines: Pattern,
-    items: &[u8],
+    floor: &Floor,
+    target: Target,
+    audit: &Audit<'_>,
 ) -> Result<Answer, OutOfMemory>
-    requires { IsSound context.setup.now (machine_in state.now) }
-    ensures { IfOk result (λ answer. answer ≡ audited context.entry.setup.now (endpoints_in state.now) lines items.now) }
+    requires { is_domain context.setup.now.names.domain ≡ true }
+    ensures { IfOk result (λ answer. answer ≡ audited context.entry.setup.now floor.now.endpoints target audit.now) }
 {
-    let report = match lines {
-        Pattern::One(number) => match station_at(state, number) {
-            Some(station) => report_of(context.alloc, &station.line, items)?,
-            None => return Ok(Answer::plain(context.alloc, 500)),
+    let report = match target {
+        Target::One(number) => match floor.station(number) {
+            Some(station) => report_of(context.alloc, &station.line, audit.items.as_slice())?,
+            None => return Ok(Answer::plain(context.alloc, ReturnCode::UnknownEndpoint.number())),
         },
-        Pattern::All => names_of(context, state)?,
-        Pattern::Any => return Ok(Answer::plain(context.alloc, 503)),
+        Target::All => names_of(context, floor)?,
     };
-    Ok(Answer::with(200, report, Bytes::of(b"")))
+    Ok(Answer::with(ReturnCode::Executed.number(), report, Bytes::of(b"")))
 }
 
-/// What a command results in: its answer, and what lines send because of it.
-#[derive(Drop)]
-pub(crate) struct Reaction {
-    pub answer: Answer,
-    pub sent: Vec<OutDatagram>,
-}
-
-impl Reaction {
-    /// An answer alone. This takes no memory.
-    pub fn answer(context: Context<'_>, answer: Answer) -> Self
-        ensures answer { result.answer ≡ answer }
-        ensures sent { result.sent.items ≡ [] }
-    {
-        Reaction {
-            answer,
-            sent: Vec::new(context.alloc),
-        }
-    }
-}
-
-// A request on the lines that its name means: on all of them, or on none.
-fn request(
-    context: Context<'_>,
-    state: &mut State,
-    asked: Asked<'_>,
-) -> Result<Reaction, OutOfMemory>
-    requires { IsSound context.setup.now (machine_in state.old) }
-    ensures ok { IfOk result (λ reaction. Results (requested context.entry.setup.now (endpoints_in state.old) asked.entry.lines
-        asked.entry.entity.now asked.entry.request.now state.old.clock) reaction state.old state.new) }
-    ensures before { before_in state.new ≡ before_in state.old }
+// An answer that would be longer than a datagram may be gives way to 533 (RFC 3435, 2.4).
+fn fitting(context: Context<'_>, id: TransactionId, wanted: Answer) -> Result<Answer, OutOfMemory>
+    ensures { IfOk result (λ answer. answer ≡ fitting id wanted) }
 {
-    if let Some(code) = refused_by(state, asked.lines, asked.request) {
-        return Ok(Reaction::answer(context, Answer::plain(context.alloc, code)));
+    let text = wanted.text(context.alloc, id)?;
+    if text.as_bytes().len() > LARGEST_DATAGRAM {
+        return Ok(Answer::plain(context.alloc, ReturnCode::ResponseTooLarge.number()));
     }
-    let sent = request_all(context, state, asked)?;
-    Ok(Reaction {
-        answer: Answer::plain(context.alloc, 200),
-        sent,
-    })
+    Ok(wanted)
+}
+
+// A deed on the lines that it is for: on all of them, or on none.
+fn deed_done(
+    context: Context<'_>,
+    floor: &mut Floor,
+    moment: u64,
+    target: Target,
+    deed: &LineDeed,
+    sent: &mut Vec<OutDatagram>,
+) -> Result<Answer, OutOfMemory>
+    requires { MayTell context.setup.now moment }
+    ensures answer { IfOk result (λ answer. answer ≡ (deed_done context.entry.setup.now floor.old.endpoints target
+        deed.now moment).answer) }
+    ensures told { Tells result (deed_done context.entry.setup.now floor.old.endpoints target deed.now moment).told
+        floor.old floor.new sent.old.items sent.new.items }
+{
+    if let Some(code) = refused_by(floor, target, deed) {
+        return Ok(Answer::plain(context.alloc, code));
+    }
+    deed_on_all(context, floor, moment, target, deed, sent)?;
+    Ok(Answer::plain(context.alloc, ReturnCode::Executed.number()))
 }
 
 // What a request asks of a line.
@@ -96,44 +87,46 @@ fn line_request(context: Context<'_>, form: RequestForm) -> Result<Request, OutO
     })
 }
 
-/// What a command does, and what it results in.
+// What a deed is on a line.
+fn line_deed(context: Context<'_>, deed: Deed) -> Result<LineDeed, OutOfMemory>
+    ensures { IfOk result (λ done. done ≡ line_deed deed) }
+{
+    let Deed { entity, request } = deed;
+    let request = match request {
+        Some(form) => Some(line_request(context, form)?),
+        None => None,
+    };
+    Ok(LineDeed { entity, request })
+}
+
+/// What a command does whose K was read: its answer, and behind what there is what lines send because of it.
 pub(crate) fn commanded(
     context: Context<'_>,
-    state: &mut State,
+    floor: &mut Floor,
+    moment: u64,
+    id: TransactionId,
     said: &Message<'_>,
-) -> Result<Reaction, OutOfMemory>
-    requires { IsSound context.setup.now (machine_in state.old) }
-    ensures ok { IfOk result (λ reaction. Results
-        (done_by (form_in said.now context.entry.setup.now.names) context.entry.setup.now (endpoints_in state.old) state.old.clock)
-        reaction state.old state.new) }
-    ensures before { before_in state.new ≡ before_in state.old }
+    confirms: &KValue,
+    sent: &mut Vec<OutDatagram>,
+) -> Result<Answer, OutOfMemory>
+    requires { MayTell context.setup.now moment }
+    ensures answer { IfOk result (λ answer. answer ≡ (done_by
+        (form_in said.now confirms.now context.entry.setup.now.names) context.entry.setup.now floor.old.endpoints
+        moment id).answer) }
+    ensures told { Tells result (done_by (form_in said.now confirms.now context.entry.setup.now.names)
+        context.entry.setup.now floor.old.endpoints moment id).told floor.old floor.new sent.old.items sent.new.items }
 {
-    match form(context.alloc, said, &context.setup.names) {
+    match form(context.alloc, said, confirms, &context.setup.names) {
         Err(CodeFault::OutOfMemory) => Err(AllocError),
-        Err(CodeFault::Code(code)) => {
-            Ok(Reaction::answer(context, Answer::plain(context.alloc, code)))
-        }
-        Ok(Form::Audit { pattern, items }) => {
-            let answer = audit(context, state, pattern, items.as_slice())?;
-            Ok(Reaction::answer(context, answer))
-        }
-        Ok(
-            Form::Request {
-                pattern,
-                entity,
-                request: form,
-            },
-        ) => {
-            let wanted = line_request(context, form)?;
-            request(
-                context,
-                state,
-                Asked {
-                    lines: pattern,
-                    entity: &entity,
-                    request: &wanted,
-                },
-            )
+        Err(CodeFault::Code(code)) => Ok(Answer::plain(context.alloc, code)),
+        Ok(Asks::Reports(target, audit)) => fitting(
+            context,
+            id,
+            audited(context, floor, target, &audit)?,
+        ),
+        Ok(Asks::Does(target, deed)) => {
+            let deed = line_deed(context, deed)?;
+            deed_done(context, floor, moment, target, &deed, sent)
         }
     }
 }

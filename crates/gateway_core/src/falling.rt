@@ -1,21 +1,19 @@
-//! What falls due: of a line the end of timer T and the ends of signals, and the repeats of its command in flight, each at
-//! its own moment (RFC 3435, 2.1.5, 2.1.7 and 3.5.3).
-ghost use Rattle.std.specs.Prelude.{◌≡◌, ◌<◌, ◌-◌, ◌^◌, length, option_map, OnOk, IfOk};
+//! What falls due: of a line the end of timer T and the ends of signals, and the repeats of its command in flight, or of
+//! that of the gateway itself, each at its own moment (RFC 3435, 2.1.5, 2.1.7 and 3.5.3).
+ghost use Rattle.std.specs.Prelude.{◌≡◌, ◌<◌, ◌≤◌, ◌^◌, length, option_map, IfOk};
 ghost use Rattle.mg_line.specs.Falling.{due_of};
-ghost use Rattle.plain_machine.specs.declared.due_item.Due.TheVariants.{OfLine, Resend};
-ghost use Rattle.plain_machine.specs.Machine.{told_in, with_turn};
-ghost use Rattle.plain_machine.specs.Falling.{line_item, command_item, due_on, earlier, first_due, due_by, is_due, happened_on, happened, pass};
-ghost use Rattle.gateway_core.specs.Sound.{IsSound, MayTell};
-ghost use Rattle.gateway_core.specs.State.{endpoints_in, machine_in, before_in, Does, HasTurn};
+ghost use Rattle.plain_machine.specs.Machine.{on_line, on_own};
+ghost use Rattle.plain_machine.specs.Falling.{line_item, command_item, due_on, earlier, first_due, due_by, is_due, happened_on, own_happened, happened, pass};
+ghost use Rattle.gateway_core.specs.Sound.{MayTell, IsLine};
+ghost use Rattle.gateway_core.specs.Saving.{manned};
+ghost use Rattle.gateway_core.specs.Tells.{Tells, HasTurn, OwnHasTurn};
 
-use crate::changing::{copy_of, put_station, station_at};
 use crate::context::Context;
-use crate::notifying::{Occasion, put_noted};
-use crate::state::State;
-use mg_bytes::{OutOfMemory, Text};
-use mg_line::Due as LineDue;
-use outbound::{Pending, Repeat};
-use plain_machine::{Due, DueItem, OutDatagram, Station};
+use crate::floor::{Floor, with_line, with_post};
+use crate::notifying::{Occasion, tell};
+use crate::posting::{copy_of, resent_on};
+use mg_bytes::OutOfMemory;
+use plain_machine::{Due, DueItem, OutDatagram, Own, Post, Station};
 
 // What falls due first of a line.
 fn line_item(line: u16, station: &Station) -> Option<DueItem>
@@ -29,11 +27,11 @@ fn line_item(line: u16, station: &Station) -> Option<DueItem>
     })
 }
 
-// When its command in flight is due.
-fn command_item(line: u16, station: &Station) -> Option<DueItem>
-    ensures { result ≡ option_map (command_item line) station.now.pending }
+// When the command in flight of a line, or of the gateway itself, is due.
+fn command_item(line: u16, post: &Post) -> Option<DueItem>
+    ensures { result ≡ option_map (command_item line) post.now.pending }
 {
-    match &station.pending {
+    match &post.pending {
         None => None,
         Some(message) => Some(DueItem {
             moment: message.due(),
@@ -48,7 +46,7 @@ fn command_item(line: u16, station: &Station) -> Option<DueItem>
 fn due_on(line: u16, station: &Station) -> Option<DueItem>
     ensures { result ≡ due_on (line, station.now) }
 {
-    earlier(line_item(line, station), command_item(line, station))
+    earlier(line_item(line, station), command_item(line, &station.post))
 }
 
 // The earlier of two, the first where both are as early.
@@ -68,14 +66,14 @@ fn earlier(first: Option<DueItem>, other: Option<DueItem>) -> Option<DueItem>
     }
 }
 
-// What falls due first of all.
+/// What falls due first of all. It takes no memory.
 #[tactic(auto, unfolding(plain_machine::specs::Falling::first_due))]
-fn first_due(state: &State) -> Option<DueItem>
-    requires { length state.now.stations.items < 2 ^ 16 }
-    ensures { result ≡ first_due (endpoints_in state.now) }
+pub(crate) fn first_due(own: &Own, stations: &[Station]) -> Option<DueItem>
+    requires { length stations.now ≤ 16 }
+    ensures { result ≡ first_due (manned stations.now own.now) }
 {
-    let mut first = None;
-    for (place, station) in state.stations.iter().enumerate() {
+    let mut first = command_item(0, &own.post);
+    for (place, station) in stations.iter().enumerate() {
         first = earlier(first, due_on(place as u16 + 1, station));
     }
     first
@@ -83,11 +81,10 @@ fn first_due(state: &State) -> Option<DueItem>
 
 // The same where it is due up to a moment.
 #[tactic(auto, unfolding(plain_machine::specs::Falling::due_by))]
-fn due_by(state: &State, moment: u64) -> Option<DueItem>
-    requires { length state.now.stations.items < 2 ^ 16 }
-    ensures { result ≡ due_by (endpoints_in state.now) moment }
+fn due_by(floor: &Floor, moment: u64) -> Option<DueItem>
+    ensures { result ≡ due_by floor.now.endpoints moment }
 {
-    let item = first_due(state)?;
+    let item = floor.first_due()?;
     if item.moment <= moment {
         Some(item)
     } else {
@@ -96,123 +93,139 @@ fn due_by(state: &State, moment: u64) -> Option<DueItem>
 }
 
 /// Whether something is due up to a moment. It takes no memory.
-pub(crate) fn is_due(context: Context<'_>, state: &State, moment: u64) -> bool
-    requires { length state.now.stations.items < 2 ^ 16 }
-    ensures { result ≡ is_due context.entry.setup.now (endpoints_in state.now) moment }
+pub(crate) fn is_due(context: Context<'_>, floor: &Floor, moment: u64) -> bool
+    ensures { result ≡ is_due context.entry.setup.now floor.now.endpoints moment }
 {
     let _ = context;
-    due_by(state, moment).is_some()
+    due_by(floor, moment).is_some()
 }
 
-// A message that goes out once more.
-fn sent_again(
-    context: Context<'_>,
-    message: &Pending,
-    moment: u64,
-) -> Result<OutDatagram, OutOfMemory>
-    ensures { IfOk result (λ sent. sent ≡ record { to = message.now.to; moment = moment; bytes = message.now.text }) }
-{
-    Ok(OutDatagram {
-        to: message.to(),
-        moment,
-        bytes: Text::of(Vec::from_slice(context.alloc, message.text())?),
-    })
-}
-
-// The command in flight of a station's copy is sent again or given up.
-#[tactic(auto, unfolding(plain_machine::specs::Falling::happened_on))]
-fn resend(
+// What falls due happens to a station.
+#[tactic(auto, unfolding(plain_machine::specs::Falling::happened_on, plain_machine::specs::Notifying::noted))]
+fn happened_on(
     context: Context<'_>,
     occasion: Occasion,
-    copy: &mut Station,
+    station: &Station,
+    due: Due,
     out: &mut Vec<OutDatagram>,
-) -> Result<(), OutOfMemory>
-    requires { occasion.moment < 2 ^ 62 }
-    ensures { OnOk result (HasTurn (happened_on Resend context.entry.setup.now occasion.line occasion.moment copy.old)
-        copy.new out.old.items out.new.items) }
+) -> Result<Station, OutOfMemory>
+    requires line { IsLine occasion.line }
+    requires may { MayTell context.setup.now occasion.moment }
+    ensures { IfOk result (λ becomes. HasTurn
+        (happened_on due context.entry.setup.now occasion.line occasion.moment station.now)
+        becomes out.old.items out.new.items) }
 {
-    let Some(mut message) = copy.pending.take() else {
-        return Ok(());
-    };
-    match message.repeat(occasion.moment) {
-        Repeat::GivenUp => Ok(()),
-        Repeat::Sent => {
-            out.push(sent_again(context, &message, occasion.moment)?)?;
-            copy.pending = Some(message);
-            Ok(())
+    match due {
+        Due::OfLine(due) => {
+            let step = station.line.fire(due, occasion.moment)?;
+            tell(
+                context,
+                occasion,
+                with_line(station, step.line)?,
+                step.notice,
+                out,
+            )
+        }
+        Due::Resend => {
+            let post = resent_on(context, occasion, &station.post, out)?;
+            with_post(station, post)
         }
     }
 }
 
-// What falls due of a line happens to the copy of its station, which then takes its place.
-#[tactic(auto, unfolding(plain_machine::specs::Falling::happened_on, plain_machine::specs::Notifying::noted))]
-fn fire(
+// What falls due of the gateway itself: nothing that falls due of lines.
+#[tactic(auto, unfolding(plain_machine::specs::Falling::own_happened))]
+fn own_happened(
     context: Context<'_>,
-    state: &mut State,
-    occasion: Occasion,
-    mut copy: Station,
-    due: LineDue,
-) -> Result<(), OutOfMemory>
-    requires line { MayTell context.setup.now occasion.line occasion.moment }
-    requires within { occasion.line - 1 < length state.old.stations.items }
-    ensures ok { OnOk result (Does (told_in (machine_in state.old) (with_turn (endpoints_in state.old) occasion.line
-        (happened_on (OfLine due) context.entry.setup.now occasion.line occasion.moment copy))) state.old state.new) }
-    ensures before { before_in state.new ≡ before_in state.old }
+    moment: u64,
+    own: &Own,
+    due: Due,
+    out: &mut Vec<OutDatagram>,
+) -> Result<Own, OutOfMemory>
+    requires { moment < 2 ^ 62 }
+    ensures { IfOk result (λ becomes. OwnHasTurn (own_happened due moment own.now)
+        becomes out.old.items out.new.items) }
 {
-    let notice = copy.line.fire(due, occasion.moment)?;
-    put_noted(context, state, occasion, copy, notice)
+    let occasion = Occasion { line: 0, moment };
+    let post = match due {
+        Due::OfLine(_) => copy_of(&own.post)?,
+        Due::Resend => resent_on(context, occasion, &own.post, out)?,
+    };
+    Ok(Own { post })
 }
 
-// The same of its command in flight.
-fn resend_on(
+// What falls due on this line happens.
+#[tactic(auto, unfolding(plain_machine::specs::Machine::on_line))]
+fn happen_on_line(
     context: Context<'_>,
-    state: &mut State,
+    floor: &mut Floor,
     occasion: Occasion,
-    mut copy: Station,
+    due: Due,
+    out: &mut Vec<OutDatagram>,
 ) -> Result<(), OutOfMemory>
-    requires line { MayTell context.setup.now occasion.line occasion.moment }
-    requires within { occasion.line - 1 < length state.old.stations.items }
-    ensures ok { OnOk result (Does (told_in (machine_in state.old) (with_turn (endpoints_in state.old) occasion.line
-        (happened_on Resend context.entry.setup.now occasion.line occasion.moment copy))) state.old state.new) }
-    ensures before { before_in state.new ≡ before_in state.old }
+    requires { MayTell context.setup.now occasion.moment }
+    ensures { Tells result (on_line floor.old.endpoints occasion.line
+        (happened_on due context.entry.setup.now occasion.line occasion.moment))
+        floor.old floor.new out.old.items out.new.items }
 {
-    resend(context, occasion, &mut copy, &mut state.outbox)?;
-    put_station(state, occasion.line, copy)
+    let Some(station) = floor.station(occasion.line) else {
+        return Ok(());
+    };
+    let becomes = happened_on(context, occasion, station, due, out)?;
+    floor.put(occasion.line, becomes)?;
+    Ok(())
+}
+
+// What falls due of the gateway itself happens.
+fn happen_itself(
+    context: Context<'_>,
+    floor: &mut Floor,
+    moment: u64,
+    due: Due,
+    out: &mut Vec<OutDatagram>,
+) -> Result<(), OutOfMemory>
+    requires { moment < 2 ^ 62 }
+    ensures { Tells result (on_own floor.old.endpoints (own_happened due moment))
+        floor.old floor.new out.old.items out.new.items }
+{
+    let becomes = own_happened(context, moment, floor.own(), due, out)?;
+    floor.put_own(becomes)?;
+    Ok(())
 }
 
 // What falls due happens at its own moment.
-#[tactic(auto, unfolding(plain_machine::specs::Falling::happened))]
-fn happen(context: Context<'_>, state: &mut State, item: DueItem) -> Result<(), OutOfMemory>
-    requires sound { IsSound context.setup.now (machine_in state.old) }
-    requires early { item.moment < 2 ^ 62 }
-    ensures ok { OnOk result (Does (told_in (machine_in state.old)
-        (happened context.entry.setup.now (endpoints_in state.old) item)) state.old state.new) }
-    ensures before { before_in state.new ≡ before_in state.old }
+fn happen(
+    context: Context<'_>,
+    floor: &mut Floor,
+    item: DueItem,
+    out: &mut Vec<OutDatagram>,
+) -> Result<(), OutOfMemory>
+    requires { MayTell context.setup.now item.moment }
+    ensures { Tells result (happened context.entry.setup.now floor.old.endpoints item)
+        floor.old floor.new out.old.items out.new.items }
 {
-    let Some(station) = station_at(state, item.line) else {
-        return Ok(());
-    };
-    let occasion = Occasion {
-        line: item.line,
-        moment: item.moment,
-    };
-    let copy = copy_of(station)?;
-    match item.due {
-        Due::OfLine(due) => fire(context, state, occasion, copy, due),
-        Due::Resend => resend_on(context, state, occasion, copy),
+    let DueItem { moment, line, due } = item;
+    if line == 0 {
+        happen_itself(context, floor, moment, due, out)?;
+    } else {
+        happen_on_line(context, floor, Occasion { line, moment }, due, out)?;
     }
+    Ok(())
 }
 
 /// What is due up to a moment happens, the first first.
-pub(crate) fn pass(context: Context<'_>, state: &mut State, moment: u64) -> Result<(), OutOfMemory>
-    requires sound { IsSound context.setup.now (machine_in state.old) }
-    requires early { moment < 2 ^ 62 }
-    ensures ok { OnOk result (Does (told_in (machine_in state.old)
-        (pass context.entry.setup.now (endpoints_in state.old) moment)) state.old state.new) }
-    ensures before { before_in state.new ≡ before_in state.old }
+pub(crate) fn pass(
+    context: Context<'_>,
+    floor: &mut Floor,
+    moment: u64,
+    out: &mut Vec<OutDatagram>,
+) -> Result<(), OutOfMemory>
+    requires { MayTell context.setup.now moment }
+    ensures { Tells result (pass context.entry.setup.now floor.old.endpoints moment)
+        floor.old floor.new out.old.items out.new.items }
 {
-    while let Some(item) = due_by(state, moment) {
-        happen(context, state, item)?;
+    while let Some(item) = due_by(floor, moment) {
+        happen(context, floor, item, out)?;
     }
     Ok(())
 }

@@ -4,7 +4,8 @@ ghost use Rattle.plain_machine.specs.Setup.{setup_of};
 ghost use Rattle.plain_machine.specs.Event.{GatewayEvent, event_of};
 
 use crate::context::Context;
-use crate::opening::{judged, opening_stations};
+use crate::floor::Floor;
+use crate::opening::{judged, opening_own, opening_stations};
 use crate::state::State;
 use crate::stopped::Stopped;
 use crate::working::step_state;
@@ -27,14 +28,14 @@ pub struct Gateway {
 
 impl Model for Gateway {
     ghost use Rattle.gateway_core.specs.GatewayState.{GatewayState};
-    ghost use Rattle.gateway_core.specs.State.{machine_in, IsAtRest};
+    ghost use Rattle.gateway_core.specs.State.{machine_in};
     ghost use Rattle.gateway_core.specs.Sound.{IsSound};
 
     ghost Value = { GatewayState };
 
     ghost view = { λ g. record { setup = g.setup; machine = machine_in g.state } };
 
-    ghost invariant = { λ g. IsSound g.setup (machine_in g.state) × IsAtRest g.state };
+    ghost invariant = { λ g. IsSound g.setup (machine_in g.state) };
 }
 
 impl Gateway {
@@ -52,10 +53,8 @@ impl Gateway {
         let stations = opening_stations(alloc, &setup)?;
         let state = State {
             clock: 0,
-            stations,
+            floor: Floor::of(alloc, stations, opening_own(&setup)),
             history: History::new(alloc),
-            outbox: Vec::new(alloc),
-            saved: Vec::new(alloc),
         };
         Ok(Gateway {
             alloc,
@@ -77,7 +76,9 @@ impl Gateway {
         requires high { line ≤ self.now.setup.names.lines }
         ensures { (events : List GatewayEvent) → Stands self.now events → hook_of (plain self.now.setup events) line ≡ Some result }
     {
-        self.state.stations[usize::from(line) - 1].line.hook()
+        self.state.floor.stations()[usize::from(line) - 1]
+            .line
+            .hook()
     }
 
     /// The active signals of a line, from 1 to the number of lines, with their ends (ms), in the order of the table: those
@@ -88,7 +89,9 @@ impl Gateway {
         ensures { (events : List GatewayEvent) → Stands self.now events →
             signals_of (plain self.now.setup events) line ≡ Some result.items }
     {
-        self.state.stations[usize::from(line) - 1].line.signals()
+        self.state.floor.stations()[usize::from(line) - 1]
+            .line
+            .signals()
     }
 
     /// How many events of a line, from 1 to the number of lines, found no room in its quarantine, up to
@@ -99,7 +102,9 @@ impl Gateway {
         ensures { (events : List GatewayEvent) → Stands self.now events →
             lost_of (plain self.now.setup events) line ≡ Some result }
     {
-        self.state.stations[usize::from(line) - 1].line.lost()
+        self.state.floor.stations()[usize::from(line) - 1]
+            .line
+            .lost()
     }
 
     /// The moment of the last tick that was taken, in ms; 0 before any. It is below 2^62.

@@ -6,22 +6,23 @@
 
 mod acting;
 mod answering;
-mod changing;
 mod commanding;
 mod context;
 mod falling;
+mod floor;
 mod gateway;
 pub mod laws;
 mod notifying;
 mod opening;
 mod packing;
-mod refusing;
+mod posting;
 mod reporting;
 mod requesting;
 mod responding;
 mod sending;
 mod state;
 mod stopped;
+mod ticking;
 mod working;
 
 pub use crate::gateway::Gateway;

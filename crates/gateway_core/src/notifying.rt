@@ -1,5 +1,5 @@
 //! A line tells what it has to tell: a notification goes out, and is in flight from then on (RFC 3435, 2.3.4 and 3.5).
-ghost use Rattle.std.specs.Prelude.{◌≡◌, ◌∷◌, ◌-◌, ◌<◌, [], true, false, codes, length, OnOk, IfOk};
+ghost use Rattle.std.specs.Prelude.{◌≡◌, ◌∷◌, [], true, false, codes, IfOk};
 ghost use Rattle.std.specs.List.{list_all, list_any};
 ghost use Rattle.mg_bytes.specs.Blanks.{is_blank};
 ghost use Rattle.mg_bytes.specs.Lines.{is_line_feed};
@@ -7,23 +7,22 @@ ghost use Rattle.mgcp_text.specs.Parameter.{is_code};
 ghost use Rattle.mgcp_text.specs.Writing.{is_writable_param, written};
 ghost use Rattle.endpoint_names.specs.Table.{is_domain};
 ghost use Rattle.event_syntax.specs.Observed.{observed_text};
-ghost use Rattle.plain_machine.specs.Notifying.{id_on, notification, with_command, with_notice};
-ghost use Rattle.plain_machine.specs.Machine.{told_in, with_turn};
-ghost use Rattle.gateway_core.specs.Sound.{MayTell};
-ghost use Rattle.gateway_core.specs.State.{endpoints_in, machine_in, before_in, Does, HasTurn};
+ghost use Rattle.plain_machine.specs.Posting.{id_on, with_command};
+ghost use Rattle.plain_machine.specs.Notifying.{notification, with_notice};
+ghost use Rattle.gateway_core.specs.Sound.{MayTell, IsLine};
+ghost use Rattle.gateway_core.specs.Tells.{HasTurn, PostHasTurn};
 
-use crate::changing::put_station;
 use crate::context::Context;
-use crate::state::State;
+use crate::sending::send;
 use endpoint_names::{Pattern, write_name};
 use event_syntax::write_observed;
 use mg_bytes::{OutOfMemory, Text};
 use mg_line::Notice;
 use mgcp_text::{Bytes, Message, Param, Params, TransactionId, Verb, write_message};
 use outbound::Pending;
-use plain_machine::{OutDatagram, Station};
+use plain_machine::{OutDatagram, Post, Station};
 
-/// Which line it is, and what time (in ms).
+/// Which line it is, and what time (in ms). The gateway itself is line 0.
 #[derive(Clone, Copy)]
 pub(crate) struct Occasion {
     pub line: u16,
@@ -79,65 +78,53 @@ fn notification(
     write_message(context.alloc, &said)
 }
 
-// A notification begins: it is in flight, and goes out.
+// A notification begins under a line's post: it is in flight, and goes out.
 fn begin(
     context: Context<'_>,
     occasion: Occasion,
-    station: &mut Station,
+    post: &Post,
     notice: &Notice,
     out: &mut Vec<OutDatagram>,
-) -> Result<(), OutOfMemory>
-    requires { MayTell context.setup.now occasion.line occasion.moment }
-    ensures { OnOk result (HasTurn (with_command occasion.line occasion.moment station.old
-        (notification context.entry.setup.now occasion.line (id_on occasion.line station.old.number) notice.now))
-        station.new out.old.items out.new.items) }
+) -> Result<Post, OutOfMemory>
+    requires line { IsLine occasion.line }
+    requires may { MayTell context.setup.now occasion.moment }
+    ensures { IfOk result (λ becomes. PostHasTurn (with_command occasion.line occasion.moment post.now
+        (notification context.entry.setup.now occasion.line (id_on occasion.line post.now.number) notice.now))
+        becomes out.old.items out.new.items) }
 {
-    let id = station.number.id_on(occasion.line);
-    let to = station.entity.address;
+    let id = post.number.id_on(occasion.line);
+    let to = post.entity.address;
     let text = notification(context, occasion.line, id, notice)?;
     let pending = Pending::begin(context.alloc, id, to, text.as_bytes(), occasion.moment)?;
-    out.push(OutDatagram {
-        to,
-        moment: occasion.moment,
-        bytes: text,
-    })?;
-    station.number = station.number.after();
-    station.pending = Some(pending);
-    Ok(())
+    send(out, to, occasion.moment, text)?;
+    Ok(Post {
+        entity: post.entity,
+        number: post.number.after_on(occasion.line),
+        pending: Some(pending),
+    })
 }
 
 /// A station tells what its line has to tell: its notification begins, and goes out behind what there is.
 pub(crate) fn tell(
     context: Context<'_>,
     occasion: Occasion,
-    station: &mut Station,
-    notice: &Option<Notice>,
+    station: Station,
+    notice: Option<Notice>,
     out: &mut Vec<OutDatagram>,
-) -> Result<(), OutOfMemory>
-    requires { MayTell context.setup.now occasion.line occasion.moment }
-    ensures { OnOk result (HasTurn (with_notice context.entry.setup.now occasion.line occasion.moment station.old notice.now)
-        station.new out.old.items out.new.items) }
+) -> Result<Station, OutOfMemory>
+    requires line { IsLine occasion.line }
+    requires may { MayTell context.setup.now occasion.moment }
+    ensures { IfOk result (λ becomes. HasTurn (with_notice context.entry.setup.now occasion.line occasion.moment station notice)
+        becomes out.old.items out.new.items) }
 {
     match notice {
-        None => Ok(()),
-        Some(notice) => begin(context, occasion, station, notice, out),
+        None => Ok(station),
+        Some(notice) => {
+            let post = begin(context, occasion, &station.post, &notice, out)?;
+            Ok(Station {
+                line: station.line,
+                post,
+            })
+        }
     }
-}
-
-/// A changed copy of a station tells what its line has to tell, and takes the station's place.
-pub(crate) fn put_noted(
-    context: Context<'_>,
-    state: &mut State,
-    occasion: Occasion,
-    mut copy: Station,
-    notice: Option<Notice>,
-) -> Result<(), OutOfMemory>
-    requires line { MayTell context.setup.now occasion.line occasion.moment }
-    requires within { occasion.line - 1 < length state.old.stations.items }
-    ensures ok { OnOk result (Does (told_in (machine_in state.old) (with_turn (endpoints_in state.old) occasion.line
-        (with_notice context.entry.setup.now occasion.line occasion.moment copy notice))) state.old state.new) }
-    ensures before { before_in state.new ≡ before_in state.old }
-{
-    tell(context, occasion, &mut copy, &notice, &mut state.outbox)?;
-    put_station(state, occasion.line, copy)
 }

@@ -1,130 +1,112 @@
-//! A notification request on the lines that its name means: on all of them, or on none (RFC 3435, 2.3.3).
-ghost use Rattle.std.specs.Prelude.{◌≡◌, ◌<◌, ◌^◌, ◌++◌, length, Some, OnOk, IfOk};
-ghost use Rattle.plain_machine.specs.declared.station.Station.{Station};
-ghost use Rattle.plain_machine.specs.Message.{datagrams_of};
-ghost use Rattle.plain_machine.specs.Machine.{station_at, with_station};
-ghost use Rattle.plain_machine.specs.Requesting.{refusal_on, refused_by, requested_on, where_meant, all_requested, all_sent};
-ghost use Rattle.gateway_core.specs.Sound.{IsSound, MayTell};
-ghost use Rattle.gateway_core.specs.State.{endpoints_in, machine_in, before_in, HasTurn};
+//! A deed on the lines that a command is for: on all of them, or on none (RFC 3435, 2.3.3 and 3.2.1.3).
+ghost use Rattle.std.specs.Prelude.{◌≡◌, IfOk};
+ghost use Rattle.plain_machine.specs.Machine.{on_line};
+ghost use Rattle.plain_machine.specs.Requesting.{refusal_on, refused_by, deed_on, deed_on_all};
+ghost use Rattle.gateway_core.specs.Sound.{MayTell, IsLine};
+ghost use Rattle.gateway_core.specs.Tells.{Tells, HasTurn};
 
-use crate::changing::{copy_of, put_station, station_at};
 use crate::context::Context;
+use crate::floor::{Floor, with_line};
 use crate::notifying::{Occasion, tell};
-use crate::state::State;
-use endpoint_names::{Entity, Pattern, matches};
+use command_forms::Target;
 use mg_bytes::OutOfMemory;
-use mg_line::Request;
-use plain_machine::{OutDatagram, Station};
+use mg_line::LineStep;
+use plain_machine::{LineDeed, OutDatagram, Station};
 
-/// What is asked of which lines: with the entity that is to be notified, if one is given.
-#[derive(Clone, Copy)]
-pub(crate) struct Asked<'a> {
-    pub lines: Pattern,
-    pub entity: &'a Option<Entity>,
-    pub request: &'a Request,
-}
-
-// The code with which a line refuses a request, if the name means that line.
-fn refusal_on(lines: Pattern, request: &Request, number: u16, station: &Station) -> Option<u16>
-    ensures { result ≡ refusal_on lines request.now (number, station.now) }
+// The code with which a line refuses a deed, if it is for that line.
+fn refusal_on(lines: Target, deed: &LineDeed, number: u16, station: &Station) -> Option<u16>
+    ensures { result ≡ refusal_on lines deed.now (number, station.now) }
 {
-    if matches(lines, number) {
-        station.line.check(request)
-    } else {
-        None
+    if !lines.is_for(number) {
+        return None;
+    }
+    match &deed.request {
+        Some(request) => station.line.check(request),
+        None => None,
     }
 }
 
-/// The code of the least line that refuses a request.
+/// The code of the least line that refuses a deed.
 #[tactic(auto, unfolding(plain_machine::specs::Requesting::refused_by))]
-pub(crate) fn refused_by(state: &State, lines: Pattern, request: &Request) -> Option<u16>
-    requires { length state.now.stations.items < 2 ^ 16 }
-    ensures { result ≡ refused_by (endpoints_in state.now) lines request.now }
+pub(crate) fn refused_by(floor: &Floor, lines: Target, deed: &LineDeed) -> Option<u16>
+    ensures { result ≡ refused_by floor.now.endpoints lines deed.now }
 {
-    for (place, station) in state.stations.iter().enumerate() {
-        if let Some(code) = refusal_on(lines, request, place as u16 + 1, station) {
+    let stations = floor.stations();
+    for (place, station) in stations.iter().enumerate() {
+        if let Some(code) = refusal_on(lines, deed, place as u16 + 1, station) {
             return Some(code);
         }
     }
     None
 }
 
-// A request on a copy of a station, whose line doesn't refuse it: what the line sends goes behind what there is.
-#[tactic(auto, unfolding(plain_machine::specs::Requesting::requested_on, plain_machine::specs::Notifying::noted))]
-fn request_on(
+// A deed on a station, whose line doesn't refuse it: what the line sends goes behind what there is.
+#[tactic(auto, unfolding(plain_machine::specs::Requesting::deed_on, plain_machine::specs::Notifying::noted))]
+fn deed_on(
     context: Context<'_>,
     occasion: Occasion,
-    copy: &mut Station,
-    asked: Asked<'_>,
+    station: &Station,
+    deed: &LineDeed,
     sent: &mut Vec<OutDatagram>,
-) -> Result<(), OutOfMemory>
-    requires { MayTell context.setup.now occasion.line occasion.moment }
-    ensures { OnOk result (HasTurn (requested_on context.entry.setup.now asked.entry.entity.now asked.entry.request.now
-        occasion.moment (occasion.line, copy.old)) copy.new sent.old.items sent.new.items) }
+) -> Result<Station, OutOfMemory>
+    requires line { IsLine occasion.line }
+    requires may { MayTell context.setup.now occasion.moment }
+    ensures { IfOk result (λ becomes. HasTurn (deed_on context.entry.setup.now deed.now occasion.moment occasion.line
+        station.now) becomes sent.old.items sent.new.items) }
 {
-    let notice = copy.line.request(asked.request, occasion.moment)?;
-    if let Some(entity) = asked.entity {
-        copy.entity = *entity;
+    let step = match &deed.request {
+        Some(request) => station.line.request(request, occasion.moment)?,
+        None => LineStep {
+            line: station.line.try_copy()?,
+            notice: None,
+        },
+    };
+    let mut becomes = with_line(station, step.line)?;
+    if let Some(entity) = &deed.entity {
+        becomes.post.entity = *entity;
     }
-    tell(context, occasion, copy, &notice, sent)
+    tell(context, occasion, becomes, step.notice, sent)
 }
 
-// A request on this line, if the name means it.
-fn request_where_meant(
+// A deed on this line.
+#[tactic(auto, unfolding(plain_machine::specs::Machine::on_line))]
+fn deed_on_line(
     context: Context<'_>,
-    state: &mut State,
-    line: u16,
-    asked: Asked<'_>,
+    floor: &mut Floor,
+    occasion: Occasion,
+    deed: &LineDeed,
     sent: &mut Vec<OutDatagram>,
 ) -> Result<(), OutOfMemory>
-    requires { IsSound context.setup.now (machine_in state.old) }
-    ensures ok { (station : Station) → station_at (endpoints_in state.old) line ≡ Some station →
-        OnOk result (endpoints_in state.new ≡ with_station (endpoints_in state.old) line
-        (where_meant context.entry.setup.now asked.entry.lines asked.entry.entity.now asked.entry.request.now state.old.clock
-        (line, station)).station) }
-    ensures sent { (station : Station) → station_at (endpoints_in state.old) line ≡ Some station →
-        OnOk result (sent.new.items ≡ sent.old.items ++ datagrams_of (where_meant context.entry.setup.now asked.entry.lines
-        asked.entry.entity.now asked.entry.request.now state.old.clock (line, station)).sent) }
-    ensures clock { state.new.clock ≡ state.old.clock }
-    ensures outbox { state.new.outbox.items ≡ state.old.outbox.items }
-    ensures history { state.new.history ≡ state.old.history }
-    ensures before { before_in state.new ≡ before_in state.old }
+    requires { MayTell context.setup.now occasion.moment }
+    ensures { Tells result (on_line floor.old.endpoints occasion.line (deed_on context.entry.setup.now deed.now
+        occasion.moment occasion.line)) floor.old floor.new sent.old.items sent.new.items }
 {
-    let Some(station) = station_at(state, line) else {
+    let Some(station) = floor.station(occasion.line) else {
         return Ok(());
     };
-    if !matches(asked.lines, line) {
-        return Ok(());
-    }
-    let mut copy = copy_of(station)?;
-    let occasion = Occasion {
-        line,
-        moment: state.clock,
-    };
-    request_on(context, occasion, &mut copy, asked, sent)?;
-    put_station(state, line, copy)
+    let becomes = deed_on(context, occasion, station, deed, sent)?;
+    floor.put(occasion.line, becomes)?;
+    Ok(())
 }
 
-/// A request on each line that the name means, in the order of their numbers, which none of them refuses: what they send.
-#[tactic(auto, unfolding(plain_machine::specs::Requesting::all_requested, plain_machine::specs::Requesting::all_sent))]
-pub(crate) fn request_all(
+/// A deed on each line that it is for, in the order of their numbers, which none of them refuses.
+pub(crate) fn deed_on_all(
     context: Context<'_>,
-    state: &mut State,
-    asked: Asked<'_>,
-) -> Result<Vec<OutDatagram>, OutOfMemory>
-    requires { IsSound context.setup.now (machine_in state.old) }
-    ensures ok { OnOk result (endpoints_in state.new ≡ all_requested context.entry.setup.now (endpoints_in state.old)
-        asked.entry.lines asked.entry.entity.now asked.entry.request.now state.old.clock) }
-    ensures sent { IfOk result (λ sent. sent.items ≡ datagrams_of (all_sent context.entry.setup.now (endpoints_in state.old)
-        asked.entry.lines asked.entry.entity.now asked.entry.request.now state.old.clock)) }
-    ensures clock { state.new.clock ≡ state.old.clock }
-    ensures outbox { state.new.outbox.items ≡ state.old.outbox.items }
-    ensures history { state.new.history ≡ state.old.history }
-    ensures before { before_in state.new ≡ before_in state.old }
+    floor: &mut Floor,
+    moment: u64,
+    lines: Target,
+    deed: &LineDeed,
+    sent: &mut Vec<OutDatagram>,
+) -> Result<(), OutOfMemory>
+    requires { MayTell context.setup.now moment }
+    ensures { Tells result (deed_on_all context.entry.setup.now floor.old.endpoints lines deed.now moment)
+        floor.old floor.new sent.old.items sent.new.items }
 {
-    let mut sent = Vec::new(context.alloc);
-    for place in 0..state.stations.len() {
-        request_where_meant(context, state, place as u16 + 1, asked, &mut sent)?;
+    for place in 0..floor.stations().len() {
+        let line = place as u16 + 1;
+        if lines.is_for(line) {
+            deed_on_line(context, floor, Occasion { line, moment }, deed, sent)?;
+        }
     }
-    Ok(sent)
+    Ok(())
 }

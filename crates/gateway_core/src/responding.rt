@@ -1,30 +1,23 @@
 //! What a response does to a command of the gateway's own (RFC 3435, 3.5 and 4.4.1).
-ghost use Rattle.std.specs.Prelude.{◌≡◌, ◌<◌, ◌-◌, ◌++◌, length, Some, OnOk, IfOk};
+ghost use Rattle.std.specs.Prelude.{◌≡◌, ◌++◌, ◌<◌, ◌^◌, [], OnOk, IfOk};
+ghost use Rattle.std.specs.Option.{unwrap_or};
 ghost use Rattle.mgcp_text.specs.Message.{params_in};
 ghost use Rattle.mg_line.specs.Answering.{answered};
 ghost use Rattle.plain_machine.specs.Message.{datagrams_of};
 ghost use Rattle.plain_machine.specs.Notifying.{noted};
-ghost use Rattle.plain_machine.specs.Machine.{told_in, station_at, with_turn};
-ghost use Rattle.plain_machine.specs.Responding.{is_empty_k, asks_for_acknowledgement, acknowledged, responded_on, responded, heard_from};
-ghost use Rattle.gateway_core.specs.Sound.{IsSound, MayTell};
-ghost use Rattle.gateway_core.specs.State.{endpoints_in, machine_in, before_in, Does};
+ghost use Rattle.plain_machine.specs.Machine.{on_line, on_own};
+ghost use Rattle.plain_machine.specs.Responding.{is_empty_k, asks_for_acknowledgement, acknowledged, responded_on, own_responded, responded, heard_from};
+ghost use Rattle.gateway_core.specs.Sound.{MayTell, IsLine};
+ghost use Rattle.gateway_core.specs.Tells.{Tells, HasTurn};
 
-use crate::changing::{copy_of, put_station, station_at};
 use crate::context::Context;
-use crate::notifying::{Occasion, put_noted};
+use crate::floor::{Floor, with_post};
+use crate::notifying::{Occasion, tell};
+use crate::posting::{Response, reply_on};
 use crate::sending::{Origin, send};
-use crate::state::State;
-use mg_bytes::OutOfMemory;
-use mgcp_text::{Answer, KValue, Message, TransactionId, read_k};
-use outbound::Reply;
-use plain_machine::{Station, line_of_id};
-
-// A response: the id that joins it to its command, and its return code.
-#[derive(Clone, Copy)]
-struct Response {
-    id: TransactionId,
-    code: u16,
-}
+use mg_bytes::{OutOfMemory, ReturnCode};
+use mgcp_text::{Answer, KValue, Message, read_k};
+use plain_machine::{OutDatagram, Own, Post, Station, line_of_id};
 
 fn is_empty_k(value: &KValue) -> bool
     ensures { result ≡ is_empty_k value.now }
@@ -52,113 +45,166 @@ fn asks_for_acknowledgement(
 // The acknowledgement that a response asks for goes to where it came from (RFC 3435, 3.5.6).
 fn acknowledge(
     context: Context<'_>,
-    state: &mut State,
+    moment: u64,
     origin: Origin,
     code: u16,
     said: &Message<'_>,
+    out: &mut Vec<OutDatagram>,
 ) -> Result<(), OutOfMemory>
-    ensures ok { OnOk result (state.new.outbox.items ≡ state.old.outbox.items
-        ++ datagrams_of (acknowledged state.old.clock origin.source code origin.id (params_in said.now))) }
-    ensures machine { machine_in state.new ≡ machine_in state.old }
-    ensures before { before_in state.new ≡ before_in state.old }
+    ensures { OnOk result (out.new.items ≡ out.old.items
+        ++ datagrams_of (acknowledged moment origin.source code origin.id (params_in said.now))) }
 {
     if !asks_for_acknowledgement(context, code, said)? {
         return Ok(());
     }
-    let text = Answer::plain(context.alloc, 0).text(context.alloc, origin.id)?;
-    send(state, origin.source, text)
+    let text = Answer::plain(context.alloc, ReturnCode::ResponseAcknowledgement.number()).text(
+        context.alloc,
+        origin.id,
+    )?;
+    send(out, origin.source, moment, text)
 }
 
-// The answer to its command, which is in flight no more, comes to the copy of a station.
+// The answer to its command, which is in flight no more under this post, comes to a station.
 #[tactic(auto, unfolding(plain_machine::specs::Notifying::noted))]
-fn answer(
+fn answered_on(
     context: Context<'_>,
-    state: &mut State,
     occasion: Occasion,
-    mut copy: Station,
-) -> Result<(), OutOfMemory>
-    requires line { MayTell context.setup.now occasion.line occasion.moment }
-    requires within { occasion.line - 1 < length state.old.stations.items }
-    ensures ok { OnOk result (Does (told_in (machine_in state.old) (with_turn (endpoints_in state.old) occasion.line
-        (noted context.entry.setup.now occasion.line occasion.moment copy (answered copy.line occasion.moment))))
-        state.old state.new) }
-    ensures before { before_in state.new ≡ before_in state.old }
+    station: &Station,
+    post: Post,
+    out: &mut Vec<OutDatagram>,
+) -> Result<Station, OutOfMemory>
+    requires line { IsLine occasion.line }
+    requires may { MayTell context.setup.now occasion.moment }
+    ensures { IfOk result (λ becomes. HasTurn (noted context.entry.setup.now occasion.line occasion.moment
+        (record station.now { post = post }) (answered station.now.line occasion.moment))
+        becomes out.old.items out.new.items) }
 {
-    let notice = copy.line.answered(occasion.moment)?;
-    put_noted(context, state, occasion, copy, notice)
-}
-
-// What a response does to the copy of a station, which then takes its place.
-#[tactic(auto, unfolding(plain_machine::specs::Responding::responded_on))]
-fn respond_to(
-    context: Context<'_>,
-    state: &mut State,
-    occasion: Occasion,
-    mut copy: Station,
-    response: Response,
-) -> Result<(), OutOfMemory>
-    requires line { MayTell context.setup.now occasion.line occasion.moment }
-    requires here { station_at (endpoints_in state.old) occasion.line ≡ Some copy }
-    requires within { occasion.line - 1 < length state.old.stations.items }
-    ensures ok { OnOk result (Does (told_in (machine_in state.old) (with_turn (endpoints_in state.old) occasion.line
-        (responded_on context.entry.setup.now occasion.line occasion.moment copy response.code response.id)))
-        state.old state.new) }
-    ensures before { before_in state.new ≡ before_in state.old }
-{
-    let Some(mut message) = copy.pending.take() else {
-        return Ok(());
+    let step = station.line.answered(occasion.moment)?;
+    let becomes = Station {
+        line: step.line,
+        post,
     };
-    match message.answer(response.id, response.code, occasion.moment) {
-        Reply::Answered => answer(context, state, occasion, copy),
-        Reply::Provisional => {
-            copy.pending = Some(message);
-            put_station(state, occasion.line, copy)
-        }
-        Reply::Stranger => Ok(()),
-    }
+    tell(context, occasion, becomes, step.notice, out)
 }
 
-// What a response does to the line of its id.
-#[tactic(auto, unfolding(plain_machine::specs::Responding::responded))]
+// What a response does to a station; `None` where it stays as it is.
+#[tactic(auto, unfolding(plain_machine::specs::Responding::responded_on))]
+fn responded_on(
+    context: Context<'_>,
+    occasion: Occasion,
+    station: &Station,
+    response: Response,
+    out: &mut Vec<OutDatagram>,
+) -> Result<Option<Station>, OutOfMemory>
+    requires line { IsLine occasion.line }
+    requires may { MayTell context.setup.now occasion.moment }
+    ensures { IfOk result (λ becomes. HasTurn
+        (responded_on context.entry.setup.now occasion.line occasion.moment station.now response.code response.id)
+        (unwrap_or becomes station.now) out.old.items out.new.items) }
+{
+    let Some(reply) = reply_on(occasion.moment, &station.post, response)? else {
+        return Ok(None);
+    };
+    let becomes = if reply.is_answered {
+        answered_on(context, occasion, station, reply.post, out)?
+    } else {
+        with_post(station, reply.post)?
+    };
+    Ok(Some(becomes))
+}
+
+// What a response does to the gateway itself; `None` where it stays as it is.
+#[tactic(auto, unfolding(plain_machine::specs::Responding::own_responded))]
+fn own_responded(moment: u64, own: &Own, response: Response) -> Result<Option<Own>, OutOfMemory>
+    requires { moment < 2 ^ 62 }
+    ensures { IfOk result (λ becomes. unwrap_or becomes own.now
+        ≡ (own_responded moment response.code response.id own.now).own) }
+{
+    let Some(reply) = reply_on(moment, &own.post, response)? else {
+        return Ok(None);
+    };
+    Ok(Some(Own { post: reply.post }))
+}
+
+// What a response does to this line.
+#[tactic(auto, unfolding(plain_machine::specs::Machine::on_line))]
 fn respond_on_line(
     context: Context<'_>,
-    state: &mut State,
+    floor: &mut Floor,
+    occasion: Occasion,
     response: Response,
+    out: &mut Vec<OutDatagram>,
 ) -> Result<(), OutOfMemory>
-    requires { IsSound context.setup.now (machine_in state.old) }
-    ensures ok { OnOk result (Does (told_in (machine_in state.old)
-        (responded context.entry.setup.now (endpoints_in state.old) state.old.clock response.code response.id))
-        state.old state.new) }
-    ensures before { before_in state.new ≡ before_in state.old }
+    requires { MayTell context.setup.now occasion.moment }
+    ensures { Tells result (on_line floor.old.endpoints occasion.line (λ station. responded_on context.entry.setup.now
+        occasion.line occasion.moment station response.code response.id))
+        floor.old floor.new out.old.items out.new.items }
+{
+    let Some(station) = floor.station(occasion.line) else {
+        return Ok(());
+    };
+    if let Some(becomes) = responded_on(context, occasion, station, response, out)? {
+        floor.put(occasion.line, becomes)?;
+    }
+    Ok(())
+}
+
+// What a response does to the gateway itself: it sends nothing.
+#[tactic(auto, unfolding(plain_machine::specs::Responding::own_responded))]
+fn respond_itself(floor: &mut Floor, moment: u64, response: Response) -> Result<(), OutOfMemory>
+    requires { moment < 2 ^ 62 }
+    ensures { Tells result (on_own floor.old.endpoints (own_responded moment response.code response.id))
+        floor.old floor.new [] [] }
+{
+    if let Some(becomes) = own_responded(moment, floor.own(), response)? {
+        floor.put_own(becomes)?;
+    }
+    Ok(())
+}
+
+// What a response does to the line of its id, or to the gateway itself.
+fn respond_to_its_id(
+    context: Context<'_>,
+    floor: &mut Floor,
+    moment: u64,
+    response: Response,
+    out: &mut Vec<OutDatagram>,
+) -> Result<(), OutOfMemory>
+    requires { MayTell context.setup.now moment }
+    ensures { Tells result (responded context.entry.setup.now floor.old.endpoints moment response.code response.id)
+        floor.old floor.new out.old.items out.new.items }
 {
     let occasion = Occasion {
         line: line_of_id(response.id),
-        moment: state.clock,
+        moment,
     };
-    let Some(station) = station_at(state, occasion.line) else {
-        return Ok(());
-    };
-    let copy = copy_of(station)?;
-    respond_to(context, state, occasion, copy, response)
+    if occasion.line == 0 {
+        respond_itself(floor, moment, response)?;
+    } else {
+        respond_on_line(context, floor, occasion, response, out)?;
+    }
+    Ok(())
 }
 
 /// A response: its acknowledgement goes out before anything else that it causes.
 pub(crate) fn respond(
     context: Context<'_>,
-    state: &mut State,
+    floor: &mut Floor,
+    moment: u64,
     origin: Origin,
     code: u16,
     said: &Message<'_>,
+    out: &mut Vec<OutDatagram>,
 ) -> Result<(), OutOfMemory>
-    requires { IsSound context.setup.now (machine_in state.old) }
-    ensures ok { OnOk result (Does (told_in (machine_in state.old) (heard_from context.entry.setup.now (endpoints_in state.old)
-        state.old.clock origin.source code origin.id (params_in said.now))) state.old state.new) }
-    ensures before { before_in state.new ≡ before_in state.old }
+    requires { MayTell context.setup.now moment }
+    ensures { Tells result (heard_from context.entry.setup.now floor.old.endpoints moment origin.source code origin.id
+        (params_in said.now)) floor.old floor.new out.old.items out.new.items }
 {
     let response = Response {
         id: origin.id,
         code,
     };
-    acknowledge(context, state, origin, code, said)?;
-    respond_on_line(context, state, response)
+    acknowledge(context, moment, origin, code, said, out)?;
+    respond_to_its_id(context, floor, moment, response, out)?;
+    Ok(())
 }

@@ -5,4 +5,5 @@ pub mod HexLemmas
 pub mod WordLemmas
 pub mod ItemLemmas
 pub mod TextLaws
+pub mod CodeLaws
 pub mod Computing

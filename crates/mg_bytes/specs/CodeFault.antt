@@ -13,3 +13,8 @@ AnswersAs said (Err OutOfMemory) = ⊤
 abbrev pub answer_of : {A : Type 0} → Result A ℕ → Result A CodeFault
 answer_of (Ok value) = Ok value
 answer_of (Err code) = Err (Code code)
+
+-- a fault's number, from 1
+abbrev pub code_fault_number : CodeFault → ℕ
+code_fault_number OutOfMemory = 1
+code_fault_number (Code code) = 2

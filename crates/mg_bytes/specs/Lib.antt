@@ -9,4 +9,5 @@ pub mod Numbers
 pub mod Case
 pub mod Address
 pub mod Letter
+pub mod ReturnCode
 pub mod CodeFault

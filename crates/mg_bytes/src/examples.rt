@@ -14,10 +14,12 @@ ghost use Rattle.mg_bytes.specs.Numbers.{decimal_of, is_hex_text, identifier_of}
 ghost use Rattle.mg_bytes.specs.Case.{same_but_case};
 ghost use Rattle.mg_bytes.specs.Address.{ipv4_of, port_of};
 ghost use Rattle.mg_bytes.specs.Letter.{all_letters, byte_of, letter_of};
-ghost use Rattle.mg_bytes.specs.CodeFault.{answer_of};
+ghost use Rattle.mg_bytes.specs.CodeFault.{answer_of, code_fault_number};
+ghost use Rattle.mg_bytes.specs.ReturnCode.{number_of, words_of, code_with};
 
 use crate::code_fault::CodeFault;
 use crate::letter::Letter;
+use crate::return_code::ReturnCode;
 
 /// The names of bytes stand for what is written.
 pub fn bytes_have_names()
@@ -159,4 +161,90 @@ pub fn keys_and_t_are_letters()
 pub fn answers_are_values_or_codes()
     ensures value { answer_of (Ok (codes "x")) ≡ Ok (codes "x") }
     ensures code { answer_of {A = List ℕ} (Err 510) ≡ Err (CodeFault.Code 510) }
+{}
+
+/// The numbers of return codes are those of RFC 3435, 2.4.
+pub fn return_codes_have_their_numbers()
+    ensures successes { map number_of (ReturnCode.ResponseAcknowledgement ∷ ReturnCode.Executed
+        ∷ ReturnCode.ConnectionDeleted ∷ [])
+        ≡ 0 ∷ 200 ∷ 250 ∷ [] }
+    ensures transient { map number_of (ReturnCode.AlreadyOffHook ∷ ReturnCode.AlreadyOnHook
+        ∷ ReturnCode.Restarting ∷ ReturnCode.NoEndpointAvailable ∷ [])
+        ≡ 401 ∷ 402 ∷ 405 ∷ 410 ∷ [] }
+    ensures endpoints { map number_of (ReturnCode.UnknownEndpoint ∷ ReturnCode.InsufficientResources
+        ∷ ReturnCode.WildcardTooComplicated ∷ ReturnCode.UnsupportedCommand ∷ [])
+        ≡ 500 ∷ 502 ∷ 503 ∷ 504 ∷ [] }
+    ensures values { map number_of (ReturnCode.UnsupportedHandling ∷ ReturnCode.RemoteDescriptionError
+        ∷ ReturnCode.ProtocolError ∷ ReturnCode.UnrecognizedExtension ∷ [])
+        ≡ 508 ∷ 509 ∷ 510 ∷ 511 ∷ [] }
+    ensures gateways { map number_of (ReturnCode.UnsupportedEvent ∷ ReturnCode.UnsupportedSignal
+        ∷ ReturnCode.IncorrectConnection ∷ ReturnCode.UnknownCall ∷ ReturnCode.UnsupportedMode
+        ∷ ReturnCode.UnknownPackage ∷ ReturnCode.NoDigitMap ∷ [])
+        ≡ 512 ∷ 513 ∷ 515 ∷ 516 ∷ 517 ∷ 518 ∷ 519 ∷ [] }
+    ensures later { map number_of (ReturnCode.Redirected ∷ ReturnCode.NoSuchEventOrSignal
+        ∷ ReturnCode.IllegalActions ∷ ReturnCode.MissingRemoteDescription ∷ ReturnCode.IncompatibleVersion ∷ [])
+        ≡ 521 ∷ 522 ∷ 523 ∷ 527 ∷ 528 ∷ [] }
+    ensures last { map number_of (ReturnCode.ResponseTooLarge ∷ ReturnCode.CodecNegotiationFailure
+        ∷ ReturnCode.UnsupportedPacketTime ∷ ReturnCode.EventParameterError ∷ ReturnCode.UnsupportedParameter
+        ∷ ReturnCode.TooManyConnections ∷ ReturnCode.UnsupportedConnectionOptions ∷ [])
+        ≡ 533 ∷ 534 ∷ 535 ∷ 538 ∷ 539 ∷ 540 ∷ 541 ∷ [] }
+    ensures by_number { code_with 510 ≡ Some ReturnCode.ProtocolError }
+    ensures by_no_number { code_with 514 ≡ None }
+{}
+
+/// What is said of return codes is what RFC 3435, 2.4, says.
+pub fn return_codes_have_their_words()
+    ensures response_acknowledgement { words_of ReturnCode.ResponseAcknowledgement
+        ≡ codes "response acknowledgement" }
+    ensures executed { words_of ReturnCode.Executed ≡ codes "executed normally" }
+    ensures connection_deleted { words_of ReturnCode.ConnectionDeleted ≡ codes "connection deleted" }
+    ensures already_off_hook { words_of ReturnCode.AlreadyOffHook ≡ codes "the phone is already off hook" }
+    ensures already_on_hook { words_of ReturnCode.AlreadyOnHook ≡ codes "the phone is already on hook" }
+    ensures restarting { words_of ReturnCode.Restarting ≡ codes "the endpoint is restarting" }
+    ensures no_endpoint_available { words_of ReturnCode.NoEndpointAvailable ≡ codes "no endpoint available" }
+    ensures unknown_endpoint { words_of ReturnCode.UnknownEndpoint ≡ codes "the endpoint is unknown" }
+    ensures insufficient_resources { words_of ReturnCode.InsufficientResources ≡ codes "insufficient resources" }
+    ensures wildcard_too_complicated { words_of ReturnCode.WildcardTooComplicated ≡ codes "wildcard too complicated" }
+    ensures unsupported_command { words_of ReturnCode.UnsupportedCommand ≡ codes "unknown or unsupported command" }
+    ensures unsupported_handling { words_of ReturnCode.UnsupportedHandling
+        ≡ codes "unknown or unsupported quarantine handling" }
+    ensures remote_description_error { words_of ReturnCode.RemoteDescriptionError
+        ≡ codes "error in remote connection descriptor" }
+    ensures protocol_error { words_of ReturnCode.ProtocolError ≡ codes "protocol error" }
+    ensures unrecognized_extension { words_of ReturnCode.UnrecognizedExtension ≡ codes "unrecognized extension" }
+    ensures unsupported_event { words_of ReturnCode.UnsupportedEvent
+        ≡ codes "not equipped to detect a requested event" }
+    ensures unsupported_signal { words_of ReturnCode.UnsupportedSignal
+        ≡ codes "not equipped to generate a requested signal" }
+    ensures incorrect_connection { words_of ReturnCode.IncorrectConnection ≡ codes "incorrect connection-id" }
+    ensures unknown_call { words_of ReturnCode.UnknownCall ≡ codes "unknown or incorrect call-id" }
+    ensures unsupported_mode { words_of ReturnCode.UnsupportedMode ≡ codes "unsupported or invalid mode" }
+    ensures unknown_package { words_of ReturnCode.UnknownPackage ≡ codes "unsupported or unknown package" }
+    ensures no_digit_map { words_of ReturnCode.NoDigitMap ≡ codes "no digit map" }
+    ensures redirected { words_of ReturnCode.Redirected ≡ codes "redirected to another call agent" }
+    ensures no_such_event_or_signal { words_of ReturnCode.NoSuchEventOrSignal ≡ codes "no such event or signal" }
+    ensures illegal_actions { words_of ReturnCode.IllegalActions
+        ≡ codes "unknown action or illegal combination of actions" }
+    ensures missing_remote_description { words_of ReturnCode.MissingRemoteDescription
+        ≡ codes "missing remote connection descriptor" }
+    ensures incompatible_version { words_of ReturnCode.IncompatibleVersion ≡ codes "incompatible protocol version" }
+    ensures response_too_large { words_of ReturnCode.ResponseTooLarge ≡ codes "response too large" }
+    ensures codec_negotiation_failure { words_of ReturnCode.CodecNegotiationFailure
+        ≡ codes "codec negotiation failure" }
+    ensures unsupported_packet_time { words_of ReturnCode.UnsupportedPacketTime
+        ≡ codes "packetization period not supported" }
+    ensures event_parameter_error { words_of ReturnCode.EventParameterError
+        ≡ codes "event or signal parameter error" }
+    ensures unsupported_parameter { words_of ReturnCode.UnsupportedParameter
+        ≡ codes "invalid or unsupported command parameter" }
+    ensures too_many_connections { words_of ReturnCode.TooManyConnections
+        ≡ codes "per endpoint connection limit exceeded" }
+    ensures unsupported_connection_options { words_of ReturnCode.UnsupportedConnectionOptions
+        ≡ codes "invalid or unsupported local connection options" }
+{}
+
+/// Of the faults, want of memory is the first.
+pub fn code_faults_have_numbers()
+    ensures memory { code_fault_number CodeFault.OutOfMemory ≡ 1 }
+    ensures code { code_fault_number (CodeFault.Code 510) ≡ 2 }
 {}

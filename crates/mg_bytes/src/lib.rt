@@ -1,5 +1,5 @@
 //! The bytes of a text: its lines, the words of a line, numbers as digits, comparison without case, owned text,
-//! and lists that own their values.
+//! lists that own their values, and return codes.
 //!
 //! Nothing here knows what a message is. What only reads takes no memory and gives slices of what it read.
 #![tactic(auto)]
@@ -10,11 +10,13 @@ mod code_fault;
 pub mod examples;
 mod identifier;
 mod item;
+pub mod laws;
 mod letter;
 mod letter_case;
 mod line;
 mod number;
 mod owned;
+mod return_code;
 mod sequence;
 mod split;
 mod word;
@@ -29,6 +31,7 @@ pub use crate::letter_case::same_no_case;
 pub use crate::line::Lines;
 pub use crate::number::{decimal, hex_text, put_decimal};
 pub use crate::owned::{OutOfMemory, Text};
+pub use crate::return_code::{RETURN_CODES, ReturnCode};
 pub use crate::sequence::Sequence;
 pub use crate::split::{has_dot_line, lines, list_items, split_once, words};
 pub use crate::word::Words;

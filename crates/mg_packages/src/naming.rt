@@ -5,7 +5,7 @@ ghost use Rattle.mg_packages.specs.Looking.{event_named, signal_named, event_in,
 use crate::event::Event;
 use crate::package::{Package, in_package};
 use crate::signal::Signal;
-use mg_bytes::{letter_of, same_no_case};
+use mg_bytes::{ReturnCode, letter_of, same_no_case};
 
 #[tactic(auto, unfolding(crate::specs::Looking::event_named))]
 fn line_event(name: &[u8]) -> Option<Event>
@@ -111,8 +111,8 @@ pub fn event_in(within: Package, name: &[u8]) -> Result<Event, u16>
         return Ok(event);
     }
     match signal_named(within, name) {
-        Some(_) => Err(522),
-        None => Err(512),
+        Some(_) => Err(ReturnCode::NoSuchEventOrSignal.number()),
+        None => Err(ReturnCode::UnsupportedEvent.number()),
     }
 }
 
@@ -126,8 +126,8 @@ pub fn signal_in(within: Package, name: &[u8]) -> Result<Signal, u16>
         return Ok(signal);
     }
     match (within, event_named(within, name)) {
-        (Package::Dtmf, _) | (_, None) => Err(513),
-        (_, Some(_)) => Err(522),
+        (Package::Dtmf, _) | (_, None) => Err(ReturnCode::UnsupportedSignal.number()),
+        (_, Some(_)) => Err(ReturnCode::NoSuchEventOrSignal.number()),
     }
 }
 

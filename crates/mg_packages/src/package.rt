@@ -2,7 +2,7 @@
 ghost use Rattle.std.specs.Prelude.{◌≡◌};
 ghost use Rattle.mg_packages.specs.Looking.{package_named, in_package, seen};
 
-use mg_bytes::{same_no_case, split_once};
+use mg_bytes::{ReturnCode, same_no_case, split_once};
 
 /// A package of events and signals (RFC 3435, 2.1.6).
 #[derive(Clone, Copy, PartialEq, Eq)]
@@ -41,6 +41,6 @@ pub fn in_package(text: &[u8]) -> Result<(Package, &[u8]), u16>
     };
     match package_named(named) {
         Some(within) => Ok((within, name)),
-        None => Err(518),
+        None => Err(ReturnCode::UnknownPackage.number()),
     }
 }

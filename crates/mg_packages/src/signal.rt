@@ -4,6 +4,7 @@ ghost use Rattle.mg_packages.specs.Looking.{kind_of, time_of, package_of, signal
 
 use crate::hook::Hook;
 use crate::package::Package;
+use mg_bytes::ReturnCode;
 
 /// A signal of the packages, in the order of the table: those of L before those of G.
 #[derive(Clone, Copy, Debug, PartialEq, Eq)]
@@ -128,8 +129,10 @@ pub fn refused_in(hook: Hook, signal: Signal) -> Option<u16>
     match (signal, hook) {
         (Signal::MessageWaiting, _) => None,
         (Signal::Ringing | Signal::RingSplash, Hook::OnHook) => None,
-        (Signal::Ringing | Signal::RingSplash, Hook::OffHook) => Some(401),
+        (Signal::Ringing | Signal::RingSplash, Hook::OffHook) => {
+            Some(ReturnCode::AlreadyOffHook.number())
+        }
         (_, Hook::OffHook) => None,
-        (_, Hook::OnHook) => Some(402),
+        (_, Hook::OnHook) => Some(ReturnCode::AlreadyOnHook.number()),
     }
 }

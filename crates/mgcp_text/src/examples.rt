@@ -4,10 +4,11 @@
 ghost use Rattle.std.specs.Prelude.{◌≡◌, codes, [], ◌∷◌, Some, None, true, false};
 ghost use Rattle.mgcp_text.specs.declared.message.Verb.TheVariants as verbs;
 ghost use Rattle.mgcp_text.specs.declared.message.Message.TheVariants as messages;
+ghost use Rattle.mgcp_text.specs.declared.message.TextFault.TheVariants as faults;
 ghost use Rattle.mgcp_text.specs.declared.confirmation.KValue.TheVariants as values;
 ghost use Rattle.mgcp_text.specs.Header.{verb_of};
 ghost use Rattle.mgcp_text.specs.Parameter.{param_of};
-ghost use Rattle.mgcp_text.specs.Message.{param_at};
+ghost use Rattle.mgcp_text.specs.Message.{number_of, param_at};
 ghost use Rattle.mgcp_text.specs.Reading.{message, no_header, bad_version, bad_body, read_text};
 ghost use Rattle.mgcp_text.specs.Confirmation.{k_of};
 ghost use Rattle.mgcp_text.specs.Writing.{written, is_writable};
@@ -253,4 +254,12 @@ pub fn some_messages_cannot_be_written()
     ensures two_lines { is_writable_command verbs.Ntfy 1 (codes "x\ny") ≡ false }
     ensures command_param { is_writable (messages.Command verbs.Ntfy 1 (codes "x") (param [] [] ∷ []) []) ≡ false }
     ensures command_description { is_writable (messages.Command verbs.Crcx 1 (codes "x") [] (codes ".\r\n")) ≡ false }
+{}
+
+/// Faults are numbered from 1, in the order in which they are declared.
+pub fn faults_have_numbers()
+    ensures memory { number_of faults.OutOfMemory ≡ 1 }
+    ensures header { number_of faults.NoHeader ≡ 2 }
+    ensures version { number_of (faults.BadVersion 9) ≡ 3 }
+    ensures body { number_of (faults.BadBody 9) ≡ 4 }
 {}

@@ -18,7 +18,7 @@ use crate::id::TransactionId;
 use crate::message::{Message, Param, Verb};
 use crate::parameter::is_code;
 use crate::reading::has_only_empty_lines;
-use mg_bytes::{OutOfMemory, Text, has_dot_line, lines, put_decimal, trimmed};
+use mg_bytes::{OutOfMemory, ReturnCode, Text, has_dot_line, lines, put_decimal, trimmed};
 use std::alloc::Global;
 
 fn verb_text(verb: Verb) -> &'static [u8]
@@ -73,7 +73,7 @@ fn put_code(out: &mut Vec<u8>, code: u16) -> Result<(), OutOfMemory>
 fn comment(code: u16) -> &'static [u8]
     ensures { result.now ≡ comment code }
 {
-    if code == 200 || code == 250 {
+    if code == ReturnCode::Executed.number() || code == ReturnCode::ConnectionDeleted.number() {
         b" OK"
     } else {
         b""

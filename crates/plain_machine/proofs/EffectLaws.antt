@@ -1,35 +1,33 @@
 -- What every event leaves as it is: the number of lines, and the clock but at a tick.
-use Rattle.std.proofs.Common.{◌≡◌, ℕ, zero, suc, ◌+◌, ◌-◌, Bool, true, false, List, [], ◌∷◌, length, map, Option, Some, None, Result, Ok, Err, refl, sym, ap, ◌∙◌, arith}
-use Rattle.std.specs.List.{enumerate_from}
+use Rattle.std.proofs.Common.{◌≡◌, ℕ, zero, suc, ◌-◌, Bool, true, false, List, [], ◌∷◌, length, Option, Some, None, Result, Ok, Err, refl, sym, ap, ◌∙◌, arith}
 use Rattle.std.proofs.lemmas.List.{set-get_or}
 use Rattle.std.proofs.lemmas.Option.{get_or_from_slice_get}
 use Rattle.std.specs.Prelude.{slice_set, slice_get, ◌==◌, if◌then◌else◌}
 use Rattle.std.proofs.lemmas.Grind.{common_steps}
 use Rattle.std.specs.declared.net.socket_addr.SocketAddrV4.{SocketAddrV4}
 use Rattle.mgcp_text.specs.declared.message.Message.TheVariants as messages
+use Rattle.mgcp_text.specs.Confirmation.{k_of}
 use Rattle.mgcp_text.specs.Reading.{Outcome, message, no_header, bad_version, bad_body, read_text}
-use Rattle.mg_line.specs.declared.phone.Act.{Act}
+use Rattle.plain_machine.specs.declared.own.Own.{Own}
 use Rattle.plain_machine.specs.declared.setup.Setup.{Setup}
 use Rattle.plain_machine.specs.declared.station.Station.{Station}
 use Rattle.plain_machine.specs.Event.{GatewayEvent, datagram, phone, tick}
 use Rattle.plain_machine.specs.Notifying.{Turn, silent}
-use Rattle.plain_machine.specs.Machine.{Endpoints, Machine, Effect, told, station_at, with_station, with_turn}
+use Rattle.plain_machine.specs.Machine.{Endpoints, Machine, Effect, OwnTurn, told, station_at, with_turn, turned_at, on_line, on_own, on_either, on_lines}
 use Rattle.plain_machine.specs.Arriving.{texts_of, clock_after}
 use Rattle.history.specs.Memory.{most_firsts}
 use Rattle.history.specs.Looking.{Told as Looked, new, repeat, confirmed, full, look_of}
-use Rattle.plain_machine.specs.Acting.{acted, acted_at, acted_on}
-use Rattle.plain_machine.specs.Falling.{due_by, happened_at, happened, go_on, passed, room, pass}
-use Rattle.plain_machine.specs.Responding.{line_of_id, responded_at, responded}
+use Rattle.plain_machine.specs.Acting.{acted_on}
+use Rattle.plain_machine.specs.Falling.{due_by, happened_on, own_happened, happened, go_on, passed, room, pass}
+use Rattle.plain_machine.specs.Posting.{line_of_id}
+use Rattle.plain_machine.specs.Responding.{responded_on, own_responded}
 use Rattle.plain_machine.specs.declared.due_item.DueItem.{DueItem}
 use Rattle.plain_machine.specs.Done.{Done}
-use Rattle.plain_machine.specs.Requesting.{refused_by, where_meant, all_requested, unless_refused}
-use Rattle.plain_machine.specs.Commanding.{line_request, done_by}
-use Rattle.command_forms.specs.declared.forms.Form.{Form}
-use Rattle.command_forms.specs.declared.forms.Form.TheVariants as forms
+use Rattle.plain_machine.specs.Requesting.{refused_by, lines_meant, unless_refused}
+use Rattle.plain_machine.specs.Commanding.{line_deed, done_by}
+use Rattle.command_forms.specs.declared.forms.Asks.{Asks}
+use Rattle.command_forms.specs.declared.forms.Asks.TheVariants.{Reports, Does}
 use Rattle.command_forms.specs.Order.{form_of}
-use Rattle.endpoint_names.specs.declared.name.Pattern.{Pattern}
-use Rattle.endpoint_names.specs.declared.entity.Entity.{Entity}
-use Rattle.mg_line.specs.declared.request.Request.{Request}
 use Rattle.plain_machine.specs.Answering.{Transaction, executed, transacted_by, handled, took_all}
 use Rattle.plain_machine.specs.Happening.{effect}
 
@@ -39,19 +37,30 @@ lines_in endpoints = length endpoints.stations
 set_same : (stations : List Station) (i : ℕ) (station : Station) → length (slice_set stations i station) ≡ length stations
 set_same stations i station = grind (arith, common_steps)
 
-acted_same : (setup : Setup) (endpoints : Endpoints) (number moment : ℕ) (act : Act) → lines_in (acted setup endpoints number moment act).endpoints ≡ lines_in endpoints
-unfolding acted
-acted_same setup endpoints number moment act = by_station (station_at endpoints number) where
-  by_station : (station : Option Station) → lines_in (acted_at station setup endpoints number moment act).endpoints ≡ lines_in endpoints
+turned_lines : (endpoints : Endpoints) (line : ℕ) (turn : Station → Turn) → lines_in (on_line endpoints line turn).endpoints ≡ lines_in endpoints
+unfolding on_line
+turned_lines endpoints line turn = by_station (station_at endpoints line) where
+  by_station : (found : Option Station) → lines_in (turned_at found endpoints line turn).endpoints ≡ lines_in endpoints
   by_station None = refl
-  by_station (Some station) = set_same endpoints.stations (number - 1) _
+  by_station (Some station) = set_same endpoints.stations (line - 1) _
+
+either_lines : (endpoints : Endpoints) (line : ℕ) (own_turn : Own → OwnTurn) (turn : Station → Turn) → lines_in (on_either endpoints line own_turn turn).endpoints ≡ lines_in endpoints
+either_lines endpoints line own_turn turn = by_test (line == 0) where
+  by_test : (b : Bool) → lines_in (if b then on_own endpoints own_turn else on_line endpoints line turn).endpoints ≡ lines_in endpoints
+  by_test true = refl
+  by_test false = turned_lines endpoints line turn
+
+several_lines : (lines : List ℕ) (endpoints : Endpoints) (turn : ℕ → Station → Turn) → lines_in (on_lines lines endpoints turn).endpoints ≡ lines_in endpoints
+unfolding on_lines
+several_lines [] endpoints turn = refl
+several_lines (line ∷ lines) endpoints turn = several_lines lines (on_line endpoints line (turn line)).endpoints turn ∙ turned_lines endpoints line (turn line)
 
 -- what is done at texts
 record Keeps (m : Machine) (done : Effect) : Type 0 where
   lines : lines_in done.machine.endpoints ≡ lines_in m.endpoints
   now : done.machine.now ≡ m.now
 
-transacted_keeps : (told : Looked) (m : Machine) (source : SocketAddrV4) (t : Transaction) → lines_in t.done.endpoints ≡ lines_in m.endpoints
+transacted_keeps : (told : Looked) (m : Machine) (source : SocketAddrV4) (t : Transaction) → lines_in t.done.told.endpoints ≡ lines_in m.endpoints
     → Keeps m (transacted_by told m source t)
 unfolding executed
 transacted_keeps new m source t same = record { lines = same; now = refl }
@@ -59,31 +68,15 @@ transacted_keeps (repeat text) m source t same = record { lines = refl; now = re
 transacted_keeps confirmed m source t same = record { lines = refl; now = refl }
 transacted_keeps full m source t same = record { lines = refl; now = refl }
 
--- a request asks stations, and adds none
-mapped_lines : (f : ℕ × Station → Station) (n : ℕ) (stations : List Station) → length (map f (enumerate_from n stations)) ≡ length stations
-mapped_lines f n [] = refl
-mapped_lines f n (station ∷ stations) = ap suc (mapped_lines f (n + 1) stations)
+asked_lines : (refusal : Option ℕ) (endpoints : Endpoints) (done : Done) → lines_in done.told.endpoints ≡ lines_in endpoints → lines_in (unless_refused refusal endpoints done).told.endpoints ≡ lines_in endpoints
+asked_lines None endpoints done same = same
+asked_lines (Some code) endpoints done same = refl
 
-asked_lines : (refusal : Option ℕ) (setup : Setup) (endpoints : Endpoints) (lines : Pattern) (entity : Option Entity) (request : Request) (moment : ℕ) (done : Done)
-    → done.endpoints ≡ all_requested setup endpoints lines entity request moment → lines_in (unless_refused refusal endpoints done).endpoints ≡ lines_in endpoints
-unfolding all_requested
-asked_lines None setup endpoints lines entity request moment done is =
-    ap lines_in is ∙ mapped_lines (λ one. (where_meant setup lines entity request moment one).station) 1 endpoints.stations
-asked_lines (Some code) setup endpoints lines entity request moment done is = refl
-
-done_lines : (form : Result Form ℕ) (setup : Setup) (endpoints : Endpoints) (moment : ℕ) → lines_in (done_by form setup endpoints moment).endpoints ≡ lines_in endpoints
-done_lines (Err code) setup endpoints moment = refl
-done_lines (Ok (forms.Audit pattern items)) setup endpoints moment = refl
-done_lines (Ok (forms.Request pattern entity request)) setup endpoints moment =
-    asked_lines (refused_by endpoints pattern (line_request request)) setup endpoints pattern entity (line_request request) moment _ refl
-
--- a response changes a station, and adds none
-pub responded_lines : (setup : Setup) (endpoints : Endpoints) (moment code id : ℕ) → length (responded setup endpoints moment code id).endpoints.stations ≡ length endpoints.stations
-unfolding responded
-responded_lines setup endpoints moment code id = by_station (station_at endpoints (line_of_id id)) where
-  by_station : (found : Option Station) → lines_in (responded_at found setup endpoints (line_of_id id) moment code id).endpoints ≡ lines_in endpoints
-  by_station None = refl
-  by_station (Some station) = set_same endpoints.stations (line_of_id id - 1) _
+done_lines : (asks : Result Asks ℕ) (setup : Setup) (endpoints : Endpoints) (moment id : ℕ) → lines_in (done_by asks setup endpoints moment id).told.endpoints ≡ lines_in endpoints
+done_lines (Err code) setup endpoints moment id = refl
+done_lines (Ok (Reports target audit)) setup endpoints moment id = refl
+done_lines (Ok (Does target deed)) setup endpoints moment id =
+    asked_lines (refused_by endpoints target (line_deed deed)) endpoints _ (several_lines (lines_meant endpoints target) endpoints _)
 
 handled_keeps : (setup : Setup) (m : Machine) (source : SocketAddrV4) (outcome : Outcome) → Keeps m (handled setup m source outcome)
 unfolding handled
@@ -91,8 +84,8 @@ handled_keeps setup m source no_header = record { lines = refl; now = refl }
 handled_keeps setup m source (bad_version id) = transacted_keeps (look_of most_firsts m.history id m.now) m source _ refl
 handled_keeps setup m source (bad_body id) = transacted_keeps (look_of most_firsts m.history id m.now) m source _ refl
 handled_keeps setup m source (message (messages.Command verb id name params body)) =
-    transacted_keeps (look_of most_firsts m.history id m.now) m source _ (done_lines (form_of (record { verb = verb; name = name; params = params }) setup.names) setup m.endpoints m.now)
-handled_keeps setup m source (message (messages.Response code id params body)) = record { lines = responded_lines setup m.endpoints m.now code id; now = refl }
+    transacted_keeps (look_of most_firsts m.history id m.now) m source _ (done_lines (form_of (record { verb = verb; name = name; params = params }) (k_of params) setup.names) setup m.endpoints m.now id)
+handled_keeps setup m source (message (messages.Response code id params body)) = record { lines = either_lines m.endpoints (line_of_id id) (own_responded m.now code id) (λ station. responded_on setup (line_of_id id) m.now station code id); now = refl }
 
 pub handled_now : (setup : Setup) (m : Machine) (source : SocketAddrV4) (outcome : Outcome) → (handled setup m source outcome).machine.now ≡ m.now
 handled_now setup m source outcome = (handled_keeps setup m source outcome).now
@@ -110,11 +103,8 @@ took_keeps setup m source (text ∷ texts) =
 
 -- what falls due changes a station, and adds none
 pub happened_lines : (setup : Setup) (endpoints : Endpoints) (item : DueItem) → lines_in (happened setup endpoints item).endpoints ≡ lines_in endpoints
-unfolding happened
-happened_lines setup endpoints item = by_station (station_at endpoints item.line) where
-  by_station : (found : Option Station) → lines_in (happened_at found setup endpoints item).endpoints ≡ lines_in endpoints
-  by_station None = refl
-  by_station (Some station) = set_same endpoints.stations (item.line - 1) _
+happened_lines setup endpoints item =
+    either_lines endpoints item.line (own_happened item.due item.moment) (happened_on item.due setup item.line item.moment)
 
 passed_lines : (n : ℕ) (setup : Setup) (endpoints : Endpoints) (moment : ℕ) → lines_in (passed n setup endpoints moment).endpoints ≡ lines_in endpoints
 unfolding passed
@@ -134,7 +124,7 @@ pub effect_lines : (setup : Setup) (m : Machine) (event : GatewayEvent)
     → length (effect setup m event).machine.endpoints.stations ≡ length m.endpoints.stations
 unfolding effect
 effect_lines setup m (datagram source bytes) = (took_keeps setup m source (texts_of bytes)).lines
-effect_lines setup m (phone line act) = acted_same setup m.endpoints line m.now act
+effect_lines setup m (phone line act) = turned_lines m.endpoints line (acted_on setup line m.now act)
 effect_lines setup m (tick moment) = pass_lines setup m.endpoints moment
 
 -- a tick alone moves the clock
@@ -164,19 +154,37 @@ pub turned_still : (endpoints : Endpoints) (line : ℕ) (station : Station) → 
     → with_turn endpoints line (silent station) ≡ told endpoints []
 turned_still endpoints line station at =
     let same : slice_set endpoints.stations (line - 1) station ≡ endpoints.stations = same_station (line == 0) endpoints.stations (line - 1) station at in
-    ap (λ (x : List Station). let e : Endpoints = record { stations = x } in told e []) same
+    ap (λ (x : List Station). let e : Endpoints = record endpoints { stations = x } in told e []) same
 
--- an act that a line doesn't heed: its station becomes this
-pub acted_over : (setup : Setup) (endpoints : Endpoints) (number moment : ℕ) (act : Act) (station becomes : Station) → station_at endpoints number ≡ Some station
-    → silent becomes ≡ acted_on setup number moment act station
-    → acted setup endpoints number moment act ≡ told (with_station endpoints number becomes) []
-unfolding acted
-acted_over setup endpoints number moment act station becomes at passed =
-    ap (λ (x : Option Station). acted_at x setup endpoints number moment act) at
-    ∙ ap (λ (x : Turn). with_turn endpoints number x) (sym passed)
+-- the gateway itself, and a line
+pub either_own : (endpoints : Endpoints) (line : ℕ) (own_turn : Own → OwnTurn) (turn : Station → Turn) → (line == 0) ≡ true
+    → on_either endpoints line own_turn turn ≡ on_own endpoints own_turn
+either_own endpoints line own_turn turn is = ap (λ (b : Bool). if b then on_own endpoints own_turn else on_line endpoints line turn) is
 
--- where there is no such line
-pub acted_nowhere : (setup : Setup) (endpoints : Endpoints) (number moment : ℕ) (act : Act) → station_at endpoints number ≡ None
-    → acted setup endpoints number moment act ≡ told endpoints []
-unfolding acted
-acted_nowhere setup endpoints number moment act at = ap (λ (x : Option Station). acted_at x setup endpoints number moment act) at
+pub either_line : (endpoints : Endpoints) (line : ℕ) (own_turn : Own → OwnTurn) (turn : Station → Turn) → (line == 0) ≡ false
+    → on_either endpoints line own_turn turn ≡ on_line endpoints line turn
+either_line endpoints line own_turn turn is = ap (λ (b : Bool). if b then on_own endpoints own_turn else on_line endpoints line turn) is
+
+-- a line that there is isn't the gateway itself
+pub some_line : (endpoints : Endpoints) (line : ℕ) (station : Station) → station_at endpoints line ≡ Some station → (line == 0) ≡ false
+some_line endpoints line station at = by_zero (line == 0) refl at where
+  by_zero : (b : Bool) → (line == 0) ≡ b → (if b then None else slice_get endpoints.stations (line - 1)) ≡ Some station → b ≡ false
+  by_zero true e at = absurd cc
+  by_zero false e at = refl
+
+-- where there is such a line
+pub on_this : (endpoints : Endpoints) (line : ℕ) (station : Station) (turn : Station → Turn) → station_at endpoints line ≡ Some station
+    → on_line endpoints line turn ≡ with_turn endpoints line (turn station)
+unfolding on_line
+on_this endpoints line station turn at = ap (λ (x : Option Station). turned_at x endpoints line turn) at
+
+-- where there is none
+pub on_nothing : (endpoints : Endpoints) (line : ℕ) (turn : Station → Turn) → station_at endpoints line ≡ None → on_line endpoints line turn ≡ told endpoints []
+unfolding on_line
+on_nothing endpoints line turn at = ap (λ (x : Option Station). turned_at x endpoints line turn) at
+
+-- a line whose station stays, and sends nothing
+pub on_still : (endpoints : Endpoints) (line : ℕ) (station : Station) (turn : Station → Turn) → station_at endpoints line ≡ Some station → turn station ≡ silent station
+    → on_line endpoints line turn ≡ told endpoints []
+on_still endpoints line station turn at still =
+    on_this endpoints line station turn at ∙ ap (λ (t : Turn). with_turn endpoints line t) still ∙ turned_still endpoints line station at

@@ -10,16 +10,16 @@ use Rattle.std.proofs.lemmas.Option.{slice_get_within, get_or_from_slice_get}
 use Rattle.plain_machine.specs.declared.due_item.DueItem.{DueItem}
 use Rattle.plain_machine.specs.declared.setup.Setup.{Setup}
 use Rattle.plain_machine.specs.declared.station.Station.{Station}
-use Rattle.plain_machine.specs.Machine.{Endpoints, Told, told, with_turn}
-use Rattle.plain_machine.specs.Falling.{due_on, first_due, due_by, happened_on, happened_at, happened, afterwards, go_on, passed, room, pass}
-use Rattle.plain_machine.proofs.EffectLaws.{happened_lines, other_station}
-use Rattle.plain_machine.proofs.FirstLemmas.{IsDueOn, first_on, by_moment, station_is, earliest_on}
-use Rattle.plain_machine.proofs.LeftLemmas.{Happens, has_by, first_happens, first_on_it, none_before, due_count, eleven_at_most, happens_less}
+use Rattle.plain_machine.specs.Machine.{Endpoints, Told, told, with_turn, with_own, on_own, afterwards}
+use Rattle.plain_machine.specs.Falling.{due_on, own_due, first_due, due_by, happened_on, own_happened, happened, go_on, passed, room, pass}
+use Rattle.plain_machine.proofs.EffectLaws.{happened_lines, other_station, either_own, either_line, on_this}
+use Rattle.plain_machine.proofs.FirstLemmas.{IsDueOn, first_on, own_line, by_moment, station_is, station_line, earliest_own, earliest_on}
+use Rattle.plain_machine.proofs.LeftLemmas.{Happens, has_by, first_happens, first_on_it, none_before, due_count, eleven_at_most, happens_less, own_count, one_at_most, own_first_happens, own_first_on, own_happens_less}
 
 -- How much is due up to a moment
 
 abbrev total : ℕ → Endpoints → ℕ
-total moment endpoints = sum_by (due_count moment) endpoints.stations
+total moment endpoints = sum_by (due_count moment) endpoints.stations + own_count moment endpoints.own
 
 sum_most : (moment : ℕ) (stations : List Station) → sum_by (due_count moment) stations ≤ 11 * length stations
 sum_most moment [] = omega arith
@@ -27,14 +27,24 @@ sum_most moment (station ∷ stations) =
     omega (arith, sum_by-cons (due_count moment) station stations, eleven_at_most moment station, sum_most moment stations)
 
 abbrev per_moment : Endpoints → ℕ
-per_moment endpoints = 11 * length endpoints.stations
+per_moment endpoints = 11 * length endpoints.stations + 1
 
--- What happens on one line
+total_most : (moment : ℕ) (endpoints : Endpoints) → total moment endpoints ≤ per_moment endpoints
+total_most moment endpoints = omega (arith, sum_most moment endpoints.stations, one_at_most moment endpoints.own)
+
+-- What happens on one line, or of the gateway itself
 
 happened_is : (setup : Setup) (endpoints : Endpoints) (item : DueItem) (is : IsDueOn 1 endpoints.stations item)
     → happened setup endpoints item ≡ with_turn endpoints item.line (happened_on item.due setup item.line item.moment is.station)
-unfolding happened
-happened_is setup endpoints item is = ap (λ (found : Option Station). happened_at found setup endpoints item) (station_is endpoints item is)
+happened_is setup endpoints item is =
+    either_line endpoints item.line (own_happened item.due item.moment) (happened_on item.due setup item.line item.moment) (station_line endpoints item is)
+    ∙ on_this endpoints item.line is.station (happened_on item.due setup item.line item.moment) (station_is endpoints item is)
+
+own_happened_is : (setup : Setup) (endpoints : Endpoints) (item : DueItem) → own_due endpoints.own ≡ Some item
+    → happened setup endpoints item ≡ on_own endpoints (own_happened item.due item.moment)
+own_happened_is setup endpoints item is =
+    either_own endpoints item.line (own_happened item.due item.moment) (happened_on item.due setup item.line item.moment)
+    (ap (λ (line : ℕ). line == 0) (own_line endpoints.own item is))
 
 less_sum : (moment : ℕ) (stations : List Station) (place : ℕ) (was is : Station) → slice_get stations place ≡ Some was → due_count moment is < due_count moment was
     → sum_by (due_count moment) (slice_set stations place is) < sum_by (due_count moment) stations
@@ -44,15 +54,25 @@ less_sum moment stations place was is at less =
     let same : due_count moment (get_or stations place was) ≡ due_count moment was = ap (due_count moment) here in
     omega (arith, sums, same, less)
 
+first_less : (a b c : ℕ) → a < b → a + c < b + c
+first_less a b c less = omega (arith, less)
+
+second_less : (a b c : ℕ) → b < c → a + b < a + c
+second_less a b c less = omega (arith, less)
+
 -- at that moment there is less to come
 less_to_come : (setup : Setup) (endpoints : Endpoints) (item : DueItem) → first_due endpoints ≡ Some item
     → total item.moment (happened setup endpoints item).endpoints < total item.moment endpoints
-less_to_come setup endpoints item first =
-    let is = first_on endpoints item first in
-    let place : item.line - 1 ≡ is.place = omega (arith, is.line) in
-    rw (happened_is setup endpoints item is, place)
-    (less_sum item.moment endpoints.stations is.place is.station _ is.at
-    (happens_less item.moment item.due is.station _ (first_happens setup item.line is.station item is.due)))
+less_to_come setup endpoints item first = by_case (first_on endpoints item first) where
+  by_case : (own_due endpoints.own ≡ Some item) ⊎ IsDueOn 1 endpoints.stations item → total item.moment (happened setup endpoints item).endpoints < total item.moment endpoints
+  by_case (inl is) =
+      rw (own_happened_is setup endpoints item is)
+      (second_less _ _ _ (own_happens_less item.moment endpoints.own _ (own_first_happens endpoints.own item is)))
+  by_case (inr is) =
+      let place : item.line - 1 ≡ is.place = omega (arith, is.line) in
+      rw (happened_is setup endpoints item is, place)
+      (first_less _ _ _ (less_sum item.moment endpoints.stations is.place is.station _ is.at
+      (happens_less item.moment item.due is.station _ (first_happens setup item.line is.station item is.due))))
 
 -- and something was due then
 some_due : (setup : Setup) (endpoints : Endpoints) (item : DueItem) → first_due endpoints ≡ Some item → 0 < total item.moment endpoints
@@ -65,13 +85,25 @@ get_set_same : (stations : List Station) (place : ℕ) (was is station : Station
 get_set_same stations place was is station at found =
     sym (get_or-set_same stations place is is (slice_get_within stations place was at)) ∙ get_or_from_slice_get (slice_set stations place is) place station is found
 
-not_earlier : (setup : Setup) (endpoints : Endpoints) (item next : DueItem) → first_due endpoints ≡ Some item → first_due (happened setup endpoints item).endpoints ≡ Some next
-    → item.moment ≤ next.moment
-not_earlier setup endpoints item next first after =
-    let is = first_on endpoints item first in
+-- after what happened to the gateway itself
+own_not_earlier : (setup : Setup) (endpoints : Endpoints) (item next : DueItem) → first_due endpoints ≡ Some item → own_due endpoints.own ≡ Some item
+    → first_due (happened setup endpoints item).endpoints ≡ Some next → item.moment ≤ next.moment
+own_not_earlier setup endpoints item next first is after =
+    by_case (first_on (with_own endpoints (own_happened item.due item.moment endpoints.own).own) next
+    (subst (λ (t : Told). first_due t.endpoints ≡ Some next) (own_happened_is setup endpoints item is) after)) where
+      by_case : (own_due (own_happened item.due item.moment endpoints.own).own ≡ Some next) ⊎ IsDueOn 1 endpoints.stations next → item.moment ≤ next.moment
+      by_case (inl own) =
+          let later = (own_first_happens endpoints.own item is).later next.moment (own_first_on (own_happened item.due item.moment endpoints.own).own next own) in
+          omega (arith, later)
+      by_case (inr on) =
+          earliest_on endpoints item next on.place on.station first on.at (subst (λ (l : ℕ). due_on (l, on.station) ≡ Some next) on.line on.due)
+
+-- after what happened on a line
+line_not_earlier : (setup : Setup) (endpoints : Endpoints) (item next : DueItem) → first_due endpoints ≡ Some item → (is : IsDueOn 1 endpoints.stations item)
+    → IsDueOn 1 (happened setup endpoints item).endpoints.stations next → item.moment ≤ next.moment
+line_not_earlier setup endpoints item next first is later =
     let now = (happened_on item.due setup item.line item.moment is.station).station in
     let h = first_happens setup item.line is.station item is.due in
-    let later = first_on (happened setup endpoints item).endpoints next after in
     let place : item.line - 1 ≡ is.place = omega (arith, is.line) in
     let stations : (happened setup endpoints item).endpoints.stations ≡ slice_set endpoints.stations is.place now =
     ap (λ (t : Told). t.endpoints.stations) (happened_is setup endpoints item is) ∙ ap (λ (p : ℕ). slice_set endpoints.stations p now) place in
@@ -95,6 +127,19 @@ not_earlier setup endpoints item next first after =
           earliest_on endpoints item next other station first
           (sym (other_station endpoints.stations place other now (λ same. absurd (let b : (other == place) ≡ true = (Decides-eqb other place).1 same in cc))) ∙ found) on
 
+not_earlier : (setup : Setup) (endpoints : Endpoints) (item next : DueItem) → first_due endpoints ≡ Some item → first_due (happened setup endpoints item).endpoints ≡ Some next
+    → item.moment ≤ next.moment
+not_earlier setup endpoints item next first after = by_case (first_on endpoints item first) where
+  by_next : IsDueOn 1 endpoints.stations item → (own_due (happened setup endpoints item).endpoints.own ≡ Some next) ⊎ IsDueOn 1 (happened setup endpoints item).endpoints.stations next
+      → item.moment ≤ next.moment
+  by_next is (inl own) =
+      earliest_own endpoints item next first (subst (λ (t : Told). own_due t.endpoints.own ≡ Some next) (happened_is setup endpoints item is) own)
+  by_next is (inr later) = line_not_earlier setup endpoints item next first is later
+
+  by_case : (own_due endpoints.own ≡ Some item) ⊎ IsDueOn 1 endpoints.stations item → item.moment ≤ next.moment
+  by_case (inl is) = own_not_earlier setup endpoints item next first is after
+  by_case (inr is) = by_next is (first_on (happened setup endpoints item).endpoints next after)
+
 -- How much is left
 
 abbrev left_by : Option DueItem → Endpoints → ℕ → ℕ
@@ -106,6 +151,12 @@ left_by (Some item) endpoints moment = (moment - item.moment) * per_moment endpo
 pub left : Endpoints → ℕ → ℕ
 left endpoints moment = left_by (due_by endpoints moment) endpoints moment
 
+fits_in : (moment at k now : ℕ) → now ≤ k → (moment - at) * k + now ≤ (moment + 1) * k
+fits_in moment at k now most =
+    let rest : (moment - at) * k ≤ moment * k = mul-le-mul_right k (omega arith) in
+    let whole : (moment + 1) * k ≡ moment * k + k = omega arith in
+    omega (arith, rest, most, whole)
+
 -- there is room for it
 pub left_fits : (endpoints : Endpoints) (moment : ℕ) → left endpoints moment ≤ room endpoints moment
 unfolding left
@@ -113,10 +164,7 @@ left_fits endpoints moment = by_due (due_by endpoints moment) where
   by_due : (found : Option DueItem) → left_by found endpoints moment ≤ room endpoints moment
   by_due None = omega arith
   by_due (Some item) =
-      let rest : (moment - item.moment) * per_moment endpoints ≤ moment * per_moment endpoints = mul-le-mul_right (per_moment endpoints) (omega arith) in
-      let most = sum_most item.moment endpoints.stations in
-      let whole : (moment + 1) * per_moment endpoints ≡ moment * per_moment endpoints + per_moment endpoints = omega arith in
-      omega (arith, rest, most, whole)
+      fits_in moment item.moment (per_moment endpoints) (total item.moment endpoints) (total_most item.moment endpoints)
 
 left_none : (endpoints : Endpoints) (moment : ℕ) → due_by endpoints moment ≡ None → left endpoints moment ≡ 0
 unfolding left
@@ -133,13 +181,16 @@ later_less moment at next k now later before most =
     let whole : (moment - next + 1) * k ≡ (moment - next) * k + k = omega arith in
     omega (arith, one, whole, most)
 
+under : (a b c : ℕ) → a ≤ b → 0 < c → a < b + c
+under a b c most some = omega (arith, most, some)
+
 -- each thing that happens leaves less
 pub left_falls : (setup : Setup) (endpoints : Endpoints) (moment : ℕ) (item : DueItem) → due_by endpoints moment ≡ Some item
     → left (happened setup endpoints item).endpoints moment < left endpoints moment
 left_falls setup endpoints moment item due =
     let after = (happened setup endpoints item).endpoints in
     let first = (by_moment endpoints moment item due).0 in
-    rw (left_some endpoints moment item due) (by_next after (due_by after moment) refl first (ap (λ (n : ℕ). 11 * n) (happened_lines setup endpoints item))
+    rw (left_some endpoints moment item due) (by_next after (due_by after moment) refl first (ap (λ (n : ℕ). 11 * n + 1) (happened_lines setup endpoints item))
     (some_due setup endpoints item first) (less_to_come setup endpoints item first)
     (λ next is. not_earlier setup endpoints item next first (by_moment after moment next is).0)) where
       by_order : (after : Endpoints) (next : DueItem) → next.moment ≤ moment → per_moment after ≡ per_moment endpoints → 0 < total item.moment endpoints
@@ -147,12 +198,12 @@ left_falls setup endpoints moment item due =
           → (moment - next.moment) * per_moment after + total next.moment after < (moment - item.moment) * per_moment endpoints + total item.moment endpoints
       by_order after next before same some less order true e =
           let at : next.moment ≡ item.moment = (Decides-eqb next.moment item.moment).0 e in
-          rw (at, same) (omega (arith, less))
+          rw (at, same) (second_less _ _ _ less)
       by_order after next before same some less order false e =
           let apart : next.moment ≢ item.moment = λ at. absurd (let b : (next.moment == item.moment) ≡ true = (Decides-eqb next.moment item.moment).1 at in cc) in
-          let most : total next.moment after ≤ per_moment after = sum_most next.moment after.stations in
+          let most : total next.moment after ≤ per_moment after = total_most next.moment after in
           let falls = later_less moment item.moment next.moment (per_moment after) (total next.moment after) (omega (arith, order, apart)) before most in
-          rw (← same) (omega (arith, falls, some))
+          rw (← same) (under _ _ _ falls some)
 
       by_next : (after : Endpoints) (found : Option DueItem) → due_by after moment ≡ found → first_due endpoints ≡ Some item → per_moment after ≡ per_moment endpoints
           → 0 < total item.moment endpoints → total item.moment after < total item.moment endpoints

@@ -16,8 +16,10 @@ use Rattle.mg_bytes.specs.Bytes.{space}
 use Rattle.mg_bytes.specs.Blanks.{trimmed, trimmed_end}
 use Rattle.mg_bytes.specs.Case.{same_but_case}
 use Rattle.mg_bytes.specs.Items.{items_of}
+use Rattle.mgcp_text.specs.declared.confirmation.KValue.{KValue}
 use Rattle.mgcp_text.specs.declared.message.Param.{Param}
 use Rattle.mgcp_text.specs.declared.message.Message.TheVariants as messages
+use Rattle.mgcp_text.specs.Confirmation.{k_of}
 use Rattle.mgcp_text.specs.Reading.{Outcome, message, no_header, bad_version, bad_body, id_in, read_text}
 use Rattle.mgcp_text.specs.Writing.{code_text, comment, response_line, ended, written, is_writable_param, is_writable_body}
 use Rattle.mgcp_text.specs.Answer.{Answer, IsAnswer, plain_code, response_of}
@@ -32,8 +34,9 @@ use Rattle.history.specs.Memory.{most_firsts}
 use Rattle.history.specs.Kept.{firsts_in}
 use Rattle.history.specs.Looking.{Told as Looked, new, repeat, confirmed, full, look_of}
 use Rattle.history.proofs.LookLaws.{repeat_kept}
-use Rattle.endpoint_names.specs.declared.name.Pattern.{Pattern}
-use Rattle.endpoint_names.specs.declared.name.Pattern.TheVariants.{One, All as AllLines, Any as AnyLine}
+use Rattle.command_forms.specs.declared.forms.Target.{Target}
+use Rattle.command_forms.specs.declared.forms.Target.TheVariants.{One, All as AllLines}
+use Rattle.command_forms.specs.declared.verbs.Meant.{Meant}
 use Rattle.mg_packages.specs.declared.hook.Hook.{Hook}
 use Rattle.mg_packages.specs.declared.hook.Hook.TheVariants.{OnHook, OffHook}
 use Rattle.mg_line.specs.Line.{LineState}
@@ -46,25 +49,28 @@ use Rattle.plain_machine.specs.Machine.{Endpoints, Machine, Effect, opening, sta
 use Rattle.plain_machine.specs.Arriving.{largest_datagram, texts_of}
 use Rattle.plain_machine.specs.Packing.{messages_in, put_out}
 use Rattle.plain_machine.specs.Reporting.{hook_event, with_item, with_items, name_param, names_of}
-use Rattle.command_forms.specs.declared.forms.Form.{Form}
-use Rattle.command_forms.specs.declared.forms.Form.TheVariants as forms
+use Rattle.command_forms.specs.declared.forms.Asks.{Asks}
+use Rattle.command_forms.specs.declared.forms.Asks.TheVariants.{Reports, Does}
+use Rattle.command_forms.specs.declared.forms.Audit.{Audit}
 use Rattle.command_forms.specs.Command.{Command}
+use Rattle.command_forms.specs.Meaning.{meant}
 use Rattle.command_forms.specs.Order.{form_of}
 use Rattle.endpoint_names.specs.declared.names.Names.{Names}
-use Rattle.command_forms.specs.Codes.{name_codes, param_codes, has_code, endpoints_of}
-use Rattle.command_forms.proofs.FormLemmas.{name_first, name_code, param_code}
+use Rattle.command_forms.specs.Codes.{name_codes, param_codes, has_code}
+use Rattle.command_forms.proofs.FormLemmas.{name_first, asked_behind}
+use Rattle.command_forms.proofs.CodeLemmas.{name_code, param_code}
 use Rattle.plain_machine.specs.declared.config.Config.{Config}
 use Rattle.plain_machine.specs.Setup.{setup_of, IsSetUp}
 use Rattle.plain_machine.specs.Done.{Done}
 use Rattle.plain_machine.specs.Requesting.{refused_by, unless_refused}
-use Rattle.plain_machine.specs.Commanding.{reported, line_audited, audited, line_request, done_by, commanded}
-use Rattle.plain_machine.proofs.CommandLaws.{Goes, IsOut, Sound, sound_turns, opening_is_sound}
-use Rattle.plain_machine.proofs.TurnLemmas.{OnAll, acted_goes, responded_goes, pass_goes, command_goes, handled_on_all, event_on_all}
+use Rattle.plain_machine.specs.Commanding.{reported, line_audited, audited, fitting, line_deed, done_by, commanded}
+use Rattle.plain_machine.proofs.CommandLaws.{Goes, IsOut, Sound, OwnSound, sound_turns, sound_own_turns, opening_is_sound}
+use Rattle.plain_machine.proofs.TurnLemmas.{Holds, acted_goes, responded_goes, pass_goes, command_goes, handled_on_all, event_on_all}
 use Rattle.plain_machine.proofs.EffectLaws.{effect_lines, handled_lines}
 use Rattle.plain_machine.proofs.ListLaws.{lines_of_opening}
 use Rattle.plain_machine.proofs.CodeLemmas.{IsCode, refusal_code}
 use Rattle.plain_machine.proofs.NameLemmas.{setup_is, names_writable}
-use Rattle.plain_machine.specs.Answering.{Transaction, fitting, response_to, answer_text, reply, executed, transacted_by, refusing, handled, took_all}
+use Rattle.plain_machine.specs.Answering.{Transaction, response_to, answer_text, reply, executed, transacted_by, refusing, handled, took_all}
 use Rattle.plain_machine.specs.Responding.{asks_for_acknowledgement, acknowledged}
 use Rattle.plain_machine.specs.Happening.{effect}
 use Rattle.plain_machine.specs.Lists.{outputs_from, sent_from}
@@ -107,11 +113,14 @@ code_short code id small =
     let three = length-append (ended (response_line code id) ++ []) [] in
     omega (arith, head, two, three)
 
-answer_goes : (id : ℕ) (answer : Answer) → IsId id → IsAnswer answer → Goes (written (response_of id (fitting id answer)))
-answer_goes id answer has is = by_length (nat_le (length (written (response_of id answer))) largest_datagram) refl where
+code_goes : (code id : ℕ) → IsId id → IsCode code → Goes (written (response_of id (plain_code code)))
+code_goes code id has small = short_goes id (plain_code code) has (code_is code small) (code_short code id has.1)
+
+fitting_goes : (id : ℕ) (answer : Answer) → IsId id → IsAnswer answer → Goes (written (response_of id (fitting id answer)))
+fitting_goes id answer has is = by_length (nat_le (length (written (response_of id answer))) largest_datagram) refl where
   by_length : (b : Bool) → nat_le (length (written (response_of id answer))) largest_datagram ≡ b → Goes (written (response_of id (if b then answer else plain_code 533)))
   by_length true short = short_goes id answer has is (leb-true _ _ short)
-  by_length false long = short_goes id (plain_code 533) has (code_is 533 (omega arith)) (code_short 533 id has.1)
+  by_length false long = code_goes 533 id has (omega arith)
 
 -- An acknowledgement
 
@@ -120,7 +129,7 @@ acknowledgement_out moment source code id params has = by_test (asks_for_acknowl
   by_test : (b : Bool)
       → All IsOut (if b then (record { to = source; moment = moment; owner = of_none; said = acknowledgement (messages.Response 0 id [] []) }) ∷ [] else [])
   by_test true =
-      All-cons IsOut _ [] (short_goes id (plain_code 0) has (code_is 0 (omega arith)) (code_short 0 id has.1)) (All-nil IsOut)
+      All-cons IsOut _ [] (code_goes 0 id has (omega arith)) (All-nil IsOut)
   by_test false = All-nil IsOut
 
 -- A report
@@ -171,35 +180,38 @@ report_is line report (inr one) = rw one (item_is line.hook)
 
 -- What a command is answered
 
-requested_is : (endpoints : Endpoints) (refusal : Option ℕ) (done : Done) → IfSome refusal IsCode → IsAnswer done.answer → IsAnswer (unless_refused refusal endpoints done).answer
-requested_is endpoints None done small is = is
-requested_is endpoints (Some code) done small is = code_is code small
+abbrev AnswerGoes : ℕ → Done → Type 0
+AnswerGoes id done = Goes (written (response_of id done.answer))
+
+unless_answered : (id : ℕ) (endpoints : Endpoints) (refusal : Option ℕ) (done : Done) → IsId id → IfSome refusal IsCode → AnswerGoes id done → AnswerGoes id (unless_refused refusal endpoints done)
+unless_answered id endpoints None done has small goes = goes
+unless_answered id endpoints (Some code) done has small goes = code_goes code id has small
 
 -- a machine that belongs to a setup, and whose commands in flight can go out again
 record Fits (setup : Setup) (m : Machine) : Type 0 where
   set_up : IsSetUp setup
   lines : length m.endpoints.stations ≡ setup.names.lines
-  stations : OnAll Sound 1 m.endpoints.stations
+  holds : Holds Sound OwnSound m.endpoints
 
-audit_is : (setup : Setup) (endpoints : Endpoints) (pattern : Pattern) (items : List ℕ) → IsSetUp setup → length endpoints.stations ≡ setup.names.lines → IsAnswer (audited setup endpoints pattern items)
+audit_is : (setup : Setup) (endpoints : Endpoints) (target : Target) (audit : Audit) → IsSetUp setup → length endpoints.stations ≡ setup.names.lines → IsAnswer (audited setup endpoints target audit)
 unfolding audited names_of
-audit_is setup endpoints (One line) items set_up lines = by_station (station_at endpoints line) where
-  by_station : (found : Option Station) → IsAnswer (line_audited found items)
+audit_is setup endpoints (One line) audit set_up lines = by_station (station_at endpoints line) where
+  by_station : (found : Option Station) → IsAnswer (line_audited found audit.items)
   by_station None = code_is 500 (omega arith)
-  by_station (Some station) = report_is station.line _ (items_report station.line [] (items_of items) (inl refl))
-audit_is setup endpoints AllLines items set_up lines =
+  by_station (Some station) = report_is station.line _ (items_report station.line [] (items_of audit.items) (inl refl))
+audit_is setup endpoints AllLines audit set_up lines =
     let few : length endpoints.stations < 2 ^ 16 = omega (arith, lines, set_up.lines) in
     names_are setup endpoints (names_writable setup endpoints.stations set_up.domain few) where
       names_are : (setup : Setup) (endpoints : Endpoints) → list_all is_writable_param (map (name_param setup) (numbered endpoints)) ≡ true → IsAnswer (reported (map (name_param setup) (numbered endpoints)))
       names_are setup endpoints each = record { three_digits = omega arith; each = each; whole = is_no_body }
-audit_is setup endpoints AnyLine items set_up lines = code_is 503 (omega arith)
 
-form_is : (form : Result Form ℕ) (setup : Setup) (endpoints : Endpoints) (moment : ℕ) → IsSetUp setup → length endpoints.stations ≡ setup.names.lines
-    → ((code : ℕ) → form ≡ Err code → IsCode code) → IsAnswer (done_by form setup endpoints moment).answer
-form_is (Err code) setup endpoints moment set_up lines small = code_is code (small code refl)
-form_is (Ok (forms.Audit pattern items)) setup endpoints moment set_up lines small = audit_is setup endpoints pattern items set_up lines
-form_is (Ok (forms.Request pattern entity request)) setup endpoints moment set_up lines small =
-    requested_is endpoints (refused_by endpoints pattern (line_request request)) _ (refusal_code endpoints pattern (line_request request)) (code_is 200 (omega arith))
+form_answered : (asks : Result Asks ℕ) (setup : Setup) (endpoints : Endpoints) (moment id : ℕ) → IsSetUp setup → length endpoints.stations ≡ setup.names.lines → IsId id
+    → ((code : ℕ) → asks ≡ Err code → IsCode code) → AnswerGoes id (done_by asks setup endpoints moment id)
+form_answered (Err code) setup endpoints moment id set_up lines has small = code_goes code id has (small code refl)
+form_answered (Ok (Reports target audit)) setup endpoints moment id set_up lines has small =
+    fitting_goes id (audited setup endpoints target audit) has (audit_is setup endpoints target audit set_up lines)
+form_answered (Ok (Does target deed)) setup endpoints moment id set_up lines has small =
+    unless_answered id endpoints (refused_by endpoints target (line_deed deed)) _ has (refusal_code endpoints target (line_deed deed)) (code_goes 200 id has (omega arith))
 
 small_name : (code : ℕ) → has_code name_codes code ≡ true → IsCode code
 small_name code has = grind (arith, nat_tests)
@@ -207,21 +219,22 @@ small_name code has = grind (arith, nat_tests)
 small_param : (code : ℕ) → has_code param_codes code ≡ true → IsCode code
 small_param code has = grind (arith, nat_tests)
 
-abbrev code_in : ℕ → Result Form ℕ → ℕ
-code_in other (Ok form) = other
+abbrev code_in : ℕ → Result Asks ℕ → ℕ
+code_in other (Ok asks) = other
 code_in other (Err code) = code
 
-form_code : (command : Command) (names : Names) (code : ℕ) → form_of command names ≡ Err code → IsCode code
-form_code command names code is = by_name (endpoints_of command names) refl where
-  by_name : (found : Result Pattern ℕ) → endpoints_of command names ≡ found → IsCode code
-  by_name (Err other) bad =
-      let same : other ≡ code = ap (code_in 0) (sym (name_first command names other bad) ∙ is) in
+form_code : (command : Command) (confirms : KValue) (names : Names) (code : ℕ) → form_of command confirms names ≡ Err code → IsCode code
+form_code command confirms names code is = by_meant (meant command names) refl where
+  by_meant : (found : Result Meant ℕ) → meant command names ≡ found → IsCode code
+  by_meant (Err other) bad =
+      let same : other ≡ code = ap (code_in 0) (sym (name_first command confirms names other bad) ∙ is) in
       rw (← same) (small_name other (name_code command names other bad))
-  by_name (Ok pattern) fine = small_param code (param_code command names pattern code fine is)
+  by_meant (Ok found) fine =
+      small_param code (param_code found command.params confirms names.table code (sym (asked_behind command confirms names found fine) ∙ is))
 
-command_is : (setup : Setup) (m : Machine) (command : Command) → Fits setup m → IsAnswer (commanded setup m.endpoints m.now command).answer
-command_is setup m command fits =
-    form_is (form_of command setup.names) setup m.endpoints m.now fits.set_up fits.lines (λ code is. form_code command setup.names code is)
+command_answered : (setup : Setup) (m : Machine) (id : ℕ) (command : Command) (confirms : KValue) → Fits setup m → IsId id → AnswerGoes id (commanded setup m.endpoints m.now id command confirms)
+command_answered setup m id command confirms fits has =
+    form_answered (form_of command confirms setup.names) setup m.endpoints m.now id fits.set_up fits.lines has (λ code is. form_code command confirms setup.names code is)
 
 -- What is kept and sent
 
@@ -247,13 +260,13 @@ record GoesOut (done : Effect) : Type 0 where
 one_sent : (one : Sent) → Goes (datagram_of one).bytes → All IsOut (one ∷ [])
 one_sent one goes = All-cons IsOut one [] goes (All-nil IsOut)
 
-transacted_goes : (told : Looked) (m : Machine) (source : SocketAddrV4) (t : Transaction) → AreKept m.history → Goes (answer_text t) → All IsOut t.done.sent
+transacted_goes : (told : Looked) (m : Machine) (source : SocketAddrV4) (t : Transaction) → AreKept m.history → Goes (answer_text t) → All IsOut t.done.told.sent
     → told ≡ look_of most_firsts m.history t.id m.now → GoesOut (transacted_by told m source t)
 unfolding executed
 transacted_goes new m source t all goes more is = record {
   kept = kept_more (m.history ++ Confirmation t.confirms ∷ []) _ (kept_more m.history (Confirmation t.confirms ∷ []) all (All-nil (λ (first : KeptFirst). Goes first.answer)))
       (All-cons (λ (first : KeptFirst). Goes first.answer) _ [] goes (All-nil (λ (first : KeptFirst). Goes first.answer)));
-  sent = All-cons IsOut (reply m source t.line (answers (response_to t))) t.done.sent goes more;
+  sent = All-cons IsOut (reply m source t.line (answers (response_to t))) t.done.told.sent goes more;
 }
 transacted_goes (repeat text) m source t all goes more is =
     record { kept = all; sent = one_sent (reply m source t.line (again text)) (again_goes text m.history all (repeat_kept most_firsts m.history t.id m.now text (sym is))) }
@@ -264,24 +277,24 @@ handled_goes : (setup : Setup) (m : Machine) (source : SocketAddrV4) (outcome : 
 unfolding handled
 handled_goes setup m source no_header fits all has = record { kept = all; sent = All-nil IsOut }
 handled_goes setup m source (bad_version id) fits all has =
-    transacted_goes _ m source (refusing m id 528) all (answer_goes id (plain_code 528) has (code_is 528 (omega arith))) (All-nil IsOut) refl
+    transacted_goes _ m source (refusing m id 528) all (code_goes 528 id has (omega arith)) (All-nil IsOut) refl
 handled_goes setup m source (bad_body id) fits all has =
-    transacted_goes _ m source (refusing m id 510) all (answer_goes id (plain_code 510) has (code_is 510 (omega arith))) (All-nil IsOut) refl
+    transacted_goes _ m source (refusing m id 510) all (code_goes 510 id has (omega arith)) (All-nil IsOut) refl
 handled_goes setup m source (message (messages.Command verb id name params body)) fits all has =
     let command : Command = record { verb = verb; name = name; params = params } in
-    transacted_goes _ m source _ all (answer_goes id (commanded setup m.endpoints m.now command).answer has (command_is setup m command fits))
-    (command_goes setup Sound IsOut (sound_turns setup fits.set_up) command m.endpoints m.now fits.stations).sent refl
+    transacted_goes _ m source _ all (command_answered setup m id command (k_of params) fits has)
+    (command_goes setup Sound OwnSound IsOut (sound_turns setup fits.set_up) sound_own_turns command (k_of params) m.endpoints m.now id fits.holds).sent refl
 handled_goes setup m source (message (messages.Response code id params body)) fits all has = record {
   kept = all;
   sent = All-append IsOut (acknowledged m.now source code id params) _ (acknowledgement_out m.now source code id params has)
-      (responded_goes setup Sound IsOut (sound_turns setup fits.set_up) m.endpoints m.now code id fits.stations).sent;
+      (responded_goes setup Sound OwnSound IsOut (sound_turns setup fits.set_up) sound_own_turns m.endpoints m.now code id fits.holds).sent;
 }
 
 handled_fits : (setup : Setup) (m : Machine) (source : SocketAddrV4) (outcome : Outcome) → Fits setup m → Fits setup (handled setup m source outcome).machine
 handled_fits setup m source outcome fits = record {
   set_up = fits.set_up;
   lines = handled_lines setup m source outcome ∙ fits.lines;
-  stations = handled_on_all setup Sound IsOut (sound_turns setup fits.set_up) m source outcome fits.stations;
+  holds = handled_on_all setup Sound OwnSound IsOut (sound_turns setup fits.set_up) sound_own_turns m source outcome fits.holds;
 }
 
 texts_go : (setup : Setup) (m : Machine) (source : SocketAddrV4) (texts : List (List ℕ)) → Fits setup m → AreKept m.history → GoesOut (took_all setup m source texts)
@@ -296,15 +309,15 @@ event_goes : (setup : Setup) (m : Machine) (event : GatewayEvent) → Fits setup
 unfolding effect
 event_goes setup m (datagram source bytes) fits all = texts_go setup m source (texts_of bytes) fits all
 event_goes setup m (phone line act) fits all =
-    record { kept = all; sent = (acted_goes setup Sound IsOut (sound_turns setup fits.set_up) m.endpoints line m.now act fits.stations).sent }
+    record { kept = all; sent = (acted_goes setup Sound OwnSound IsOut (sound_turns setup fits.set_up) sound_own_turns m.endpoints line m.now act fits.holds).sent }
 event_goes setup m (tick moment) fits all =
-    record { kept = all; sent = (pass_goes setup Sound IsOut (sound_turns setup fits.set_up) m.endpoints moment fits.stations).sent }
+    record { kept = all; sent = (pass_goes setup Sound OwnSound IsOut (sound_turns setup fits.set_up) sound_own_turns m.endpoints moment fits.holds).sent }
 
 event_fits : (setup : Setup) (m : Machine) (event : GatewayEvent) → Fits setup m → Fits setup (effect setup m event).machine
 event_fits setup m event fits = record {
   set_up = fits.set_up;
   lines = effect_lines setup m event ∙ fits.lines;
-  stations = event_on_all setup Sound IsOut (sound_turns setup fits.set_up) m event fits.stations;
+  holds = event_on_all setup Sound OwnSound IsOut (sound_turns setup fits.set_up) sound_own_turns m event fits.holds;
 }
 
 -- What goes out
@@ -338,7 +351,7 @@ pub nothing_kept : (setup : Setup) → AreKept (opening setup).history
 nothing_kept setup = All-nil (λ (first : KeptFirst). Goes first.answer)
 
 opening_fits : (setup : Setup) → IsSetUp setup → Fits setup (opening setup)
-opening_fits setup set_up = record { set_up = set_up; lines = lines_of_opening setup; stations = opening_is_sound setup set_up }
+opening_fits setup set_up = record { set_up = set_up; lines = lines_of_opening setup; holds = opening_is_sound setup set_up }
 
 pub sent_as_messages : (config : Config) (setup : Setup) (events : List GatewayEvent) → setup_of config ≡ Ok setup
     → flat_map messages_in (outputs_from setup (opening setup) events) ≡ datagrams_of (sent_from setup (opening setup) events)

@@ -1,46 +1,43 @@
 -- What lines send of their own, and acknowledgements, are no answers.
-use Rattle.std.proofs.Common.{◌≡◌, ℕ, zero, suc, ◌+◌, Bool, true, false, List, [], ◌∷◌, ◌++◌, filter, Option, Some, None, Result, Ok, Err, refl, ap, ◌∙◌}
-use Rattle.std.specs.Prelude.{flat_map, IfSome}
-use Rattle.std.specs.List.{enumerate_from}
+use Rattle.std.proofs.Common.{◌≡◌, ℕ, zero, suc, Bool, true, false, List, [], ◌∷◌, ◌++◌, filter, Option, Some, None, Result, Ok, Err, refl, ap, ◌∙◌}
+use Rattle.std.specs.Prelude.{IfSome, ◌==◌, if◌then◌else◌}
 use Rattle.std.proofs.lemmas.List.{map-append}
 use Rattle.std.proofs.lemmas.List.Elements.{filter-append}
 use Rattle.std.specs.declared.net.socket_addr.SocketAddrV4.{SocketAddrV4}
 use Rattle.mgcp_text.specs.declared.message.Message.TheVariants as messages
 use Rattle.mgcp_text.specs.declared.message.Param.{Param}
+use Rattle.mgcp_text.specs.Confirmation.{k_of}
 use Rattle.mgcp_text.specs.Reading.{Outcome, message, no_header, bad_version, bad_body}
-use Rattle.endpoint_names.specs.declared.entity.Entity.{Entity}
-use Rattle.endpoint_names.specs.declared.name.Pattern.{Pattern}
-use Rattle.endpoint_names.specs.Name.{means_line}
-use Rattle.command_forms.specs.declared.forms.Form.{Form}
-use Rattle.command_forms.specs.declared.forms.Form.TheVariants as forms
+use Rattle.command_forms.specs.declared.forms.Asks.{Asks}
+use Rattle.command_forms.specs.declared.forms.Asks.TheVariants.{Reports, Does}
 use Rattle.command_forms.specs.Order.{form_of}
 use Rattle.outbound.specs.declared.repeat.Repeat.{Repeat}
 use Rattle.outbound.specs.declared.repeat.Repeat.TheVariants.{Sent as SentAgain, GivenUp}
-use Rattle.outbound.specs.declared.reply.Reply.{Reply}
-use Rattle.outbound.specs.declared.reply.Reply.TheVariants.{Answered, Provisional, Stranger}
-use Rattle.outbound.specs.Flight.{InFlight, repeat_of, reply_of, heard}
+use Rattle.outbound.specs.Flight.{InFlight, repeat_of}
 use Rattle.mg_line.specs.declared.phone.Act.{Act}
-use Rattle.mg_line.specs.declared.request.Request.{Request}
 use Rattle.mg_line.specs.Line.{LineDone, Notice}
 use Rattle.mg_line.specs.Falling.{fired}
 use Rattle.mg_line.specs.Acting.{phoned}
 use Rattle.mg_line.specs.Answering.{answered}
-use Rattle.mg_line.specs.Requesting.{asked}
 use Rattle.plain_machine.specs.declared.due_item.Due.{Due}
 use Rattle.plain_machine.specs.declared.due_item.Due.TheVariants.{OfLine, Resend}
 use Rattle.plain_machine.specs.declared.due_item.DueItem.{DueItem}
+use Rattle.plain_machine.specs.declared.line_deed.LineDeed.{LineDeed}
+use Rattle.plain_machine.specs.declared.own.Own.{Own}
+use Rattle.plain_machine.specs.declared.post.Post.{Post}
 use Rattle.plain_machine.specs.declared.setup.Setup.{Setup}
 use Rattle.plain_machine.specs.declared.station.Station.{Station}
 use Rattle.plain_machine.specs.declared.output.OutDatagram.{OutDatagram}
 use Rattle.plain_machine.specs.Message.{Sent, is_answer, datagram_of, datagrams_of}
-use Rattle.plain_machine.specs.Notifying.{with_notice, noted}
-use Rattle.plain_machine.specs.Machine.{Endpoints, Machine, station_at}
-use Rattle.plain_machine.specs.Acting.{acted, acted_at}
-use Rattle.plain_machine.specs.Falling.{due_by, repeated_as, resent_on, happened_on, happened_at, happened, go_on, passed, room, pass}
+use Rattle.plain_machine.specs.Posting.{line_of_id, repeated_as, resent_by, resent_on, reply_on}
+use Rattle.plain_machine.specs.Notifying.{Turn, with_notice, noted}
+use Rattle.plain_machine.specs.Machine.{Endpoints, Machine, OwnTurn, station_at, turned_at, on_line, on_own, on_either, on_lines}
+use Rattle.plain_machine.specs.Acting.{acted_on, acted}
+use Rattle.plain_machine.specs.Falling.{due_by, happened_on, own_happened, happened, go_on, passed, room, pass}
 use Rattle.plain_machine.specs.Done.{Done}
-use Rattle.plain_machine.specs.Requesting.{refused_by, with_entity, requested_on, where_meant, all_sent, unless_refused}
-use Rattle.plain_machine.specs.Commanding.{line_request, done_by}
-use Rattle.plain_machine.specs.Responding.{line_of_id, asks_for_acknowledgement, acknowledged, replied, responded_to, responded_on, responded_at, responded}
+use Rattle.plain_machine.specs.Requesting.{refused_by, with_entity, asked_if, deed_on, lines_meant, unless_refused}
+use Rattle.plain_machine.specs.Commanding.{line_deed, done_by}
+use Rattle.plain_machine.specs.Responding.{asks_for_acknowledgement, acknowledged, answered_if, responded_on, own_responded, responded}
 use Rattle.plain_machine.specs.Answering.{transaction_of, heard_as}
 
 -- the answers among what is sent, each in a datagram of its own
@@ -68,49 +65,73 @@ noted_quiet setup line moment station done = by_notice done.notice where
   by_notice None = refl
   by_notice (Some notice) = refl
 
-happened_on_quiet : (due : Due) (setup : Setup) (line moment : ℕ) (station : Station) → Quiet (happened_on due setup line moment station).sent
-unfolding happened_on
-happened_on_quiet (OfLine due) setup line moment station = noted_quiet setup line moment station (fired station.line due moment)
-happened_on_quiet Resend setup line moment station = by_pending station.pending where
-  by_repeat : (flight : InFlight) (repeat : Repeat) → Quiet (repeated_as repeat line moment station flight).sent
+resent_quiet : (line moment : ℕ) (post : Post) → Quiet (resent_on line moment post).sent
+resent_quiet line moment post = by_pending post.pending where
+  by_repeat : (flight : InFlight) (repeat : Repeat) → Quiet (repeated_as repeat line moment post flight).sent
   by_repeat flight SentAgain = refl
   by_repeat flight GivenUp = refl
 
-  by_pending : (pending : Option InFlight) → Quiet (resent_on pending line moment station).sent
+  by_pending : (pending : Option InFlight) → Quiet (resent_by pending line moment post).sent
   by_pending None = refl
   by_pending (Some flight) = by_repeat flight (repeat_of flight moment)
 
-requested_on_quiet : (setup : Setup) (entity : Option Entity) (request : Request) (moment n : ℕ) (station : Station) → Quiet (requested_on setup entity request moment (n, station)).sent
-unfolding requested_on
-requested_on_quiet setup entity request moment n station = noted_quiet setup n moment (with_entity entity station) (asked station.line request moment)
+happened_on_quiet : (due : Due) (setup : Setup) (line moment : ℕ) (station : Station) → Quiet (happened_on due setup line moment station).sent
+unfolding happened_on
+happened_on_quiet (OfLine due) setup line moment station = noted_quiet setup line moment station (fired station.line due moment)
+happened_on_quiet Resend setup line moment station = resent_quiet line moment station.post
+
+own_happened_quiet : (due : Due) (moment : ℕ) (own : Own) → Quiet (own_happened due moment own).sent
+unfolding own_happened
+own_happened_quiet (OfLine due) moment own = refl
+own_happened_quiet Resend moment own = resent_quiet 0 moment own.post
+
+deed_on_quiet : (setup : Setup) (deed : LineDeed) (moment line : ℕ) (station : Station) → Quiet (deed_on setup deed moment line station).sent
+unfolding deed_on
+deed_on_quiet setup deed moment line station = noted_quiet setup line moment (with_entity deed.entity station) (asked_if deed.request station.line moment)
 
 responded_on_quiet : (setup : Setup) (line moment : ℕ) (station : Station) (code id : ℕ) → Quiet (responded_on setup line moment station code id).sent
 unfolding responded_on
-responded_on_quiet setup line moment station code id = by_pending station.pending where
-  by_reply : (after : InFlight) (reply : Reply) → Quiet (replied reply setup line moment station after).sent
-  by_reply after Answered = noted_quiet setup line moment (record station { pending = None }) (answered station.line moment)
-  by_reply after Provisional = refl
-  by_reply after Stranger = refl
+responded_on_quiet setup line moment station code id =
+    by_answer (reply_on moment station.post code id).is_answered (record station { post = (reply_on moment station.post code id).post }) where
+      by_answer : (b : Bool) (becomes : Station) → Quiet (answered_if b setup line moment becomes).sent
+      by_answer false becomes = refl
+      by_answer true becomes = noted_quiet setup line moment becomes (answered becomes.line moment)
 
-  by_pending : (pending : Option InFlight) → Quiet (responded_to pending setup line moment station code id).sent
-  by_pending None = refl
-  by_pending (Some flight) = by_reply (heard flight id code moment) (reply_of flight id code)
+own_responded_quiet : (moment code id : ℕ) (own : Own) → Quiet (own_responded moment code id own).sent
+unfolding own_responded
+own_responded_quiet moment code id own = refl
 
 -- An act, a response, and what falls due
 
-pub acted_quiet : (setup : Setup) (endpoints : Endpoints) (number moment : ℕ) (act : Act) → Quiet (acted setup endpoints number moment act).sent
-unfolding acted
-acted_quiet setup endpoints number moment act = by_station (station_at endpoints number) where
-  by_station : (found : Option Station) → Quiet (acted_at found setup endpoints number moment act).sent
+turned_quiet : (endpoints : Endpoints) (line : ℕ) (turn : Station → Turn) → ((station : Station) → Quiet (turn station).sent) → Quiet (on_line endpoints line turn).sent
+unfolding on_line
+turned_quiet endpoints line turn quiet = by_station (station_at endpoints line) where
+  by_station : (found : Option Station) → Quiet (turned_at found endpoints line turn).sent
   by_station None = refl
-  by_station (Some station) = noted_quiet setup number moment station (phoned station.line act moment)
+  by_station (Some station) = quiet station
 
-responded_quiet : (setup : Setup) (endpoints : Endpoints) (moment code id : ℕ) → Quiet (responded setup endpoints moment code id).sent
-unfolding responded
-responded_quiet setup endpoints moment code id = by_station (station_at endpoints (line_of_id id)) where
-  by_station : (found : Option Station) → Quiet (responded_at found setup endpoints (line_of_id id) moment code id).sent
-  by_station None = refl
-  by_station (Some station) = responded_on_quiet setup (line_of_id id) moment station code id
+either_quiet : (endpoints : Endpoints) (line : ℕ) (own_turn : Own → OwnTurn) (turn : Station → Turn) → ((own : Own) → Quiet (own_turn own).sent)
+    → ((station : Station) → Quiet (turn station).sent) → Quiet (on_either endpoints line own_turn turn).sent
+either_quiet endpoints line own_turn turn own_quiet quiet = by_test (line == 0) where
+  by_test : (b : Bool) → Quiet (if b then on_own endpoints own_turn else on_line endpoints line turn).sent
+  by_test true = own_quiet endpoints.own
+  by_test false = turned_quiet endpoints line turn quiet
+
+all_quiet : (lines : List ℕ) (endpoints : Endpoints) (turn : ℕ → Station → Turn) → ((line : ℕ) (station : Station) → Quiet (turn line station).sent)
+    → Quiet (on_lines lines endpoints turn).sent
+unfolding on_lines
+all_quiet [] endpoints turn quiet = refl
+all_quiet (line ∷ lines) endpoints turn quiet =
+    quiet_both (on_line endpoints line (turn line)).sent _ (turned_quiet endpoints line (turn line) (quiet line)) (all_quiet lines (on_line endpoints line (turn line)).endpoints turn quiet)
+
+pub acted_quiet : (setup : Setup) (endpoints : Endpoints) (number moment : ℕ) (act : Act) → Quiet (acted setup endpoints number moment act).sent
+acted_quiet setup endpoints number moment act =
+    turned_quiet endpoints number (acted_on setup number moment act) (λ station. noted_quiet setup number moment station (phoned station.line act moment))
+
+pub responded_quiet : (setup : Setup) (endpoints : Endpoints) (moment code id : ℕ) → Quiet (responded setup endpoints moment code id).sent
+responded_quiet setup endpoints moment code id =
+    either_quiet endpoints (line_of_id id) (own_responded moment code id) (λ station. responded_on setup (line_of_id id) moment station code id)
+    (own_responded_quiet moment code id) (λ station. responded_on_quiet setup (line_of_id id) moment station code id)
 
 acknowledged_quiet : (moment : ℕ) (source : SocketAddrV4) (code id : ℕ) (params : List Param) → Quiet (acknowledged moment source code id params)
 acknowledged_quiet moment source code id params = by_test (asks_for_acknowledgement code params) refl where
@@ -128,11 +149,9 @@ heard_quiet (message (messages.Response code id params body)) setup m source =
     (acknowledged_quiet m.now source code id params) (responded_quiet setup m.endpoints m.now code id)
 
 happened_quiet : (setup : Setup) (endpoints : Endpoints) (item : DueItem) → Quiet (happened setup endpoints item).sent
-unfolding happened
-happened_quiet setup endpoints item = by_station (station_at endpoints item.line) where
-  by_station : (found : Option Station) → Quiet (happened_at found setup endpoints item).sent
-  by_station None = refl
-  by_station (Some station) = happened_on_quiet item.due setup item.line item.moment station
+happened_quiet setup endpoints item =
+    either_quiet endpoints item.line (own_happened item.due item.moment) (happened_on item.due setup item.line item.moment)
+    (own_happened_quiet item.due item.moment) (λ station. happened_on_quiet item.due setup item.line item.moment station)
 
 passed_quiet : (n : ℕ) (setup : Setup) (endpoints : Endpoints) (moment : ℕ) → Quiet (passed n setup endpoints moment).sent
 unfolding passed
@@ -149,32 +168,21 @@ pass_quiet setup endpoints moment = passed_quiet (room endpoints moment) setup e
 
 -- What lines send because of a command
 
-all_quiet : (setup : Setup) (lines : Pattern) (entity : Option Entity) (request : Request) (moment n : ℕ) (stations : List Station)
-    → Quiet (flat_map (λ one. (where_meant setup lines entity request moment one).sent) (enumerate_from n stations))
-all_quiet setup lines entity request moment n [] = refl
-all_quiet setup lines entity request moment n (station ∷ stations) =
-    quiet_both (where_meant setup lines entity request moment (n, station)).sent _ (by_meant (means_line lines n) refl)
-    (all_quiet setup lines entity request moment (n + 1) stations) where
-      by_meant : (b : Bool) → means_line lines n ≡ b → Quiet (where_meant setup lines entity request moment (n, station)).sent
-      by_meant true e = rw e (requested_on_quiet setup entity request moment n station)
-      by_meant false e = rw e refl
-
-unless_quiet : (refusal : Option ℕ) (endpoints : Endpoints) (done : Done) → Quiet done.sent → Quiet (unless_refused refusal endpoints done).sent
+unless_quiet : (refusal : Option ℕ) (endpoints : Endpoints) (done : Done) → Quiet done.told.sent → Quiet (unless_refused refusal endpoints done).told.sent
 unless_quiet None endpoints done quiet = quiet
 unless_quiet (Some code) endpoints done quiet = refl
 
-done_quiet : (form : Result Form ℕ) (setup : Setup) (endpoints : Endpoints) (moment : ℕ) → Quiet (done_by form setup endpoints moment).sent
-unfolding all_sent
-done_quiet (Err code) setup endpoints moment = refl
-done_quiet (Ok (forms.Audit pattern items)) setup endpoints moment = refl
-done_quiet (Ok (forms.Request pattern entity request)) setup endpoints moment =
-    unless_quiet (refused_by endpoints pattern (line_request request)) endpoints _
-    (all_quiet setup pattern entity (line_request request) moment 1 endpoints.stations)
+done_quiet : (asks : Result Asks ℕ) (setup : Setup) (endpoints : Endpoints) (moment id : ℕ) → Quiet (done_by asks setup endpoints moment id).told.sent
+done_quiet (Err code) setup endpoints moment id = refl
+done_quiet (Ok (Reports target audit)) setup endpoints moment id = refl
+done_quiet (Ok (Does target deed)) setup endpoints moment id =
+    unless_quiet (refused_by endpoints target (line_deed deed)) endpoints _
+    (all_quiet (lines_meant endpoints target) endpoints _ (deed_on_quiet setup (line_deed deed) moment))
 
-pub command_quiet : (setup : Setup) (m : Machine) (outcome : Outcome) → IfSome (transaction_of setup m outcome) (λ t. Quiet t.done.sent)
+pub command_quiet : (setup : Setup) (m : Machine) (outcome : Outcome) → IfSome (transaction_of setup m outcome) (λ t. Quiet t.done.told.sent)
 command_quiet setup m no_header = tt
 command_quiet setup m (bad_version id) = refl
 command_quiet setup m (bad_body id) = refl
 command_quiet setup m (message (messages.Command verb id name params body)) =
-    done_quiet (form_of (record { verb = verb; name = name; params = params }) setup.names) setup m.endpoints m.now
+    done_quiet (form_of (record { verb = verb; name = name; params = params }) (k_of params) setup.names) setup m.endpoints m.now id
 command_quiet setup m (message (messages.Response code id params body)) = tt

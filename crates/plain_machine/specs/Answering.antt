@@ -1,10 +1,10 @@
 -- What is done at a text that arrived: a command is executed and answered (RFC 3435, 3.2 and 3.5).
-use Rattle.std.specs.Prelude.{ℕ, nat_le, if◌then◌else◌, List, [], ◌∷◌, ◌++◌, length, map, Option, Some, None, Result, Ok, Err}
+use Rattle.std.specs.Prelude.{ℕ, List, [], ◌∷◌, ◌++◌, map, Option, Some, None, Result, Ok, Err}
 use Rattle.std.specs.declared.net.socket_addr.SocketAddrV4.{SocketAddrV4}
 use Rattle.mgcp_text.specs.declared.message.Message.TheVariants as messages
 use Rattle.mgcp_text.specs.Reading.{Outcome, message, no_header, bad_version, bad_body, read_text}
 use Rattle.mgcp_text.specs.declared.message.Message.{Message}
-use Rattle.mgcp_text.specs.Answer.{Answer, plain_code, response_of}
+use Rattle.mgcp_text.specs.Answer.{plain_code, response_of}
 use Rattle.mgcp_text.specs.Writing.{written}
 use Rattle.mgcp_text.specs.Confirmation.{k_of}
 use Rattle.mgcp_text.specs.declared.confirmation.IdRange.{IdRange}
@@ -22,9 +22,9 @@ use Rattle.endpoint_names.specs.Name.{name_of}
 use Rattle.plain_machine.specs.declared.setup.Setup.{Setup}
 use Rattle.plain_machine.specs.Message.{answer_of, Said, answer, again, Sent}
 use Rattle.plain_machine.specs.Machine.{Machine, Effect, Told, told, told_in, idle}
-use Rattle.plain_machine.specs.Arriving.{largest_datagram}
 use Rattle.plain_machine.specs.Done.{Done, only_answer}
 use Rattle.plain_machine.specs.Responding.{heard_from}
+use Rattle.command_forms.specs.Command.{Command}
 use Rattle.plain_machine.specs.Commanding.{commanded}
 
 -- the line that a name reads as
@@ -60,13 +60,9 @@ pub record Transaction : Type 0 where
 abbrev pub transaction : ℕ → Option ℕ → List IdSpan → Done → Transaction
 transaction id line confirms done = record { id = id; line = line; confirms = confirms; done = done }
 
--- an answer that would be longer than a datagram may be gives way to 533 (RFC 3435, 2.4: the response is too large)
-abbrev pub fitting : ℕ → Answer → Answer
-fitting id wanted = if nat_le (length (written (response_of id wanted))) largest_datagram then wanted else plain_code 533
-
 -- the response that answers it
 abbrev pub response_to : Transaction → Message
-response_to t = response_of t.id (fitting t.id t.done.answer)
+response_to t = response_of t.id t.done.answer
 
 -- its text
 abbrev pub answer_text : Transaction → List ℕ
@@ -81,8 +77,8 @@ history_with m t =
 -- its source, before what lines send because of it.
 unfoldable pub executed : Machine → SocketAddrV4 → Transaction → Effect
 executed m source t = record {
-  machine = record m { endpoints = t.done.endpoints; history = history_with m t };
-  sent = reply m source t.line (answer (response_to t)) ∷ t.done.sent;
+  machine = record m { endpoints = t.done.told.endpoints; history = history_with m t };
+  sent = reply m source t.line (answer (response_to t)) ∷ t.done.told.sent;
 }
 
 -- a command, by what is told of its id: a first is executed, a repeat gets the stored answer, what is confirmed gets
@@ -100,14 +96,19 @@ transacted m source t = transacted_by (look_of most_firsts m.history t.id m.now)
 abbrev pub refusing : Machine → ℕ → ℕ → Transaction
 refusing m id code = transaction id None [] (only_answer m.endpoints (plain_code code))
 
+-- a command with this id whose K says this: it is read once
+abbrev pub command_with : Setup → Machine → ℕ → Command → KValue → Transaction
+command_with setup m id command confirms =
+    transaction id (line_of_name setup command.name) (spans_of confirms)
+    (commanded setup m.endpoints m.now id command confirms)
+
 -- the command that an outcome is: another version and a body that can't be read are answered, what has no header is not
 abbrev pub transaction_of : Setup → Machine → Outcome → Option Transaction
 transaction_of setup m no_header = None
 transaction_of setup m (bad_version id) = Some (refusing m id 528)
 transaction_of setup m (bad_body id) = Some (refusing m id 510)
 transaction_of setup m (message (messages.Command verb id name params body)) =
-    Some (transaction id (line_of_name setup name) (spans_of (k_of params))
-    (commanded setup m.endpoints m.now (record { verb = verb; name = name; params = params })))
+    Some (command_with setup m id (record { verb = verb; name = name; params = params }) (k_of params))
 transaction_of setup m (message (messages.Response code id params body)) = None
 
 -- what is done at what is no command: a response is heard, and what has no header does nothing

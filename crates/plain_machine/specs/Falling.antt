@@ -1,19 +1,18 @@
 -- What falls due: on a line the end of timer T and the ends of signals, and the repeats of its command that is in flight,
--- each at its own moment (RFC 3435, 2.1.5, 2.1.7 and 3.5.3).
-use Rattle.std.specs.Prelude.{ℕ, ◌+◌, ◌*◌, zero, suc, nat_le, if◌then◌else◌, Bool, [], ◌∷◌, ◌++◌, length, fold, Option, Some, None, is_some, option_map, option_and_then}
+-- or of that of the gateway itself, each at its own moment (RFC 3435, 2.1.5, 2.1.7 and 3.5.3).
+use Rattle.std.specs.Prelude.{ℕ, ◌+◌, ◌*◌, ◌==◌, zero, suc, nat_le, if◌then◌else◌, Bool, [], length, fold, Option, Some, None, is_some, option_map, option_and_then}
 use Rattle.mg_line.specs.declared.due.Due.{Due as LineDue}
 use Rattle.mg_line.specs.Falling.{due_of, fired}
-use Rattle.outbound.specs.declared.repeat.Repeat.{Repeat}
-use Rattle.outbound.specs.declared.repeat.Repeat.TheVariants.{Sent as SentAgain, GivenUp}
-use Rattle.outbound.specs.Flight.{InFlight, repeat_of, repeated}
+use Rattle.outbound.specs.Flight.{InFlight}
 use Rattle.plain_machine.specs.declared.due_item.Due.{Due}
 use Rattle.plain_machine.specs.declared.due_item.Due.TheVariants.{OfLine, Resend}
 use Rattle.plain_machine.specs.declared.due_item.DueItem.{DueItem}
+use Rattle.plain_machine.specs.declared.own.Own.{Own}
 use Rattle.plain_machine.specs.declared.setup.Setup.{Setup}
 use Rattle.plain_machine.specs.declared.station.Station.{Station}
-use Rattle.plain_machine.specs.Message.{own_of, resent}
-use Rattle.plain_machine.specs.Notifying.{Turn, silent, noted}
-use Rattle.plain_machine.specs.Machine.{Endpoints, Told, told, station_at, with_turn, numbered}
+use Rattle.plain_machine.specs.Posting.{unsent, resent_on}
+use Rattle.plain_machine.specs.Notifying.{Turn, posted, noted}
+use Rattle.plain_machine.specs.Machine.{Endpoints, OwnTurn, Told, told, station_at, own_posted, on_either, afterwards, numbered}
 
 -- What falls due first
 
@@ -31,15 +30,22 @@ earlier (Some first) (Some other) = if nat_le first.moment other.moment then Som
 
 -- what falls due first on a line: of several at one moment, its command comes last (this gateway's profile)
 unfoldable pub due_on : ℕ × Station → Option DueItem
-due_on one = earlier (option_map (line_item one.0) (due_of one.1.line)) (option_map (command_item one.0) one.1.pending)
+due_on one =
+    earlier (option_map (line_item one.0) (due_of one.1.line)) (option_map (command_item one.0) one.1.post.pending)
 
--- the same of the line with this number, if there is one
+-- what falls due of the gateway itself
+abbrev pub own_due : Own → Option DueItem
+own_due own = option_map (command_item 0) own.post.pending
+
+-- the same of the line with this number, if there is one, or of the gateway itself, which is line 0
 abbrev pub due_at : Endpoints → ℕ → Option DueItem
-due_at endpoints line = option_and_then (λ station. due_on (line, station)) (station_at endpoints line)
+due_at endpoints line =
+    if line == 0 then own_due endpoints.own
+    else option_and_then (λ station. due_on (line, station)) (station_at endpoints line)
 
 -- what falls due first of all: the earliest, and of several as early that of the least line
 unfoldable pub first_due : Endpoints → Option DueItem
-first_due endpoints = fold (λ first one. earlier first (due_on one)) None (numbered endpoints)
+first_due endpoints = fold (λ first one. earlier first (due_on one)) (own_due endpoints.own) (numbered endpoints)
 
 abbrev pub if_by : ℕ → Option DueItem → Option DueItem
 if_by moment None = None
@@ -55,35 +61,20 @@ is_due setup endpoints moment = is_some (due_by endpoints moment)
 
 -- What then happens
 
--- a command is sent again, to where it went first, or given up: then the line waits on (RFC 3435, 4.3)
-abbrev pub repeated_as : Repeat → ℕ → ℕ → Station → InFlight → Turn
-repeated_as SentAgain line moment station message = record {
-  station = record station { pending = Some (repeated message moment) };
-  sent = (record { to = message.to; moment = moment; owner = own_of line; said = resent message.text }) ∷ [];
-}
-repeated_as GivenUp line moment station message = silent (record station { pending = None })
-
-abbrev pub resent_on : Option InFlight → ℕ → ℕ → Station → Turn
-resent_on None line moment station = silent station
-resent_on (Some message) line moment station = repeated_as (repeat_of message moment) line moment station message
-
--- what falls due on a station, at this moment
+-- what falls due on a station, at this moment: where its command is given up, the line waits on
 unfoldable pub happened_on : Due → Setup → ℕ → ℕ → Station → Turn
 happened_on (OfLine due) setup line moment station = noted setup line moment station (fired station.line due moment)
-happened_on Resend setup line moment station = resent_on station.pending line moment station
+happened_on Resend setup line moment station = posted station (resent_on line moment station.post)
 
-abbrev pub happened_at : Option Station → Setup → Endpoints → DueItem → Told
-happened_at None setup endpoints item = told endpoints []
-happened_at (Some station) setup endpoints item =
-    with_turn endpoints item.line (happened_on item.due setup item.line item.moment station)
+-- what falls due of the gateway itself, at this moment: of what falls due of lines there is nothing
+unfoldable pub own_happened : Due → ℕ → Own → OwnTurn
+own_happened (OfLine due) moment own = own_posted own (unsent own.post)
+own_happened Resend moment own = own_posted own (resent_on 0 moment own.post)
 
 -- what falls due happens at its own moment
-unfoldable pub happened : Setup → Endpoints → DueItem → Told
-happened setup endpoints item = happened_at (station_at endpoints item.line) setup endpoints item
-
--- one thing, and then what comes after it
-abbrev pub afterwards : Told → (Endpoints → Told) → Told
-afterwards first next = told (next first.endpoints).endpoints (first.sent ++ (next first.endpoints).sent)
+abbrev pub happened : Setup → Endpoints → DueItem → Told
+happened setup endpoints item =
+    on_either endpoints item.line (own_happened item.due item.moment) (happened_on item.due setup item.line item.moment)
 
 abbrev pub go_on : Option DueItem → Setup → Endpoints → (Endpoints → Told) → Told
 go_on None setup endpoints next = told endpoints []
@@ -95,9 +86,10 @@ passed zero setup endpoints moment = told endpoints []
 passed (suc n) setup endpoints moment = go_on (due_by endpoints moment) setup endpoints (λ next. passed n setup next moment)
 
 -- more things can't happen up to this moment: what starts at a moment falls due later, so that at one moment each of 11
--- things happens at most once on a line, its 9 signals, timer T and the command in flight
+-- things happens at most once on a line, its 9 signals, timer T and the command in flight, and besides the command of the
+-- gateway itself
 abbrev pub room : Endpoints → ℕ → ℕ
-room endpoints moment = (moment + 1) * (11 * length endpoints.stations)
+room endpoints moment = (moment + 1) * (11 * length endpoints.stations + 1)
 
 -- What is due up to this moment happens: while there is something, the first happens at its own moment. The law
 -- `what_is_due_happens_in_its_order` says so without a number.

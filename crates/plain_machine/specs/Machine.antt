@@ -1,16 +1,20 @@
 -- The plain machine: its clock, its endpoints, and the transactions that there ever were.
-use Rattle.std.specs.Prelude.{ℕ, ◌-◌, ◌==◌, if◌then◌else◌, List, [], replicate, Option, None, slice_get, slice_set}
+use Rattle.std.specs.Prelude.{ℕ, ◌-◌, ◌==◌, if◌then◌else◌, List, [], ◌∷◌, ◌++◌, replicate, Option, Some, None, slice_get, slice_set}
 use Rattle.std.specs.List.{enumerate_from}
 use Rattle.mg_line.specs.Line.{opening_line}
 use Rattle.plain_machine.specs.declared.setup.Setup.{Setup}
+use Rattle.plain_machine.specs.declared.own.Own.{Own}
+use Rattle.plain_machine.specs.declared.post.Post.{Post}
 use Rattle.plain_machine.specs.declared.station.Station.{Station}
 use Rattle.history.specs.declared.entry.Entry.{Entry}
 use Rattle.plain_machine.specs.Message.{Sent}
+use Rattle.plain_machine.specs.Posting.{PostTurn}
 use Rattle.plain_machine.specs.Notifying.{Turn}
 
--- all that changes but the clock: the stations, of which the first is line 1
+-- all that changes but the clock: the stations, of which the first is line 1, and what the gateway keeps for itself
 pub record Endpoints : Type 0 where
   pub stations : List Station
+  pub own : Own
 
 -- its history has every first and what it confirmed, in order, and forgets nothing (RFC 3435, 3.5.1)
 pub record Machine : Type 0 where
@@ -38,12 +42,21 @@ told endpoints sent = record { endpoints = endpoints; sent = sent }
 abbrev pub told_in : Machine → Told → Effect
 told_in m change = record { machine = record m { endpoints = change.endpoints }; sent = change.sent }
 
--- every line is as a line opens, reports to the configured agent, and sent nothing
+-- it reports to the configured agent, and sent nothing; its first command has this number
+abbrev pub opening_post : Setup → ℕ → Post
+opening_post setup number = record { entity = setup.agent; number = number; pending = None }
+
+-- every line is as a line opens, and its numbers begin with 0
 abbrev pub opening_station : Setup → Station
-opening_station setup = record { line = opening_line; entity = setup.agent; number = 0; pending = None }
+opening_station setup = record { line = opening_line; post = opening_post setup 0 }
+
+-- the numbers of the gateway itself begin with 1
+abbrev pub opening_own : Setup → Own
+opening_own setup = record { post = opening_post setup 1 }
 
 abbrev pub opening_endpoints : Setup → Endpoints
-opening_endpoints setup = record { stations = replicate setup.names.lines (opening_station setup) }
+opening_endpoints setup =
+    record { stations = replicate setup.names.lines (opening_station setup); own = opening_own setup }
 
 abbrev pub opening : Setup → Machine
 opening setup = record { now = 0; endpoints = opening_endpoints setup; history = [] }
@@ -53,11 +66,48 @@ abbrev pub station_at : Endpoints → ℕ → Option Station
 station_at endpoints line = if line == 0 then None else slice_get endpoints.stations (line - 1)
 
 abbrev pub with_station : Endpoints → ℕ → Station → Endpoints
-with_station endpoints line station = record { stations = slice_set endpoints.stations (line - 1) station }
+with_station endpoints line station = record endpoints { stations = slice_set endpoints.stations (line - 1) station }
 
 -- the station of this line has its turn
 abbrev pub with_turn : Endpoints → ℕ → Turn → Told
 with_turn endpoints line turn = told (with_station endpoints line turn.station) turn.sent
+
+abbrev pub turned_at : Option Station → Endpoints → ℕ → (Station → Turn) → Told
+turned_at None endpoints line turn = told endpoints []
+turned_at (Some station) endpoints line turn = with_turn endpoints line (turn station)
+
+-- What comes to one line: its station has this turn; where there is no such line, nothing happens.
+unfoldable pub on_line : Endpoints → ℕ → (Station → Turn) → Told
+on_line endpoints line turn = turned_at (station_at endpoints line) endpoints line turn
+
+-- What becomes of what the gateway keeps for itself, and what it sends
+pub record OwnTurn : Type 0 where
+  pub own : Own
+  pub sent : List Sent
+
+-- its post has this turn
+abbrev pub own_posted : Own → PostTurn → OwnTurn
+own_posted own turn = record { own = record own { post = turn.post }; sent = turn.sent }
+
+abbrev pub with_own : Endpoints → Own → Endpoints
+with_own endpoints own = record endpoints { own = own }
+
+-- What comes to the gateway itself: it has this turn.
+abbrev pub on_own : Endpoints → (Own → OwnTurn) → Told
+on_own endpoints turn = told (with_own endpoints (turn endpoints.own).own) (turn endpoints.own).sent
+
+-- What comes to one of both: the gateway itself is line 0.
+abbrev pub on_either : Endpoints → ℕ → (Own → OwnTurn) → (Station → Turn) → Told
+on_either endpoints line own_turn turn = if line == 0 then on_own endpoints own_turn else on_line endpoints line turn
+
+-- one thing, and then what comes after it
+abbrev pub afterwards : Told → (Endpoints → Told) → Told
+afterwards first next = told (next first.endpoints).endpoints (first.sent ++ (next first.endpoints).sent)
+
+-- What comes to several lines, one after the other.
+unfoldable pub on_lines : List ℕ → Endpoints → (ℕ → Station → Turn) → Told
+on_lines [] endpoints turn = told endpoints []
+on_lines (line ∷ lines) endpoints turn = afterwards (on_line endpoints line (turn line)) (λ next. on_lines lines next turn)
 
 -- the stations with the numbers of their lines
 abbrev pub numbered : Endpoints → List (ℕ × Station)

@@ -1,20 +1,19 @@
 -- What a response does to a command of the gateway's own, which its id joins it to (RFC 3435, 3.2.1.2, 3.5 and 4.4.1).
-use Rattle.std.specs.Prelude.{ℕ, ◌/◌, ◌&&◌, nat_le, Bool, true, false, if◌then◌else◌, List, [], ◌∷◌, ◌++◌, Option, Some, None}
+use Rattle.std.specs.Prelude.{ℕ, ◌&&◌, nat_le, Bool, true, false, if◌then◌else◌, List, [], ◌∷◌, ◌++◌}
 use Rattle.std.specs.declared.net.socket_addr.SocketAddrV4.{SocketAddrV4}
 use Rattle.mgcp_text.specs.declared.message.Message.TheVariants as messages
 use Rattle.mgcp_text.specs.declared.message.Param.{Param}
 use Rattle.mgcp_text.specs.declared.confirmation.KValue.{KValue}
 use Rattle.mgcp_text.specs.declared.confirmation.KValue.TheVariants.{Absent, Unreadable, Items}
 use Rattle.mgcp_text.specs.Confirmation.{k_of}
-use Rattle.outbound.specs.declared.reply.Reply.{Reply}
-use Rattle.outbound.specs.declared.reply.Reply.TheVariants.{Answered, Provisional, Stranger}
-use Rattle.outbound.specs.Flight.{InFlight, reply_of, heard}
 use Rattle.mg_line.specs.Answering.{answered}
+use Rattle.plain_machine.specs.declared.own.Own.{Own}
 use Rattle.plain_machine.specs.declared.setup.Setup.{Setup}
 use Rattle.plain_machine.specs.declared.station.Station.{Station}
 use Rattle.plain_machine.specs.Message.{of_none, acknowledgement, Sent}
-use Rattle.plain_machine.specs.Notifying.{numbers, Turn, silent, noted}
-use Rattle.plain_machine.specs.Machine.{Endpoints, Told, told, station_at, with_turn}
+use Rattle.plain_machine.specs.Posting.{line_of_id, unsent, reply_on}
+use Rattle.plain_machine.specs.Notifying.{Turn, silent, noted}
+use Rattle.plain_machine.specs.Machine.{Endpoints, OwnTurn, Told, told, own_posted, on_either}
 
 -- The acknowledgement
 
@@ -35,37 +34,28 @@ acknowledged moment source code id params =
     then (record { to = source; moment = moment; owner = of_none; said = acknowledgement (messages.Response 0 id [] []) }) ∷ []
     else []
 
--- The line
+-- The line, or the gateway itself
 
--- the line whose ids such an id is among; 0 is none
-abbrev pub line_of_id : ℕ → ℕ
-line_of_id id = id / numbers
-
--- a final response ends the flight, and is the answer to the line's notification; a provisional one puts off what is due
-abbrev pub replied : Reply → Setup → ℕ → ℕ → Station → InFlight → Turn
-replied Answered setup line moment station heard =
-    noted setup line moment (record station { pending = None }) (answered station.line moment)
-replied Provisional setup line moment station heard = silent (record station { pending = Some heard })
-replied Stranger setup line moment station heard = silent station
-
-abbrev pub responded_to : Option InFlight → Setup → ℕ → ℕ → Station → ℕ → ℕ → Turn
-responded_to None setup line moment station code id = silent station
-responded_to (Some message) setup line moment station code id =
-    replied (reply_of message id code) setup line moment station (heard message id code moment)
+-- where its command is answered, that is the answer to the line's notification
+abbrev pub answered_if : Bool → Setup → ℕ → ℕ → Station → Turn
+answered_if false setup line moment station = silent station
+answered_if true setup line moment station = noted setup line moment station (answered station.line moment)
 
 -- what a response does on a station
 unfoldable pub responded_on : Setup → ℕ → ℕ → Station → ℕ → ℕ → Turn
-responded_on setup line moment station code id = responded_to station.pending setup line moment station code id
+responded_on setup line moment station code id =
+    answered_if (reply_on moment station.post code id).is_answered setup line moment
+    (record station { post = (reply_on moment station.post code id).post })
 
-abbrev pub responded_at : Option Station → Setup → Endpoints → ℕ → ℕ → ℕ → ℕ → Told
-responded_at None setup endpoints line moment code id = told endpoints []
-responded_at (Some station) setup endpoints line moment code id =
-    with_turn endpoints line (responded_on setup line moment station code id)
+-- what it does to the gateway itself: an answer ends the flight, and no more
+unfoldable pub own_responded : ℕ → ℕ → ℕ → Own → OwnTurn
+own_responded moment code id own = own_posted own (unsent (reply_on moment own.post code id).post)
 
 -- what a response does to the line of its id
-unfoldable pub responded : Setup → Endpoints → ℕ → ℕ → ℕ → Told
+abbrev pub responded : Setup → Endpoints → ℕ → ℕ → ℕ → Told
 responded setup endpoints moment code id =
-    responded_at (station_at endpoints (line_of_id id)) setup endpoints (line_of_id id) moment code id
+    on_either endpoints (line_of_id id) (own_responded moment code id)
+    (λ station. responded_on setup (line_of_id id) moment station code id)
 
 -- a response from this address: its acknowledgement goes out before anything else that it causes
 abbrev pub heard_from : Setup → Endpoints → ℕ → SocketAddrV4 → ℕ → ℕ → List Param → Told

@@ -12,8 +12,8 @@ ghost use Rattle.plain_machine.specs.declared.refusal.Refusal.{Refusal};
 ghost use Rattle.plain_machine.specs.declared.refusal.Refusal.TheVariants as refusals;
 ghost use Rattle.plain_machine.specs.Event.{GatewayEvent};
 ghost use Rattle.plain_machine.specs.Message.{again, is_answer, Sent, datagrams_of};
-ghost use Rattle.plain_machine.specs.Machine.{Machine, Endpoints, idle, told};
-ghost use Rattle.plain_machine.specs.Falling.{due_at, due_by, happened, afterwards, pass};
+ghost use Rattle.plain_machine.specs.Machine.{Machine, Endpoints, idle, told, afterwards};
+ghost use Rattle.plain_machine.specs.Falling.{due_at, due_by, happened, pass};
 ghost use Rattle.plain_machine.specs.declared.due_item.DueItem.{DueItem};
 ghost use Rattle.plain_machine.specs.declared.config.Config.{Config};
 ghost use Rattle.plain_machine.specs.Setup.{setup_of, IsSetUp};
@@ -125,7 +125,8 @@ pub fn what_is_due_happens_in_its_order()
         due_by (pass setup endpoints moment).endpoints moment ≡ None }
 {}
 
-/// What falls due first is the first on its line; nothing on any line is due earlier, and nothing on a lesser line as early.
+/// What falls due first is the first on its line; nothing on any line is due earlier, and nothing on a lesser line as
+/// early. The gateway itself is line 0.
 pub fn the_first_due_is_the_earliest()
     ensures due { (endpoints : Endpoints) (moment : ℕ) (item : DueItem) → due_by endpoints moment ≡ Some item →
         (due_at endpoints item.line ≡ Some item) × (item.moment ≤ moment) }

@@ -18,7 +18,9 @@ mod step;
 mod words;
 
 pub use crate::played::{PlayFault, Played, name_of_config_fault};
+pub use crate::scene::{Scene, judge};
 pub use crate::session::play;
+pub use crate::step::Step;
 
 /// How many bytes of input are taken.
 pub const LIMIT: usize = 1_048_576;

@@ -99,3 +99,8 @@ abbrev pub session_read : Result Session SdpFault → Option Session
 session_read (Ok session) = Some session
 session_read (Err OutOfMemory) = None
 session_read (Err NotInSubset) = None
+
+-- a fault's number, from 1
+abbrev pub sdp_fault_number : SdpFault → ℕ
+sdp_fault_number OutOfMemory = 1
+sdp_fault_number NotInSubset = 2

@@ -9,7 +9,7 @@ ghost use Rattle.sdp_subset.specs.Fields.{equals_sign, is_field, is_empty, are_f
 ghost use Rattle.sdp_subset.specs.Fields.{is_media, is_audio, is_connection};
 ghost use Rattle.sdp_subset.specs.Fields.{from_audio, first_connection, connection_of};
 ghost use Rattle.sdp_subset.specs.Reading.{port_of, payload_of, payloads_of, audio_of, address_of};
-ghost use Rattle.sdp_subset.specs.Reading.{session_of, answer_of, session_read};
+ghost use Rattle.sdp_subset.specs.Reading.{session_of, answer_of, session_read, sdp_fault_number};
 ghost use Rattle.sdp_subset.specs.Writing.{address_text, written, as_read};
 ghost use Rattle.sdp_subset.specs.Example.{host, offered, from_host, read_with_audio, read_with_connection};
 ghost use Rattle.sdp_subset.specs.Example.{originated, timed};
@@ -266,4 +266,10 @@ pub fn long_texts_are_read()
     ensures long_line { read_with_audio (concat (replicate 568 (codes "m=audio"))) ≡ None }
     ensures lines { read_with_audio (codes "m=audio 4000 RTP/AVP 0\n" ++ concat (replicate 494 (codes "m=audio\n")))
         ≡ from_host 1 }
+{}
+
+/// Faults are numbered from 1, in the order in which they are declared.
+pub fn faults_have_numbers()
+    ensures memory { sdp_fault_number faults.OutOfMemory ≡ 1 }
+    ensures subset { sdp_fault_number faults.NotInSubset ≡ 2 }
 {}

@@ -1,4 +1,6 @@
 //! Why there is no session.
+ghost use Rattle.std.specs.Prelude.{◌≡◌};
+
 use mg_bytes::OutOfMemory;
 
 /// Why there is no session.
@@ -10,8 +12,18 @@ pub enum SdpFault {
     NotInSubset = 2,
 }
 
+impl SdpFault {
+    ghost use Rattle.sdp_subset.specs.Reading.{sdp_fault_number};
+
+    /// Its number, from 1.
+    pub fn number(self) -> u8
+        ensures { result ≡ sdp_fault_number self }
+    {
+        self as u8
+    }
+}
+
 impl From<OutOfMemory> for SdpFault {
-    ghost use Rattle.std.specs.Prelude.{◌≡◌};
     ghost use Rattle.sdp_subset.specs.declared.fault.SdpFault.TheVariants as faults;
 
     ghost from_gives = { λ _ fault. fault ≡ faults.OutOfMemory };

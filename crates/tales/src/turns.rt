@@ -1,5 +1,6 @@
-//! What kinds of rows have in common.
-use event_syntax::{Observed, read_observed, write_observed};
+//! What a row gives, as it is told.
+use crate::again::refused;
+use mg_bytes::CodeFault;
 use std::alloc::Global;
 use std::io;
 
@@ -16,14 +17,10 @@ pub fn no_such_row(alloc: Global) -> io::Result<Option<String>> {
     Ok(Some("no such row".to_string(alloc)?))
 }
 
-/// An event as O spells it: `L/hd`, or `L/oc(L/dl)` at the end of a signal.
-pub fn observed_of(alloc: Global, text: &str) -> Option<Observed> {
-    let list = read_observed(alloc, text.as_bytes()).ok()?;
-    list.as_slice().first().copied()
-}
-
-/// Events as O spells them.
-pub fn spelled(alloc: Global, events: &[Observed]) -> io::Result<String> {
-    let text = write_observed(alloc, events)?;
-    Ok(String::from_utf8_lossy(alloc, text.as_bytes())?)
+/// A return code as a row says it; want of memory is an error.
+pub fn code_text(alloc: Global, fault: CodeFault) -> io::Result<String> {
+    match fault {
+        CodeFault::Code(code) => Ok(format!(in alloc; "{code}")?),
+        CodeFault::OutOfMemory => Err(refused()),
+    }
 }

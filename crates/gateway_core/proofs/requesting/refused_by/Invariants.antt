@@ -7,5 +7,5 @@ use Rattle.gateway_core.proofs.requesting.refused_by.Given as goal
 -- the first fault of the rest is the first of all
 abbrev pub invariant-loop-place : goal.invariant-loop-place
 invariant-loop-place l =
-    first_fault (map (refusal_on l.lines l.request) (enumerate_from (l.place + 1) (drop l.place l.state.stations.items)))
-    ≡ first_fault (map (refusal_on l.lines l.request) (enumerate_from 1 l.state.stations.items))
+    first_fault (map (refusal_on l.lines l.deed) (enumerate_from (l.place + 1) (drop l.place l.stations)))
+    ≡ first_fault (map (refusal_on l.lines l.deed) (enumerate_from 1 l.stations))

@@ -1,14 +1,21 @@
-use Rattle.std.proofs.Common.{ap, ◌∙◌}
-use Rattle.history.specs.Kept.{HistoryState}
+use Rattle.std.proofs.Common.{refl, ◌∙◌}
 use Rattle.plain_machine.specs.Event.{event_of}
 use Rattle.gateway_core.specs.State.{machine_in}
-use Rattle.gateway_core.proofs.AlikeLemmas.{refusal_purged}
-use Rattle.gateway_core.proofs.SavedLemmas.{as_before}
+use Rattle.gateway_core.proofs.AlikeLemmas.{ends_purged}
+use Rattle.gateway_core.proofs.WorkLemmas.{as_found, puts_settled}
 use Rattle.gateway_core.proofs.working.attempt.Goals as goal
 
-pub carry_out-requires-clause-taken : goal.carry_out-requires-clause-taken
-carry_out-requires-clause-taken c = rw c.purge.ensures.kept (refusal_purged (machine_in c.args.state.now) (event_of c.args.event) ∙ c.requires.taken)
+pub returns-in-Ok-clause-all : goal.returns-in-Ok-clause-all
+returns-in-Ok-clause-all c = puts_settled _ c.carry_out.new.state _ _ _ refl refl c.settle-in-Ok.ensures (rw (c.settle.ensures, c.purge.ensures.kept) at c.in-Ok.ensures.ok)
 
-pub returns-in-Err-clause-err : goal.returns-in-Err-clause-err
-returns-in-Err-clause-err c = as_before c.args.state.now _ _ _ _ c.requires.rest (ap (λ (h : HistoryState). h.settled) c.purge.ensures.kept)
-    c.put_all_back.ensures.stations c.put_all_back.ensures.history c.in-Err.ensures.before
+pub returns-in-Ok-clause-ends : goal.returns-in-Ok-clause-ends
+returns-in-Ok-clause-ends c = ends_purged c.args.context.setup.now (machine_in c.args.state.now) (event_of c.args.event) _ (rw (c.settle.ensures, c.purge.ensures.kept) at c.in-Ok.ensures.ends)
+
+pub returns-in-Err-clause-all : goal.returns-in-Err-clause-all
+returns-in-Err-clause-all c = record {
+  machine = as_found c.args.state.now _ _ c.carry_out.new.state (c.in-Err.ensures.found ∙ rw (c.settle.ensures, c.purge.ensures.kept) refl) c.undo.ensures c.undo-in-Err.ensures;
+  outputs = c.in-Err.ensures.err;
+}
+
+pub returns-in-Err-clause-ends : goal.returns-in-Err-clause-ends
+returns-in-Err-clause-ends c = ends_purged c.args.context.setup.now (machine_in c.args.state.now) (event_of c.args.event) _ (rw (c.settle.ensures, c.purge.ensures.kept) at c.in-Err.ensures.ends)

@@ -1,0 +1,91 @@
+//! Why a command is refused, in words for people.
+ghost use Rattle.std.specs.Prelude.{◌≡◌, ◌++◌, IfOk, OnOk};
+ghost use Rattle.command_forms.specs.Explaining.{place_name, place_number, words_from, explanation_of};
+ghost use Rattle.mg_bytes.specs.ReturnCode.{code_with};
+
+use mg_bytes::{OutOfMemory, ReturnCode, Text, put_decimal};
+use std::alloc::Global;
+
+/// What of a command is at fault.
+#[derive(Clone, Copy, Debug)]
+pub enum Place {
+    /// The verb.
+    Verb,
+    /// The endpoint's name.
+    Name,
+    /// The parameter line with this number, from 1.
+    Line(usize),
+    /// The parameter with this letter, which must be there and isn't.
+    Missing(u8),
+    /// The value of the parameter with this letter.
+    Value(u8),
+}
+
+/// Why a command is refused.
+#[derive(Clone, Copy, Debug)]
+pub struct Refused {
+    /// The return code (RFC 3435, 2.4).
+    pub code: u16,
+    /// What of the command is at fault.
+    pub at: Place,
+}
+
+/// Why the judging of a command stops.
+#[derive(Clone, Copy)]
+pub(crate) enum Stop {
+    /// Memory was refused.
+    OutOfMemory,
+    /// A fault was found.
+    AtFault(Refused),
+}
+
+fn place_name(place: Place) -> &'static [u8]
+    ensures { result.now ≡ place_name place }
+{
+    match place {
+        Place::Verb => b"verb",
+        Place::Name => b"endpoint name",
+        Place::Line(_) => b"parameter line ",
+        Place::Missing(_) => b"missing parameter ",
+        Place::Value(_) => b"value of parameter ",
+    }
+}
+
+fn put_place_number(alloc: Global, out: &mut Vec<u8>, place: Place) -> Result<(), OutOfMemory>
+    ensures { OnOk result (out.new.items ≡ out.old.items ++ place_number place) }
+{
+    match place {
+        Place::Verb | Place::Name => {}
+        Place::Line(number) => put_decimal(alloc, out, number as u64)?,
+        Place::Missing(letter) | Place::Value(letter) => out.push(letter)?,
+    }
+    Ok(())
+}
+
+// What is said of the return code with this number.
+fn words_of(number: u16) -> &'static [u8]
+    ensures { result.now ≡ words_from (code_with number) }
+{
+    match ReturnCode::with_number(number) {
+        Some(code) => code.words().as_bytes(),
+        None => b"",
+    }
+}
+
+/// One line for people: the return code, its words, and what of the command is at fault, as
+/// `510 protocol error: value of parameter R`.
+///
+/// Its only error is want of memory.
+#[tactic(auto, unfolding(crate::specs::Explaining::explanation_of))]
+pub fn explain(alloc: Global, refused: &Refused) -> Result<Text, OutOfMemory>
+    ensures { IfOk result (λ text. text ≡ explanation_of refused.now) }
+{
+    let mut out = Vec::new(alloc);
+    put_decimal(alloc, &mut out, u64::from(refused.code))?;
+    out.push(b' ')?;
+    out.extend_from_slice(words_of(refused.code))?;
+    out.extend_from_slice(b": ")?;
+    out.extend_from_slice(place_name(refused.at))?;
+    put_place_number(alloc, &mut out, refused.at)?;
+    Ok(Text::of(out))
+}

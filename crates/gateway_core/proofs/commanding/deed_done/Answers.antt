@@ -1,0 +1,5 @@
+use Rattle.plain_machine.proofs.CodeLemmas.{refusal_small}
+use Rattle.gateway_core.proofs.commanding.deed_done.Goals as goal
+
+pub plain-requires : goal.plain-requires
+plain-requires c = refusal_small _ _ _ _ c.in-Some.ensures

@@ -1,0 +1,56 @@
+//! What a tick does.
+ghost use Rattle.std.specs.Prelude.{◌≡◌, ◌<◌, ◌^◌, not};
+ghost use Rattle.plain_machine.specs.Falling.{is_due, pass};
+ghost use Rattle.plain_machine.specs.Happening.{ticked};
+ghost use Rattle.plain_machine.specs.Refusing.{tick_refusal, ends, refused_by};
+ghost use Rattle.gateway_core.specs.Sound.{MayTell};
+ghost use Rattle.gateway_core.specs.State.{machine_in, Happens};
+
+use crate::context::Context;
+use crate::falling::{is_due, pass};
+use crate::state::State;
+use plain_machine::{OutDatagram, Refusal};
+
+/// Moments are below this (in ms).
+const END_OF_TIME: u64 = 1 << 62;
+
+/// How far a tick may go at once, in ms.
+const LARGEST_TICK: u64 = 1000;
+
+// Why a tick is refused.
+fn tick_refusal(now: u64, moment: u64) -> Option<Refusal>
+    requires { now < 2 ^ 62 }
+    ensures { result ≡ tick_refusal now moment }
+{
+    if moment > now + LARGEST_TICK || moment >= END_OF_TIME {
+        return Some(Refusal::TickTooFar);
+    }
+    if moment < now {
+        return Some(Refusal::ClockBack);
+    }
+    None
+}
+
+/// A tick to a moment: what is sent. One up to which nothing is due takes no memory.
+pub(crate) fn tick(
+    context: Context<'_>,
+    state: &mut State,
+    moment: u64,
+) -> Result<Vec<OutDatagram>, Refusal>
+    requires { MayTell context.setup.now state.old.clock }
+    ensures happens { Happens result (ticked (machine_in state.old) moment
+        (pass context.entry.setup.now state.old.floor.endpoints moment)) state.old state.new }
+    ensures ends { ends (tick_refusal state.old.clock moment)
+        (not (is_due context.entry.setup.now state.old.floor.endpoints moment)) (refused_by result) }
+{
+    if let Some(refusal) = tick_refusal(state.clock, moment) {
+        return Err(refusal);
+    }
+    let mut out = Vec::new(context.alloc);
+    state.clock = moment;
+    if !is_due(context, &state.floor, moment) {
+        return Ok(out);
+    }
+    pass(context, &mut state.floor, moment, &mut out)?;
+    Ok(out)
+}

@@ -1,0 +1,221 @@
+-- What a command does on the lines that it is for.
+use Rattle.std.proofs.Common.{◌≡◌, ◌≢◌, ℕ, zero, suc, ◌+◌, ◌-◌, ◌<◌, Bool, true, false, ◌==◌, if◌then◌else◌, List, [], ◌∷◌, length, map, filter, Option, Some, None, Result, Ok, Err, inl, inr, refl, sym, ap, ◌∙◌, subst, arith}
+use Rattle.std.specs.Prelude.{◌⊎◌, All, slice_get, flat_map, option_map, option_and_then}
+use Rattle.std.specs.List.{enumerate_from}
+use Rattle.std.proofs.lemmas.Bool.Decides.{Decides-eqb}
+use Rattle.std.proofs.lemmas.List.Elements.{filter_passes}
+use Rattle.std.proofs.lemmas.Option.{none-some}
+use Rattle.mg_bytes.specs.Checks.{first_fault}
+use Rattle.mgcp_text.specs.Answer.{plain_code}
+use Rattle.mgcp_text.specs.declared.confirmation.KValue.{KValue}
+use Rattle.command_forms.specs.Command.{Command}
+use Rattle.command_forms.specs.Meaning.{is_for}
+use Rattle.command_forms.specs.Order.{form_of}
+use Rattle.command_forms.specs.declared.forms.Asks.{Asks}
+use Rattle.command_forms.specs.declared.forms.Asks.TheVariants.{Reports, Does}
+use Rattle.command_forms.specs.declared.forms.Audit.{Audit}
+use Rattle.command_forms.specs.declared.forms.Deed.{Deed}
+use Rattle.command_forms.specs.declared.forms.Target.{Target}
+use Rattle.command_forms.specs.declared.forms.Target.TheVariants.{One}
+use Rattle.plain_machine.specs.declared.line_deed.LineDeed.{LineDeed}
+use Rattle.plain_machine.specs.declared.setup.Setup.{Setup}
+use Rattle.plain_machine.specs.declared.station.Station.{Station}
+use Rattle.plain_machine.specs.Commanding.{line_deed, done_by, commanded}
+use Rattle.plain_machine.specs.Done.{Done, only_answer}
+use Rattle.plain_machine.specs.Machine.{Endpoints, told, station_at, numbered}
+use Rattle.plain_machine.specs.Requesting.{refusal_on, refused_by, lines_meant, deed_on, deed_on_all, unless_refused, deed_done}
+use Rattle.machine_laws.specs.Refusals.{refusal_at, IsRefused, NoneRefuses}
+use Rattle.machine_laws.proofs.LineLemmas.{own_stays, not_among, among_from, none_stays, sent_from_each, passing_from, place_of, all_there}
+
+-- The first line that refuses
+
+abbrev refusal_in : Target → LineDeed → ℕ → List Station → ℕ → Option ℕ
+refusal_in lines deed n stations place = option_and_then (λ (station : Station). refusal_on lines deed (n + place, station)) (slice_get stations place)
+
+abbrev first_in : Target → LineDeed → ℕ → List Station → Option ℕ
+first_in lines deed n stations = first_fault (map (refusal_on lines deed) (enumerate_from n stations))
+
+shifted : (lines : Target) (deed : LineDeed) (n : ℕ) (first : Station) (stations : List Station) (place : ℕ)
+    → refusal_in lines deed n (first ∷ stations) (suc place) ≡ refusal_in lines deed (n + 1) stations place
+shifted lines deed n first stations place =
+    let same : n + suc place ≡ n + 1 + place = omega arith in
+    ap (λ (x : ℕ). option_and_then (λ (station : Station). refusal_on lines deed (x, station)) (slice_get stations place)) same
+
+at_front : (lines : Target) (deed : LineDeed) (n : ℕ) (first : Station) (stations : List Station) → refusal_in lines deed n (first ∷ stations) 0 ≡ refusal_on lines deed (n, first)
+at_front lines deed n first stations = let same : n + 0 ≡ n = omega arith in ap (λ (x : ℕ). refusal_on lines deed (x, first)) same
+
+first_refuses : (lines : Target) (deed : LineDeed) (n : ℕ) (stations : List Station) (place code : ℕ) → refusal_in lines deed n stations place ≡ Some code
+    → ((before : ℕ) → before < place → refusal_in lines deed n stations before ≡ None) → first_in lines deed n stations ≡ Some code
+first_refuses lines deed n [] place code refuses none = absurd (none-some code refuses)
+first_refuses lines deed n (first ∷ stations) zero code refuses none =
+    ap (λ (x : Option ℕ). first_fault (x ∷ map (refusal_on lines deed) (enumerate_from (n + 1) stations))) (sym (at_front lines deed n first stations) ∙ refuses)
+first_refuses lines deed n (first ∷ stations) (suc place) code refuses none =
+    ap (λ (x : Option ℕ). first_fault (x ∷ map (refusal_on lines deed) (enumerate_from (n + 1) stations))) (sym (at_front lines deed n first stations) ∙ none 0 (omega arith))
+    ∙ first_refuses lines deed (n + 1) stations place code (sym (shifted lines deed n first stations place) ∙ refuses)
+    (λ before less. sym (shifted lines deed n first stations before) ∙ none (suc before) (omega (arith, less)))
+
+none_refuses : (lines : Target) (deed : LineDeed) (n : ℕ) (stations : List Station) → ((place : ℕ) → refusal_in lines deed n stations place ≡ None) → first_in lines deed n stations ≡ None
+none_refuses lines deed n [] none = refl
+none_refuses lines deed n (first ∷ stations) none =
+    ap (λ (x : Option ℕ). first_fault (x ∷ map (refusal_on lines deed) (enumerate_from (n + 1) stations))) (sym (at_front lines deed n first stations) ∙ none 0)
+    ∙ none_refuses lines deed (n + 1) stations (λ place. sym (shifted lines deed n first stations place) ∙ none (suc place))
+
+-- a line is at its place
+line_at : (endpoints : Endpoints) (lines : Target) (deed : LineDeed) (place : ℕ) → refusal_at endpoints lines deed (1 + place) ≡ refusal_in lines deed 1 endpoints.stations place
+line_at endpoints lines deed place = by_zero (1 + place == 0) refl where
+  by_zero : (b : Bool) → (1 + place == 0) ≡ b
+      → option_and_then (λ (station : Station). refusal_on lines deed (1 + place, station)) (if b then None else slice_get endpoints.stations (1 + place - 1))
+      ≡ refusal_in lines deed 1 endpoints.stations place
+  by_zero true zero_line = absurd (let same : 1 + place ≡ 0 = (Decides-eqb (1 + place) 0).0 zero_line in omega (arith, same))
+  by_zero false some =
+      let same : 1 + place - 1 ≡ place = omega arith in
+      ap (λ (x : ℕ). option_and_then (λ (station : Station). refusal_on lines deed (1 + place, station)) (slice_get endpoints.stations x)) same
+
+least_refuses : (endpoints : Endpoints) (lines : Target) (deed : LineDeed) (line code : ℕ) → refusal_at endpoints lines deed line ≡ Some code
+    → ((other : ℕ) → other < line → refusal_at endpoints lines deed other ≡ None) → refused_by endpoints lines deed ≡ Some code
+unfolding refused_by
+least_refuses endpoints lines deed zero code refuses none = absurd (none-some code refuses)
+least_refuses endpoints lines deed (suc place) code refuses none =
+    let same : suc place ≡ 1 + place = omega arith in
+    first_refuses lines deed 1 endpoints.stations place code
+    (sym (line_at endpoints lines deed place) ∙ ap (refusal_at endpoints lines deed) (sym same) ∙ refuses)
+    (λ before less. sym (line_at endpoints lines deed before) ∙ none (1 + before) (omega (arith, less)))
+
+pub refused_deed : (setup : Setup) (endpoints : Endpoints) (lines : Target) (deed : LineDeed) (moment : ℕ) (refused : IsRefused endpoints lines deed)
+    → deed_done setup endpoints lines deed moment ≡ only_answer endpoints (plain_code refused.code)
+refused_deed setup endpoints lines deed moment refused =
+    ap (λ (x : Option ℕ). unless_refused x endpoints (record { told = deed_on_all setup endpoints lines deed moment; answer = plain_code 200 }))
+    (least_refuses endpoints lines deed refused.line refused.code refused.refuses refused.least)
+
+-- Either a line refuses or none does
+
+abbrev NoneBelow : Endpoints → Target → LineDeed → ℕ → Type 0
+NoneBelow endpoints lines deed n = (line : ℕ) → line < n → refusal_at endpoints lines deed line ≡ None
+
+refused_below : (endpoints : Endpoints) (lines : Target) (deed : LineDeed) (n : ℕ) → IsRefused endpoints lines deed ⊎ NoneBelow endpoints lines deed n
+refused_below endpoints lines deed zero = inr (λ line less. absurd (omega (arith, less)))
+refused_below endpoints lines deed (suc n) = by_rest (refused_below endpoints lines deed n) where
+  by_this : (found : Option ℕ) → refusal_at endpoints lines deed n ≡ found → NoneBelow endpoints lines deed n
+      → IsRefused endpoints lines deed ⊎ NoneBelow endpoints lines deed (suc n)
+  by_this (Some code) is none = inl (record { line = n; code = code; refuses = is; least = none })
+  by_this None is none = inr (λ line less. by_test line less (line == n) refl) where
+    by_test : (line : ℕ) → line < suc n → (b : Bool) → (line == n) ≡ b → refusal_at endpoints lines deed line ≡ None
+    by_test line less true test =
+        let same : line ≡ n = (Decides-eqb line n).0 test in
+        subst (λ (x : ℕ). refusal_at endpoints lines deed x ≡ None) (sym same) is
+    by_test line less false test =
+        let other : line ≢ n = λ same. (let t : (line == n) ≡ true = (Decides-eqb line n).1 same in absurd cc) in
+        none line (omega (arith, less, other))
+
+  by_rest : IsRefused endpoints lines deed ⊎ NoneBelow endpoints lines deed n → IsRefused endpoints lines deed ⊎ NoneBelow endpoints lines deed (suc n)
+  by_rest (inl refused) = inl refused
+  by_rest (inr none) = by_this (refusal_at endpoints lines deed n) refl none
+
+-- there is no line behind the last
+none_behind : (endpoints : Endpoints) (lines : Target) (deed : LineDeed) → NoneBelow endpoints lines deed (1 + length endpoints.stations) → NoneRefuses endpoints lines deed
+none_behind endpoints lines deed none line = by_station (station_at endpoints line) refl where
+  by_station : (found : Option Station) → station_at endpoints line ≡ found → option_and_then (λ (station : Station). refusal_on lines deed (line, station)) found ≡ None
+  by_station None at = refl
+  by_station (Some station) at =
+      ap (option_and_then (λ (station : Station). refusal_on lines deed (line, station))) (sym at) ∙ none line (place_of endpoints line station at).1
+
+pub refused_or_not : (endpoints : Endpoints) (lines : Target) (deed : LineDeed) → IsRefused endpoints lines deed ⊎ NoneRefuses endpoints lines deed
+refused_or_not endpoints lines deed = by_all (refused_below endpoints lines deed (1 + length endpoints.stations)) where
+  by_all : IsRefused endpoints lines deed ⊎ NoneBelow endpoints lines deed (1 + length endpoints.stations) → IsRefused endpoints lines deed ⊎ NoneRefuses endpoints lines deed
+  by_all (inl refused) = inl refused
+  by_all (inr none) = inr (none_behind endpoints lines deed none)
+
+-- None refuses
+
+none_of_all : (endpoints : Endpoints) (lines : Target) (deed : LineDeed) → NoneRefuses endpoints lines deed → refused_by endpoints lines deed ≡ None
+unfolding refused_by
+none_of_all endpoints lines deed none = none_refuses lines deed 1 endpoints.stations (λ place. sym (line_at endpoints lines deed place) ∙ none (1 + place))
+
+all_done : (setup : Setup) (endpoints : Endpoints) (lines : Target) (deed : LineDeed) (moment : ℕ) → NoneRefuses endpoints lines deed
+    → deed_done setup endpoints lines deed moment ≡ record { told = deed_on_all setup endpoints lines deed moment; answer = plain_code 200 }
+all_done setup endpoints lines deed moment none =
+    ap (λ (x : Option ℕ). unless_refused x endpoints (record { told = deed_on_all setup endpoints lines deed moment; answer = plain_code 200 }))
+    (none_of_all endpoints lines deed none)
+
+pub done_answer : (setup : Setup) (endpoints : Endpoints) (lines : Target) (deed : LineDeed) (moment : ℕ) → NoneRefuses endpoints lines deed
+    → (deed_done setup endpoints lines deed moment).answer ≡ plain_code 200
+done_answer setup endpoints lines deed moment none = ap (λ (x : Done). x.answer) (all_done setup endpoints lines deed moment none)
+
+apart_from_passing : (p : ℕ → Bool) (n line : ℕ) (stations : List Station) → p line ≡ false → All (λ (one : ℕ). line ≢ one) (passing_from p n stations)
+apart_from_passing p n line stations fails k d within same =
+    let passes = filter_passes p (map (λ (one : ℕ × Station). one.0) (enumerate_from n stations)) k d within in
+    let both : true ≡ false = sym passes ∙ sym (ap p same) ∙ fails in
+    absurd cc
+
+deed_station : (setup : Setup) (endpoints : Endpoints) (lines : Target) (deed : LineDeed) (moment line : ℕ)
+    → station_at (deed_on_all setup endpoints lines deed moment).endpoints line
+    ≡ option_map (λ (station : Station). if is_for lines line then (deed_on setup deed moment line station).station else station) (station_at endpoints line)
+deed_station setup endpoints lines deed moment line = by_station (station_at endpoints line) refl where
+  by_test : (station : Station) (b : Bool) → is_for lines line ≡ b → station_at endpoints line ≡ Some station
+      → station_at (deed_on_all setup endpoints lines deed moment).endpoints line ≡ Some (if b then (deed_on setup deed moment line station).station else station)
+  by_test station true meant at =
+      let place = place_of endpoints line station at in
+      among_from (is_for lines) 1 endpoints.stations endpoints (deed_on setup deed moment) line place.0 place.1 meant
+      ∙ ap (option_map (λ (s : Station). (deed_on setup deed moment line s).station)) at
+  by_test station false other at =
+      not_among (lines_meant endpoints lines) endpoints (deed_on setup deed moment) line (apart_from_passing (is_for lines) 1 line endpoints.stations other) ∙ at
+
+  by_station : (found : Option Station) → station_at endpoints line ≡ found
+      → station_at (deed_on_all setup endpoints lines deed moment).endpoints line
+      ≡ option_map (λ (station : Station). if is_for lines line then (deed_on setup deed moment line station).station else station) found
+  by_station None at = none_stays (lines_meant endpoints lines) endpoints (deed_on setup deed moment) line at
+  by_station (Some station) at = by_test station (is_for lines line) refl at
+
+pub done_station : (setup : Setup) (endpoints : Endpoints) (lines : Target) (deed : LineDeed) (moment line : ℕ) → NoneRefuses endpoints lines deed
+    → station_at (deed_done setup endpoints lines deed moment).told.endpoints line
+    ≡ option_map (λ (station : Station). if is_for lines line then (deed_on setup deed moment line station).station else station) (station_at endpoints line)
+done_station setup endpoints lines deed moment line none =
+    ap (λ (x : Done). station_at x.told.endpoints line) (all_done setup endpoints lines deed moment none) ∙ deed_station setup endpoints lines deed moment line
+
+pub done_sent : (setup : Setup) (endpoints : Endpoints) (lines : Target) (deed : LineDeed) (moment : ℕ) → NoneRefuses endpoints lines deed
+    → (deed_done setup endpoints lines deed moment).told.sent
+    ≡ flat_map (λ (one : ℕ × Station). (deed_on setup deed moment one.0 one.1).sent) (filter (λ (one : ℕ × Station). is_for lines one.0) (numbered endpoints))
+done_sent setup endpoints lines deed moment none =
+    ap (λ (x : Done). x.told.sent) (all_done setup endpoints lines deed moment none)
+    ∙ sent_from_each (is_for lines) 1 endpoints.stations endpoints (deed_on setup deed moment) (all_there endpoints)
+
+-- One line
+
+pub one_line_alone : (setup : Setup) (endpoints : Endpoints) (deed : LineDeed) (moment line other : ℕ) → other ≢ line
+    → station_at (deed_done setup endpoints (One line) deed moment).told.endpoints other ≡ station_at endpoints other
+one_line_alone setup endpoints deed moment line other apart = by_refusal (refused_by endpoints (One line) deed) where
+  not_meant : is_for (One line) other ≡ false
+  not_meant = by_test (line == other) refl where
+    by_test : (b : Bool) → (line == other) ≡ b → b ≡ false
+    by_test true e = absurd (apart (sym ((Decides-eqb line other).0 e)))
+    by_test false e = refl
+
+  by_refusal : (refusal : Option ℕ)
+      → station_at (unless_refused refusal endpoints (record { told = deed_on_all setup endpoints (One line) deed moment; answer = plain_code 200 })).told.endpoints other
+      ≡ station_at endpoints other
+  by_refusal None =
+      not_among (lines_meant endpoints (One line)) endpoints (deed_on setup deed moment) other (apart_from_passing (is_for (One line)) 1 other endpoints.stations not_meant)
+  by_refusal (Some code) = refl
+
+pub own_alone : (setup : Setup) (endpoints : Endpoints) (lines : Target) (deed : LineDeed) (moment : ℕ)
+    → (deed_done setup endpoints lines deed moment).told.endpoints.own ≡ endpoints.own
+own_alone setup endpoints lines deed moment = by_refusal (refused_by endpoints lines deed) where
+  by_refusal : (refusal : Option ℕ)
+      → (unless_refused refusal endpoints (record { told = deed_on_all setup endpoints lines deed moment; answer = plain_code 200 })).told.endpoints.own ≡ endpoints.own
+  by_refusal None = own_stays (lines_meant endpoints lines) endpoints (deed_on setup deed moment)
+  by_refusal (Some code) = refl
+
+-- A command
+
+pub deed_of_command : (setup : Setup) (endpoints : Endpoints) (moment id : ℕ) (command : Command) (confirms : KValue) (lines : Target) (deed : Deed)
+    → form_of command confirms setup.names ≡ Ok (Does lines deed)
+    → commanded setup endpoints moment id command confirms ≡ deed_done setup endpoints lines (line_deed deed) moment
+deed_of_command setup endpoints moment id command confirms lines deed is = ap (λ (x : Result Asks ℕ). done_by x setup endpoints moment id) is
+
+pub audit_stays : (setup : Setup) (endpoints : Endpoints) (moment id : ℕ) (command : Command) (confirms : KValue) (lines : Target) (audit : Audit)
+    → form_of command confirms setup.names ≡ Ok (Reports lines audit) → (commanded setup endpoints moment id command confirms).told ≡ told endpoints []
+audit_stays setup endpoints moment id command confirms lines audit is = ap (λ (x : Result Asks ℕ). (done_by x setup endpoints moment id).told) is
+
+pub fault_stays : (setup : Setup) (endpoints : Endpoints) (moment id code : ℕ) (command : Command) (confirms : KValue) → form_of command confirms setup.names ≡ Err code
+    → commanded setup endpoints moment id command confirms ≡ only_answer endpoints (plain_code code)
+fault_stays setup endpoints moment id code command confirms is = ap (λ (x : Result Asks ℕ). done_by x setup endpoints moment id) is

@@ -1,0 +1,11 @@
+pub mod RunLaws
+pub mod OutLaws
+pub mod LineLemmas
+pub mod DeedLaws
+pub mod SendLemmas
+pub mod AcknowledgementLaws
+pub mod OrderLaws
+pub mod TextLaws
+pub mod StateLemmas
+pub mod WaitLaws
+pub mod Computing

@@ -1,0 +1,5 @@
+pub mod Runs
+pub mod Refusals
+pub mod Owning
+pub mod Waiting
+pub mod Example

@@ -1,0 +1,15 @@
+//! Laws of the plain machine that follow from its definitions, for whoever reads or uses these (RFC 3435): how messages
+//! are packed, what a command does on all lines, what goes out first, what holds at each text and each thing that falls
+//! due.
+//!
+//! Nothing here runs: each law is a function without a body, whose clauses are proved for every setup, every machine
+//! and every list of events. `specs/` has the few words that the laws need beside the plain machine's own.
+#![tactic(auto)]
+
+pub mod acknowledgement_laws;
+pub mod answer_laws;
+pub mod deed_laws;
+pub mod examples;
+pub mod packing_laws;
+pub mod text_laws;
+pub mod waiting_laws;

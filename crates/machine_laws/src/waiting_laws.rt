@@ -1,0 +1,63 @@
+//! A line has one command in flight at each thing that happens, within an event too (RFC 3435, 3.2.1.2, 3.5 and 4.4.1).
+ghost use Rattle.std.specs.Prelude.{◌≡◌, ◌≢◌, [], ℕ, List, Some, IfSome, All};
+ghost use Rattle.std.specs.declared.net.socket_addr.SocketAddrV4.{SocketAddrV4};
+ghost use Rattle.mg_line.specs.declared.due.Due.{Due as LineDue};
+ghost use Rattle.mg_line.specs.declared.phone.Act.{Act};
+ghost use Rattle.mgcp_text.specs.Reading.{Outcome};
+ghost use Rattle.outbound.specs.Flight.{InFlight};
+ghost use Rattle.plain_machine.specs.declared.due_item.Due.TheVariants.{OfLine, Resend};
+ghost use Rattle.plain_machine.specs.declared.due_item.DueItem.{DueItem};
+ghost use Rattle.plain_machine.specs.declared.setup.Setup.{Setup};
+ghost use Rattle.plain_machine.specs.declared.station.Station.{Station};
+ghost use Rattle.plain_machine.specs.Acting.{acted};
+ghost use Rattle.plain_machine.specs.Answering.{handled, took_all};
+ghost use Rattle.plain_machine.specs.Event.{GatewayEvent};
+ghost use Rattle.plain_machine.specs.Falling.{happened, pass};
+ghost use Rattle.plain_machine.specs.Flights.{IsSame, Carries};
+ghost use Rattle.plain_machine.specs.Lists.{plain};
+ghost use Rattle.plain_machine.specs.Machine.{Machine, Endpoints, station_at, opening};
+ghost use Rattle.machine_laws.specs.Waiting.{in_flight, AreInOrder};
+
+/// While its command is in flight a line waits for the answer, and what the gateway itself has in flight is under an id
+/// of its own: after every list of events, and, where it is so, after each act, each text and each thing that falls due.
+pub fn lines_wait_at_each_thing_that_happens()
+    ensures opening { (setup : Setup) → AreInOrder (opening setup).endpoints }
+    ensures events { (setup : Setup) (events : List GatewayEvent) → AreInOrder (plain setup events).endpoints }
+    ensures act { (setup : Setup) (endpoints : Endpoints) (line moment : ℕ) (act : Act) → AreInOrder endpoints →
+        AreInOrder (acted setup endpoints line moment act).endpoints }
+    ensures due { (setup : Setup) (endpoints : Endpoints) (item : DueItem) → AreInOrder endpoints →
+        AreInOrder (happened setup endpoints item).endpoints }
+    ensures pass { (setup : Setup) (endpoints : Endpoints) (moment : ℕ) → AreInOrder endpoints →
+        AreInOrder (pass setup endpoints moment).endpoints }
+    ensures text { (setup : Setup) (m : Machine) (source : SocketAddrV4) (outcome : Outcome) → AreInOrder m.endpoints →
+        AreInOrder (handled setup m source outcome).machine.endpoints }
+    ensures texts { (setup : Setup) (m : Machine) (source : SocketAddrV4) (texts : List (List ℕ)) →
+        AreInOrder m.endpoints → AreInOrder (took_all setup m source texts).machine.endpoints }
+{}
+
+/// What falls due on a line whose command is in flight begins no other: the end of a signal or of timer T sends nothing
+/// and leaves it in flight; what falls due of the command itself sends the same once more or nothing, and leaves it in
+/// flight or gives it up. Other lines stay as they are, and so does the gateway itself; with its own command, which falls
+/// due as line 0's, it is the same.
+pub fn what_falls_due_begins_nothing_while_a_command_is_in_flight()
+    ensures line { (setup : Setup) (endpoints : Endpoints) (item : DueItem) (due : LineDue) (station : Station)
+        (message : InFlight) → AreInOrder endpoints → item.due ≡ OfLine due →
+        station_at endpoints item.line ≡ Some station → in_flight station ≡ Some message →
+        ((happened setup endpoints item).sent ≡ [])
+        × IfSome (station_at (happened setup endpoints item).endpoints item.line)
+        (λ after. in_flight after ≡ Some message) }
+    ensures command { (setup : Setup) (endpoints : Endpoints) (item : DueItem) (station : Station)
+        (message : InFlight) → item.due ≡ Resend →
+        station_at endpoints item.line ≡ Some station → in_flight station ≡ Some message →
+        All (Carries item.line message) (happened setup endpoints item).sent
+        × IfSome (station_at (happened setup endpoints item).endpoints item.line)
+        (λ after. IfSome (in_flight after) (IsSame message)) }
+    ensures others { (setup : Setup) (endpoints : Endpoints) (item : DueItem) (other : ℕ) → other ≢ item.line →
+        station_at (happened setup endpoints item).endpoints other ≡ station_at endpoints other }
+    ensures own_command { (setup : Setup) (endpoints : Endpoints) (item : DueItem) (message : InFlight) →
+        item.due ≡ Resend → item.line ≡ 0 → endpoints.own.post.pending ≡ Some message →
+        All (Carries 0 message) (happened setup endpoints item).sent
+        × IfSome (happened setup endpoints item).endpoints.own.post.pending (IsSame message) }
+    ensures own { (setup : Setup) (endpoints : Endpoints) (item : DueItem) → item.line ≢ 0 →
+        (happened setup endpoints item).endpoints.own ≡ endpoints.own }
+{}

@@ -1,0 +1,88 @@
+-- What is sent under a post: a command begins, is sent again or given up, and is answered (RFC 3435, 3.2.1.2, 3.5 and
+-- 4.3). It is one rule for each line and for the gateway itself, which is line 0.
+use Rattle.std.specs.Prelude.{ℕ, ◌+◌, ◌*◌, ◌/◌, ◌==◌, true, false, if◌then◌else◌, List, [], ◌∷◌, Option, Some, None}
+use Rattle.mgcp_text.specs.declared.message.Message.{Message}
+use Rattle.mgcp_text.specs.Writing.{written}
+use Rattle.outbound.specs.declared.repeat.Repeat.{Repeat}
+use Rattle.outbound.specs.declared.repeat.Repeat.TheVariants.{Sent as SentAgain, GivenUp}
+use Rattle.outbound.specs.declared.reply.Reply.{Reply}
+use Rattle.outbound.specs.declared.reply.Reply.TheVariants.{Answered, Provisional, Stranger}
+use Rattle.outbound.specs.Flight.{InFlight, begun, repeat_of, repeated, reply_of, heard}
+use Rattle.plain_machine.specs.declared.post.Post.{Post}
+use Rattle.plain_machine.specs.declared.post.PostReply.{PostReply}
+use Rattle.plain_machine.specs.Message.{own_of, command, resent, Sent}
+
+-- Ids: so many numbers there are for the commands of one line, and it takes them in turn (this gateway's profile)
+
+abbrev pub numbers : ℕ
+numbers = 10000000
+
+-- the first of a line is 0, that of the gateway itself 1: 0 is no transaction id
+abbrev pub first_number : ℕ → ℕ
+first_number line = if line == 0 then 1 else 0
+
+-- after the greatest number comes the first
+abbrev pub number_after : ℕ → ℕ → ℕ
+number_after line number = if number + 1 == numbers then first_number line else number + 1
+
+-- the transaction id of a line's command with this number
+abbrev pub id_on : ℕ → ℕ → ℕ
+id_on line number = line * numbers + number
+
+-- the line whose ids such an id is among; 0 is the gateway itself
+abbrev pub line_of_id : ℕ → ℕ
+line_of_id id = id / numbers
+
+-- What becomes of a post, and what is sent under it
+pub record PostTurn : Type 0 where
+  pub post : Post
+  pub sent : List Sent
+
+-- nothing is sent
+abbrev pub unsent : Post → PostTurn
+unsent post = record { post = post; sent = [] }
+
+-- a command goes out under the next id at this moment, to the notified entity
+abbrev pub with_command : ℕ → ℕ → Post → Message → PostTurn
+with_command line moment post said = record {
+  post = record post {
+    number = number_after line post.number;
+    pending = Some (begun (id_on line post.number) post.entity.address (written said) moment);
+  };
+  sent = (record { to = post.entity.address; moment = moment; owner = own_of line; said = command said }) ∷ [];
+}
+
+-- The command in flight falls due
+
+-- it is sent again, to where it went first, or given up (RFC 3435, 4.3)
+abbrev pub repeated_as : Repeat → ℕ → ℕ → Post → InFlight → PostTurn
+repeated_as SentAgain line moment post message = record {
+  post = record post { pending = Some (repeated message moment) };
+  sent = (record { to = message.to; moment = moment; owner = own_of line; said = resent message.text }) ∷ [];
+}
+repeated_as GivenUp line moment post message = unsent (record post { pending = None })
+
+abbrev pub resent_by : Option InFlight → ℕ → ℕ → Post → PostTurn
+resent_by None line moment post = unsent post
+resent_by (Some message) line moment post = repeated_as (repeat_of message moment) line moment post message
+
+abbrev pub resent_on : ℕ → ℕ → Post → PostTurn
+resent_on line moment post = resent_by post.pending line moment post
+
+-- A response comes
+
+abbrev pub unanswered : Post → PostReply
+unanswered post = record { post = post; is_answered = false }
+
+-- a final response ends the flight, and is the answer; a provisional one puts off what is due
+abbrev pub replied : Reply → Post → InFlight → PostReply
+replied Answered post heard = record { post = record post { pending = None }; is_answered = true }
+replied Provisional post heard = unanswered (record post { pending = Some heard })
+replied Stranger post heard = unanswered post
+
+abbrev pub replied_to : Option InFlight → ℕ → Post → ℕ → ℕ → PostReply
+replied_to None moment post code id = unanswered post
+replied_to (Some message) moment post code id = replied (reply_of message id code) post (heard message id code moment)
+
+abbrev pub reply_on : ℕ → Post → ℕ → ℕ → PostReply
+reply_on moment post code id = replied_to post.pending moment post code id

@@ -1,0 +1,52 @@
+//! Plays tales that need no gateway: rows, of the kinds that the files' first lines say.
+//!
+//! - `values`: a row a call: its name, its values, and what it answers.
+//! - Other words: rows that go on with one thing, new under each title: a `line`, a `history`, and so on.
+//!
+//! What is told otherwise than it happens is printed under its title. `docs/TALES.md` says how tales are written.
+#![tactic(auto)]
+
+mod events;
+mod histories;
+mod line;
+mod line_connections;
+mod messages;
+mod quarantines;
+mod requests;
+mod signal_sets;
+mod values;
+
+use crate::histories::HistoryTale;
+use crate::line::LineTale;
+use crate::line_connections::ConnectionsTale;
+use crate::messages::MessageTale;
+use crate::quarantines::QuarantineTale;
+use crate::requests::RequestTale;
+use crate::signal_sets::SignalTale;
+use crate::values::Values;
+use std::io;
+use std::process::ExitCode;
+use tales::{Count, Kinds, play, told};
+
+// The kinds of rows.
+struct Rows;
+
+impl Kinds for Rows {
+    fn told<R: AllocGlobal + Print>(rt: &R, kind: &str, text: &str) -> io::Result<Option<Count>> {
+        Ok(Some(match kind {
+            "values" => told::<Values, R>(rt, text)?,
+            "line" => told::<LineTale, R>(rt, text)?,
+            "request" => told::<RequestTale, R>(rt, text)?,
+            "signals" => told::<SignalTale, R>(rt, text)?,
+            "quarantine" => told::<QuarantineTale, R>(rt, text)?,
+            "message" => told::<MessageTale, R>(rt, text)?,
+            "history" => told::<HistoryTale, R>(rt, text)?,
+            "connections" => told::<ConnectionsTale, R>(rt, text)?,
+            _ => return Ok(None),
+        }))
+    }
+}
+
+fn main(rt: HostRuntime) -> io::Result<ExitCode> {
+    play::<Rows, HostRuntime>(&rt)
+}

@@ -1,0 +1,133 @@
+//! The active signals of a line, a row each.
+//!
+//! - `1000 on  S: L/rg` S takes effect at this moment, on hook, or `off` hook; without an S nothing is asked for;
+//! - `hook off` the hook is in this state now; `expire L/dl` this signal stops; `stop` all time-out signals stop;
+//! - `due 181000 L/rg` the earliest end; `due -` no time ends any;
+//! - `active  L/rg 181000  L/vmwi -` the active signals with their ends; `active` there is none;
+//! - `refused on  L/dl  402` the return code with which an S is refused on hook; `-` where it isn't.
+ghost use Rattle.std.specs.Prelude.{◌<◌, ◌^◌};
+
+use event_syntax::read_signals;
+use mg_packages::{Hook, Signal, signal_name, signal_of};
+use signals::{SignalSet, refused};
+use std::alloc::Global;
+use std::io;
+use tales::{Tale, no_such_row, unless_said};
+
+fn hook_of(word: &str) -> Option<Hook> {
+    match word {
+        "on" => Some(Hook::OnHook),
+        "off" => Some(Hook::OffHook),
+        _ => None,
+    }
+}
+
+fn name_of(alloc: Global, signal: Signal) -> io::Result<String> {
+    Ok(String::from_utf8_lossy(alloc, signal_name(signal))?)
+}
+
+// What ends first.
+fn due_of(alloc: Global, set: &SignalSet) -> io::Result<String> {
+    match set.next_due() {
+        None => Ok("-".to_string(alloc)?),
+        Some((moment, signal)) => {
+            let name = name_of(alloc, signal)?;
+            Ok(format!(in alloc; "{moment} {name}")?)
+        }
+    }
+}
+
+// The active signals, a field each.
+fn listed(alloc: Global, set: &SignalSet) -> io::Result<String> {
+    let mut out = String::new(alloc);
+    for active in set.list().as_slice() {
+        let name = name_of(alloc, active.signal)?;
+        match active.end {
+            None => write!(out, "  {name} -")?,
+            Some(end) => write!(out, "  {name} {end}")?,
+        }
+    }
+    Ok(out)
+}
+
+// Whether an S is refused in this state of the hook: `on  L/dl`.
+fn refusal_of(alloc: Global, rest: &str) -> io::Result<String> {
+    let (hook, value) = rest.split_once("  ").unwrap_or((rest, ""));
+    let (Some(hook), Ok(requests)) = (hook_of(hook), read_signals(value.as_bytes())) else {
+        return Ok("no such row".to_string(alloc)?);
+    };
+    match refused(requests.as_slice(), hook) {
+        None => Ok("-".to_string(alloc)?),
+        Some(code) => Ok(format!(in alloc; "{code}")?),
+    }
+}
+
+/// The signals of a line.
+#[derive(Drop)]
+pub struct SignalTale {
+    set: SignalSet,
+}
+
+impl SignalTale {
+    // `on  S: L/rg`.
+    fn apply(&mut self, alloc: Global, moment: u64, rest: &str) -> io::Result<Option<String>>
+        requires { moment < 2 ^ 62 }
+    {
+        let (hook, value) = rest.split_once("  S: ").unwrap_or((rest, ""));
+        let (Some(hook), Ok(requests)) = (hook_of(hook), read_signals(value.as_bytes())) else {
+            return no_such_row(alloc);
+        };
+        self.set.apply(requests.as_slice(), hook, moment);
+        Ok(None)
+    }
+
+    fn stop(&mut self, alloc: Global, name: &str) -> io::Result<Option<String>> {
+        let Ok(signal) = signal_of(name.as_bytes()) else {
+            return no_such_row(alloc);
+        };
+        self.set.expire(signal);
+        Ok(None)
+    }
+
+    fn hook(&mut self, alloc: Global, word: &str) -> io::Result<Option<String>> {
+        let Some(hook) = hook_of(word) else {
+            return no_such_row(alloc);
+        };
+        self.set.hook_changed(hook);
+        Ok(None)
+    }
+}
+
+impl Tale for SignalTale {
+    fn begin(_alloc: Global) -> io::Result<SignalTale> {
+        Ok(SignalTale {
+            set: SignalSet::new(),
+        })
+    }
+
+    fn unlike(&mut self, alloc: Global, row: &str) -> io::Result<Option<String>> {
+        let (word, rest) = row.split_once(' ').unwrap_or((row, ""));
+        if let Ok(moment) = word.parse::<u32>() {
+            return self.apply(alloc, u64::from(moment), rest);
+        }
+        match word {
+            "hook" => self.hook(alloc, rest),
+            "expire" => self.stop(alloc, rest),
+            "stop" => {
+                self.set.stop_timeouts();
+                Ok(None)
+            }
+            "due" => unless_said(alloc, due_of(alloc, &self.set)?.as_str(), rest),
+            "active" => unless_said(
+                alloc,
+                listed(alloc, &self.set)?.as_str().trim_start(),
+                rest.trim_start(),
+            ),
+            "refused" => {
+                let (asked, wanted) = rest.rsplit_once("  ").unwrap_or((rest, ""));
+                unless_said(alloc, refusal_of(alloc, asked)?.as_str(), wanted)
+            }
+            _ => no_such_row(alloc),
+        }
+    }
+}

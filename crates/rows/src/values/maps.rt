@@ -1,0 +1,146 @@
+//! Calls of digit maps and their brackets.
+//!
+//! - `verdict  (0T|8xxx)  0  partial critical` what is dialled by a map: `perfect`, `partial` or `impossible`, and
+//!   `critical` where timer T would complete it; a copy of what matches says the same;
+//! - `map  ( x x )  (xx)` a map without its blanks, 510 where it is misspelled, 502 where it is too long;
+//! - `change  xx  xx` what a D makes of the map: another, `keep` where it is absent (`-`), `remove`, or a code;
+//! - `range  1-3x  yes` it may stand in brackets; `in range  1-3  2  yes` that names the key.
+ghost use Rattle.std.specs.Prelude.{◌≤◌, length};
+
+use digit_map::{
+    MapChange, MapFault, MapText, Matcher, SlowMap, Verdict, is_in_range, is_range, read_change,
+    read_map,
+};
+use mg_bytes::{Letter, OutOfMemory, letter_of};
+use std::alloc::Global;
+use std::io;
+use tales::{refused, value_of, yes_or_no};
+
+// What is dialled; nothing where that has another sign, or more than 64.
+fn letters_of(alloc: Global, dialled: &[u8]) -> Result<Option<Vec<Letter>>, OutOfMemory> {
+    let mut letters = Vec::new(alloc);
+    for byte in dialled {
+        match letter_of(*byte) {
+            Some(letter) => letters.push(letter)?,
+            None => return Ok(None),
+        }
+    }
+    Ok(Some(letters))
+}
+
+// What is said of the last of these letters, fed one by one.
+fn fed(matcher: &mut SlowMap, letters: &[Letter]) -> Option<Verdict>
+    requires { length letters.now ≤ 64 }
+{
+    matcher.clear();
+    let mut said = None;
+    for letter in letters {
+        said = Some(matcher.feed(*letter));
+    }
+    said
+}
+
+fn verdict_text(said: Option<Verdict>, is_critical: bool) -> &'static str {
+    match (said, is_critical) {
+        (None, _) => "nothing is dialled",
+        (Some(Verdict::Perfect), true) => "perfect critical",
+        (Some(Verdict::Perfect), false) => "perfect",
+        (Some(Verdict::Partial), true) => "partial critical",
+        (Some(Verdict::Partial), false) => "partial",
+        (Some(Verdict::Impossible), true) => "impossible critical",
+        (Some(Verdict::Impossible), false) => "impossible",
+    }
+}
+
+// By a map and by a copy of what matches.
+fn verdict_by(alloc: Global, map: &MapText, letters: &[Letter]) -> io::Result<&'static str>
+    requires { length letters.now ≤ 64 }
+{
+    let mut matcher = SlowMap::start(alloc, map)?;
+    let said = fed(&mut matcher, letters);
+    let is_critical = matcher.critical();
+    let mut copy = matcher.try_copy()?;
+    let is_equal = copy.critical() == is_critical;
+    if is_equal && fed(&mut copy, letters) == said && copy.critical() == is_critical {
+        return Ok(verdict_text(said, is_critical));
+    }
+    Ok("a copy says something else")
+}
+
+fn verdict(alloc: Global, map: &[u8], dialled: &[u8]) -> io::Result<&'static str> {
+    let map = match read_map(alloc, map) {
+        Ok(map) => map,
+        Err(MapFault::OutOfMemory) => return Err(refused()),
+        Err(_) => return Ok("no map"),
+    };
+    match letters_of(alloc, dialled)? {
+        Some(letters) if letters.len() <= 64 => verdict_by(alloc, &map, &letters),
+        _ => Ok("no letters"),
+    }
+}
+
+fn in_range(range: &[u8], key: &[u8]) -> &'static str {
+    match key {
+        [byte] => match letter_of(*byte) {
+            Some(letter) => yes_or_no(is_in_range(range, letter)),
+            None => "no key",
+        },
+        _ => "no key",
+    }
+}
+
+/// The answer of a call of two values; nothing where there is no such call here.
+pub fn answer_of_all(alloc: Global, call: &str, fields: &str) -> io::Result<Option<String>> {
+    let (one, other) = fields.split_once("  ").unwrap_or((fields, ""));
+    let (one, other) = (value_of(alloc, one)?, value_of(alloc, other)?);
+    let given = match call {
+        "verdict" => verdict(alloc, one.as_bytes(), other.as_bytes())?,
+        "in range" => in_range(one.as_bytes(), other.as_bytes()),
+        _ => return Ok(None),
+    };
+    Ok(Some(given.to_string(alloc)?))
+}
+
+fn fault_text(alloc: Global, fault: MapFault) -> io::Result<String> {
+    match fault {
+        MapFault::Syntax => Ok("510".to_string(alloc)?),
+        MapFault::TooLarge => Ok("502".to_string(alloc)?),
+        MapFault::OutOfMemory => Err(refused()),
+    }
+}
+
+// A map, by a copy of it.
+fn map_text(alloc: Global, map: &MapText) -> io::Result<String> {
+    Ok(String::from_utf8_lossy(alloc, map.try_copy()?.as_bytes())?)
+}
+
+fn read(alloc: Global, value: &[u8]) -> io::Result<String> {
+    match read_map(alloc, value) {
+        Ok(map) => map_text(alloc, &map),
+        Err(fault) => fault_text(alloc, fault),
+    }
+}
+
+fn changed(alloc: Global, value: &[u8]) -> io::Result<String> {
+    let given = if value == b"-".as_slice() {
+        None
+    } else {
+        Some(value)
+    };
+    match read_change(alloc, given) {
+        Ok(MapChange::Keep) => Ok("keep".to_string(alloc)?),
+        Ok(MapChange::Remove) => Ok("remove".to_string(alloc)?),
+        Ok(MapChange::Replace(map)) => map_text(alloc, &map),
+        Err(fault) => fault_text(alloc, fault),
+    }
+}
+
+/// The answer of a call of one value; nothing where there is no such call here.
+pub fn answer(alloc: Global, call: &str, value: &[u8]) -> io::Result<Option<String>> {
+    match call {
+        "map" => Ok(Some(read(alloc, value)?)),
+        "change" => Ok(Some(changed(alloc, value)?)),
+        "range" => Ok(Some(yes_or_no(is_range(value)).to_string(alloc)?)),
+        _ => Ok(None),
+    }
+}

@@ -1,0 +1,119 @@
+//! Calls about names: of endpoints, of hosts and of call agents.
+use crate::values::numbered;
+use endpoint_names::{
+    NameFault, Pattern, Table, TableFault, is_domain, matches, read_entity, read_name, write_name,
+};
+use std::alloc::Global;
+use std::io;
+use std::net::Ipv4Addr;
+use tales::{or_none, said, yes_or_no};
+
+/// The domain of the endpoints.
+pub const DOMAIN: &[u8] = b"rgw.example.net";
+
+/// The endpoints that a name means, as a row says them.
+pub fn pattern_text(alloc: Global, pattern: Pattern) -> io::Result<String> {
+    Ok(match pattern {
+        Pattern::One(line) => format!(in alloc; "line {line}")?,
+        Pattern::All => "all lines".to_string(alloc)?,
+        Pattern::Any => "any line".to_string(alloc)?,
+    })
+}
+
+// What a name means on a gateway with so many lines.
+fn meaning(alloc: Global, name: &[u8], lines: u16) -> io::Result<String> {
+    let fault = match read_name(name, DOMAIN, lines) {
+        Ok(pattern) => return pattern_text(alloc, pattern),
+        Err(fault) => fault,
+    };
+    let text = match fault {
+        NameFault::Unknown => "unknown",
+        NameFault::TooComplicated => "too complicated",
+    };
+    Ok(format!(in alloc; "{} {text}", fault as u8)?)
+}
+
+// The name that is written of what a name means.
+fn written(alloc: Global, name: &[u8]) -> io::Result<String> {
+    match read_name(name, DOMAIN, 65535) {
+        Ok(pattern) => said(alloc, write_name(alloc, pattern, DOMAIN)?.as_bytes()),
+        Err(_) => meaning(alloc, name, 65535),
+    }
+}
+
+fn means(name: &[u8], line: u16) -> bool {
+    match read_name(name, DOMAIN, 65535) {
+        Ok(pattern) => matches(pattern, line),
+        Err(_) => false,
+    }
+}
+
+// A table of so many hosts: `h00` at 127.0.0.0, `h01` at 127.0.0.1, and so on; none where it doesn't take one of them.
+fn hosts(alloc: Global, count: u16) -> io::Result<Option<Table>> {
+    let mut table = Table::new();
+    for place in 0..count {
+        let name = format!(in alloc; "h{place:02}")?;
+        let [_, octet] = place.to_be_bytes();
+        let address = Ipv4Addr::new(127, 0, 0, octet);
+        if table.add(name.as_str().as_bytes(), address).is_err() {
+            return Ok(None);
+        }
+    }
+    Ok(Some(table))
+}
+
+// What becomes of a host that is added to a table of so many.
+fn added(alloc: Global, name: &[u8], count: u16) -> io::Result<String> {
+    let Some(mut table) = hosts(alloc, count)? else {
+        return Ok("no such table".to_string(alloc)?);
+    };
+    let Err(fault) = table.add(name, Ipv4Addr::LOCALHOST) else {
+        return Ok("taken".to_string(alloc)?);
+    };
+    let text = match fault {
+        TableFault::NotADomain => "no domain",
+        TableFault::Twice => "twice",
+        TableFault::Full => "full",
+    };
+    Ok(format!(in alloc; "{} {text}", fault as u8)?)
+}
+
+fn address_among(alloc: Global, name: &[u8], count: u16) -> io::Result<String> {
+    match hosts(alloc, count)? {
+        Some(table) => or_none(alloc, table.address_of(name)),
+        None => Ok("no such table".to_string(alloc)?),
+    }
+}
+
+// Where the entity is that a text names.
+fn place_of(alloc: Global, text: &[u8], table: &Table) -> io::Result<String> {
+    match read_entity(text, table) {
+        Some(entity) if entity.text.as_bytes() != text => { Ok("another text".to_string(alloc)?) }
+        Some(entity) => or_none(alloc, Some(entity.address)),
+        None => Ok("none".to_string(alloc)?),
+    }
+}
+
+// The same where ca.example.net is known to be at 127.0.0.1.
+fn place_with_host(alloc: Global, text: &[u8]) -> io::Result<String> {
+    let mut table = Table::new();
+    match table.add(b"ca.example.net", Ipv4Addr::LOCALHOST) {
+        Ok(()) => place_of(alloc, text, &table),
+        Err(_) => Ok("no such table".to_string(alloc)?),
+    }
+}
+
+/// What a call gives; nothing where there is no such call here.
+pub fn answer(alloc: Global, call: &str, value: &[u8]) -> io::Result<Option<String>> {
+    Ok(Some(match numbered(call) {
+        ("name of", lines) => meaning(alloc, value, lines)?,
+        ("written name", _) => written(alloc, value)?,
+        ("means line", line) => yes_or_no(means(value, line)).to_string(alloc)?,
+        ("domain", _) => yes_or_no(is_domain(value)).to_string(alloc)?,
+        ("host added to", count) => added(alloc, value, count)?,
+        ("host among", count) => address_among(alloc, value, count)?,
+        ("entity", _) => place_with_host(alloc, value)?,
+        ("entity without hosts", _) => place_of(alloc, value, &Table::new())?,
+        _ => return Ok(None),
+    }))
+}

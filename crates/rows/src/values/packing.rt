@@ -1,0 +1,76 @@
+//! Calls about what shares a datagram.
+ghost use Rattle.std.specs.Prelude.{◌≡◌};
+ghost use Rattle.std.specs.List.{list_all};
+ghost use Rattle.piggyback.specs.Packing.{is_joinable};
+
+use crate::values::numbered;
+use mg_bytes::Text;
+use piggyback::{is_joinable, join, parts};
+use std::alloc::Global;
+use std::io;
+use tales::{put_piece, said, yes_or_no};
+
+// Each part of a datagram, with a `|` behind it.
+fn parts_in(alloc: Global, datagram: &[u8]) -> io::Result<Vec<u8>> {
+    let mut out = Vec::new(alloc);
+    for part in parts(datagram) {
+        put_piece(&mut out, part)?;
+    }
+    Ok(out)
+}
+
+// The texts of a value, each of which has a `|` behind it.
+fn texts_in(alloc: Global, value: &[u8]) -> io::Result<Vec<Text>> {
+    let mut texts = Vec::new(alloc);
+    if let Some(inner) = value.strip_suffix(b"|") {
+        for text in inner.split(|byte| *byte == b'|') {
+            texts.push(Text::of(Vec::from_slice(alloc, text)?))?;
+        }
+    }
+    Ok(texts)
+}
+
+fn all_joinable(texts: &[Text], max: usize) -> bool
+    ensures { result ≡ list_all (is_joinable max) texts.now }
+{
+    texts.iter().all(|text| is_joinable(text.as_bytes(), max))
+}
+
+// The datagrams of the texts of a value; none where these can't be joined.
+fn datagrams_of(alloc: Global, value: &[u8], max: usize) -> io::Result<Vec<Text>> {
+    let texts = texts_in(alloc, value)?;
+    if !all_joinable(&texts, max) {
+        return Ok(Vec::new(alloc));
+    }
+    Ok(join(alloc, &texts, max)?)
+}
+
+fn joined(alloc: Global, value: &[u8], max: usize) -> io::Result<String> {
+    let mut out = Vec::new(alloc);
+    for datagram in &datagrams_of(alloc, value, max)? {
+        put_piece(&mut out, datagram.as_bytes())?;
+    }
+    said(alloc, &out)
+}
+
+// How long the datagrams are.
+fn lengths(alloc: Global, value: &[u8], max: usize) -> io::Result<String> {
+    let mut out = String::new(alloc);
+    for datagram in &datagrams_of(alloc, value, max)? {
+        write!(out, "{}|", datagram.as_bytes().len())?;
+    }
+    Ok(out)
+}
+
+/// What a call gives; nothing where there is no such call here.
+pub fn answer(alloc: Global, call: &str, value: &[u8]) -> io::Result<Option<String>> {
+    let (name, max) = numbered(call);
+    let max = usize::from(max);
+    Ok(Some(match name {
+        "parts" => said(alloc, &parts_in(alloc, value)?)?,
+        "joinable in" => yes_or_no(is_joinable(value, max)).to_string(alloc)?,
+        "joined in" => joined(alloc, value, max)?,
+        "lengths in" => lengths(alloc, value, max)?,
+        _ => return Ok(None),
+    }))
+}

@@ -1,0 +1,111 @@
+//! A story as it is played.
+use crate::written::Story;
+use rgw_cli::{Ending, asked, perform};
+use std::alloc::Global;
+use std::io::{self, Write};
+use tales::value_of;
+
+// The configuration that every story has but for its changes.
+const SETTINGS: &str = "domain = \"rgw.example.net\"
+lines = 16
+agent = \"ca@ca.example.net\"
+restart_wait = 1
+disconnected_wait = 5000
+media_address = \"127.0.0.1\"
+media_base = 3000
+[names]
+\"ca.example.net\" = \"127.0.0.1\"
+";
+
+// The first word of a line of the settings.
+fn key_of(line: &str) -> &str {
+    let word = line.split(' ').next().unwrap_or("");
+    word.split('\\').next().unwrap_or("")
+}
+
+// What stands in the place of a usual line: the change of its key, or nothing where `no KEY` takes it out.
+fn changed<'a>(usual: &'a str, changes: &'a str) -> &'a str {
+    let key = key_of(usual);
+    for change in changes.lines() {
+        if change.strip_prefix("no ") == Some(key) {
+            return "";
+        }
+        if key_of(change) == key {
+            return change;
+        }
+    }
+    usual
+}
+
+// Whether a change is a further line, of a key that the usual settings don't have.
+fn is_further(change: &str) -> bool {
+    let key = key_of(change);
+    key != "no" && SETTINGS.lines().all(|usual| key_of(usual) != key)
+}
+
+fn put_setting(alloc: Global, out: &mut String, line: &str) -> io::Result<()> {
+    out.push_str(value_of(alloc, line)?.as_str())?;
+    Ok(out.push_str("\n")?)
+}
+
+// The settings with a story's changes. Further lines stand at their end, among the names.
+fn put_settings(alloc: Global, out: &mut String, changes: &str) -> io::Result<()> {
+    for usual in SETTINGS.lines() {
+        put_setting(alloc, out, changed(usual, changes))?;
+    }
+    for further in changes.lines().filter(|change| is_further(change)) {
+        put_setting(alloc, out, further)?;
+    }
+    Ok(())
+}
+
+// Up to Ready: the gateway's announcement is answered, and the clock is at 1,000 ms.
+const READY: &str = "tick 1\nfrom 127.0.0.1:2727\n200 1 OK\n--\nat 1000\n";
+
+/// The program's input: the settings, and the script behind what comes before it; without a script the settings alone.
+pub fn input_of(alloc: Global, story: &Story) -> io::Result<String> {
+    let mut input = String::new(alloc);
+    put_settings(alloc, &mut input, story.changes.as_str())?;
+    if !story.is_at_opening {
+        input.push_str("%%\n")?;
+        input.push_str(READY)?;
+    } else if !story.script.is_empty() {
+        input.push_str("%%\n")?;
+    }
+    input.push_str(story.script.as_str())?;
+    Ok(input)
+}
+
+/// The words of a command line with the program's name before them.
+pub fn words_of(alloc: Global, line: &str) -> io::Result<Vec<String>> {
+    let mut words = Vec::new(alloc);
+    words.push("rgw".to_string(alloc)?)?;
+    for word in line.split(' ') {
+        if !word.is_empty() {
+            words.push(word.to_string(alloc)?)?;
+        }
+    }
+    Ok(words)
+}
+
+// What the program says on standard error, and its exit status, where that isn't 0.
+fn put_ending(alloc: Global, out: &mut Vec<u8>, ending: Ending) -> io::Result<()> {
+    let said = format!(in alloc; "{ending}")?;
+    out.extend_from_slice(said.as_bytes())?;
+    match ending.status() {
+        0 => Ok(()),
+        status => writeln!(out, "status {status}"),
+    }
+}
+
+/// What the story prints, with what the program says of an input that can't be played.
+pub fn printed_by(alloc: Global, story: &Story) -> io::Result<Vec<u8>> {
+    let input = input_of(alloc, story)?;
+    let mut reader = input.as_bytes();
+    let mut printed = Vec::new(alloc);
+    let words = words_of(alloc, story.words.as_str())?;
+    let task = asked(alloc, Ok(words));
+    let ending = perform(alloc, task, &mut reader, &mut printed);
+    put_ending(alloc, &mut printed, ending)?;
+    Ok(printed)
+}

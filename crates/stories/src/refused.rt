@@ -1,0 +1,183 @@
+//! Scripts at a gateway that is refused memory, beside a twin.
+//!
+//! Under a title stand the lines of a story, without what is printed; each is an event. The gateway takes them one by
+//! one, and the twin each of them behind it. So they do twice: where the gateway is refused memory it takes the same
+//! event again, and the second time both first take the events of the block `otherwise`, after which there are new
+//! twins. The third time the gateway takes all events in one run.
+//!
+//! Whatever differs is printed under its title. With ample memory nothing can; `./refusals` refuses each request in
+//! turn.
+use crate::played::input_of;
+use crate::runs::runs_alike;
+use crate::titles::Pieces;
+use crate::twins::{Twins, are_events, event_of, scene_of};
+use crate::written::read_story;
+use gateway_core::{Event, Refusal};
+use rgw_play::{Scene, Step};
+use std::alloc::Global;
+use std::io;
+use tales::{Count, again};
+
+// What comes after a refusal: the same event at once, or other ones first.
+#[derive(Clone, Copy)]
+enum Next<'s> {
+    Again,
+    Otherwise(&'s [Step]),
+}
+
+// The input that lines are; nothing where they say what is printed.
+fn input_under(alloc: Global, lines: &str) -> io::Result<Option<String>> {
+    let story = read_story(alloc, lines)?;
+    if !story.printed.is_empty() {
+        return Ok(None);
+    }
+    Ok(Some(input_of(alloc, &story)?))
+}
+
+// The steps of `otherwise`; nothing where they can't be read.
+fn steps_of(alloc: Global, lines: &str) -> io::Result<Option<Vec<Step>>> {
+    let mut story = read_story(alloc, lines)?;
+    story.is_at_opening = true;
+    let input = input_of(alloc, &story)?;
+    let Some(Scene { steps, .. }) = scene_of(alloc, input.as_bytes())? else {
+        return Ok(None);
+    };
+    if are_events(&steps) {
+        return Ok(Some(steps));
+    }
+    Ok(None)
+}
+
+// What differs where the gateway is refused memory at an event, before it takes it again.
+fn refused_at(
+    alloc: Global,
+    input: &[u8],
+    twins: &mut Twins,
+    next: Next<'_>,
+    place: usize,
+) -> io::Result<Option<&'static str>> {
+    if !twins.are_alike() {
+        return Ok(Some("it was refused, and changed the gateway"));
+    }
+    let Next::Otherwise(steps) = next else {
+        return Ok(None);
+    };
+    if !twins.go_otherwise(steps) {
+        return Ok(Some("after it was refused the gateway goes on in another way"));
+    }
+    let Some(anew) = Twins::after(alloc, input, place)? else {
+        return Ok(Some("there are no new twins"));
+    };
+    *twins = anew;
+    Ok(None)
+}
+
+// What differs at an event.
+fn differing_at(
+    alloc: Global,
+    input: &[u8],
+    twins: &mut Twins,
+    event: Event<'_>,
+    next: Next<'_>,
+    place: usize,
+) -> io::Result<Option<&'static str>> {
+    let mut given = twins.gateway.step(event);
+    if let Err(Refusal::OutOfMemory) = given {
+        if let Some(said) = refused_at(alloc, input, twins, next, place)? {
+            return Ok(Some(said));
+        }
+        given = twins.gateway.step(event);
+    }
+    if twins.follow(event, &given) {
+        return Ok(None);
+    }
+    Ok(Some("the gateway and its twin part"))
+}
+
+// The first step at which something differs, counted from 1, and what.
+fn differing(
+    alloc: Global,
+    input: &[u8],
+    next: Next<'_>,
+) -> io::Result<Option<(usize, &'static str)>> {
+    let (Some(scene), Some(mut twins)) = (
+        again!(scene_of(alloc, input))?,
+        Twins::after(alloc, input, 0)?,
+    ) else {
+        return Ok(Some((0, "it can't be played")));
+    };
+    for (place, step) in scene.steps.iter().enumerate() {
+        let number = place.wrapping_add(1);
+        let Some(event) = event_of(step, twins.gateway.now()) else {
+            return Ok(Some((number, "it is no event")));
+        };
+        if let Some(said) = differing_at(alloc, input, &mut twins, event, next, place)? {
+            return Ok(Some((number, said)));
+        }
+    }
+    Ok(None)
+}
+
+// What differs under a title, three times.
+fn differing_under(
+    alloc: Global,
+    input: &[u8],
+    otherwise: &[Step],
+) -> io::Result<Option<(usize, &'static str)>> {
+    for next in [Next::Again, Next::Otherwise(otherwise)] {
+        let found = differing(alloc, input, next)?;
+        if found.is_some() {
+            return Ok(found);
+        }
+    }
+    if runs_alike(alloc, input)? {
+        return Ok(None);
+    }
+    Ok(Some((0, "one run gives something else than the steps")))
+}
+
+// Whether nothing differs under a title.
+fn is_told<R: AllocGlobal + Print>(
+    rt: &R,
+    title: &str,
+    lines: &str,
+    otherwise: &[Step],
+) -> io::Result<bool> {
+    let Some(input) = again!(input_under(rt.alloc(), lines))? else {
+        println!(rt; "{title}\n  no script says what is printed")?;
+        return Ok(false);
+    };
+    match differing_under(rt.alloc(), input.as_bytes(), otherwise)? {
+        None => Ok(true),
+        Some((step, said)) => {
+            println!(rt; "{title}\n  step {step}: {said}")?;
+            Ok(false)
+        }
+    }
+}
+
+/// Tells the scripts of a file.
+pub fn told<R: AllocGlobal + Print>(rt: &R, text: &str) -> io::Result<Count> {
+    let alloc = rt.alloc();
+    let mut pieces = Pieces::new(alloc);
+    let mut otherwise = Vec::new(alloc);
+    let mut count = Count::nothing();
+    for block in text.split("\n= ").skip(1) {
+        let (title, lines) = block.split_once('\n').unwrap_or((block, ""));
+        let Some(lines) = again!(pieces.lines_under(alloc, title, lines))? else {
+            continue;
+        };
+        if title != "otherwise" {
+            count.put(is_told(rt, title, lines.as_str(), &otherwise)?);
+            continue;
+        }
+        match again!(steps_of(alloc, lines.as_str()))? {
+            Some(steps) => otherwise = steps,
+            None => {
+                println!(rt; "{title}\n  it isn't events alone")?;
+                count.put(false);
+            }
+        }
+    }
+    Ok(count)
+}

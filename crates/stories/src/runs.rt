@@ -1,0 +1,125 @@
+//! All events of a script in one run, which goes on at its place where it was refused memory.
+use crate::twins::{are_same, event_of, scene_of, stepped};
+use gateway_core::{Event, Gateway, OutDatagram, Outputs, Refusal};
+use rgw_play::{Scene, Step};
+use std::alloc::Global;
+use std::io;
+use tales::again;
+
+// The events of steps, and what a gateway gives to each.
+#[derive(Drop)]
+struct Given<'s> {
+    events: Vec<Event<'s>>,
+    outputs: Vec<Outputs>,
+}
+
+// So that what was given is kept there is room for it before.
+fn room<'s>(alloc: Global, count: usize) -> io::Result<Given<'s>> {
+    Ok(Given {
+        events: Vec::with_capacity(alloc, count)?,
+        outputs: Vec::with_capacity(alloc, count)?,
+    })
+}
+
+// The events of steps, which a gateway takes one by one.
+fn one_by_one<'s>(
+    alloc: Global,
+    gateway: &mut Gateway,
+    steps: &'s [Step],
+) -> io::Result<Given<'s>> {
+    let mut given = again!(room(alloc, steps.len()))?;
+    for step in steps {
+        if let Some(event) = event_of(step, gateway.now()) {
+            given.events.push(event)?;
+            if let Ok(outputs) = stepped(gateway, event) {
+                given.outputs.push(outputs)?;
+            }
+        }
+    }
+    Ok(given)
+}
+
+// What a gateway gives to events. A run that stops for want of memory goes on at its place, another one behind it.
+fn in_one_run(
+    alloc: Global,
+    gateway: &mut Gateway,
+    events: &[Event<'_>],
+) -> io::Result<Vec<Outputs>> {
+    let most = events.len().saturating_add(2);
+    let mut given: Vec<Outputs> = again!(Vec::with_capacity(alloc, most))?;
+    let mut rest = events;
+    for _ in 0..most {
+        let stopped = match gateway.run(rest) {
+            Ok(outputs) => {
+                given.push(outputs)?;
+                return Ok(given);
+            }
+            Err(stopped) => stopped,
+        };
+        given.push(stopped.outputs)?;
+        let passed = match stopped.refusal {
+            Refusal::OutOfMemory => stopped.place,
+            _ => stopped.place.wrapping_add(1),
+        };
+        rest = rest.get(passed..).unwrap_or(&[]);
+    }
+    Ok(given)
+}
+
+// The first so many datagrams of lists, one list behind the other, or the one at a place.
+fn datagram_at(lists: &[Outputs], place: usize) -> Option<&OutDatagram> {
+    let mut place = place;
+    for outputs in lists {
+        if let Some(datagram) = outputs.as_slice().get(place) {
+            return Some(datagram);
+        }
+        place = place.saturating_sub(outputs.as_slice().len());
+    }
+    None
+}
+
+fn count_of(lists: &[Outputs]) -> usize {
+    let mut count = 0usize;
+    for outputs in lists {
+        count = count.wrapping_add(outputs.as_slice().len());
+    }
+    count
+}
+
+// Whether two lists of lists have the same datagrams, one list behind the other.
+fn are_same_lists(one: &[Outputs], other: &[Outputs]) -> bool {
+    let count = count_of(one);
+    if count != count_of(other) {
+        return false;
+    }
+    for place in 0..count {
+        let (Some(datagram), Some(twin)) = (datagram_at(one, place), datagram_at(other, place))
+        else {
+            return false;
+        };
+        if datagram.to != twin.to
+            || datagram.moment != twin.moment
+            || datagram.bytes.as_bytes() != twin.bytes.as_bytes()
+        {
+            return false;
+        }
+    }
+    true
+}
+
+/// Whether a gateway that takes all events of an input in one run gives what it gives to them one by one.
+pub fn runs_alike(alloc: Global, input: &[u8]) -> io::Result<bool> {
+    let (Some(Scene { mut gateway, .. }), Some(scene)) = (
+        again!(scene_of(alloc, input))?,
+        again!(scene_of(alloc, input))?,
+    ) else {
+        return Ok(false);
+    };
+    let Scene {
+        gateway: mut twin,
+        steps,
+    } = scene;
+    let given = one_by_one(alloc, &mut twin, &steps)?;
+    let outputs = in_one_run(alloc, &mut gateway, &given.events)?;
+    Ok(are_same_lists(&outputs, &given.outputs) && are_same(&gateway, &twin))
+}

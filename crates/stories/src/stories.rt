@@ -1,0 +1,45 @@
+//! Stories: scripts of the program, with what is printed beside what causes it.
+//!
+//! A story begins with a line `= TITLE`. Its lines are those of a script and of its output, as `docs/SCRIPTS.md` has them.
+//! In short:
+//!
+//! - `<` is `from` the agent, and `> MOMENT` goes to it.
+//! - It begins at Ready: the gateway's announcement is answered, and the clock is at 1,000 ms. With a line `opening` it
+//!   begins at 0.
+//! - A line `set KEY ..` stands in place of the configuration's line of that key, and `set no KEY` takes it out; of
+//!   another key it stands at the configuration's end.
+//! - A line `words ..` stands in place of the command line's `simulate`; a line `# ..` is for the reader.
+//! - Under a line `= piece NAME` stand lines that `do NAME | A | B` puts in, with A for `{1}` and B for `{2}`;
+//!   `each 1 88 NAME` puts them in for each number, which is `{n}`.
+//! - What the program says of an input that it can't play stands at the end, with its exit status.
+use crate::played::printed_by;
+use crate::titles::Pieces;
+use crate::written::read_story;
+use std::io;
+use tales::Count;
+
+// Whether the story's output is as it is told. What differs is printed.
+fn is_told<R: AllocGlobal + Print>(rt: &R, title: &str, text: &str) -> io::Result<bool> {
+    let story = read_story(rt.alloc(), text)?;
+    let printed = printed_by(rt.alloc(), &story)?;
+    if printed.as_slice() == story.printed.as_bytes() {
+        return Ok(true);
+    }
+    println!(rt; "= {title}\nprints this:")?;
+    rt.print(String::from_utf8_lossy(rt.alloc(), &printed)?)?;
+    println!(rt; "and not this:\n{}", story.printed)?;
+    Ok(false)
+}
+
+/// Tells the stories of a file.
+pub fn told<R: AllocGlobal + Print>(rt: &R, text: &str) -> io::Result<Count> {
+    let mut pieces = Pieces::new(rt.alloc());
+    let mut count = Count::nothing();
+    for block in text.split("\n= ").skip(1) {
+        let (title, lines) = block.split_once('\n').unwrap_or((block, ""));
+        if let Some(lines) = pieces.lines_under(rt.alloc(), title, lines)? {
+            count.put(is_told(rt, title, lines.as_str())?);
+        }
+    }
+    Ok(count)
+}

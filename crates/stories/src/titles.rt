@@ -1,0 +1,98 @@
+//! Lines under titles, some of which stand once, as pieces, and are put in where they are named.
+use mg_bytes::decimal;
+use std::alloc::Global;
+use std::io;
+
+// Lines under a name.
+#[derive(Drop)]
+struct Piece {
+    name: String,
+    lines: String,
+}
+
+// The lines of a name, or a line that no script has.
+fn lines_of<'a>(pieces: &'a [Piece], name: &str) -> &'a str {
+    for piece in pieces {
+        if piece.name.as_str() == name {
+            return piece.lines.as_str();
+        }
+    }
+    "no such piece\n"
+}
+
+fn number_in(word: &str) -> u64 {
+    decimal(word.as_bytes()).unwrap_or(0)
+}
+
+// What `do` puts in: the lines of a name, with a value in each place `{1}`, `{2}` and so on.
+fn put_done(alloc: Global, pieces: &[Piece], out: &mut String, call: &str) -> io::Result<()> {
+    let mut words = call.split('|');
+    let name = words.next().unwrap_or("").trim();
+    let mut text = lines_of(pieces, name).to_string(alloc)?;
+    for (place, word) in words.enumerate() {
+        let mark = format!(in alloc; "{{{}}}", place.wrapping_add(1))?;
+        text = text.replace(alloc, mark.as_str(), word.trim())?;
+    }
+    out.push_str(text.as_str())?;
+    Ok(())
+}
+
+// What `each` puts in: the lines of a name for each number from one to another, which is `{n}`.
+fn put_each(alloc: Global, pieces: &[Piece], out: &mut String, call: &str) -> io::Result<()> {
+    let (first, rest) = call.split_once(' ').unwrap_or((call, ""));
+    let (last, name) = rest.split_once(' ').unwrap_or((rest, ""));
+    let lines = lines_of(pieces, name);
+    for number in number_in(first)..=number_in(last) {
+        let number = format!(in alloc; "{number}")?;
+        out.push_str(lines.replace(alloc, "{n}", number.as_str())?.as_str())?;
+    }
+    Ok(())
+}
+
+// The lines with all that they put in.
+fn expanded(alloc: Global, pieces: &[Piece], lines: &str) -> io::Result<String> {
+    let mut out = String::new(alloc);
+    for line in lines.lines() {
+        if let Some(call) = line.strip_prefix("do ") {
+            put_done(alloc, pieces, &mut out, call)?;
+        } else if let Some(call) = line.strip_prefix("each ") {
+            put_each(alloc, pieces, &mut out, call)?;
+        } else {
+            out.push_str(line)?;
+            out.push_str("\n")?;
+        }
+    }
+    Ok(out)
+}
+
+/// The pieces of a text so far.
+#[derive(Drop)]
+pub struct Pieces {
+    held: Vec<Piece>,
+}
+
+impl Pieces {
+    /// No pieces.
+    pub fn new(alloc: Global) -> Pieces {
+        Pieces {
+            held: Vec::new(alloc),
+        }
+    }
+
+    /// The lines under a title, with all that they put in; nothing where they are a piece, which is held from now on.
+    /// After an error the pieces are as they were.
+    pub fn lines_under(
+        &mut self,
+        alloc: Global,
+        title: &str,
+        lines: &str,
+    ) -> io::Result<Option<String>> {
+        let lines = expanded(alloc, &self.held, lines)?;
+        let Some(name) = title.strip_prefix("piece ") else {
+            return Ok(Some(lines));
+        };
+        let name = name.to_string(alloc)?;
+        self.held.push(Piece { name, lines })?;
+        Ok(None)
+    }
+}

@@ -1,0 +1,166 @@
+//! A gateway beside a twin that takes each event after it.
+//!
+//! Where the gateway is refused memory it must be as the twin still is: in what can be read of it, and in what it does
+//! next, be that the same event or another.
+use gateway_core::{Event, Gateway, Outputs, Refusal};
+use rgw_play::{PlayFault, Scene, Step, judge};
+use std::alloc::Global;
+use std::io;
+use tales::{again, refused};
+
+/// What an input has to play; nothing where it is refused.
+pub fn scene_of(alloc: Global, input: &[u8]) -> io::Result<Option<Scene>> {
+    match judge(alloc, input) {
+        Ok(scene) => Ok(Some(scene)),
+        Err(PlayFault::OutOfMemory) => Err(refused()),
+        Err(_) => Ok(None),
+    }
+}
+
+/// The event that a step is at this moment; nothing where it is none or several.
+pub fn event_of(step: &Step, now: u64) -> Option<Event<'_>> {
+    match step {
+        Step::Datagram { source, bytes } => Some(Event::Datagram {
+            source: *source,
+            bytes: bytes.as_bytes(),
+        }),
+        Step::Phone { line, act } => Some(Event::Phone {
+            line: *line,
+            act: *act,
+        }),
+        Step::Tick { by } => Some(Event::Tick {
+            moment: now.saturating_add(*by),
+        }),
+        Step::At { moment } => Some(Event::Tick { moment: *moment }),
+        Step::Wait { .. } | Step::Show { .. } => None,
+    }
+}
+
+/// Whether each step is an event.
+pub fn are_events(steps: &[Step]) -> bool {
+    for step in steps {
+        if event_of(step, 0).is_none() {
+            return false;
+        }
+    }
+    true
+}
+
+/// Whether all that can be read of two gateways is the same.
+pub fn are_same(one: &Gateway, other: &Gateway) -> bool {
+    let lines = one.lines();
+    if other.lines() != lines || one.now() != other.now() {
+        return false;
+    }
+    for line in 1..=lines {
+        if one.hook(line) != other.hook(line)
+            || one.lost(line) != other.lost(line)
+            || one.signals(line).as_slice() != other.signals(line).as_slice()
+        {
+            return false;
+        }
+    }
+    true
+}
+
+/// What a step gives; it is taken again where memory is refused.
+pub fn stepped(gateway: &mut Gateway, event: Event<'_>) -> Result<Outputs, Refusal> {
+    let outcome = gateway.step(event);
+    if let Err(Refusal::OutOfMemory) = outcome {
+        return gateway.step(event);
+    }
+    outcome
+}
+
+fn are_same_outputs(one: &Outputs, other: &Outputs) -> bool {
+    let (one, other) = (one.as_slice(), other.as_slice());
+    if one.len() != other.len() {
+        return false;
+    }
+    for (datagram, twin) in one.iter().zip(other) {
+        if datagram.to != twin.to
+            || datagram.moment != twin.moment
+            || datagram.bytes.as_bytes() != twin.bytes.as_bytes()
+        {
+            return false;
+        }
+    }
+    true
+}
+
+// Whether two steps gave the same.
+fn are_same_outcomes(one: &Result<Outputs, Refusal>, other: &Result<Outputs, Refusal>) -> bool {
+    match (one, other) {
+        (Ok(outputs), Ok(others)) => are_same_outputs(outputs, others),
+        (Err(refusal), Err(another)) => refusal == another,
+        (Ok(_), Err(_)) | (Err(_), Ok(_)) => false,
+    }
+}
+
+// The gateway of an input after so many of its steps.
+fn gateway_after(alloc: Global, input: &[u8], count: usize) -> io::Result<Option<Gateway>> {
+    let Some(Scene { mut gateway, steps }) = again!(scene_of(alloc, input))? else {
+        return Ok(None);
+    };
+    for step in steps.iter().take(count) {
+        if let Some(event) = event_of(step, gateway.now()) {
+            let _ = stepped(&mut gateway, event);
+        }
+    }
+    Ok(Some(gateway))
+}
+
+/// A gateway, and its twin.
+#[derive(Drop)]
+pub struct Twins {
+    pub gateway: Gateway,
+    pub twin: Gateway,
+}
+
+impl Twins {
+    /// Two gateways of an input after so many of its steps; nothing where it is refused.
+    pub fn after(alloc: Global, input: &[u8], count: usize) -> io::Result<Option<Twins>> {
+        let (Some(gateway), Some(twin)) = (
+            gateway_after(alloc, input, count)?,
+            gateway_after(alloc, input, count)?,
+        ) else {
+            return Ok(None);
+        };
+        Ok(Some(Twins { gateway, twin }))
+    }
+
+    /// Whether all that can be read of both is the same.
+    pub fn are_alike(&self) -> bool {
+        are_same(&self.gateway, &self.twin)
+    }
+
+    /// The twin takes an event too: whether it gives what the gateway gave, and both are alike then.
+    pub fn follow(&mut self, event: Event<'_>, given: &Result<Outputs, Refusal>) -> bool {
+        let other = stepped(&mut self.twin, event);
+        are_same_outcomes(given, &other) && self.are_alike()
+    }
+
+    // Both take an event: whether they give the same, and are alike then.
+    fn take(&mut self, event: Event<'_>) -> bool {
+        let given = stepped(&mut self.gateway, event);
+        self.follow(event, &given)
+    }
+
+    /// Both take these steps in place of one that was refused, and eight ticks of a second: whether they stay alike.
+    pub fn go_otherwise(&mut self, steps: &[Step]) -> bool {
+        for step in steps {
+            if let Some(event) = event_of(step, self.gateway.now()) {
+                if !self.take(event) {
+                    return false;
+                }
+            }
+        }
+        for _ in 0..8 {
+            let moment = self.gateway.now().saturating_add(1000);
+            if !self.take(Event::Tick { moment }) {
+                return false;
+            }
+        }
+        true
+    }
+}

@@ -1,0 +1,115 @@
+//! A story as it is written: its script, and what it says that is printed.
+use std::alloc::Global;
+use std::io;
+use tales::in_full;
+
+const AGENT: &str = "127.0.0.1:2727";
+
+/// Lines of the configuration, of the script, and of what is printed; the program's words, and whether the script begins
+/// at the opening and not at Ready.
+#[derive(Drop)]
+pub struct Story {
+    pub words: String,
+    pub is_at_opening: bool,
+    pub changes: String,
+    pub script: String,
+    pub printed: String,
+}
+
+// Where a line of a story stands.
+#[derive(Clone, Copy)]
+enum Place {
+    Between,
+    InHeard,
+    InSent,
+}
+
+fn put_line(out: &mut String, line: &str) -> io::Result<()> {
+    out.push_str(line)?;
+    Ok(out.push_str("\n")?)
+}
+
+// The first words of a line that is printed, where it is no datagram.
+const PRINTED: [&str; 6] = [
+    "! ",
+    "line ",
+    "config ",
+    "script line ",
+    "usage: ",
+    "status ",
+];
+
+fn is_printed(line: &str) -> bool {
+    PRINTED.iter().any(|first| line.starts_with(*first))
+}
+
+impl Story {
+    fn put_heard(&mut self, from: &str) -> io::Result<Place> {
+        writeln!(self.script, "from {from}")?;
+        Ok(Place::InHeard)
+    }
+
+    fn put_sent(&mut self, rest: &str) -> io::Result<Place> {
+        if rest.contains(' ') {
+            writeln!(self.printed, "> {rest}")?;
+        } else {
+            writeln!(self.printed, "> {rest} {AGENT}")?;
+        }
+        Ok(Place::InSent)
+    }
+
+    // A line that stands between datagrams.
+    fn put_between(&mut self, line: &str) -> io::Result<Place> {
+        if line == "<" {
+            return self.put_heard(AGENT);
+        }
+        if let Some(from) = line.strip_prefix("< ") {
+            return self.put_heard(from);
+        }
+        if let Some(from) = line.strip_prefix("from ") {
+            return self.put_heard(from);
+        }
+        if let Some(rest) = line.strip_prefix("> ") {
+            return self.put_sent(rest);
+        }
+        if line == "opening" {
+            self.is_at_opening = true;
+        } else if let Some(words) = line.strip_prefix("words ") {
+            self.words.clear();
+            self.words.push_str(words)?;
+        } else if let Some(change) = line.strip_prefix("set ") {
+            put_line(&mut self.changes, change)?;
+        } else if is_printed(line) {
+            put_line(&mut self.printed, line)?;
+        } else if !line.starts_with('#') {
+            put_line(&mut self.script, line)?;
+        }
+        Ok(Place::Between)
+    }
+
+    fn put(&mut self, place: Place, line: &str) -> io::Result<Place> {
+        match place {
+            Place::Between => return self.put_between(line),
+            Place::InHeard => put_line(&mut self.script, line)?,
+            Place::InSent => put_line(&mut self.printed, line)?,
+        }
+        Ok(if line == "--" { Place::Between } else { place })
+    }
+}
+
+/// Reads a story.
+pub fn read_story(alloc: Global, text: &str) -> io::Result<Story> {
+    let whole = in_full(alloc, text)?;
+    let mut story = Story {
+        words: "simulate".to_string(alloc)?,
+        is_at_opening: false,
+        changes: String::new(alloc),
+        script: String::new(alloc),
+        printed: String::new(alloc),
+    };
+    let mut place = Place::Between;
+    for line in whole.as_str().lines() {
+        place = story.put(place, line)?;
+    }
+    Ok(story)
+}
