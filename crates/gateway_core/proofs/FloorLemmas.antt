@@ -251,7 +251,7 @@ station_there : (stations : List Station) (own : Own) (number : ℕ) (station : 
     → station_at (manned stations own) number ≡ Some station
 station_there stations own number station some inside is = rw (not_zero number some) (slice_get-get_or stations (number - 1) station inside ∙ ap Some (sym is))
 
-not_true : (b : Bool) → not b ≡ true → b ≡ false
+pub not_true : (b : Bool) → not b ≡ true → b ≡ false
 not_true true e = absurd cc
 not_true false e = refl
 

@@ -10,6 +10,7 @@ use Rattle.plain_machine.specs.declared.output.OutDatagram.{OutDatagram}
 use Rattle.plain_machine.specs.declared.setup.Setup.{Setup}
 use Rattle.plain_machine.specs.Event.{GatewayEvent, datagram, phone, tick, event_of}
 use Rattle.plain_machine.specs.Packing.{put_out}
+use Rattle.plain_machine.specs.Setup.{IsSetUp}
 use Rattle.plain_machine.specs.Machine.{Machine, Effect, opening}
 use Rattle.plain_machine.specs.Happening.{effect}
 use Rattle.plain_machine.specs.Refusing.{refusal_of, tick_refusal, Ends, refused_by}
@@ -35,9 +36,9 @@ goes_on setup k m is event were are a none p =
     let same = effect_alike setup k m event a none in
     record { alike = rw (p.machine) same.machine; outputs = p.outputs ∙ ap (λ (sent : List Sent). were ++ put_out sent) same.sent }
 
-pub step_goes : (setup : Setup) (k m : Machine) (is : State) (event : GatewayEvent) (were are : List OutDatagram) (result : Result (Unit {0}) Refusal) → Ends setup k event (refused_by result)
+pub step_goes : (setup : Setup) (k m : Machine) (is : State) (event : GatewayEvent) (were are : List OutDatagram) (result : Result (Unit {0}) Refusal) → Ends k event (refused_by result)
     → AllOr (purged_in k) result (effect setup (purged_in k) event) is were are → Alike k m → OnOk result (GoesOn setup m event (machine_in is) were are)
-step_goes setup k m is event were are (Ok x) e all a = goes_on setup (purged_in k) m is event were are (alike_purged k m a) (refusal_purged k event ∙ ends_fine setup k event e) all
+step_goes setup k m is event were are (Ok x) e all a = goes_on setup (purged_in k) m is event were are (alike_purged k m a) (refusal_purged k event ∙ ends_fine k event e) all
 step_goes setup k m is event were are (Err refusal) e all a = tt
 
 pub step_stays : (k m : Machine) (is : State) (change : Effect) (were are : List OutDatagram) (result : Result (Unit {0}) Refusal) → AllOr (purged_in k) result change is were are → Alike k m
@@ -72,9 +73,9 @@ sound_after setup m is event were are s none p = rw p.machine (record {
 })
 
 pub step_sound : (setup : Setup) (k : Machine) (is : State) (event : GatewayEvent) (were are : List OutDatagram) (result : Result (Unit {0}) Refusal) → IsSound setup k
-    → Ends setup k event (refused_by result) → AllOr (purged_in k) result (effect setup (purged_in k) event) is were are → IsSound setup (machine_in is)
+    → Ends k event (refused_by result) → AllOr (purged_in k) result (effect setup (purged_in k) event) is were are → IsSound setup (machine_in is)
 step_sound setup k is event were are (Ok x) s e all =
-    sound_after setup (purged_in k) is event were are (purged_sound setup k s) (refusal_purged k event ∙ ends_fine setup k event e) all
+    sound_after setup (purged_in k) is event were are (purged_sound setup k s) (refusal_purged k event ∙ ends_fine k event e) all
 step_sound setup k is event were are (Err refusal) s e all = rw all.machine (purged_sound setup k s)
 
 -- ---- lists of events
@@ -85,6 +86,7 @@ unfolding machine_after outputs_from
 took_one g g' event were are same none goes = record {
   setup = same;
   stands = λ before s. rw same (record {
+    setup = s.setup;
     taken = taken_on g.setup (opening g.setup) before event s.taken (sym (refusal_alike g.machine (plain g.setup before) event s.alike) ∙ none);
     alike = rw (machine_on g.setup (opening g.setup) before (event ∷ [])) (goes (plain g.setup before) s.alike).alike;
   });
@@ -97,7 +99,7 @@ pub took_none : (g g' : GatewayState) (were are : List OutDatagram) → g'.setup
 unfolding outputs_from
 took_none g g' were are same sent keeps = record {
   setup = same;
-  stands = λ before s. rw (same, append-nil before) (record { taken = s.taken; alike = keeps (plain g.setup before) s.alike });
+  stands = λ before s. rw (same, append-nil before) (record { setup = s.setup; taken = s.taken; alike = keeps (plain g.setup before) s.alike });
   sent = λ before s. sent ∙ sym (append-nil were);
 }
 
@@ -133,9 +135,9 @@ pub took_next : (g h k : GatewayState) (events : List Event) (place : ℕ) (d : 
 took_next g h k events place d were are then inside a b =
     rw (events_more events place d inside) (took_on g h k (before_place events place) (event_of (get_or events place d) ∷ []) were are then a b)
 
-pub stands_for_nothing : (g : GatewayState) → g.machine ≡ opening g.setup → Stands g []
+pub stands_for_nothing : (g : GatewayState) → IsSetUp g.setup → g.machine ≡ opening g.setup → Stands g []
 unfolding machine_after are_taken
-stands_for_nothing g is = record { taken = refl; alike = rw is (record { now = refl; endpoints = refl; history = recalls_itself [] }) }
+stands_for_nothing g set_up is = record { setup = set_up; taken = refl; alike = rw is (record { now = refl; endpoints = refl; history = recalls_itself [] }) }
 
 -- the event at a place
 pub at_place : (P : Event → Type 0) (events : List Event) (place : ℕ) (d : Event) → place < length events → P (get_or events place d) → IfSome (slice_get events place) P
@@ -145,14 +147,14 @@ at_place P events place d inside p = rw (slice_get-get_or events place d inside)
 
 -- a gateway ends a step as the plain machine that it stands for says
 pub ends_alike : (g : GatewayState) (setup : Setup) (events : List GatewayEvent) (event : GatewayEvent) (given : Option Refusal) → g.setup ≡ setup → Stands g events
-    → Ends g.setup g.machine event given → Ends setup (plain setup events) event given
+    → Ends g.machine event given → Ends (plain setup events) event given
 ends_alike g setup events event given is s e =
-    rw (← is) (rw (refusal_alike g.machine (plain g.setup events) event s.alike, takes_alike g.setup g.machine (plain g.setup events) event s.alike) at e)
+    rw (← is) (rw (refusal_alike g.machine (plain g.setup events) event s.alike, takes_alike g.machine (plain g.setup events) event s.alike) at e)
 
 pub took_ok : (g g' : GatewayState) (event : GatewayEvent) (were are : List OutDatagram) (result : Result (Unit {0}) Refusal) → g'.setup ≡ g.setup
-    → Ends g.setup g.machine event (refused_by result)
+    → Ends g.machine event (refused_by result)
     → ((m : Machine) → Alike g.machine m → OnOk result (GoesOn g.setup m event g'.machine were are)) → OnOk result (Took g (event ∷ []) g' were are)
-took_ok g g' event were are (Ok x) same e goes = took_one g g' event were are same (ends_fine g.setup g.machine event e) goes
+took_ok g g' event were are (Ok x) same e goes = took_one g g' event were are same (ends_fine g.machine event e) goes
 took_ok g g' event were are (Err refusal) same e goes = tt
 
 pub took_err : (g g' : GatewayState) (were are : List OutDatagram) (result : Result (Unit {0}) Refusal) → g'.setup ≡ g.setup → OnErr result (are ≡ were)

@@ -28,6 +28,7 @@ use Rattle.plain_machine.specs.Happening.{ticked, effect}
 use Rattle.plain_machine.specs.Refusing.{refusal_of, is_unheeded, takes_none, ends, Ends}
 use Rattle.plain_machine.proofs.FallingLaws.{pass_none}
 use Rattle.plain_machine.proofs.NameLemmas.{setup_is}
+use Rattle.gateway_core.proofs.FloorLemmas.{not_true}
 use Rattle.gateway_core.specs.declared.state.State.{State}
 use Rattle.gateway_core.specs.FloorState.{FloorState, settled_at}
 use Rattle.gateway_core.specs.Sound.{IsSound}
@@ -80,7 +81,7 @@ none_due : (found : Option DueItem) → not (is_some found) ≡ true → found �
 none_due None e = refl
 none_due (Some item) e = absurd cc
 
-pub nothing_passes : (setup : Setup) (endpoints : Endpoints) (moment : ℕ) → not (is_due setup endpoints moment) ≡ true → pass setup endpoints moment ≡ told endpoints []
+pub nothing_passes : (setup : Setup) (endpoints : Endpoints) (moment : ℕ) → not (is_due endpoints moment) ≡ true → pass setup endpoints moment ≡ told endpoints []
 nothing_passes setup endpoints moment idle = pass_none setup endpoints moment (none_due (due_by endpoints moment) idle)
 
 -- an act that isn't heeded was passed over
@@ -89,7 +90,7 @@ pub happened_passing : (change : Told) (was is : State) (sent : List OutDatagram
 happened_passing change was is sent none goes clock history = happened_silently _ was is sent none (rw (clock, history, goes) refl) (rw goes refl)
 
 -- a tick up to which nothing is due
-pub happened_idly : (setup : Setup) (was is : State) (moment : ℕ) (sent : List OutDatagram) → sent ≡ [] → is_due setup was.floor.endpoints moment ≡ false
+pub happened_idly : (setup : Setup) (was is : State) (moment : ℕ) (sent : List OutDatagram) → sent ≡ [] → is_due was.floor.endpoints moment ≡ false
     → machine_in is ≡ record (machine_in was) { now = moment } → Happened (ticked (machine_in was) moment (pass setup was.floor.endpoints moment)) was is sent
 happened_idly setup was is moment sent none idle machine =
     let nothing = nothing_passes setup was.floor.endpoints moment (ap not idle) in
@@ -97,17 +98,13 @@ happened_idly setup was is moment sent none idle machine =
 
 -- What takes no memory sends nothing
 
-not_true : (b : Bool) → not b ≡ true → b ≡ false
-not_true true e = absurd cc
-not_true false e = refl
-
 unheeded_silent : (setup : Setup) (endpoints : Endpoints) (line moment : ℕ) (act : Act) (found : Option Station) → is_unheeded found act ≡ true
     → (turned_at found endpoints line (acted_on setup line moment act)).sent ≡ []
 unfolding noted
 unheeded_silent setup endpoints line moment act None free = refl
 unheeded_silent setup endpoints line moment act (Some station) free = rw (unheeded station.line act (not_true (is_heeded station.line act) free) moment) refl
 
-free_silent : (setup : Setup) (m : Machine) (event : GatewayEvent) → takes_none setup m event ≡ true → (effect setup m event).sent ≡ []
+free_silent : (setup : Setup) (m : Machine) (event : GatewayEvent) → takes_none m event ≡ true → (effect setup m event).sent ≡ []
 unfolding effect took_all texts_of on_line
 free_silent setup m (datagram source bytes) free = rw free refl
 free_silent setup m (phone line act) free = unheeded_silent setup m.endpoints line m.now act (station_at m.endpoints line) free
@@ -133,9 +130,9 @@ by_free None true e taken = absurd (taken refl)
 by_free (Some refusal) free e taken = absurd cc
 
 pub ends_refused : (setup : Setup) (event : GatewayEvent) (was is : State) (sent : List OutDatagram) (given : Option Refusal) → (length sent == 0) ≡ false → given ≡ Some OutOfMemory
-    → Ends setup (machine_in was) event None → Happened (effect setup (machine_in was) event) was is sent → Ends setup (machine_in was) event given
+    → Ends (machine_in was) event None → Happened (effect setup (machine_in was) event) was is sent → Ends (machine_in was) event given
 ends_refused setup event was is sent given some is_given e happened =
-    rw is_given (by_free (refusal_of (machine_in was) event) (takes_none setup (machine_in was) event) e
+    rw is_given (by_free (refusal_of (machine_in was) event) (takes_none (machine_in was) event) e
     (λ free. not_empty sent some (happened.sent ∙ ap datagrams_of (free_silent setup (machine_in was) event free))))
 
 -- Openings

@@ -93,10 +93,9 @@ fn due_by(floor: &Floor, moment: u64) -> Option<DueItem>
 }
 
 /// Whether something is due up to a moment. It takes no memory.
-pub(crate) fn is_due(context: Context<'_>, floor: &Floor, moment: u64) -> bool
-    ensures { result ≡ is_due context.entry.setup.now floor.now.endpoints moment }
+pub(crate) fn is_due(floor: &Floor, moment: u64) -> bool
+    ensures { result ≡ is_due floor.now.endpoints moment }
 {
-    let _ = context;
     due_by(floor, moment).is_some()
 }
 

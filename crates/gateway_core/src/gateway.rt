@@ -119,7 +119,7 @@ impl Gateway {
     fn step_onto(&mut self, event: Event<'_>, outputs: &mut Outputs) -> Result<(), Refusal>
         ensures ok { OnOk result (Took self.old (event_of event.entry ∷ []) self.new outputs.old outputs.new) }
         ensures err { OnErr result (Took self.old [] self.new outputs.old outputs.new) }
-        ensures ends { Ends self.old.setup self.old.machine (event_of event.entry) (refused_by result) }
+        ensures ends { Ends self.old.machine (event_of event.entry) (refused_by result) }
     {
         let context = Context {
             alloc: self.alloc,
@@ -129,14 +129,14 @@ impl Gateway {
     }
 
     /// One event. The refusals 2 to 5 come exactly where the plain machine says; `NoSuchLine` comes before `PhoneState`.
-    /// A refused event leaves the gateway standing for the same lists.
+    /// What the gateway stood for before a refused event it stands for still.
     pub fn step(&mut self, event: Event<'_>) -> Result<Outputs, Refusal>
         // It took the event, and its outputs are what the plain machine sends; or it took none.
         ensures ok { IfOk result (λ outputs. Took self.old (event_of event.entry ∷ []) self.new [] outputs) }
         ensures err { OnErr result (Took self.old [] self.new [] []) }
         // It is refused exactly as the plain machine says, or for want of memory, and never so where it takes none.
         ensures ends { (before : List GatewayEvent) → Stands self.old before →
-            Ends self.old.setup (plain self.old.setup before) (event_of event.entry) (refused_by result) }
+            Ends (plain self.old.setup before) (event_of event.entry) (refused_by result) }
     {
         let mut outputs = Outputs::new(self.alloc);
         match self.step_onto(event, &mut outputs) {

@@ -41,14 +41,14 @@ pub(crate) fn tick(
     ensures happens { Happens result (ticked (machine_in state.old) moment
         (pass context.entry.setup.now state.old.floor.endpoints moment)) state.old state.new }
     ensures ends { ends (tick_refusal state.old.clock moment)
-        (not (is_due context.entry.setup.now state.old.floor.endpoints moment)) (refused_by result) }
+        (not (is_due state.old.floor.endpoints moment)) (refused_by result) }
 {
     if let Some(refusal) = tick_refusal(state.clock, moment) {
         return Err(refusal);
     }
     let mut out = Vec::new(context.alloc);
     state.clock = moment;
-    if !is_due(context, &state.floor, moment) {
+    if !is_due(&state.floor, moment) {
         return Ok(out);
     }
     pass(context, &mut state.floor, moment, &mut out)?;

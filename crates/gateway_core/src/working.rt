@@ -25,7 +25,7 @@ fn happen(
     requires { IsSound context.setup.now (machine_in state.old) }
     ensures happens { Happens result (effect context.entry.setup.now (machine_in state.old) (event_of event.entry))
         state.old state.new }
-    ensures ends { Ends context.entry.setup.now (machine_in state.old) (event_of event.entry) (refused_by result) }
+    ensures ends { Ends (machine_in state.old) (event_of event.entry) (refused_by result) }
 {
     match event {
         Event::Datagram { source, bytes } => take_datagram(context, state, source, bytes),
@@ -47,7 +47,7 @@ fn carry_out(
         state.new outputs.old outputs.new) }
     ensures err { OnErr result (outputs.new ≡ outputs.old) }
     ensures found { OnErr result (found_in state.new ≡ found_in state.old) }
-    ensures ends { Ends context.entry.setup.now (machine_in state.old) (event_of event.entry) (refused_by result) }
+    ensures ends { Ends (machine_in state.old) (event_of event.entry) (refused_by result) }
 {
     let sent = happen(context, state, event)?;
     if sent.is_empty() {
@@ -68,7 +68,7 @@ fn attempt(
     ensures all { AllOr (purged_in (machine_in state.old)) result
         (effect context.entry.setup.now (purged_in (machine_in state.old)) (event_of event.entry))
         state.new outputs.old outputs.new }
-    ensures ends { Ends context.entry.setup.now (machine_in state.old) (event_of event.entry) (refused_by result) }
+    ensures ends { Ends (machine_in state.old) (event_of event.entry) (refused_by result) }
 {
     let clock = state.clock;
     state.floor.settle();
@@ -100,7 +100,7 @@ pub(crate) fn step_state(
         (GoesOn context.entry.setup.now m (event_of event.entry) (machine_in state.new) outputs.old outputs.new) }
     ensures err { (m : _) → Alike (machine_in state.old) m → OnErr result (Alike (machine_in state.new) m) }
     ensures no_outputs { OnErr result (outputs.new ≡ outputs.old) }
-    ensures ends { Ends context.entry.setup.now (machine_in state.old) (event_of event.entry) (refused_by result) }
+    ensures ends { Ends (machine_in state.old) (event_of event.entry) (refused_by result) }
 {
     attempt(context, state, event, outputs)
 }

@@ -11,7 +11,6 @@ use Rattle.piggyback.specs.Packing.{ends_in_line_feed, is_joinable, has_room, wi
 use Rattle.piggyback.proofs.PackingLaws.{Joins, joins-from, parts-with_text, ends-with_text}
 use Rattle.piggyback.proofs.PartingLaws.{parts-apart, short-parts_of}
 use Rattle.piggyback.proofs.GroupLaws.{packing_some}
-use Rattle.plain_machine.specs.declared.config.Config.{Config}
 use Rattle.plain_machine.specs.declared.output.OutDatagram.{OutDatagram}
 use Rattle.plain_machine.specs.declared.setup.Setup.{Setup}
 use Rattle.plain_machine.specs.Arriving.{largest_datagram}
@@ -21,9 +20,9 @@ use Rattle.plain_machine.specs.Lists.{machine_after, sent_from, outputs_from, ou
 use Rattle.plain_machine.specs.Machine.{Machine, opening}
 use Rattle.plain_machine.specs.Message.{Sent, text_of, datagram_of, datagrams_of}
 use Rattle.plain_machine.specs.Packing.{same_address, joins, joined, packed_after, packed, messages_in, put_out}
-use Rattle.plain_machine.specs.Setup.{setup_of}
+use Rattle.plain_machine.specs.Setup.{IsSetUp}
 use Rattle.plain_machine.proofs.ListLaws.{outputs_on}
-use Rattle.plain_machine.proofs.MessageLaws.{sent_as_messages, sent_within}
+use Rattle.plain_machine.proofs.MessageLaws.{sent_as_messages, sent_within, sent_can_join}
 use Rattle.machine_laws.specs.Runs.{GoTogether, EachEnds, runs_of, texts_in, out_with, run_out, IsWellPacked}
 use Rattle.machine_laws.proofs.RunLaws.{address_from, IsSome, AreAlike, alike_first, ends_rest, apart_from, runs_some}
 
@@ -193,23 +192,24 @@ sent_short (one ∷ sent) all =
     All-cons IsShort one sent (All-head (λ (d : OutDatagram). length d.bytes ≤ largest_datagram) (datagram_of one) (datagrams_of sent) all)
     (sent_short sent (All-tail (λ (d : OutDatagram). length d.bytes ≤ largest_datagram) (datagram_of one) (datagrams_of sent) all))
 
-sent_last : (setup : Setup) (m : Machine) (before : List GatewayEvent) (event : GatewayEvent) → All IsShort (sent_from setup m (before ++ event ∷ []))
-    → All IsShort (effect setup (machine_after setup m before) event).sent
+-- what holds of all that is sent holds of what the last event sends
+sent_last : (P : Sent → Type 0) (setup : Setup) (m : Machine) (before : List GatewayEvent) (event : GatewayEvent) → All P (sent_from setup m (before ++ event ∷ []))
+    → All P (effect setup (machine_after setup m before) event).sent
 unfolding sent_from machine_after
-sent_last setup m [] event all = subst (All IsShort) (append-nil (effect setup m event).sent) all
-sent_last setup m (e ∷ before) event all =
-    sent_last setup (effect setup m e).machine before event (behind (effect setup m e).sent (sent_from setup (effect setup m e).machine (before ++ event ∷ [])) all) where
-      behind : (some more : List Sent) → All IsShort (some ++ more) → All IsShort more
+sent_last P setup m [] event all = subst (All P) (append-nil (effect setup m event).sent) all
+sent_last P setup m (e ∷ before) event all =
+    sent_last P setup (effect setup m e).machine before event (behind (effect setup m e).sent (sent_from setup (effect setup m e).machine (before ++ event ∷ [])) all) where
+      behind : (some more : List Sent) → All P (some ++ more) → All P more
       behind [] more all = all
-      behind (one ∷ some) more all = behind some more (All-tail IsShort one (some ++ more) all)
+      behind (one ∷ some) more all = behind some more (All-tail P one (some ++ more) all)
 
-pub event_packed : (config : Config) (setup : Setup) (before : List GatewayEvent) (event : GatewayEvent) → setup_of config ≡ Ok setup
+pub event_packed : (setup : Setup) (before : List GatewayEvent) (event : GatewayEvent) → IsSetUp setup
     → All IsWellPacked (runs_of (effect setup (plain setup before) event).sent)
-event_packed config setup before event is =
+event_packed setup before event set_up =
     let events = before ++ event ∷ [] in
-    let outputs = messages_short (outputs_of setup events) (sent_within config setup events is) in
-    let sent = sent_short (sent_of setup events) (subst (All (λ (d : OutDatagram). length d.bytes ≤ largest_datagram)) (sent_as_messages config setup events is) outputs) in
-    let last = sent_last setup (opening setup) before event sent in
+    let outputs = messages_short (outputs_of setup events) (sent_within setup events set_up) in
+    let sent = sent_short (sent_of setup events) (subst (All (λ (d : OutDatagram). length d.bytes ≤ largest_datagram)) (sent_as_messages setup events set_up) outputs) in
+    let last = sent_last IsShort setup (opening setup) before event sent in
     runs_packed (runs_of (effect setup (plain setup before) event).sent) (subst (All IsShort) (sym (runs_some (effect setup (plain setup before) event).sent).in_order) last)
 
 -- Where a datagram ends
@@ -311,3 +311,11 @@ pub no_room_behind : (sent : List Sent) (before after : List OutDatagram) (first
     → second.to ≡ first.to → second.moment ≡ first.moment → parts_of second.bytes ≡ text ∷ more → largest_datagram < length (with_text first.bytes text)
 no_room_behind sent before after first second text more all is =
     full_at before after first second (subst AreFull is (all_full (datagrams_of sent) (messages_all sent all))) text more
+
+pub no_room_at_an_event : (setup : Setup) (events : List GatewayEvent) (event : GatewayEvent) (before after : List OutDatagram) (first second : OutDatagram) (text : List ℕ)
+    (more : List (List ℕ)) → IsSetUp setup → put_out (effect setup (plain setup events) event).sent ≡ before ++ first ∷ second ∷ after
+    → second.to ≡ first.to → second.moment ≡ first.moment → parts_of second.bytes ≡ text ∷ more → largest_datagram < length (with_text first.bytes text)
+no_room_at_an_event setup events event before after first second text more set_up =
+    no_room_behind (effect setup (plain setup events) event).sent before after first second text more
+    (sent_last (λ (one : Sent). is_joinable largest_datagram (text_of one.said) ≡ true) setup (opening setup) events event
+    (sent_can_join setup (events ++ event ∷ []) set_up))

@@ -25,7 +25,8 @@ acknowledged_as moment source no_header = []
 acknowledged_as moment source (bad_version id) = []
 acknowledged_as moment source (bad_body id) = []
 acknowledged_as moment source (message (messages.Command verb id name params body)) = []
-acknowledged_as moment source (message (messages.Response code id params body)) = acknowledged moment source code id params
+acknowledged_as moment source (message (messages.Response code id params body)) =
+    acknowledged moment source code id params
 
 abbrev pub acknowledgements_to : Arrival → List Sent
 acknowledgements_to a = acknowledged_as a.moment a.source a.outcome

@@ -19,7 +19,8 @@ ghost use Rattle.plain_machine.specs.Machine.{Machine, Endpoints, station_at, op
 ghost use Rattle.machine_laws.specs.Waiting.{in_flight, AreInOrder};
 
 /// While its command is in flight a line waits for the answer, and what the gateway itself has in flight is under an id
-/// of its own: after every list of events, and, where it is so, after each act, each text and each thing that falls due.
+/// of its own: after every list of events, and, where it is so, after each act, each text and each thing that falls
+/// due.
 pub fn lines_wait_at_each_thing_that_happens()
     ensures opening { (setup : Setup) → AreInOrder (opening setup).endpoints }
     ensures events { (setup : Setup) (events : List GatewayEvent) → AreInOrder (plain setup events).endpoints }
@@ -37,8 +38,8 @@ pub fn lines_wait_at_each_thing_that_happens()
 
 /// What falls due on a line whose command is in flight begins no other: the end of a signal or of timer T sends nothing
 /// and leaves it in flight; what falls due of the command itself sends the same once more or nothing, and leaves it in
-/// flight or gives it up. Other lines stay as they are, and so does the gateway itself; with its own command, which falls
-/// due as line 0's, it is the same.
+/// flight or gives it up. Other lines stay as they are, and so does the gateway itself. Of its own command, which falls
+/// due as that of line 0, the same holds.
 pub fn what_falls_due_begins_nothing_while_a_command_is_in_flight()
     ensures line { (setup : Setup) (endpoints : Endpoints) (item : DueItem) (due : LineDue) (station : Station)
         (message : InFlight) → AreInOrder endpoints → item.due ≡ OfLine due →

@@ -59,8 +59,7 @@ use Rattle.endpoint_names.specs.declared.names.Names.{Names}
 use Rattle.command_forms.specs.Codes.{name_codes, param_codes, has_code}
 use Rattle.command_forms.proofs.FormLemmas.{name_first, asked_behind}
 use Rattle.command_forms.proofs.CodeLemmas.{name_code, param_code}
-use Rattle.plain_machine.specs.declared.config.Config.{Config}
-use Rattle.plain_machine.specs.Setup.{setup_of, IsSetUp}
+use Rattle.plain_machine.specs.Setup.{IsSetUp}
 use Rattle.plain_machine.specs.Done.{Done}
 use Rattle.plain_machine.specs.Requesting.{refused_by, unless_refused}
 use Rattle.plain_machine.specs.Commanding.{reported, line_audited, audited, fitting, line_deed, done_by, commanded}
@@ -69,7 +68,7 @@ use Rattle.plain_machine.proofs.TurnLemmas.{Holds, acted_goes, responded_goes, p
 use Rattle.plain_machine.proofs.EffectLaws.{effect_lines, handled_lines}
 use Rattle.plain_machine.proofs.ListLaws.{lines_of_opening}
 use Rattle.plain_machine.proofs.CodeLemmas.{IsCode, refusal_code}
-use Rattle.plain_machine.proofs.NameLemmas.{setup_is, names_writable}
+use Rattle.plain_machine.proofs.NameLemmas.{names_writable}
 use Rattle.plain_machine.specs.Answering.{Transaction, response_to, answer_text, reply, executed, transacted_by, refusing, handled, took_all}
 use Rattle.plain_machine.specs.Responding.{asks_for_acknowledgement, acknowledged}
 use Rattle.plain_machine.specs.Happening.{effect}
@@ -353,9 +352,20 @@ nothing_kept setup = All-nil (λ (first : KeptFirst). Goes first.answer)
 opening_fits : (setup : Setup) → IsSetUp setup → Fits setup (opening setup)
 opening_fits setup set_up = record { set_up = set_up; lines = lines_of_opening setup; holds = opening_is_sound setup set_up }
 
-pub sent_as_messages : (config : Config) (setup : Setup) (events : List GatewayEvent) → setup_of config ≡ Ok setup
+pub sent_as_messages : (setup : Setup) (events : List GatewayEvent) → IsSetUp setup
     → flat_map messages_in (outputs_from setup (opening setup) events) ≡ datagrams_of (sent_from setup (opening setup) events)
-sent_as_messages config setup events is = outputs_hold setup (opening setup) events (opening_fits setup (setup_is config setup is)) (nothing_kept setup)
+sent_as_messages setup events set_up = outputs_hold setup (opening setup) events (opening_fits setup set_up) (nothing_kept setup)
 
-pub sent_within : (config : Config) (setup : Setup) (events : List GatewayEvent) → setup_of config ≡ Ok setup → All IsWithin (outputs_from setup (opening setup) events)
-sent_within config setup events is = outputs_fit setup (opening setup) events (opening_fits setup (setup_is config setup is)) (nothing_kept setup)
+pub sent_within : (setup : Setup) (events : List GatewayEvent) → IsSetUp setup → All IsWithin (outputs_from setup (opening setup) events)
+sent_within setup events set_up = outputs_fit setup (opening setup) events (opening_fits setup set_up) (nothing_kept setup)
+
+sent_out : (setup : Setup) (m : Machine) (events : List GatewayEvent) → Fits setup m → AreKept m.history → All IsOut (sent_from setup m events)
+unfolding sent_from
+sent_out setup m [] fits all = All-nil IsOut
+sent_out setup m (event ∷ events) fits all =
+    let done = effect setup m event in
+    let goes = event_goes setup m event fits all in
+    All-append IsOut done.sent (sent_from setup done.machine events) goes.sent (sent_out setup done.machine events (event_fits setup m event fits) goes.kept)
+
+pub sent_can_join : (setup : Setup) (events : List GatewayEvent) → IsSetUp setup → All IsOut (sent_from setup (opening setup) events)
+sent_can_join setup events set_up = sent_out setup (opening setup) events (opening_fits setup set_up) (nothing_kept setup)

@@ -56,8 +56,8 @@ unfoldable pub due_by : Endpoints → ℕ → Option DueItem
 due_by endpoints moment = if_by moment (first_due endpoints)
 
 -- something is due up to this moment
-abbrev pub is_due : Setup → Endpoints → ℕ → Bool
-is_due setup endpoints moment = is_some (due_by endpoints moment)
+abbrev pub is_due : Endpoints → ℕ → Bool
+is_due endpoints moment = is_some (due_by endpoints moment)
 
 -- What then happens
 

@@ -6,12 +6,13 @@ ghost use Rattle.history.specs.Arrival.{Arrival as Command};
 ghost use Rattle.history.specs.Firsts.{Copied, a_first, a_repeat, lost, kind_of, firsts_of};
 ghost use Rattle.history.specs.Answers.{is_confirmed, answers_of};
 ghost use Rattle.history.specs.Kept.{entries_of};
+ghost use Rattle.piggyback.specs.Packing.{is_joinable};
 ghost use Rattle.plain_machine.specs.declared.setup.Setup.{Setup};
 ghost use Rattle.plain_machine.specs.declared.output.OutDatagram.{OutDatagram};
 ghost use Rattle.plain_machine.specs.declared.refusal.Refusal.{Refusal};
 ghost use Rattle.plain_machine.specs.declared.refusal.Refusal.TheVariants as refusals;
 ghost use Rattle.plain_machine.specs.Event.{GatewayEvent};
-ghost use Rattle.plain_machine.specs.Message.{again, is_answer, Sent, datagrams_of};
+ghost use Rattle.plain_machine.specs.Message.{again, is_answer, text_of, Sent, datagrams_of};
 ghost use Rattle.plain_machine.specs.Machine.{Machine, Endpoints, idle, told, afterwards};
 ghost use Rattle.plain_machine.specs.Falling.{due_at, due_by, happened, pass};
 ghost use Rattle.plain_machine.specs.declared.due_item.DueItem.{DueItem};
@@ -104,13 +105,20 @@ pub fn configurations_set_up_gateways()
     ensures { (config : Config) (setup : Setup) → setup_of config ≡ Ok setup → IsSetUp setup }
 {}
 
-/// With the setup of a configuration, the datagrams that go out hold the messages that are sent, in their order, and none
-/// of them is longer than the largest that is taken.
+/// With such a setup the datagrams that go out hold the messages that are sent, in their order, and none of them is longer
+/// than the largest that is taken.
 pub fn what_is_packed_is_what_is_sent()
-    ensures messages { (config : Config) (setup : Setup) (events : List GatewayEvent) → setup_of config ≡ Ok setup →
+    ensures messages { (setup : Setup) (events : List GatewayEvent) → IsSetUp setup →
         flat_map messages_in (outputs_of setup events) ≡ datagrams_of (sent_of setup events) }
-    ensures within { (config : Config) (setup : Setup) (events : List GatewayEvent) → setup_of config ≡ Ok setup →
+    ensures within { (setup : Setup) (events : List GatewayEvent) → IsSetUp setup →
         All (λ (datagram : OutDatagram). length datagram.bytes ≤ largest_datagram) (outputs_of setup events) }
+{}
+
+/// With such a setup each message that is sent can share a datagram: it ends in a line end, has no dot line, and is no
+/// longer than the largest datagram that is taken.
+pub fn what_is_sent_can_be_joined()
+    ensures { (setup : Setup) (events : List GatewayEvent) → IsSetUp setup →
+        All (λ (sent : Sent). is_joinable largest_datagram (text_of sent.said) ≡ true) (sent_of setup events) }
 {}
 
 /// While something is due up to a moment, what falls due first happens, at its own moment; and after that nothing is due
@@ -140,13 +148,13 @@ pub fn the_first_due_is_the_earliest()
 /// A step ends as the machine says: a refused event is refused for its reason, another one is taken, and want of memory
 /// may refuse it only where it takes memory.
 pub fn steps_end_as_said()
-    ensures refused { (setup : Setup) (m : Machine) (event : GatewayEvent) (refusal : Refusal) (given : Option Refusal) →
-        refusal_of m event ≡ Some refusal → Ends setup m event given → given ≡ Some refusal }
-    ensures no_memory { (setup : Setup) (m : Machine) (event : GatewayEvent) (given : Option Refusal) →
-        refusal_of m event ≡ None → takes_none setup m event ≡ true → Ends setup m event given → given ≡ None }
-    ensures memory { (setup : Setup) (m : Machine) (event : GatewayEvent) (refusal : Refusal) →
-        refusal_of m event ≡ None → Ends setup m event (Some refusal) → refusal ≡ refusals.OutOfMemory }
-    ensures fine { (setup : Setup) (m : Machine) (event : GatewayEvent) → Ends setup m event None → refusal_of m event ≡ None }
-    ensures cause { (setup : Setup) (m : Machine) (event : GatewayEvent) (refusal : Refusal) →
-        refusal ≢ refusals.OutOfMemory → Ends setup m event (Some refusal) → refusal_of m event ≡ Some refusal }
+    ensures refused { (m : Machine) (event : GatewayEvent) (refusal : Refusal) (given : Option Refusal) →
+        refusal_of m event ≡ Some refusal → Ends m event given → given ≡ Some refusal }
+    ensures no_memory { (m : Machine) (event : GatewayEvent) (given : Option Refusal) →
+        refusal_of m event ≡ None → takes_none m event ≡ true → Ends m event given → given ≡ None }
+    ensures memory { (m : Machine) (event : GatewayEvent) (refusal : Refusal) →
+        refusal_of m event ≡ None → Ends m event (Some refusal) → refusal ≡ refusals.OutOfMemory }
+    ensures fine { (m : Machine) (event : GatewayEvent) → Ends m event None → refusal_of m event ≡ None }
+    ensures cause { (m : Machine) (event : GatewayEvent) (refusal : Refusal) →
+        refusal ≢ refusals.OutOfMemory → Ends m event (Some refusal) → refusal_of m event ≡ Some refusal }
 {}

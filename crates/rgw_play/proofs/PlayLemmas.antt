@@ -133,27 +133,27 @@ moved_step p q r steps i step inside is first last =
 -- an event that is taken
 pub taken_moved : (p q : Player) (g : GatewayState) (event : GatewayEvent) (outputs : List OutDatagram) → q.gateway ≡ g
     → Took p.gateway (event ∷ []) g [] outputs
-    → ((before : List GatewayEvent) → Stands p.gateway before → Ends p.gateway.setup (plain p.gateway.setup before) event None)
+    → ((before : List GatewayEvent) → Stands p.gateway before → Ends (plain p.gateway.setup before) event None)
     → Prints p (sends outputs ∷ []) q → Moved p (give event ∷ []) q
 unfolding move_went
 taken_moved p q g event outputs kept took ends prints =
     let setup = p.gateway.setup in
     moved_one p q (give event) (ap (λ (h : GatewayState). h.setup) kept ∙ took.setup)
-    (λ before s. rw (ends_fine setup (plain setup before) event (ends before s)) (subst (λ (h : GatewayState). Stands h (before ++ event ∷ [])) (sym kept) (took.stands before s)))
-    (λ before s. rw (ends_fine setup (plain setup before) event (ends before s), ← took.sent before s) prints)
+    (λ before s. rw (ends_fine (plain setup before) event (ends before s)) (subst (λ (h : GatewayState). Stands h (before ++ event ∷ [])) (sym kept) (took.stands before s)))
+    (λ before s. rw (ends_fine (plain setup before) event (ends before s), ← took.sent before s) prints)
 
 -- an event that is refused
 pub refused_moved : (p q : Player) (g : GatewayState) (event : GatewayEvent) (refusal : Refusal) → q.gateway ≡ g
     → Took p.gateway [] g [] [] → (refusal ≡ OutOfMemory → ⊥)
-    → ((before : List GatewayEvent) → Stands p.gateway before → Ends p.gateway.setup (plain p.gateway.setup before) event (Some refusal))
+    → ((before : List GatewayEvent) → Stands p.gateway before → Ends (plain p.gateway.setup before) event (Some refusal))
     → Prints p (refuses refusal ∷ []) q → Moved p (give event ∷ []) q
 unfolding move_went
 refused_moved p q g event refusal kept took other ends prints =
     let setup = p.gateway.setup in
     moved_one p q (give event) (ap (λ (h : GatewayState). h.setup) kept ∙ took.setup)
-    (λ before s. rw (ends_cause setup (plain setup before) event refusal other (ends before s))
+    (λ before s. rw (ends_cause (plain setup before) event refusal other (ends before s))
     (subst (λ (h : GatewayState). Stands h before) (sym kept) (rw (append-nil before) at (took.stands before s))))
-    (λ before s. rw (ends_cause setup (plain setup before) event refusal other (ends before s)) prints)
+    (λ before s. rw (ends_cause (plain setup before) event refusal other (ends before s)) prints)
 
 -- Ticks
 

@@ -53,8 +53,8 @@ pub fn an_own_message_is_repeated_and_given_up()
         ∷ to_agent_at 8500 announced ∷ to_agent_at 12500 announced ∷ to_agent_at 16500 announced
         ∷ to_agent_at 20500 announced ∷ [] }
     ensures without_lines { (pass example (stations_announcing []) 5000).sent ≡ own_at 0 5000 (resent announced) ∷ [] }
-    ensures memory { takes_none example announcing_machine (tick 1500) ≡ false }
-    ensures no_memory { takes_none example announcing_machine (tick 1499) ≡ true }
+    ensures memory { takes_none announcing_machine (tick 1500) ≡ false }
+    ensures no_memory { takes_none announcing_machine (tick 1499) ≡ true }
 {}
 
 /// At one moment it comes before all that falls due on lines; what is earlier comes before it. Of a line's own kinds

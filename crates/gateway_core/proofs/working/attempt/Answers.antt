@@ -9,7 +9,7 @@ pub returns-in-Ok-clause-all : goal.returns-in-Ok-clause-all
 returns-in-Ok-clause-all c = puts_settled _ c.carry_out.new.state _ _ _ refl refl c.settle-in-Ok.ensures (rw (c.settle.ensures, c.purge.ensures.kept) at c.in-Ok.ensures.ok)
 
 pub returns-in-Ok-clause-ends : goal.returns-in-Ok-clause-ends
-returns-in-Ok-clause-ends c = ends_purged c.args.context.setup.now (machine_in c.args.state.now) (event_of c.args.event) _ (rw (c.settle.ensures, c.purge.ensures.kept) at c.in-Ok.ensures.ends)
+returns-in-Ok-clause-ends c = ends_purged (machine_in c.args.state.now) (event_of c.args.event) _ (rw (c.settle.ensures, c.purge.ensures.kept) at c.in-Ok.ensures.ends)
 
 pub returns-in-Err-clause-all : goal.returns-in-Err-clause-all
 returns-in-Err-clause-all c = record {
@@ -18,4 +18,4 @@ returns-in-Err-clause-all c = record {
 }
 
 pub returns-in-Err-clause-ends : goal.returns-in-Err-clause-ends
-returns-in-Err-clause-ends c = ends_purged c.args.context.setup.now (machine_in c.args.state.now) (event_of c.args.event) _ (rw (c.settle.ensures, c.purge.ensures.kept) at c.in-Err.ensures.ends)
+returns-in-Err-clause-ends c = ends_purged (machine_in c.args.state.now) (event_of c.args.event) _ (rw (c.settle.ensures, c.purge.ensures.kept) at c.in-Err.ensures.ends)

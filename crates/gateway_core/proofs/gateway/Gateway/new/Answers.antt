@@ -1,4 +1,5 @@
 use Rattle.std.proofs.Common.{refl, sym}
+use Rattle.plain_machine.proofs.NameLemmas.{setup_is}
 use Rattle.gateway_core.proofs.StandLemmas.{stands_for_nothing}
 use Rattle.gateway_core.proofs.WorkLemmas.{opening_sound, opening_few}
 use Rattle.gateway_core.proofs.gateway.Gateway.new.Goals as goal
@@ -7,7 +8,7 @@ pub of-requires : goal.of-requires
 of-requires c = opening_few _ _ _ (sym c.in_ok-setup.ensures) c.in_ok-stations.ensures
 
 pub returns : goal.returns
-returns c = rw (← c.in_ok-setup.ensures) (refl, stands_for_nothing _ (rw (c.of.ensures, c.in_ok-stations.ensures, c.opening_own.ensures, c.new.ensures) refl))
+returns c = rw (← c.in_ok-setup.ensures) (refl, stands_for_nothing _ (setup_is _ _ (sym c.in_ok-setup.ensures)) (rw (c.of.ensures, c.in_ok-stations.ensures, c.opening_own.ensures, c.new.ensures) refl))
 
 pub invariant_of-result : goal.invariant_of-result
 invariant_of-result c = opening_sound _ _ _ (sym c.in_ok-setup.ensures) (rw c.of.ensures c.in_ok-stations.ensures) refl

@@ -1,0 +1,96 @@
+//! Worked examples of edges, as theorems: an answer to a line that isn't the first, what K confirms, answers that
+//! don't fit, what finds no room, and how much may fall due at one moment.
+#![tactic(auto, unfolding(crate::proofs::Computing::on_examples))]
+
+ghost use Rattle.std.specs.Prelude.{◌≡◌, ◌++◌, codes, [], ◌∷◌, replicate, true, false, None, Some, Ok};
+ghost use Rattle.mgcp_text.specs.Answer.{plain_code};
+ghost use Rattle.command_forms.specs.declared.forms.Asks.TheVariants.{Reports};
+ghost use Rattle.command_forms.specs.declared.forms.Target.TheVariants.{One, All};
+ghost use Rattle.command_forms.specs.declared.forms.Audit.{Audit};
+ghost use Rattle.history.specs.Looking.{full};
+ghost use Rattle.mg_line.specs.declared.phone.Act.TheVariants as acts;
+ghost use Rattle.plain_machine.specs.Event.{phone};
+ghost use Rattle.plain_machine.specs.Machine.{opening, opening_endpoints, with_own, idle};
+ghost use Rattle.plain_machine.specs.Done.{only_answer};
+ghost use Rattle.plain_machine.specs.Commanding.{audited, done_by};
+ghost use Rattle.plain_machine.specs.Falling.{due_by, pass};
+ghost use Rattle.plain_machine.specs.Responding.{asks_for_acknowledgement};
+ghost use Rattle.plain_machine.specs.Answering.{transaction, transacted_by};
+ghost use Rattle.plain_machine.specs.Lists.{outputs_of};
+ghost use Rattle.plain_machine.specs.Example.{example, agent, audit, from_agent, one_answer, to_agent_at, rqnt, sends, ntfy, lifted_on_2, response, stations, announcing, busiest, wide};
+
+/// The answer to a line's command lets that line go on, under its own ids, whichever it is.
+pub fn an_answer_is_for_its_line()
+    ensures { sends (phone 2 acts.OffHook ∷ phone 2 acts.OnHook ∷ rqnt 1501 (codes "aaln/2") (codes "X: A5\r\n")
+        ∷ response 200 20000000 ∷ [])
+        ≡ to_agent_at 1000 lifted_on_2 ∷ to_agent_at 1000 (codes "200 1501 OK\r\n")
+        ∷ to_agent_at 1000 (ntfy 20000001 2 (codes "A5") (codes "L/hu")) ∷ [] }
+{}
+
+/// An acknowledgement is asked for by the codes 200 to 999.
+pub fn three_digits_ask_for_an_acknowledgement()
+    ensures least { asks_for_acknowledgement 200 ((record { code = codes "K"; value = [] }) ∷ []) ≡ true }
+    ensures less { asks_for_acknowledgement 199 ((record { code = codes "K"; value = [] }) ∷ []) ≡ false }
+    ensures greatest { asks_for_acknowledgement 999 ((record { code = codes "K"; value = [] }) ∷ []) ≡ true }
+    ensures greater { asks_for_acknowledgement 1000 ((record { code = codes "K"; value = [] }) ∷ []) ≡ false }
+{}
+
+/// An audit of a line that there isn't is 500; one whose answer doesn't fit is 533.
+pub fn some_audits_have_no_report()
+    ensures no_line { audited example (opening_endpoints example) (One 17) (record { items = [] }) ≡ plain_code 500 }
+    ensures unfit { done_by (Ok (Reports All (record { items = [] }))) (wide 250 16) (opening_endpoints (wide 250 16)) 0 9
+        ≡ only_answer (opening_endpoints (wide 250 16)) (plain_code 533) }
+{}
+
+/// What finds no room in the history is lost: nothing is done, and nothing is said.
+pub fn what_finds_no_room_is_lost()
+    ensures { transacted_by full (opening example) agent
+        (transaction 1306 (Some 1) [] (only_answer (opening_endpoints example) (plain_code 200)))
+        ≡ idle (opening example) }
+{}
+
+/// Each item of K confirms.
+pub fn each_item_of_k_confirms()
+    ensures { outputs_of example (from_agent (audit 1301) ∷ from_agent (audit 1303) ∷ from_agent (audit 1304)
+        ∷ from_agent (audit 1305 ++ codes "K: 1301, 1303-1304\r\n")
+        ∷ from_agent (audit 1301) ∷ from_agent (audit 1303) ∷ from_agent (audit 1304) ∷ from_agent (audit 1305) ∷ [])
+        ≡ one_answer (codes "200 1301 OK\r\n") ++ one_answer (codes "200 1303 OK\r\n")
+        ++ one_answer (codes "200 1304 OK\r\n") ++ one_answer (codes "200 1305 OK\r\n")
+        ++ one_answer (codes "200 1305 OK\r\n") }
+{}
+
+/// At one moment 11 things may be due on each line, and one of the gateway itself: all of them happen.
+pub fn all_that_is_due_at_one_moment_happens()
+    ensures one_line { due_by (pass example (with_own (stations (busiest ∷ [])) (announcing (Some 0))) 0).endpoints 0
+        ≡ None }
+    ensures two_lines { due_by
+        (pass example (with_own (stations (busiest ∷ busiest ∷ [])) (announcing (Some 0))) 0).endpoints 0 ≡ None }
+{}
+
+/// Of all lines that refuse a request the least gives the code, be it the first of them or not.
+pub fn the_least_line_that_refuses_gives_the_code()
+    ensures before { sends (phone 16 acts.OffHook ∷ rqnt 1801 (codes "*") (codes "X: B2\r\nS: L/rg,L/dl\r\n") ∷ [])
+        ≡ to_agent_at 1000 (ntfy 160000000 16 (codes "0") (codes "L/hd")) ∷ to_agent_at 1000 (codes "402 1801\r\n") ∷ [] }
+    ensures first { sends (phone 1 acts.OffHook ∷ rqnt 1801 (codes "*") (codes "X: B2\r\nS: L/rg,L/dl\r\n") ∷ [])
+        ≡ to_agent_at 1000 (ntfy 10000000 1 (codes "0") (codes "L/hd")) ∷ to_agent_at 1000 (codes "401 1801\r\n") ∷ [] }
+{}
+
+/// The id of a response counts in its length: 3,997 bytes with one digit are 4,005 with nine.
+pub fn an_id_counts_in_the_length()
+    ensures short { let report : Audit = record { items = [] } in
+        done_by (Ok (Reports All report)) (wide 320 12) (opening_endpoints (wide 320 12)) 0 9
+        ≡ only_answer (opening_endpoints (wide 320 12)) (audited (wide 320 12) (opening_endpoints (wide 320 12)) All report) }
+    ensures long { outputs_of (wide 320 12) (from_agent (codes "AUEP 999999999 *@" ++ replicate 320 97 ++ codes " MGCP 1.0\r\n") ∷ [])
+        ≡ one_answer (codes "533 999999999\r\n") }
+{}
+
+/// A K that can't be read confirms nothing; one that can be read confirms, be its command refused or not.
+pub fn what_is_read_of_k_confirms()
+    ensures unreadable { outputs_of example (from_agent (audit 1301) ∷ from_agent (audit 1302 ++ codes "K: x\r\n")
+        ∷ from_agent (audit 1301) ∷ [])
+        ≡ one_answer (codes "200 1301 OK\r\n") ++ one_answer (codes "510 1302\r\n")
+        ++ one_answer (codes "200 1301 OK\r\n") }
+    ensures refused { outputs_of example (from_agent (audit 1301) ∷ from_agent (audit 1302 ++ codes "M: x\r\nK: 1301\r\n")
+        ∷ from_agent (audit 1301) ∷ [])
+        ≡ one_answer (codes "200 1301 OK\r\n") ++ one_answer (codes "539 1302\r\n") }
+{}
