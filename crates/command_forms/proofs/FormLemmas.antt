@@ -1,10 +1,13 @@
 -- What holds where a command asks for something.
-use Rattle.std.proofs.Common.{rules, ◌≡◌, ℕ, ◌≤◌, zero, suc, true, false, List, codes, refl, ◌∙◌, ⊎_elim, Option, Some, None, Ok, Err}
-use Rattle.std.specs.Prelude.{is_some, IfOk, IfSome}
+use Rattle.std.proofs.Common.{rules, ◌≡◌, ℕ, ◌≤◌, zero, suc, Bool, true, false, ◌||◌, not, List, codes, [], ◌∷◌, refl, sym, ap, subst, ◌∙◌, ⊎_elim, Option, Some, None, Ok, Err}
+use Rattle.std.specs.Prelude.{is_some, IfOk, IfSome, Result, option_map}
+use Rattle.std.specs.Option.{unwrap_or}
 use Rattle.std.proofs.lemmas.Bool.{cases_Bool}
+use Rattle.mg_bytes.specs.Checks.{unless, first_fault, checked}
 use Rattle.mg_bytes.specs.Numbers.{is_hex_text}
 use Rattle.mgcp_text.specs.declared.confirmation.KValue.{KValue}
 use Rattle.mgcp_text.specs.declared.message.Param.{Param}
+use Rattle.mgcp_text.specs.declared.message.Verb.{Verb}
 use Rattle.mgcp_text.specs.declared.message.Verb.TheVariants.{Rqnt}
 use Rattle.mgcp_text.specs.Message.{param_at}
 use Rattle.endpoint_names.specs.declared.names.Names.{Names}
@@ -18,39 +21,108 @@ use Rattle.event_syntax.specs.Signals.{signals_of}
 use Rattle.event_syntax.proofs.ReadLemmas.{read_is_writable}
 use Rattle.event_syntax.proofs.DetectLaws.{read_is_writable as detected_is_writable}
 use Rattle.event_syntax.proofs.RequestReading.{read_is_writable as requested_is_writable}
+use Rattle.sdp_subset.specs.declared.session.Session.{Session}
+use Rattle.connections.specs.declared.connection.Creation.{Creation}
+use Rattle.connections.specs.declared.deletion.Deletion.TheVariants as deletions
+use Rattle.connections.specs.declared.mode.Mode.{Mode}
+use Rattle.connections.specs.declared.options.Options.{Options}
+use Rattle.connections.specs.Modes.{mode_named}
+use Rattle.connections.specs.Options.{options_of, no_options}
 use Rattle.command_forms.specs.declared.forms.Asks.{Asks}
 use Rattle.command_forms.specs.declared.forms.Asks.TheVariants.{Reports, Does}
 use Rattle.command_forms.specs.declared.forms.Audit.{Audit}
+use Rattle.command_forms.specs.declared.forms.ConnectionDeed.{ConnectionDeed}
+use Rattle.command_forms.specs.declared.forms.ConnectionDeed.TheVariants as deeds
 use Rattle.command_forms.specs.declared.forms.Deed.{Deed}
 use Rattle.command_forms.specs.declared.forms.RequestForm.{RequestForm}
 use Rattle.command_forms.specs.declared.forms.Target.{Target}
+use Rattle.command_forms.specs.declared.forms.Target.TheVariants.{One, All, Any}
+use Rattle.command_forms.specs.declared.refused.Place.TheVariants.{Value}
+use Rattle.command_forms.specs.declared.refused.Refused.{Refused}
+use Rattle.command_forms.specs.declared.verbs.Connecting.{Connecting}
+use Rattle.command_forms.specs.declared.verbs.Connecting.TheVariants.{Keeps, Creates, Modifies, Deletes}
 use Rattle.command_forms.specs.declared.verbs.Meant.{Meant}
+use Rattle.command_forms.specs.declared.verbs.Purpose.{Purpose}
+use Rattle.command_forms.specs.declared.verbs.Purpose.TheVariants.{ForReport, ForDeed}
+use Rattle.command_forms.specs.declared.verbs.VerbRow.{VerbRow}
+use Rattle.command_forms.specs.declared.verbs.Wildcard.{Wildcard}
+use Rattle.command_forms.specs.Verbs.{row_of}
 use Rattle.command_forms.specs.Command.{Command}
-use Rattle.command_forms.specs.Params.{value_in, value_at}
-use Rattle.command_forms.specs.Meaning.{meant}
-use Rattle.command_forms.specs.Values.{entity_at, identifier_from, handling_at, change_at, request_of, request_at, deed_of}
-use Rattle.command_forms.specs.Order.{asked, form_of}
-use Rattle.command_forms.specs.Codes.{target_in, AreOf, HasValues, HasDeed}
-use Rattle.command_forms.proofs.StepLemmas.{on_ok, is_ok}
+use Rattle.command_forms.specs.Refusing.{letter_c, letter_k, letter_x, refusal, absence, coded}
+use Rattle.command_forms.specs.Params.{has, missing_letter, params_fault, value_in, value_at}
+use Rattle.command_forms.specs.Meaning.{is_empty, takes_all, takes_any, meant}
+use Rattle.command_forms.specs.Values.{is_readable, said_at, entity_at, encoding_from, identifier_from, mode_from, handling_at, change_at, remote_of}
+use Rattle.command_forms.specs.Deeds.{request_of, request_at, creation_of, modification_of, deletion_by, deletion_of, connected_by, with_remote, deed_of}
+use Rattle.command_forms.specs.Order.{names_call, are_requested as are_of_request, absent_letter, counted, asked_for, asked, judged, form_of}
+use Rattle.command_forms.specs.Codes.{target_in, AreOf, HasValues, IsAt, options_or, HasCreation, HasDeletion, HasConnections, connecting_in, may_connect_all, may_connect_any, MayBeOf, HasDeed}
+use Rattle.command_forms.proofs.StepLemmas.{is_ok}
+use Rattle.command_forms.proofs.RefusedLemmas.{on_ok, on_placed, coded_ok}
 
 -- The name first
 
-pub name_first : (command : Command) (confirms : KValue) (names : Names) (code : ℕ) → meant command names ≡ Err code
-    → form_of command confirms names ≡ Err code
-unfolding form_of
-name_first command confirms names code e = rw e refl
+pub name_first : (command : Command) (confirms : KValue) (names : Names) (refused : Refused) → meant command names ≡ Err refused
+    → form_of command confirms names ≡ Err refused.code
+unfolding form_of judged
+name_first command confirms names refused e = rw e refl
 
 pub asked_behind : (command : Command) (confirms : KValue) (names : Names) (found : Meant) → meant command names ≡ Ok found
-    → form_of command confirms names ≡ asked found command.params confirms names.table
-unfolding form_of
+    → form_of command confirms names ≡ coded (asked found command.params command.body confirms names.table)
+unfolding form_of judged
 asked_behind command confirms names found e = rw e refl
+
+-- Behind the checks of the parameters
+
+-- what passes the checks in front of the values
+passed : {A : Type 0} (lines lacks : Option Refused) (readable : Bool) (unreadable : Refused) (next : Result A Refused) (value : A)
+    → checked (first_fault (lines ∷ lacks ∷ unless readable unreadable ∷ [])) next ≡ Ok value → (lacks ≡ None) × (next ≡ Ok value)
+passed lines lacks readable unreadable next value e = search rules
+
+passed_letters : (missing : Option ℕ) (call requested : Bool) (c x : ℕ)
+    → option_map absence (first_fault (missing ∷ unless call c ∷ unless requested x ∷ [])) ≡ None → (missing ≡ None) × (call ≡ true)
+passed_letters missing call requested c x e = search rules
+
+record HasPassed (found : Meant) (params : List Param) (body : List ℕ) (hosts : List Host) (asks : Asks) : Type 0 where
+  whole : missing_letter found.row.must params ≡ None
+  together : names_call found.row.purpose params ≡ true
+  reads : asked_for found.row.purpose found.target params (counted found.row.described body) hosts ≡ Ok asks
+
+has_passed : (found : Meant) (params : List Param) (body : List ℕ) (confirms : KValue) (hosts : List Host) (asks : Asks)
+    → asked found params body confirms hosts ≡ Ok asks → HasPassed found params body hosts asks
+unfolding asked absent_letter
+has_passed found params body confirms hosts asks e =
+    let is = passed (params_fault found.row 1 [] params) (option_map absence (absent_letter found.row params)) (is_readable confirms)
+    (refusal (Value letter_k) 510) (asked_for found.row.purpose found.target params (counted found.row.described body) hosts) asks e in
+    let letters = passed_letters (missing_letter found.row.must params) (names_call found.row.purpose params) (are_of_request params) letter_c letter_x (is.0) in
+    record { whole = letters.0; together = letters.1; reads = is.1 }
+
+-- what a command that asks for something means
+record IsMeant (command : Command) (confirms : KValue) (names : Names) (asks : Asks) : Type 0 where
+  found : Meant
+  means : meant command names ≡ Ok found
+  asked_there : asked found command.params command.body confirms names.table ≡ Ok asks
+
+form_meant : (command : Command) (confirms : KValue) (names : Names) (asks : Asks) → form_of command confirms names ≡ Ok asks
+    → IsMeant command confirms names asks
+form_meant command confirms names asks e = by_meant (meant command names) refl where
+  by_meant : (said : Result Meant Refused) → meant command names ≡ said → IsMeant command confirms names asks
+  by_meant (Ok found) is = record {
+    found = found;
+    means = is;
+    asked_there = coded_ok (asked found command.params command.body confirms names.table) asks (sym (asked_behind command confirms names found is) ∙ e);
+  }
+  by_meant (Err refused) is = let no : Err refused.code ≡ Ok asks = sym (name_first command confirms names refused is) ∙ e in absurd cc
 
 -- For which lines
 
-pub same_target : (found : Meant) (params : List Param) (confirms : KValue) (hosts : List Host) (asks : Asks)
-    → asked found params confirms hosts ≡ Ok asks → target_in asks ≡ found.target
-unfolding asked
-same_target found params confirms hosts asks e = search rules
+target_is : (purpose : Purpose) (within : Target) (params : List Param) (text : List ℕ) (hosts : List Host) (asks : Asks)
+    → asked_for purpose within params text hosts ≡ Ok asks → target_in asks ≡ within
+target_is ForReport within params text hosts asks e = search rules
+target_is (ForDeed connecting) within params text hosts asks e = search rules
+
+pub same_target : (found : Meant) (params : List Param) (body : List ℕ) (confirms : KValue) (hosts : List Host) (asks : Asks)
+    → asked found params body confirms hosts ≡ Ok asks → target_in asks ≡ found.target
+same_target found params body confirms hosts asks e =
+    target_is found.row.purpose found.target params (counted found.row.described body) hosts asks (has_passed found params body confirms hosts asks e).reads
 
 line_named_within : (local : List ℕ) (lines line : ℕ) → line_named local lines ≡ Some line → (1 ≤ line) × (line ≤ lines)
 unfolding line_named
@@ -63,15 +135,10 @@ meant_lines command names found e = search (rules, line_named_within)
 
 pub form_lines : (command : Command) (confirms : KValue) (names : Names) (asks : Asks) → form_of command confirms names ≡ Ok asks
     → AreOf names.lines (target_in asks)
-unfolding form_of asked
-form_lines command confirms names asks e = search (rules, meant_lines)
-
--- What a report has
-
-pub audit_has_items : (command : Command) (confirms : KValue) (names : Names) (target : Target) (audit : Audit)
-    → form_of command confirms names ≡ Ok (Reports target audit) → audit.items ≡ value_at (codes "F") command.params
-unfolding form_of asked
-audit_has_items command confirms names target audit e = search rules
+form_lines command confirms names asks e =
+    let m = form_meant command confirms names asks e in
+    let same = same_target m.found command.params command.body confirms names.table asks m.asked_there in
+    subst (AreOf names.lines) (sym same) (meant_lines command names m.found m.means)
 
 -- What a deed has
 
@@ -90,12 +157,12 @@ requested_writable value list read =
 request_has : (params : List Param) (value : List ℕ) → value ≡ value_at (codes "X") params → IfOk (request_of value params) (HasValues params)
 unfolding request_of
 request_has params value there =
-    on_ok (HasValues params) (identifier_from value) _ (λ identifier x.
-    on_ok (HasValues params) (handling_at (param_at (codes "Q") params)) _ (λ handling q.
-    on_ok (HasValues params) (change_at (param_at (codes "D") params)) _ (λ map d.
-    on_ok (HasValues params) (requested_of (value_at (codes "R") params)) _ (λ requested r.
-    on_ok (HasValues params) (detected_of (value_at (codes "T") params)) _ (λ detected t.
-    on_ok (HasValues params) (signals_of (value_at (codes "S") params)) _ (λ signals s.
+    on_placed (HasValues params) _ (identifier_from value) _ (λ identifier x.
+    on_placed (HasValues params) _ (handling_at (param_at (codes "Q") params)) _ (λ handling q.
+    on_placed (HasValues params) _ (change_at (param_at (codes "D") params)) _ (λ map d.
+    on_placed (HasValues params) _ (requested_of (value_at (codes "R") params)) _ (λ requested r.
+    on_placed (HasValues params) _ (detected_of (value_at (codes "T") params)) _ (λ detected t.
+    on_placed (HasValues params) _ (signals_of (value_at (codes "S") params)) _ (λ signals s.
     record {
       identifier = (identifier_is value identifier x).0 ∙ there;
       digits = (identifier_is value identifier x).1;
@@ -120,33 +187,316 @@ request_there params (Some param) is =
     on_ok (IsThere params (Some param)) (request_of param.value params) _ (λ request e.
     (refl, is_ok (HasValues params) (request_of param.value params) request (request_has params param.value value) e))
 
-deed_has : (params : List Param) (hosts : List Host) → IfOk (deed_of params hosts) (HasDeed params hosts)
-unfolding deed_of
-deed_has params hosts =
-    let x : Option Param = param_at (codes "X") params in
-    on_ok (HasDeed params hosts) (entity_at hosts (param_at (codes "N") params)) _ (λ entity n.
-    on_ok (HasDeed params hosts) (request_at x params) _ (λ request e.
-    let is = is_ok (IsThere params x) (request_at x params) request (request_there params x refl) e in
-    record { entity = n; there = is.0; request = is.1 }))
+-- What becomes of connections
 
-deed_read : (command : Command) (confirms : KValue) (names : Names) (target : Target) (deed : Deed)
-    → form_of command confirms names ≡ Ok (Does target deed) → deed_of command.params names.table ≡ Ok deed
-unfolding form_of asked
-deed_read command confirms names target deed e = search rules
+said_is : (code : List ℕ) (params : List Param) (identifier : List ℕ)
+    → said_at identifier_from (param_at code params) ≡ Ok (Some identifier) → IsAt code params identifier
+said_is code params identifier e = search (rules, identifier_is)
+
+said_none : (code : List ℕ) (params : List Param) → said_at identifier_from (param_at code params) ≡ Ok None → has code params ≡ false
+said_none code params e = search rules
+
+mode_is : (value : List ℕ) (mode : Mode) → mode_from value ≡ Ok mode → mode_named value ≡ Some mode
+mode_is value mode e = search rules
+
+options_are : (found : Option Param) (said : Option Options) → said_at options_of found ≡ Ok said
+    → options_or found ≡ Ok (unwrap_or said no_options)
+options_are found said e = search rules
+
+-- what a deed becomes with the description of the remote end
+abbrev Has : List Param → List ℕ → Option Session → ConnectionDeed → Type 0
+Has params body remote connections = HasConnections params body (with_remote remote connections)
+
+creation_has : (params : List Param) (body : List ℕ) (remote : Option Session) → remote_of body ≡ Ok remote
+    → IfOk (creation_of params) (λ creation. HasCreation params body (record creation { remote = remote }))
+unfolding creation_of
+creation_has params body remote r =
+    let P : Creation → Type 0 = λ creation. HasCreation params body (record creation { remote = remote }) in
+    on_placed P _ (identifier_from (value_at (codes "C") params)) _ (λ call c.
+    on_placed P _ (mode_from (value_at (codes "M") params)) _ (λ mode m.
+    on_placed P _ (said_at options_of (param_at (codes "L") params)) _ (λ options l.
+    record {
+      call = identifier_is (value_at (codes "C") params) call c;
+      mode = mode_is (value_at (codes "M") params) mode m;
+      options = options_are (param_at (codes "L") params) options l;
+      remote = r;
+    })))
+
+modification_has : (params : List Param) (body : List ℕ) (remote : Option Session) → remote_of body ≡ Ok remote
+    → IfOk (modification_of params) (Has params body remote)
+unfolding modification_of
+modification_has params body remote r =
+    let P : ConnectionDeed → Type 0 = Has params body remote in
+    on_placed P _ (identifier_from (value_at (codes "C") params)) _ (λ call c.
+    on_placed P _ (identifier_from (value_at (codes "I") params)) _ (λ id i.
+    on_placed P _ (said_at mode_from (param_at (codes "M") params)) _ (λ mode m.
+    on_placed P _ (said_at options_of (param_at (codes "L") params)) _ (λ options l.
+    record {
+      call_there = identifier_is (value_at (codes "C") params) call c;
+      id_there = identifier_is (value_at (codes "I") params) id i;
+      mode = m;
+      options = l;
+      remote = r;
+    }))))
+
+deletion_by_has : (params : List Param) (call id : Option (List ℕ)) → names_call (ForDeed Deletes) params ≡ true
+    → said_at identifier_from (param_at (codes "C") params) ≡ Ok call → said_at identifier_from (param_at (codes "I") params) ≡ Ok id
+    → HasDeletion params (deletion_by call id)
+deletion_by_has params None id together c i = (said_none (codes "C") params c, without (said_none (codes "C") params c)) where
+  without : has (codes "C") params ≡ false → has (codes "I") params ≡ false
+  without none = search (rules, together)
+deletion_by_has params (Some call) None together c i = (said_is (codes "C") params call c, said_none (codes "I") params i)
+deletion_by_has params (Some call) (Some id) together c i = (said_is (codes "C") params call c, said_is (codes "I") params id i)
+
+deletion_has : (params : List Param) → names_call (ForDeed Deletes) params ≡ true → IfOk (deletion_of params) (HasDeletion params)
+unfolding deletion_of
+deletion_has params together =
+    on_placed (HasDeletion params) _ (said_at identifier_from (param_at (codes "C") params)) _ (λ call c.
+    on_placed (HasDeletion params) _ (said_at identifier_from (param_at (codes "I") params)) _ (λ id i.
+    deletion_by_has params call id together c i))
+
+-- the text is that of the command, where a description counts
+abbrev IsCounted : Connecting → List ℕ → List ℕ → Type 0
+IsCounted Keeps text body = Unit {0}
+IsCounted Creates text body = text ≡ body
+IsCounted Modifies text body = text ≡ body
+IsCounted Deletes text body = Unit {0}
+
+connected_has : (connecting : Connecting) (params : List Param) (text body : List ℕ) (remote : Option Session)
+    → IsCounted connecting text body → names_call (ForDeed connecting) params ≡ true → remote_of text ≡ Ok remote
+    → IfOk (connected_by connecting params) (Has params body remote)
+connected_has Keeps params text body remote counts together r = tt
+connected_has Creates params text body remote counts together r =
+    let here : remote_of body ≡ Ok remote = rw (← counts) r in
+    on_ok (Has params body remote) (creation_of params) _ (λ creation e.
+    is_ok (λ made. HasCreation params body (record made { remote = remote })) (creation_of params) creation (creation_has params body remote here) e)
+connected_has Modifies params text body remote counts together r =
+    let here : remote_of body ≡ Ok remote = rw (← counts) r in
+    modification_has params body remote here
+connected_has Deletes params text body remote counts together r =
+    on_ok (Has params body remote) (deletion_of params) _ (λ deletion e.
+    is_ok (HasDeletion params) (deletion_of params) deletion (deletion_has params together) e)
+
+deed_has : (connecting : Connecting) (params : List Param) (text body : List ℕ) (hosts : List Host)
+    → IsCounted connecting text body → names_call (ForDeed connecting) params ≡ true
+    → IfOk (deed_of connecting params text hosts) (HasDeed params body hosts)
+unfolding deed_of
+deed_has connecting params text body hosts counts together =
+    let x : Option Param = param_at (codes "X") params in
+    let P : Deed → Type 0 = HasDeed params body hosts in
+    on_placed P _ (entity_at hosts (param_at (codes "N") params)) _ (λ entity n.
+    on_placed P _ (said_at encoding_from (param_at (codes "B") params)) _ (λ encoding b.
+    on_ok P (connected_by connecting params) _ (λ connections c.
+    on_ok P (request_at x params) _ (λ request e.
+    on_placed P _ (remote_of text) _ (λ remote r.
+    let is = is_ok (IsThere params x) (request_at x params) request (request_there params x refl) e in
+    record {
+      entity = n;
+      encoding = b;
+      connections = is_ok (Has params body remote) (connected_by connecting params) connections
+          (connected_has connecting params text body remote counts together r) c;
+      there = is.0;
+      request = is.1;
+    })))))
+
+-- From the command to its deed
+
+pub row_is : (command : Command) (names : Names) (found : Meant) → meant command names ≡ Ok found → row_of command.verb ≡ Some found.row
+unfolding meant
+row_is command names found e = search rules
+
+-- in the rows in which a deed creates or modifies, a description counts
+row_counts : (verb : Verb) (row : VerbRow) (connecting : Connecting) (body : List ℕ) → row_of verb ≡ Some row → row.purpose ≡ ForDeed connecting
+    → IsCounted connecting (counted row.described body) body
+row_counts verb row connecting body e p = search rules
+
+-- the deed that was read, by what its row says of connections
+record IsRead (found : Meant) (params : List Param) (body : List ℕ) (hosts : List Host) (deed : Deed) : Type 0 where
+  connecting : Connecting
+  purpose : found.row.purpose ≡ ForDeed connecting
+  together : names_call (ForDeed connecting) params ≡ true
+  read : deed_of connecting params (counted found.row.described body) hosts ≡ Ok deed
+
+deed_asked : (connecting : Connecting) (within target : Target) (params : List Param) (text : List ℕ) (hosts : List Host) (deed : Deed)
+    → asked_for (ForDeed connecting) within params text hosts ≡ Ok (Does target deed) → deed_of connecting params text hosts ≡ Ok deed
+deed_asked connecting within target params text hosts deed e = search rules
+
+asked_read : (found : Meant) (params : List Param) (body : List ℕ) (confirms : KValue) (hosts : List Host) (target : Target) (deed : Deed)
+    → asked found params body confirms hosts ≡ Ok (Does target deed) → IsRead found params body hosts deed
+asked_read found params body confirms hosts target deed e =
+    let passes = has_passed found params body confirms hosts (Does target deed) e in
+    by_purpose found.row.purpose refl passes.together passes.reads where
+      by_purpose : (purpose : Purpose) → found.row.purpose ≡ purpose → names_call purpose params ≡ true
+          → asked_for purpose found.target params (counted found.row.described body) hosts ≡ Ok (Does target deed) → IsRead found params body hosts deed
+      by_purpose ForReport is together read = absurd cc
+      by_purpose (ForDeed connecting) is together read = record {
+        connecting = connecting;
+        purpose = is;
+        together = together;
+        read = deed_asked connecting found.target target params (counted found.row.described body) hosts deed read;
+      }
 
 pub deed_has_values : (command : Command) (confirms : KValue) (names : Names) (target : Target) (deed : Deed)
-    → form_of command confirms names ≡ Ok (Does target deed) → HasDeed command.params names.table deed
+    → form_of command confirms names ≡ Ok (Does target deed) → HasDeed command.params command.body names.table deed
 deed_has_values command confirms names target deed e =
-    is_ok (HasDeed command.params names.table) (deed_of command.params names.table) deed (deed_has command.params names.table)
-    (deed_read command confirms names target deed e)
+    let m = form_meant command confirms names (Does target deed) e in
+    let r = asked_read m.found command.params command.body confirms names.table target deed m.asked_there in
+    let text : List ℕ = counted m.found.row.described command.body in
+    let row = row_is command names m.found m.means in
+    is_ok (HasDeed command.params command.body names.table) (deed_of r.connecting command.params text names.table) deed
+    (deed_has r.connecting command.params text command.body names.table
+    (row_counts command.verb m.found.row r.connecting command.body row r.purpose) r.together) r.read
+
+-- the row says what becomes of connections
+connected_as : (connecting : Connecting) (params : List Param) (remote : Option Session)
+    → IfOk (connected_by connecting params) (λ connections. connecting_in (with_remote remote connections) ≡ connecting)
+unfolding modification_of
+connected_as connecting params remote = search rules
+
+deed_as : (connecting : Connecting) (params : List Param) (text : List ℕ) (hosts : List Host)
+    → IfOk (deed_of connecting params text hosts) (λ deed. connecting_in deed.connections ≡ connecting)
+unfolding deed_of
+deed_as connecting params text hosts =
+    let P : Deed → Type 0 = λ deed. connecting_in deed.connections ≡ connecting in
+    on_placed P _ (entity_at hosts (param_at (codes "N") params)) _ (λ entity n.
+    on_placed P _ (said_at encoding_from (param_at (codes "B") params)) _ (λ encoding b.
+    on_ok P (connected_by connecting params) _ (λ connections c.
+    on_ok P (request_at (param_at (codes "X") params) params) _ (λ request e.
+    on_placed P _ (remote_of text) _ (λ remote r.
+    is_ok (λ made. connecting_in (with_remote remote made) ≡ connecting) (connected_by connecting params) connections
+    (connected_as connecting params remote) c)))))
+
+pub deed_of_row : (found : Meant) (params : List Param) (body : List ℕ) (confirms : KValue) (hosts : List Host) (target : Target) (deed : Deed)
+    → asked found params body confirms hosts ≡ Ok (Does target deed) → found.row.purpose ≡ ForDeed (connecting_in deed.connections)
+deed_of_row found params body confirms hosts target deed e =
+    let r = asked_read found params body confirms hosts target deed e in
+    let same : connecting_in deed.connections ≡ r.connecting =
+    is_ok (λ made. connecting_in made.connections ≡ r.connecting) (deed_of r.connecting params (counted found.row.described body) hosts) deed
+    (deed_as r.connecting params (counted found.row.described body) hosts) r.read in
+    r.purpose ∙ ap ForDeed (sym same)
 
 -- a verb that must have X requests something
+row_must : (verb : Verb) (row : VerbRow) → verb ≡ Rqnt → row_of verb ≡ Some row → row.must ≡ codes "X"
+row_must verb row is e = search rules
+
+lacks_none : (params : List Param) → missing_letter (codes "X") params ≡ None → has (codes "X") params ≡ true
+lacks_none params e = search rules
+
 has_identifier : (command : Command) (confirms : KValue) (names : Names) (target : Target) (deed : Deed) → command.verb ≡ Rqnt
-    → form_of command confirms names ≡ Ok (Does target deed) → is_some (param_at (codes "X") command.params) ≡ true
-unfolding form_of asked meant
-has_identifier command confirms names target deed verb e = search rules
+    → form_of command confirms names ≡ Ok (Does target deed) → has (codes "X") command.params ≡ true
+has_identifier command confirms names target deed verb e =
+    let m = form_meant command confirms names (Does target deed) e in
+    let must = row_must command.verb m.found.row verb (row_is command names m.found m.means) in
+    let whole = (has_passed m.found command.params command.body confirms names.table (Does target deed) m.asked_there).whole in
+    lacks_none command.params (subst (λ (letters : List ℕ). missing_letter letters command.params ≡ None) must whole)
 
 pub deed_requests : (command : Command) (confirms : KValue) (names : Names) (target : Target) (deed : Deed) → command.verb ≡ Rqnt
     → form_of command confirms names ≡ Ok (Does target deed) → is_some deed.request ≡ true
 deed_requests command confirms names target deed verb e =
     (deed_has_values command confirms names target deed e).there ∙ has_identifier command confirms names target deed verb e
+
+-- What may be asked of more than one line
+
+abbrev Takes : Wildcard → List Param → Target → Type 0
+Takes wildcard params (One line) = Unit {0}
+Takes wildcard params All = takes_all wildcard params ≡ true
+Takes wildcard params Any = takes_any wildcard ≡ true
+
+meant_takes : (command : Command) (names : Names) (found : Meant) → meant command names ≡ Ok found
+    → Takes found.row.wildcard command.params found.target
+unfolding meant
+meant_takes command names found e = search rules
+
+-- what rows say that take all lines, and any one
+abbrev AllOf : Purpose → List Param → Type 0
+AllOf ForReport params = is_empty (value_at (codes "F") params) ≡ true
+AllOf (ForDeed Keeps) params = Unit {0}
+AllOf (ForDeed Creates) params = ⊥
+AllOf (ForDeed Modifies) params = ⊥
+AllOf (ForDeed Deletes) params = not (has (codes "C") params || has (codes "I") params) ≡ true
+
+row_all : (verb : Verb) (row : VerbRow) (params : List Param) → row_of verb ≡ Some row → takes_all row.wildcard params ≡ true → AllOf row.purpose params
+row_all verb row params e takes = search rules
+
+row_any : (verb : Verb) (row : VerbRow) → row_of verb ≡ Some row → takes_any row.wildcard ≡ true → row.purpose ≡ ForDeed Creates
+row_any verb row e takes = search rules
+
+empty_is : (list : List ℕ) → is_empty list ≡ true → list ≡ []
+empty_is [] e = refl
+empty_is (b ∷ bs) e = absurd cc
+
+-- where neither C nor I stands there, all are deleted
+deletion_all : (params : List Param) → not (has (codes "C") params || has (codes "I") params) ≡ true → deletion_of params ≡ Ok deletions.All
+unfolding deletion_of
+deletion_all params none = search rules
+
+connected_all : (connecting : Connecting) (params : List Param) (remote : Option Session) → AllOf (ForDeed connecting) params
+    → IfOk (connected_by connecting params) (λ connections. may_connect_all (with_remote remote connections) ≡ true)
+connected_all Keeps params remote all = refl
+connected_all Creates params remote all = absurd all
+connected_all Modifies params remote all = absurd all
+connected_all Deletes params remote all = rw (deletion_all params all) refl
+
+deed_all : (connecting : Connecting) (params : List Param) (text : List ℕ) (hosts : List Host) → AllOf (ForDeed connecting) params
+    → IfOk (deed_of connecting params text hosts) (λ deed. may_connect_all deed.connections ≡ true)
+unfolding deed_of
+deed_all connecting params text hosts all =
+    let P : Deed → Type 0 = λ deed. may_connect_all deed.connections ≡ true in
+    on_placed P _ (entity_at hosts (param_at (codes "N") params)) _ (λ entity n.
+    on_placed P _ (said_at encoding_from (param_at (codes "B") params)) _ (λ encoding b.
+    on_ok P (connected_by connecting params) _ (λ connections c.
+    on_ok P (request_at (param_at (codes "X") params) params) _ (λ request e.
+    on_placed P _ (remote_of text) _ (λ remote r.
+    is_ok (λ made. may_connect_all (with_remote remote made) ≡ true) (connected_by connecting params) connections
+    (connected_all connecting params remote all) c)))))
+
+is_created : (connections : ConnectionDeed) → connecting_in connections ≡ Creates → may_connect_any connections ≡ true
+is_created deeds.Keep e = absurd cc
+is_created (deeds.Create creation) e = refl
+is_created (deeds.Modify call id change) e = absurd cc
+is_created (deeds.Delete deletion) e = absurd cc
+
+report_from : (purpose : Purpose) (within target : Target) (params : List Param) (text : List ℕ) (hosts : List Host) (audit : Audit)
+    → asked_for purpose within params text hosts ≡ Ok (Reports target audit) → (purpose ≡ ForReport) × (audit.items ≡ value_at (codes "F") params)
+report_from ForReport within target params text hosts audit e = (refl, search rules)
+report_from (ForDeed connecting) within target params text hosts audit e = search rules
+
+report_asked : (found : Meant) (params : List Param) (body : List ℕ) (confirms : KValue) (hosts : List Host) (target : Target) (audit : Audit)
+    → asked found params body confirms hosts ≡ Ok (Reports target audit) → (found.row.purpose ≡ ForReport) × (audit.items ≡ value_at (codes "F") params)
+report_asked found params body confirms hosts target audit e =
+    report_from found.row.purpose found.target target params (counted found.row.described body) hosts audit
+    (has_passed found params body confirms hosts (Reports target audit) e).reads
+
+pub audit_has_items : (command : Command) (confirms : KValue) (names : Names) (target : Target) (audit : Audit)
+    → form_of command confirms names ≡ Ok (Reports target audit) → audit.items ≡ value_at (codes "F") command.params
+audit_has_items command confirms names target audit e =
+    let m = form_meant command confirms names (Reports target audit) e in
+    (report_asked m.found command.params command.body confirms names.table target audit m.asked_there).1
+
+pub form_may_be : (command : Command) (confirms : KValue) (names : Names) (asks : Asks) → form_of command confirms names ≡ Ok asks → MayBeOf asks
+form_may_be command confirms names asks e =
+    let m = form_meant command confirms names asks e in
+    let same = same_target m.found command.params command.body confirms names.table asks m.asked_there in
+    by_asks m.found (row_is command names m.found m.means) asks
+    (subst (Takes m.found.row.wildcard command.params) (sym same) (meant_takes command names m.found m.means)) m.asked_there where
+      by_asks : (found : Meant) → row_of command.verb ≡ Some found.row → (asks : Asks) → Takes found.row.wildcard command.params (target_in asks)
+          → asked found command.params command.body confirms names.table ≡ Ok asks → MayBeOf asks
+      by_asks found row (Reports (One line) audit) takes read = tt
+      by_asks found row (Reports All audit) takes read =
+          let is = report_asked found command.params command.body confirms names.table All audit read in
+          empty_is audit.items (rw (is.1) (subst (λ (purpose : Purpose). AllOf purpose command.params) (is.0) (row_all command.verb found.row command.params row takes)))
+      by_asks found row (Reports Any audit) takes read =
+          let is = report_asked found command.params command.body confirms names.table Any audit read in
+          let no : ForReport ≡ ForDeed Creates = sym (is.0) ∙ row_any command.verb found.row row takes in
+          absurd cc
+      by_asks found row (Does (One line) deed) takes read = tt
+      by_asks found row (Does All deed) takes read =
+          let r = asked_read found command.params command.body confirms names.table All deed read in
+          let text : List ℕ = counted found.row.described command.body in
+          let all = subst (λ (purpose : Purpose). AllOf purpose command.params) (r.purpose) (row_all command.verb found.row command.params row takes) in
+          is_ok (λ made. may_connect_all made.connections ≡ true) (deed_of r.connecting command.params text names.table) deed
+          (deed_all r.connecting command.params text names.table all) r.read
+      by_asks found row (Does Any deed) takes read =
+          let is : ForDeed (connecting_in deed.connections) ≡ ForDeed Creates =
+          sym (deed_of_row found command.params command.body confirms names.table Any deed read) ∙ row_any command.verb found.row row takes in
+          is_created deed.connections cc

@@ -1,4 +1,6 @@
 pub mod StepLemmas
+pub mod RefusedLemmas
+pub mod OptionCodes
 pub mod ValueCodes
 pub mod CodeLemmas
 pub mod FormLemmas

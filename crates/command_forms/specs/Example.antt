@@ -1,9 +1,11 @@
 -- What the worked examples share.
 use Rattle.std.specs.Prelude.{ℕ, false, List, [], ◌∷◌, ◌++◌, codes, Option, Some, None, option_map, Result, Ok, Err}
 use Rattle.std.specs.declared.net.ipv4_addr.Ipv4Addr.{Ipv4Addr}
+use Rattle.mgcp_text.specs.declared.message.Param.{Param}
 use Rattle.mgcp_text.specs.Reading.{Outcome, message, no_header, bad_version, bad_body, read_text}
 use Rattle.mgcp_text.specs.Confirmation.{k_of}
 use Rattle.mgcp_text.specs.Message.{params_in}
+use Rattle.endpoint_names.specs.declared.entity.Entity.{Entity}
 use Rattle.endpoint_names.specs.declared.names.Names.{Names}
 use Rattle.mg_packages.specs.declared.signal.Signal.{Signal}
 use Rattle.digit_map.specs.declared.change.MapChange.{MapChange}
@@ -19,14 +21,30 @@ use Rattle.event_syntax.specs.declared.request.RequestedEvent.{RequestedEvent}
 use Rattle.event_syntax.specs.declared.request.Response.TheVariants.{Plain}
 use Rattle.event_syntax.specs.declared.signals.Setting.{Setting}
 use Rattle.event_syntax.specs.declared.signals.SignalRequest.{SignalRequest}
+use Rattle.sdp_subset.specs.declared.session.Session.{Session}
+use Rattle.connections.specs.declared.connection.Change.{Change}
+use Rattle.connections.specs.declared.connection.Creation.{Creation}
+use Rattle.connections.specs.declared.deletion.Deletion.{Deletion}
+use Rattle.connections.specs.declared.deletion.Deletion.TheVariants as deletions
+use Rattle.connections.specs.declared.mode.Mode.{Mode}
+use Rattle.connections.specs.declared.mode.Mode.TheVariants.{ReceiveOnly}
+use Rattle.connections.specs.declared.options.Options.{Options}
+use Rattle.connections.specs.Options.{no_options}
 use Rattle.command_forms.specs.declared.forms.Asks.{Asks}
 use Rattle.command_forms.specs.declared.forms.Asks.TheVariants.{Reports, Does}
+use Rattle.command_forms.specs.declared.forms.Audit.{Audit}
+use Rattle.command_forms.specs.declared.forms.ConnectionDeed.{ConnectionDeed}
+use Rattle.command_forms.specs.declared.forms.ConnectionDeed.TheVariants as deeds
 use Rattle.command_forms.specs.declared.forms.Deed.{Deed}
 use Rattle.command_forms.specs.declared.forms.RequestForm.{RequestForm}
 use Rattle.command_forms.specs.declared.forms.Target.{Target}
 use Rattle.command_forms.specs.declared.forms.Target.TheVariants.{One}
+use Rattle.command_forms.specs.declared.verbs.Connecting.TheVariants.{Keeps}
+use Rattle.command_forms.specs.declared.verbs.Purpose.TheVariants.{ForDeed}
+use Rattle.command_forms.specs.declared.verbs.VerbRow.{VerbRow}
+use Rattle.command_forms.specs.declared.verbs.Wildcard.TheVariants as wildcards
 use Rattle.command_forms.specs.Order.{form_in}
-use Rattle.command_forms.specs.Explaining.{refused_in, explanation_of}
+use Rattle.command_forms.specs.Explaining.{explained_in, explanation_of}
 
 -- 127.0.0.1
 abbrev pub local_host : Ipv4Addr
@@ -97,9 +115,13 @@ only identifier = record {
 abbrev pub does_on : Target → Deed → Reply
 does_on target deed = Some (Ok (Does target deed))
 
+-- a deed that changes nothing
+abbrev pub nothing : Deed
+nothing = record { entity = None; encoding = None; connections = deeds.Keep; request = None }
+
 -- this is requested of these lines
 abbrev pub requests : Target → RequestForm → Reply
-requests target request = does_on target (record { entity = None; request = Some request })
+requests target request = does_on target (record nothing { request = Some request })
 
 -- a request on these lines, with this identifier, and nothing more
 abbrev pub bare_request : Target → List ℕ → Reply
@@ -122,12 +144,18 @@ request_handling notifying quarantined = requests (One 1) (record (only (codes "
 abbrev pub request_changing : MapChange → Reply
 request_changing map = requests (One 1) (record (only (codes "1")) { map = map })
 
+-- this entity at 127.0.0.1 and this port
+abbrev pub local_entity : List ℕ → ℕ → Entity
+local_entity text port = record { text = text; address = record { ip = local_host; port = port } }
+
+-- the entity `ca` of the host that is known, at the port that is meant where none is said
+abbrev pub called_agent : Entity
+called_agent = local_entity (codes "ca@ca.example.net") 2727
+
 -- the request 1 on line 1, with this entity at 127.0.0.1 and this port
 abbrev pub request_with : List ℕ → ℕ → Reply
-request_with text port = does_on (One 1) (record {
-  entity = Some (record { text = text; address = record { ip = local_host; port = port } });
-  request = Some (only (codes "1"));
-})
+request_with text port =
+    does_on (One 1) (record nothing { entity = Some (local_entity text port); request = Some (only (codes "1")) })
 
 -- the request 1 on line 1, and nothing more
 abbrev pub taken : Reply
@@ -146,7 +174,7 @@ audit_of target items = Some (Ok (Reports target (record { items = items })))
 
 -- why a text is refused, where it is a message, as a line for people
 abbrev pub why_from : Outcome → Option (List ℕ)
-why_from (message said) = option_map explanation_of (refused_in said (k_of (params_in said)) gateway)
+why_from (message said) = option_map explanation_of (explained_in said (k_of (params_in said)) gateway)
 why_from no_header = None
 why_from (bad_version id) = None
 why_from (bad_body id) = None
@@ -160,3 +188,124 @@ why_request lines = why_on (codes "RQNT") (codes "aaln/1") lines
 
 abbrev pub why_audit : List ℕ → Option (List ℕ)
 why_audit lines = why_on (codes "AUEP") (codes "aaln/1") lines
+
+abbrev pub why_create : List ℕ → Option (List ℕ)
+why_create lines = why_on (codes "CRCX") (codes "aaln/1") lines
+
+abbrev pub why_modify : List ℕ → Option (List ℕ)
+why_modify lines = why_on (codes "MDCX") (codes "aaln/1") lines
+
+abbrev pub why_delete : List ℕ → Option (List ℕ)
+why_delete lines = why_on (codes "DLCX") (codes "aaln/1") lines
+
+-- The commands of connections
+
+-- a command of this verb on line 1
+abbrev pub configure : List ℕ → Reply
+configure lines = command_on (codes "EPCF") (codes "aaln/1") lines
+
+abbrev pub create : List ℕ → Reply
+create lines = command_on (codes "CRCX") (codes "aaln/1") lines
+
+abbrev pub modify : List ℕ → Reply
+modify lines = command_on (codes "MDCX") (codes "aaln/1") lines
+
+abbrev pub delete : List ℕ → Reply
+delete lines = command_on (codes "DLCX") (codes "aaln/1") lines
+
+-- the same, with what it must have before these lines
+abbrev pub create_with : List ℕ → Reply
+create_with lines = create (codes "C: 1A\r\nM: recvonly\r\n" ++ lines)
+
+abbrev pub modify_with : List ℕ → Reply
+modify_with lines = modify (codes "C: 1a\r\nI: 1\r\n" ++ lines)
+
+-- a description of a stream at port 4000, and what it describes
+abbrev pub described : List ℕ
+described = codes "\r\nv=0\r\nc=IN IP4 127.0.0.1\r\nm=audio 4000 RTP/AVP 18 8\r\n"
+
+abbrev pub session : Session
+session = record { origin = None; address = local_host; port = 4000; payloads = 18 ∷ 8 ∷ []; ptime = None }
+
+-- the same with these payload types
+abbrev pub offering : List ℕ → Session
+offering payloads = record session { payloads = payloads }
+
+-- this becomes of the connections of these lines
+abbrev pub connects_on : Target → ConnectionDeed → Reply
+connects_on target connections = does_on target (record nothing { connections = connections })
+
+abbrev pub connects : ConnectionDeed → Reply
+connects connections = connects_on (One 1) connections
+
+-- the creation of a connection of call 1A that only receives, and nothing more
+abbrev pub receiver : Creation
+receiver = record { call = codes "1A"; mode = ReceiveOnly; options = no_options; remote = None }
+
+abbrev pub creates : Creation → Reply
+creates creation = connects (deeds.Create creation)
+
+abbrev pub creates_in : Mode → Reply
+creates_in mode = creates (record receiver { mode = mode })
+
+abbrev pub creates_asking : Options → Reply
+creates_asking options = creates (record receiver { options = options })
+
+abbrev pub created : Reply
+created = creates receiver
+
+-- a change of the connection 1 of call 1a, which says nothing, or this
+abbrev pub no_change : Change
+no_change = record { mode = None; options = None; remote = None }
+
+abbrev pub modification : Change → ConnectionDeed
+modification change = deeds.Modify (codes "1a") (codes "1") change
+
+abbrev pub modifies : Change → Reply
+modifies change = connects (modification change)
+
+abbrev pub modified : Reply
+modified = modifies no_change
+
+abbrev pub deletes : Deletion → Reply
+deletes deletion = connects (deeds.Delete deletion)
+
+-- each deed with connections: none, one of each command, and the three deletions
+abbrev pub all_deeds : List ConnectionDeed
+all_deeds =
+    deeds.Keep ∷ deeds.Create receiver ∷ modification no_change ∷ deeds.Delete deletions.All
+    ∷ deeds.Delete (deletions.OfCall (codes "1A")) ∷ deeds.Delete (deletions.One (codes "1A") (codes "1")) ∷ []
+
+-- a deed with these connections, and nothing more
+abbrev pub connecting : ConnectionDeed → Deed
+connecting connections = record nothing { connections = connections }
+
+-- an audit that asks for these items
+abbrev pub asking_for : List ℕ → Audit
+asking_for items = record { items = items }
+
+-- a parameter
+abbrev pub param : List ℕ → List ℕ → Param
+param code value = record { code = code; value = value }
+
+-- what stands in a command of call 1A with the mode recvonly, in one of its connection 1, and in one of the call alone
+abbrev pub of_creation : List Param
+of_creation = param (codes "c") (codes "1A") ∷ param (codes "M") (codes "recvonly") ∷ []
+
+abbrev pub of_connection : List Param
+of_connection = param (codes "C") (codes "1a") ∷ param (codes "I") (codes "1") ∷ []
+
+abbrev pub of_call : List Param
+of_call = param (codes "C") (codes "1A") ∷ []
+
+-- I without C
+abbrev pub connection_alone : List Param
+connection_alone = (record { code = codes "I"; value = codes "1" }) ∷ []
+
+-- an F, and a row whose commands have X alone
+abbrev pub items_alone : List Param
+items_alone = (record { code = codes "F"; value = codes "ES" }) ∷ []
+
+abbrev pub of_identifier : VerbRow
+of_identifier =
+    record { must = codes "X"; may = []; wildcard = wildcards.Never; described = false; purpose = ForDeed Keeps }

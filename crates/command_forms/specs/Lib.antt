@@ -1,8 +1,10 @@
 pub mod Command
+pub mod Refusing
 pub mod Verbs
 pub mod Params
 pub mod Meaning
 pub mod Values
+pub mod Deeds
 pub mod Order
 pub mod Explaining
 pub mod Codes

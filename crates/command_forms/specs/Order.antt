@@ -1,51 +1,90 @@
 -- What a command asks for, and the order in which it is checked: the first fault gives the return code (RFC 3435, 2.4;
 -- the order is this gateway's profile).
-use Rattle.std.specs.Prelude.{ℕ, codes, List, [], ◌∷◌, Result, Ok}
+use Rattle.std.specs.Prelude.{ℕ, Bool, true, false, ◌||◌, not, codes, List, [], ◌∷◌, Option, option_map, Result, Ok}
 use Rattle.mg_bytes.specs.Checks.{unless, first_fault, checked, given}
 use Rattle.mgcp_text.specs.declared.message.Param.{Param}
 use Rattle.mgcp_text.specs.declared.message.Message.{Message}
 use Rattle.mgcp_text.specs.declared.confirmation.KValue.{KValue}
 use Rattle.endpoint_names.specs.declared.names.Names.{Names}
 use Rattle.endpoint_names.specs.declared.table.Host.{Host}
-use Rattle.event_syntax.specs.Faults.{◌>>=◌}
 use Rattle.command_forms.specs.declared.forms.Asks.{Asks}
 use Rattle.command_forms.specs.declared.forms.Asks.TheVariants.{Reports, Does}
 use Rattle.command_forms.specs.declared.forms.Audit.{Audit}
 use Rattle.command_forms.specs.declared.forms.Target.{Target}
+use Rattle.command_forms.specs.declared.refused.Place.TheVariants.{Verb, Value}
+use Rattle.command_forms.specs.declared.refused.Refused.{Refused}
+use Rattle.command_forms.specs.declared.verbs.Connecting.TheVariants.{Keeps, Creates, Modifies, Deletes}
 use Rattle.command_forms.specs.declared.verbs.Meant.{Meant}
 use Rattle.command_forms.specs.declared.verbs.Purpose.{Purpose}
 use Rattle.command_forms.specs.declared.verbs.Purpose.TheVariants.{ForReport, ForDeed}
+use Rattle.command_forms.specs.declared.verbs.VerbRow.{VerbRow}
 use Rattle.command_forms.specs.Command.{Command, command_in}
+use Rattle.command_forms.specs.Refusing.{letter_c, letter_k, letter_x, refusal, absence, coded, ◌>>=◌}
 use Rattle.command_forms.specs.Meaning.{meant}
-use Rattle.command_forms.specs.Params.{params_fault, has_all, value_at}
-use Rattle.command_forms.specs.Values.{is_readable, deed_of}
+use Rattle.command_forms.specs.Params.{params_fault, missing_letter, has, has_none, value_at}
+use Rattle.command_forms.specs.Values.{is_readable}
+use Rattle.command_forms.specs.Deeds.{deed_of}
 
 -- what is to be reported: the items of F (RFC 3435, 2.3.10)
 abbrev pub audit_of : List Param → Audit
 audit_of params = record { items = value_at (codes "F") params }
 
--- what these parameters ask of these lines
-abbrev pub asked_for : Purpose → Target → List Param → List Host → Result Asks ℕ
-asked_for ForReport target params hosts = Ok (Reports target (audit_of params))
-asked_for ForDeed target params hosts = deed_of params hosts >>= λ deed. Ok (Does target deed)
+-- a connection that is to be deleted is named together with its call (RFC 3435, 2.3.7)
+abbrev pub names_call : Purpose → List Param → Bool
+names_call ForReport params = true
+names_call (ForDeed Keeps) params = true
+names_call (ForDeed Creates) params = true
+names_call (ForDeed Modifies) params = true
+names_call (ForDeed Deletes) params = has (codes "C") params || not (has (codes "I") params)
+
+-- R, S, D, T and Q are of a request, and stand where its X does (RFC 3435, 2.3.3 and 2.3.5)
+abbrev pub are_requested : List Param → Bool
+are_requested params = has (codes "X") params || has_none (codes "RSDTQ") params
+
+-- the letter of the first parameter that is missing: one that the verb must have, C beside I, X beside what is requested
+unfoldable pub absent_letter : VerbRow → List Param → Option ℕ
+absent_letter row params = first_fault
+    (missing_letter row.must params
+    ∷ unless (names_call row.purpose params) letter_c
+    ∷ unless (are_requested params) letter_x
+    ∷ [])
+
+-- the text behind the parameters, where descriptions count; else it is ignored
+abbrev pub counted : Bool → List ℕ → List ℕ
+counted false body = []
+counted true body = body
+
+-- what these parameters and this text ask of these lines
+abbrev pub asked_for : Purpose → Target → List Param → List ℕ → List Host → Result Asks Refused
+asked_for ForReport target params text hosts = Ok (Reports target (audit_of params))
+asked_for (ForDeed connecting) target params text hosts =
+    deed_of connecting params text hosts >>= λ deed. Ok (Does target deed)
 
 -- What a command asks for whose verb and name mean this. The faults are in this order: those of the parameters from
--- top to bottom, one that is missing, and then those of the values, wherever their lines stand, K first
-unfoldable pub asked : Meant → List Param → KValue → List Host → Result Asks ℕ
-asked found params confirms hosts =
+-- top to bottom, one that is missing: 510 (protocol error), and then those of the values, wherever their lines stand, K
+-- first, and of the description
+unfoldable pub asked : Meant → List Param → List ℕ → KValue → List Host → Result Asks Refused
+asked found params body confirms hosts =
     checked (first_fault
-    (params_fault found.row [] params
-    ∷ unless (has_all found.row.must params) 510
-    ∷ unless (is_readable confirms) 510
+    (params_fault found.row 1 [] params
+    ∷ option_map absence (absent_letter found.row params)
+    ∷ unless (is_readable confirms) (refusal (Value letter_k) 510)
     ∷ []))
-    (asked_for found.row.purpose found.target params hosts)
+    (asked_for found.row.purpose found.target params (counted found.row.described body) hosts)
 
--- what a command asks for, whose K was read before: the verb and the name are judged first
-unfoldable pub form_of : Command → KValue → Names → Result Asks ℕ
-form_of command confirms names = do
+-- what a command asks for, whose K was read before, or what it is refused for: the verb and the name are judged first
+unfoldable pub judged : Command → KValue → Names → Result Asks Refused
+judged command confirms names = do
   found ← meant command names
-  asked found command.params confirms names.table
+  asked found command.params command.body confirms names.table
 
--- what a message asks for: one that is no command has no verb that is served
+-- the same of a message: one that is no command has no verb that is served
+abbrev pub judged_in : Message → KValue → Names → Result Asks Refused
+judged_in message confirms names = given (command_in message) (refusal Verb 504) (λ command. judged command confirms names)
+
+-- what a command asks for, or the return code of its first fault
+unfoldable pub form_of : Command → KValue → Names → Result Asks ℕ
+form_of command confirms names = coded (judged command confirms names)
+
 abbrev pub form_in : Message → KValue → Names → Result Asks ℕ
 form_in message confirms names = given (command_in message) 504 (λ command. form_of command confirms names)

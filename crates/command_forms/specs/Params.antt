@@ -1,12 +1,15 @@
 -- The parameters of a command, each by its code (RFC 3435, 3.2.2; the order of the checks is this gateway's profile).
-use Rattle.std.specs.Prelude.{ℕ, Bool, false, ◌&&◌, ◌||◌, ◌==◌, not, codes, List, [], ◌∷◌, ◌++◌, Option, Some, None, is_some, is_none}
+use Rattle.std.specs.Prelude.{ℕ, ◌+◌, Bool, false, ◌&&◌, ◌||◌, ◌==◌, not, codes, List, [], ◌∷◌, ◌++◌, find, Option, Some, None, is_some, is_none}
 use Rattle.std.specs.List.{list_any, list_all}
 use Rattle.mg_bytes.specs.Bytes.{plus, hyphen, slash}
 use Rattle.mg_bytes.specs.Case.{same_but_case}
 use Rattle.mg_bytes.specs.Checks.{unless, first_fault}
 use Rattle.mgcp_text.specs.declared.message.Param.{Param}
 use Rattle.mgcp_text.specs.Message.{param_at}
+use Rattle.command_forms.specs.declared.refused.Place.TheVariants.{Line}
+use Rattle.command_forms.specs.declared.refused.Refused.{Refused}
 use Rattle.command_forms.specs.declared.verbs.VerbRow.{VerbRow}
+use Rattle.command_forms.specs.Refusing.{fault_at}
 
 abbrev pub is_slash : ℕ → Bool
 is_slash b = b == slash
@@ -42,15 +45,25 @@ param_fault row before param = first_fault
     ∷ unless (is_ignored param.code || is_none (param_at param.code before)) 510
     ∷ [])
 
--- the first fault of the parameters, from top to bottom
-unfoldable pub params_fault : VerbRow → List Param → List Param → Option ℕ
-params_fault row before [] = None
-params_fault row before (param ∷ params) =
-    first_fault (param_fault row before param ∷ params_fault row (before ++ param ∷ []) params ∷ [])
+-- the first parameter line at fault, from top to bottom; the first of these has this number
+unfoldable pub params_fault : VerbRow → ℕ → List Param → List Param → Option Refused
+params_fault row number before [] = None
+params_fault row number before (param ∷ params) = first_fault
+    (fault_at (Line number) (param_fault row before param)
+    ∷ params_fault row (number + 1) (before ++ param ∷ []) params
+    ∷ [])
 
--- a parameter with each of these letters stands there
-abbrev pub has_all : List ℕ → List Param → Bool
-has_all letters params = list_all (λ letter. is_some (param_at (letter ∷ []) params)) letters
+-- a parameter with this code stands there
+abbrev pub has : List ℕ → List Param → Bool
+has code params = is_some (param_at code params)
+
+-- the first of these letters with which none stands there
+abbrev pub missing_letter : List ℕ → List Param → Option ℕ
+missing_letter letters params = find (λ letter. not (has (letter ∷ []) params)) letters
+
+-- none with one of these letters stands there
+abbrev pub has_none : List ℕ → List Param → Bool
+has_none letters params = list_all (λ letter. not (has (letter ∷ []) params)) letters
 
 abbrev pub value_in : Option Param → List ℕ
 value_in None = []

@@ -1,14 +1,20 @@
--- The values of a command's parameters: what each says, or the code of its fault (RFC 3435, 3.2.2).
-use Rattle.std.specs.Prelude.{ℕ, Bool, true, false, codes, List, Option, Some, None, option_map, Result, Ok, Err}
+-- The values of a command's parameters, and its description: what each says, or the code of its fault (RFC 3435, 3.2.2
+-- and 3.4).
+use Rattle.std.specs.Prelude.{ℕ, Bool, true, false, List, [], ◌∷◌, Option, Some, None, option_map, Result, Ok, Err}
 use Rattle.std.specs.Option.{ok_or}
 use Rattle.mg_bytes.specs.Numbers.{identifier_of}
 use Rattle.mgcp_text.specs.declared.message.Param.{Param}
 use Rattle.mgcp_text.specs.declared.confirmation.KValue.{KValue}
 use Rattle.mgcp_text.specs.declared.confirmation.KValue.TheVariants.{Absent, Unreadable, Items}
-use Rattle.mgcp_text.specs.Message.{param_at}
 use Rattle.endpoint_names.specs.declared.table.Host.{Host}
 use Rattle.endpoint_names.specs.declared.entity.Entity.{Entity}
 use Rattle.endpoint_names.specs.Entity.{entity_of}
+use Rattle.sdp_subset.specs.declared.session.Session.{Session}
+use Rattle.sdp_subset.specs.Reading.{session_of}
+use Rattle.connections.specs.declared.codec.Encoding.{Encoding}
+use Rattle.connections.specs.declared.mode.Mode.{Mode}
+use Rattle.connections.specs.Codecs.{encoding_named}
+use Rattle.connections.specs.Modes.{mode_named}
 use Rattle.digit_map.specs.declared.change.MapChange.{MapChange}
 use Rattle.digit_map.specs.declared.fault.MapFault.{MapFault}
 use Rattle.digit_map.specs.declared.fault.MapFault.TheVariants.{OutOfMemory, Syntax, TooLarge}
@@ -18,12 +24,6 @@ use Rattle.event_syntax.specs.declared.handling.Notifying.TheVariants.{Step}
 use Rattle.event_syntax.specs.declared.handling.Quarantined.TheVariants.{Process}
 use Rattle.event_syntax.specs.Faults.{◌>>=◌}
 use Rattle.event_syntax.specs.Handling.{handling_of}
-use Rattle.event_syntax.specs.Requested.{requested_of}
-use Rattle.event_syntax.specs.Detect.{detected_of}
-use Rattle.event_syntax.specs.Signals.{signals_of}
-use Rattle.command_forms.specs.declared.forms.Deed.{Deed}
-use Rattle.command_forms.specs.declared.forms.RequestForm.{RequestForm}
-use Rattle.command_forms.specs.Params.{value_at}
 
 -- K, what is confirmed (RFC 3435, 3.2.2.1): whether it can be read
 abbrev pub is_readable : KValue → Bool
@@ -31,14 +31,27 @@ is_readable Absent = true
 is_readable Unreadable = false
 is_readable (Items ranges) = true
 
+-- what a parameter says, where it stands there
+abbrev pub said_at : {A : Type 0} → (List ℕ → Result A ℕ) → Option Param → Result (Option A) ℕ
+said_at read None = Ok None
+said_at read (Some param) = read param.value >>= λ said. Ok (Some said)
+
 -- N, the entity that is to be notified, where one is said (RFC 3435, 2.1.4 and 2.3.3)
 abbrev pub entity_at : List Host → Option Param → Result (Option Entity) ℕ
-entity_at hosts None = Ok None
-entity_at hosts (Some param) = ok_or (entity_of hosts param.value) 539 >>= λ entity. Ok (Some entity)
+entity_at hosts param = said_at (λ value. ok_or (entity_of hosts value) 539) param
 
--- X, the identifier of a request: 1 to 32 hexadecimal digits (RFC 3435, 2.3.3 and appendix A)
+-- B, the encoding of a line (RFC 3435, 2.3.2 and 3.2.2)
+abbrev pub encoding_from : List ℕ → Result Encoding ℕ
+encoding_from value = ok_or (encoding_named value) 539
+
+-- C, I and X, the identifiers of a call, a connection and a request: 1 to 32 hexadecimal digits (RFC 3435, 2.1.3, 2.3.3
+-- and appendix A)
 abbrev pub identifier_from : List ℕ → Result (List ℕ) ℕ
 identifier_from value = ok_or (identifier_of value) 510
+
+-- M, the mode of a connection (RFC 3435, 2.3.5 and 3.2.2)
+abbrev pub mode_from : List ℕ → Result Mode ℕ
+mode_from value = ok_or (mode_named value) 517
 
 -- Q, how quarantined events are handled (RFC 3435, 2.3.3 and 4.4.1); absent it is `step` and `process`, and an empty one
 -- is a fault
@@ -57,32 +70,7 @@ map_read (Err OutOfMemory) = Err 510
 abbrev pub change_at : Option Param → Result MapChange ℕ
 change_at param = map_read (change_of (option_map (λ found. found.value) param))
 
--- what is requested with this identifier, by Q, D, R, T and S in this order; absent, R, T and S are empty lists
-unfoldable pub request_of : List ℕ → List Param → Result RequestForm ℕ
-request_of value params = do
-  identifier ← identifier_from value
-  handling ← handling_at (param_at (codes "Q") params)
-  map ← change_at (param_at (codes "D") params)
-  requested ← requested_of (value_at (codes "R") params)
-  detected ← detected_of (value_at (codes "T") params)
-  signals ← signals_of (value_at (codes "S") params)
-  Ok (record {
-    identifier = identifier;
-    requested = requested;
-    detected = detected;
-    signals = signals;
-    handling = handling;
-    map = map;
-  })
-
--- a request stands in a command exactly where X does (RFC 3435, 2.3.3)
-abbrev pub request_at : Option Param → List Param → Result (Option RequestForm) ℕ
-request_at None params = Ok None
-request_at (Some param) params = request_of param.value params >>= λ request. Ok (Some request)
-
--- what is to be done on a line, by N first
-unfoldable pub deed_of : List Param → List Host → Result Deed ℕ
-deed_of params hosts = do
-  entity ← entity_at hosts (param_at (codes "N") params)
-  request ← request_at (param_at (codes "X") params) params
-  Ok (record { entity = entity; request = request })
+-- the description of the remote end, where there is a text (RFC 3435, 2.3.5 and 3.4)
+abbrev pub remote_of : List ℕ → Result (Option Session) ℕ
+remote_of [] = Ok None
+remote_of (b ∷ bs) = ok_or (session_of (b ∷ bs)) 509 >>= λ session. Ok (Some session)

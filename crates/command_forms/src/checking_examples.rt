@@ -5,32 +5,30 @@
 ghost use Rattle.std.specs.Prelude.{◌≡◌, codes, [], ◌∷◌, Some, Err, true, false};
 ghost use Rattle.mgcp_text.specs.declared.message.Param.{Param};
 ghost use Rattle.digit_map.specs.declared.fault.MapFault.TheVariants.{OutOfMemory};
-ghost use Rattle.command_forms.specs.declared.verbs.AllLines.TheVariants.{Always, WithoutItems};
-ghost use Rattle.command_forms.specs.declared.verbs.Purpose.TheVariants.{ForDeed};
+ghost use Rattle.command_forms.specs.declared.verbs.Wildcard.TheVariants as wildcards;
 ghost use Rattle.command_forms.specs.Meaning.{takes_all};
 ghost use Rattle.command_forms.specs.Params.{is_critical, is_ignored, param_fault};
 ghost use Rattle.command_forms.specs.Values.{map_read};
-ghost use Rattle.command_forms.specs.Example.{request_on, refused};
+ghost use Rattle.command_forms.specs.Example.{request_on, refused, items_alone, of_identifier};
 
 /// Only where its row asks that no items stand there may F keep a command from all lines: a request with F is for all
 /// lines, and F isn't its own.
 pub fn items_matter_to_audits_alone()
     ensures request { request_on (codes "*") (codes "X: A2\r\nF: ES\r\n") ≡ refused 539 }
-    ensures always { takes_all Always ((record { code = codes "F"; value = codes "ES" }) ∷ []) ≡ true }
-    ensures without_items { takes_all WithoutItems ((record { code = codes "F"; value = codes "ES" }) ∷ []) ≡ false }
+    ensures never { takes_all wildcards.Never [] ≡ false }
+    ensures all { takes_all wildcards.All items_alone ≡ true }
+    ensures without_items { takes_all wildcards.AllWithoutItems items_alone ≡ false }
+    ensures any { takes_all wildcards.Any [] ≡ false }
 {}
 
 /// Of one parameter the first of 511, 539 and 510 counts.
 pub fn a_parameter_is_checked_in_order()
     ensures critical_again { let again : Param = record { code = codes "X+Y"; value = [] } in
-        param_fault (record { must = codes "X"; may = []; all_lines = Always; purpose = ForDeed }) (again ∷ []) again
-        ≡ Some 511 }
+        param_fault of_identifier (again ∷ []) again ≡ Some 511 }
     ensures foreign_again { let again : Param = record { code = codes "M"; value = [] } in
-        param_fault (record { must = codes "X"; may = []; all_lines = Always; purpose = ForDeed }) (again ∷ []) again
-        ≡ Some 539 }
+        param_fault of_identifier (again ∷ []) again ≡ Some 539 }
     ensures own_again { let again : Param = record { code = codes "X"; value = [] } in
-        param_fault (record { must = codes "X"; may = []; all_lines = Always; purpose = ForDeed }) (again ∷ []) again
-        ≡ Some 510 }
+        param_fault of_identifier (again ∷ []) again ≡ Some 510 }
 {}
 
 /// A code without a byte, or of one, begins no extension.

@@ -1,7 +1,7 @@
 //! Worked examples of the definitions, as theorems: each sentence of a definition has one that a slip in it breaks.
 #![tactic(auto, unfolding(crate::proofs::Computing::on_examples))]
 
-ghost use Rattle.std.specs.Prelude.{◌≡◌, ◌++◌, true, false, codes, replicate, [], ◌∷◌, Some, None, Ok, Err};
+ghost use Rattle.std.specs.Prelude.{◌≡◌, ◌++◌, true, false, codes, replicate, [], ◌∷◌, Some, Ok, Err};
 ghost use Rattle.std.specs.List.{repeat};
 ghost use Rattle.mgcp_text.specs.declared.message.Message.TheVariants as messages;
 ghost use Rattle.mgcp_text.specs.declared.message.Verb.TheVariants.{Auep};
@@ -15,15 +15,20 @@ ghost use Rattle.event_syntax.specs.declared.request.Action.TheVariants.{Notify,
 ghost use Rattle.event_syntax.specs.declared.signals.Setting.TheVariants.{Start, Stop, Lasting};
 ghost use Rattle.event_syntax.specs.Ranges.{letters_in};
 ghost use Rattle.mgcp_text.specs.declared.confirmation.KValue.TheVariants.{Absent, Unreadable};
+ghost use Rattle.connections.specs.declared.codec.Encoding.TheVariants.{Mu};
 ghost use Rattle.command_forms.specs.declared.forms.Target.TheVariants as targets;
+ghost use Rattle.command_forms.specs.declared.refused.Place.TheVariants as places;
+ghost use Rattle.command_forms.specs.declared.verbs.Connecting.TheVariants.{Keeps};
+ghost use Rattle.command_forms.specs.Refusing.{refusal};
 ghost use Rattle.command_forms.specs.Meaning.{is_for, meant_in};
-ghost use Rattle.command_forms.specs.Values.{change_at, deed_of};
+ghost use Rattle.command_forms.specs.Values.{change_at};
+ghost use Rattle.command_forms.specs.Deeds.{deed_of};
 ghost use Rattle.command_forms.specs.Order.{form_in};
 ghost use Rattle.command_forms.specs.Example.{gateway, reply_to, command_on, request_on, audit_on, request, audit, refused, bare_request, request_for, request_with, taken, asks, audit_of};
-ghost use Rattle.command_forms.specs.Example.{requests, request_at, request_meanwhile, request_handling, request_changing, handled, does};
+ghost use Rattle.command_forms.specs.Example.{nothing, does_on, only, requests, request_at, request_meanwhile, request_handling, request_changing, handled, does};
 
-/// A request has an identifier as it was given, and may have signals and an entity. What follows the parameters is
-/// ignored. A command without an identifier requests nothing.
+/// A request has an identifier as it was given, and may have signals, an entity and an encoding. What follows the
+/// parameters is ignored. A command without an identifier requests nothing.
 pub fn requests_are_read()
     ensures identifier { request (codes "X: 1\r\n") ≡ taken }
     ensures as_given { request (codes "X: 0a0F\r\n") ≡ bare_request (targets.One 1) (codes "0a0F") }
@@ -35,7 +40,10 @@ pub fn requests_are_read()
     ensures confirming { request (codes "K: 7-9, 12\r\nX: 1\r\n") ≡ taken }
     ensures confirming_none { request (codes "X: 1\r\nK:\r\n") ≡ taken }
     ensures description { request (codes "X: 1\r\n\r\nX+Y: 1\r\n") ≡ taken }
-    ensures without { deed_of [] [] ≡ Ok (record { entity = None; request = None }) }
+    ensures faulty_description { request (codes "X: 1\r\n\r\nv=1\r\n") ≡ taken }
+    ensures encoding { request (codes "X: 1\r\nB: e:mu\r\n")
+        ≡ does_on (targets.One 1) (record nothing { encoding = Some Mu; request = Some (only (codes "1")) }) }
+    ensures without { deed_of Keeps [] [] [] ≡ Ok nothing }
     ensures lower_case { command_on (codes "rqnt") (codes "AALN/1") (codes "x: 1\r\nk: 1\r\ns:\r\n") ≡ taken }
 {}
 
@@ -72,6 +80,7 @@ pub fn audits_are_read()
     ensures bare { audit [] ≡ audit_of (targets.One 1) [] }
     ensures items { audit (codes "F: es , X\r\n") ≡ audit_of (targets.One 1) (codes "es , X") }
     ensures no_items { audit (codes "F:\r\n") ≡ audit_of (targets.One 1) [] }
+    ensures description { audit (codes "F: ES\r\n\r\nv=1\r\n") ≡ audit_of (targets.One 1) (codes "ES") }
     ensures confirming { audit (codes "K: 1\r\nf: ES\r\n") ≡ audit_of (targets.One 1) (codes "ES") }
     ensures last_line { audit_on (codes "aaln/16") [] ≡ audit_of (targets.One 16) [] }
 {}
@@ -79,15 +88,11 @@ pub fn audits_are_read()
 /// The verbs without a row are 504, and so is a message that is no command.
 pub fn other_verbs_are_not_served()
     ensures ntfy { command_on (codes "NTFY") (codes "aaln/1") (codes "X: 1\r\n") ≡ refused 504 }
-    ensures epcf { command_on (codes "EPCF") (codes "aaln/1") [] ≡ refused 504 }
-    ensures crcx { command_on (codes "CRCX") (codes "aaln/1") [] ≡ refused 504 }
-    ensures mdcx { command_on (codes "MDCX") (codes "aaln/1") [] ≡ refused 504 }
-    ensures dlcx { command_on (codes "DLCX") (codes "aaln/1") [] ≡ refused 504 }
     ensures aucx { command_on (codes "AUCX") (codes "aaln/1") [] ≡ refused 504 }
     ensures rsip { command_on (codes "RSIP") (codes "aaln/1") [] ≡ refused 504 }
     ensures unknown { command_on (codes "PING") (codes "aaln/1") [] ≡ refused 504 }
     ensures response { form_in (messages.Response 200 2001 [] []) Absent gateway ≡ Err 504 }
-    ensures response_means_nothing { meant_in (messages.Response 200 2001 [] []) gateway ≡ Err 504 }
+    ensures response_means_nothing { meant_in (messages.Response 200 2001 [] []) gateway ≡ Err (refusal places.Verb 504) }
 {}
 
 /// A name that no endpoint has is 500; a wildcard in another place is 503.
@@ -100,7 +105,7 @@ pub fn names_are_of_endpoints()
     ensures audit_complicated { audit_on (codes "*/aaln") [] ≡ refused 503 }
 {}
 
-/// A request may be on all lines; an audit may where it asks for no items. Nothing may be on any one line.
+/// A request may be on all lines; an audit may where it asks for no items. Neither may be on any one line.
 pub fn some_names_may_mean_all_lines()
     ensures request_all { request_on (codes "*") (codes "X: A2\r\n") ≡ bare_request targets.All (codes "A2") }
     ensures request_after { request_on (codes "aaln/*") (codes "X: A2\r\n") ≡ bare_request targets.All (codes "A2") }
@@ -117,13 +122,15 @@ pub fn some_names_may_mean_all_lines()
     ensures first_full { audit_on (codes "*") (codes "F: ES\r\nF:\r\n") ≡ refused 503 }
 {}
 
-/// A command for one line is for that line and no other; one for all lines is for each.
+/// A command for one line is for that line and no other; one for all lines is for each; one for any one line is for none
+/// before it is chosen.
 pub fn a_target_is_for_its_lines()
     ensures one { is_for (targets.One 2) 2 ≡ true }
     ensures lesser { is_for (targets.One 2) 1 ≡ false }
     ensures greater { is_for (targets.One 2) 3 ≡ false }
     ensures first { is_for targets.All 1 ≡ true }
     ensures last { is_for targets.All 16 ≡ true }
+    ensures any { is_for targets.Any 1 ≡ false }
 {}
 
 /// An extension `X+..` or with a `/` isn't understood, and `X-..` is ignored, both in either case.
@@ -145,15 +152,17 @@ pub fn extensions_begin_with_x()
     ensures no_identifier { request (codes "X-: 1\r\n") ≡ refused 510 }
 {}
 
-/// A request must have X and may have N, R, S, D, T, Q and K; an audit may have F and K.
+/// A request must have X and may have N, B, R, S, D, T, Q and K; an audit may have F and K.
 pub fn verbs_have_codes()
     ensures missing { request [] ≡ refused 510 }
     ensures missing_with_others { request (codes "S: L/rg\r\nK: 1\r\n") ≡ refused 510 }
     ensures missing_with_events { request (codes "R:\r\nT:\r\n") ≡ refused 510 }
     ensures missing_with_handling { request (codes "Q: step\r\n") ≡ refused 510 }
     ensures missing_with_map { request (codes "D:\r\n") ≡ refused 510 }
-    ensures encoding { request (codes "X: 1\r\nB: e:mu\r\n") ≡ refused 539 }
     ensures foreign { request (codes "X: 1\r\nM: x\r\n") ≡ refused 539 }
+    ensures call { request (codes "X: 1\r\nC: 1\r\n") ≡ refused 539 }
+    ensures connection { request (codes "X: 1\r\nI: 1\r\n") ≡ refused 539 }
+    ensures options { request (codes "X: 1\r\nL: p:20\r\n") ≡ refused 539 }
     ensures items { request (codes "X: 1\r\nF: ES\r\n") ≡ refused 539 }
     ensures longer { request (codes "X: 1\r\nSS: L/rg\r\n") ≡ refused 539 }
     ensures audit_identifier { audit (codes "X: 1\r\n") ≡ refused 539 }
@@ -164,6 +173,10 @@ pub fn verbs_have_codes()
     ensures audit_handling { audit (codes "Q: step\r\n") ≡ refused 539 }
     ensures audit_map { audit (codes "D:\r\n") ≡ refused 539 }
     ensures audit_foreign { audit (codes "M: x\r\n") ≡ refused 539 }
+    ensures audit_encoding { audit (codes "B: e:mu\r\n") ≡ refused 539 }
+    ensures audit_call { audit (codes "C: 1\r\n") ≡ refused 539 }
+    ensures audit_connection { audit (codes "I: 1\r\n") ≡ refused 539 }
+    ensures audit_options { audit (codes "L: p:20\r\n") ≡ refused 539 }
 {}
 
 /// A code may stand once, in whatever case.
@@ -255,7 +268,7 @@ pub fn the_first_faulty_line_counts()
     ensures foreign_before_second { request (codes "X: 1\r\nM: x\r\nX: 1\r\n") ≡ refused 539 }
 {}
 
-/// The values are judged in the order K, N, X, Q, D, R, T, S, wherever their lines stand.
+/// The values of a request are judged in the order K, N, B, X, Q, D, R, T, S, wherever their lines stand.
 pub fn values_are_judged_in_order()
     ensures k_before_n { request (codes "X: 1\r\nN: x\r\nK: x\r\n") ≡ refused 510 }
     ensures k_above_n { request (codes "K: x\r\nN: x\r\nX: 1\r\n") ≡ refused 510 }
@@ -263,6 +276,8 @@ pub fn values_are_judged_in_order()
     ensures n_before_x { request (codes "X: g\r\nN: x\r\n") ≡ refused 539 }
     ensures n_above_x { request (codes "N: x\r\nX: g\r\n") ≡ refused 539 }
     ensures n_before_s { request (codes "S: Q/a\r\nX: 1\r\nN: x\r\n") ≡ refused 539 }
+    ensures b_before_x { request (codes "X: g\r\nB: x\r\n") ≡ refused 539 }
+    ensures k_before_b { request (codes "B: x\r\nK: x\r\nX: 1\r\n") ≡ refused 510 }
     ensures x_before_s { request (codes "S: Q/a\r\nX: g\r\n") ≡ refused 510 }
     ensures x_above_s { request (codes "X: g\r\nS: Q/a\r\n") ≡ refused 510 }
     ensures k_before_q { request (codes "Q: fast\r\nX: 1\r\nK: x\r\n") ≡ refused 510 }

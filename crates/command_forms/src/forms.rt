@@ -2,6 +2,7 @@
 ghost use Rattle.std.specs.Prelude.{◌≡◌};
 ghost use Rattle.command_forms.specs.Meaning.{is_for};
 
+use connections::{Change, Creation, Deletion, Encoding};
 use digit_map::MapChange;
 use endpoint_names::Entity;
 use event_syntax::{DetectedEvents, Handling, RequestedEvents, SignalRequests};
@@ -15,16 +16,20 @@ pub enum Target {
     One(u16),
     /// All lines.
     All,
+    /// Any one line, which the gateway chooses.
+    Any,
 }
 
 impl Target {
-    /// Whether the line with this number is among them.
+    /// Whether the line with this number is among them. What is for any one line names none: it is for the line that is
+    /// chosen.
     pub fn is_for(self, line: u16) -> bool
         ensures { result ≡ is_for self line }
     {
         match self {
             Target::One(number) => number == line,
             Target::All => true,
+            Target::Any => false,
         }
     }
 }
@@ -53,11 +58,32 @@ pub struct RequestForm {
     pub map: MapChange,
 }
 
+/// What becomes of the connections of a line.
+#[derive(Drop)]
+pub enum ConnectionDeed {
+    /// They stay as they are: EndpointConfiguration and NotificationRequest (RFC 3435, 2.3.2 and 2.3.3).
+    Keep,
+    /// One more is created (RFC 3435, 2.3.5).
+    Create(Creation),
+    /// That of this call with this identifier is modified (RFC 3435, 2.3.6).
+    Modify {
+        call: Identifier,
+        id: Identifier,
+        change: Change,
+    },
+    /// All, those of a call, or one of them is deleted (RFC 3435, 2.3.7 and 2.3.9).
+    Delete(Deletion),
+}
+
 /// What is to be done on lines.
 #[derive(Drop)]
 pub struct Deed {
     /// The entity that is to be notified from now on (N), where one is said.
     pub entity: Option<Entity>,
+    /// The encoding of the line from now on (B), where one is said.
+    pub encoding: Option<Encoding>,
+    /// What becomes of its connections.
+    pub connections: ConnectionDeed,
     /// What is requested, where X stands in the command.
     pub request: Option<RequestForm>,
 }
@@ -67,6 +93,7 @@ pub struct Deed {
 pub enum Asks<'m> {
     /// A report of these lines, which changes nothing: AuditEndpoint (RFC 3435, 2.3.10).
     Reports(Target, Audit<'m>),
-    /// A deed on these lines: NotificationRequest (RFC 3435, 2.3.3).
+    /// A deed on these lines: EndpointConfiguration, NotificationRequest, CreateConnection, ModifyConnection and
+    /// DeleteConnection (RFC 3435, 2.3.2, 2.3.3, 2.3.5 to 2.3.7 and 2.3.9).
     Does(Target, Deed),
 }

@@ -1,15 +1,18 @@
-//! What a command asks for, by its verb, its name and its parameters, or the return code of its first fault
-//! (RFC 3435, 2.3, 2.4 and 3.2.2).
+//! What a command asks for, by its verb, its name, its parameters and its description, or the return code of its first
+//! fault (RFC 3435, 2.3, 2.4 and 3.2.2).
 //!
 //! The checks stand in one order, which is this gateway's profile, and the first that applies gives the code: `meant`
-//! judges the verb and the name, `asked` the rest, and `form` is one behind the other. For people `explained` says what
-//! of a refused command is at fault, and `explain` puts it into words. Nothing here knows a line: what a line refuses is
-//! judged above. Only the reading of D and R and the words for people take memory.
+//! judges the verb and the name, `asked` the rest, and `form` is one behind the other. Each check says its return code and
+//! what it looks at: for people `explained` says what of a refused command is at fault, and `explain` puts it into words.
+//! Nothing here knows a line: what a line refuses is judged above. Only the reading of D and R and the words for people
+//! take memory.
 #![tactic(auto)]
 
 pub mod checking_examples;
+pub mod code_examples;
+pub mod connection_examples;
+mod deeds;
 pub mod examples;
-mod explaining;
 pub mod explaining_examples;
 mod forms;
 pub mod laws;
@@ -20,9 +23,8 @@ mod refused;
 mod values;
 mod verbs;
 
-pub use crate::explaining::explained;
-pub use crate::forms::{Asks, Audit, Deed, RequestForm, Target};
+pub use crate::forms::{Asks, Audit, ConnectionDeed, Deed, RequestForm, Target};
 pub use crate::meaning::meant;
-pub use crate::reading::{asked, form};
-pub use crate::refused::{Place, Refused, explain};
+pub use crate::reading::{asked, explained, form};
+pub use crate::refused::{Place, Refused, Stop, explain};
 pub use crate::verbs::Meant;

@@ -1,12 +1,14 @@
 //! What the verb and the name of a command mean.
-ghost use Rattle.std.specs.Prelude.{◌≡◌, ◌≤◌, IfErr};
+ghost use Rattle.std.specs.Prelude.{◌≡◌};
 ghost use Rattle.mg_bytes.specs.CodeFault.{AnswersAs, answer_of};
 ghost use Rattle.endpoint_names.specs.Name.{name_of};
-ghost use Rattle.command_forms.specs.Meaning.{named, takes_all, target_of, meant_in};
+ghost use Rattle.command_forms.specs.Refusing.{StopsAs, stop_of};
+ghost use Rattle.command_forms.specs.Meaning.{named, takes_all, takes_any, target_of, meant_in};
 
 use crate::forms::Target;
-use crate::params::value_at;
-use crate::verbs::{AllLines, Meant, row_of};
+use crate::params::{has_code, value_at};
+use crate::refused::{Place, Stop, placed};
+use crate::verbs::{Meant, Wildcard, row_of};
 use endpoint_names::{NameFault, Names, Pattern, read_name};
 use mg_bytes::{CodeFault, ReturnCode};
 use mgcp_text::{Message, Param};
@@ -23,45 +25,62 @@ fn named(name: &[u8], names: &Names) -> Result<Pattern, CodeFault>
     }
 }
 
-fn takes_all(all_lines: AllLines, params: &[Param<'_>]) -> bool
-    ensures { result ≡ takes_all all_lines params.now }
+fn takes_all(wildcard: Wildcard, params: &[Param<'_>]) -> bool
+    ensures { result ≡ takes_all wildcard params.now }
 {
-    match all_lines {
-        AllLines::Always => true,
-        AllLines::WithoutItems => value_at(b"F", params).is_empty(),
+    match wildcard {
+        Wildcard::All => true,
+        Wildcard::AllWithoutItems => value_at(b"F", params).is_empty(),
+        Wildcard::AllWithoutCall => !(has_code(b'C', params) || has_code(b'I', params)),
+        Wildcard::Never | Wildcard::Any => false,
+    }
+}
+
+fn takes_any(wildcard: Wildcard) -> bool
+    ensures { result ≡ takes_any wildcard }
+{
+    match wildcard {
+        Wildcard::Any => true,
+        Wildcard::Never | Wildcard::All | Wildcard::AllWithoutItems | Wildcard::AllWithoutCall =>
+            false,
     }
 }
 
 // The lines that a command with these parameters is for.
 fn target_of(
-    all_lines: AllLines,
+    wildcard: Wildcard,
     params: &[Param<'_>],
     pattern: Pattern,
 ) -> Result<Target, CodeFault>
-    ensures value { result ≡ answer_of (target_of all_lines params.now pattern) }
-    ensures answers { AnswersAs (target_of all_lines params.now pattern) result }
+    ensures value { result ≡ answer_of (target_of wildcard params.now pattern) }
+    ensures answers { AnswersAs (target_of wildcard params.now pattern) result }
 {
     match pattern {
         Pattern::One(line) => Ok(Target::One(line)),
         Pattern::All => {
-            if !takes_all(all_lines, params) {
+            if !takes_all(wildcard, params) {
                 return Err(CodeFault::of(ReturnCode::WildcardTooComplicated));
             }
             Ok(Target::All)
         }
-        Pattern::Any => Err(CodeFault::of(ReturnCode::WildcardTooComplicated)),
+        Pattern::Any => {
+            if !takes_any(wildcard) {
+                return Err(CodeFault::of(ReturnCode::WildcardTooComplicated));
+            }
+            Ok(Target::Any)
+        }
     }
 }
 
 /// What the verb and the name of a command mean: a verb that is served, and the lines that the command is for (RFC 3435,
 /// 2.3 and 3.2.1).
 ///
-/// Else the return code: 504 for a verb that isn't served, and for a message that is no command; 500 for a name that no
-/// endpoint has; 503 for a wildcard that isn't taken. It takes no memory.
+/// Else what is at fault: 504 and the verb where it isn't served, and of a message that is no command; 500 and the name
+/// where no endpoint has it; 503 and the name where its wildcard isn't taken. It takes no memory.
 #[tactic(auto, unfolding(crate::specs::Meaning::meant))]
-pub fn meant(message: &Message<'_>, names: &Names) -> Result<Meant, CodeFault>
-    ensures value { result ≡ answer_of (meant_in message.now names.now) }
-    ensures answers { AnswersAs (meant_in message.now names.now) result }
+pub fn meant(message: &Message<'_>, names: &Names) -> Result<Meant, Stop>
+    ensures value { result ≡ stop_of (meant_in message.now names.now) }
+    ensures answers { StopsAs (meant_in message.now names.now) result }
 {
     let Message::Command {
         verb,
@@ -70,12 +89,15 @@ pub fn meant(message: &Message<'_>, names: &Names) -> Result<Meant, CodeFault>
         ..
     } = message
     else {
-        return Err(CodeFault::of(ReturnCode::UnsupportedCommand));
+        return Err(Stop::of(Place::Verb, ReturnCode::UnsupportedCommand));
     };
     let Some(row) = row_of(*verb) else {
-        return Err(CodeFault::of(ReturnCode::UnsupportedCommand));
+        return Err(Stop::of(Place::Verb, ReturnCode::UnsupportedCommand));
     };
-    let pattern = named(name.as_slice(), names)?;
-    let target = target_of(row.all_lines, params.as_slice(), pattern)?;
+    let pattern = placed(Place::Name, named(name.as_slice(), names))?;
+    let target = placed(
+        Place::Name,
+        target_of(row.wildcard, params.as_slice(), pattern),
+    )?;
     Ok(Meant { row, target })
 }

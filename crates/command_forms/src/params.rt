@@ -1,9 +1,10 @@
 //! The parameters of a command, each by its code.
-ghost use Rattle.std.specs.Prelude.{◌≡◌, ◌≤◌, ◌∷◌, [], IfSome, is_some};
+ghost use Rattle.std.specs.Prelude.{◌≡◌, ◌≤◌, ◌∷◌, [], IfSome};
 ghost use Rattle.std.specs.List.{list_any};
 ghost use Rattle.mgcp_text.specs.Message.{param_at};
-ghost use Rattle.command_forms.specs.Params.{is_slash, begins_x, is_critical, is_ignored, is_among, is_taken, param_fault, params_fault, has_all, value_at};
+ghost use Rattle.command_forms.specs.Params.{is_slash, begins_x, is_critical, is_ignored, is_among, is_taken, param_fault, params_fault, has, missing_letter, has_none, value_at};
 
+use crate::refused::{Place, Refused};
 use crate::verbs::VerbRow;
 use mg_bytes::{ReturnCode, same_no_case};
 use mgcp_text::{Param, param_at};
@@ -70,32 +71,46 @@ pub(crate) fn param_fault(row: &VerbRow, before: &[Param<'_>], param: &Param<'_>
     None
 }
 
-/// The code for the first fault of the parameters of this verb, from top to bottom. Only a code of the verb's row is
-/// looked for among those before, and each of these stands there once, so few lines are looked at twice.
+/// The first parameter line of this verb at fault, from top to bottom. Only a code of the verb's row is looked for among
+/// those before, and each of these stands there once, so few lines are looked at twice.
 #[tactic(auto, unfolding(crate::specs::Params::params_fault))]
-pub(crate) fn params_fault(row: &VerbRow, params: &[Param<'_>]) -> Option<u16>
-    ensures value { result ≡ params_fault row.now [] params.now }
-    ensures three_digits { IfSome result (λ code. code ≤ 999) }
+pub(crate) fn params_fault(row: &VerbRow, params: &[Param<'_>]) -> Option<Refused>
+    ensures value { result ≡ params_fault row.now 1 [] params.now }
+    ensures three_digits { IfSome result (λ refused. refused.code ≤ 999) }
 {
     for (place, param) in params.iter().enumerate() {
         if let Some(code) = param_fault(row, &params[..place], param) {
-            return Some(code);
+            return Some(Refused {
+                code,
+                at: Place::Line(place + 1),
+            });
         }
     }
     None
 }
 
+/// Whether a parameter with this letter stands there.
 pub(crate) fn has_code(letter: u8, params: &[Param<'_>]) -> bool
-    ensures { result ≡ is_some (param_at (letter ∷ []) params.now) }
+    ensures { result ≡ has (letter ∷ []) params.now }
 {
     param_at(&[letter], params).is_some()
 }
 
-/// Whether a parameter with each of these letters stands there.
-pub(crate) fn has_all(letters: &[u8], params: &[Param<'_>]) -> bool
-    ensures { result ≡ has_all letters.now params.now }
+/// The first of these letters with which no parameter stands there.
+pub(crate) fn missing_letter(letters: &[u8], params: &[Param<'_>]) -> Option<u8>
+    ensures { result ≡ missing_letter letters.now params.now }
 {
-    letters.iter().all(|letter| has_code(*letter, params))
+    letters
+        .iter()
+        .copied()
+        .find(|letter| !has_code(*letter, params))
+}
+
+/// Whether no parameter with one of these letters stands there.
+pub(crate) fn has_none(letters: &[u8], params: &[Param<'_>]) -> bool
+    ensures { result ≡ has_none letters.now params.now }
+{
+    letters.iter().all(|letter| !has_code(*letter, params))
 }
 
 /// The value of the first parameter with this code; empty where there is none.

@@ -1,68 +1,138 @@
-//! What a message asks for.
-ghost use Rattle.std.specs.Prelude.{◌≡◌};
+//! What a message asks for, or what it is refused for.
+ghost use Rattle.std.specs.Prelude.{◌≡◌, IfOk};
 ghost use Rattle.mg_bytes.specs.CodeFault.{AnswersAs};
-ghost use Rattle.command_forms.specs.Order.{asked_for, asked, form_in};
+ghost use Rattle.command_forms.specs.Refusing.{StopsAs};
+ghost use Rattle.command_forms.specs.Order.{names_call, are_requested, absent_letter, counted, asked_for, asked, judged_in, form_in};
+ghost use Rattle.command_forms.specs.Explaining.{explained_in};
 
+use crate::deeds::deed_of;
 use crate::forms::{Asks, Audit};
 use crate::meaning::meant;
-use crate::params::{has_all, params_fault, value_at};
-use crate::values::{deed_of, is_readable};
-use crate::verbs::{Meant, Purpose};
+use crate::params::{has_code, has_none, missing_letter, params_fault, value_at};
+use crate::refused::{Place, Refused, Stop};
+use crate::values::is_readable;
+use crate::verbs::{Connecting, Meant, Purpose, VerbRow};
 use endpoint_names::{Names, Table};
-use mg_bytes::{CodeFault, ReturnCode};
+use mg_bytes::{CodeFault, OutOfMemory, ReturnCode};
 use mgcp_text::{Bytes, KValue, Message, Param};
-use std::alloc::Global;
+use std::alloc::{AllocError, Global};
 
-// What the values of these parameters ask for.
+fn names_call(purpose: Purpose, params: &[Param<'_>]) -> bool
+    ensures { result ≡ names_call purpose params.now }
+{
+    match purpose {
+        Purpose::ForDeed(Connecting::Deletes) => has_code(b'C', params) || !has_code(b'I', params),
+        Purpose::ForReport
+        | Purpose::ForDeed(Connecting::Keeps | Connecting::Creates | Connecting::Modifies) => true,
+    }
+}
+
+fn are_requested(params: &[Param<'_>]) -> bool
+    ensures { result ≡ are_requested params.now }
+{
+    has_code(b'X', params) || has_none(b"RSDTQ", params)
+}
+
+// The letter of the first parameter that is missing.
+#[tactic(auto, unfolding(crate::specs::Order::absent_letter))]
+fn absent_letter(row: &VerbRow, params: &[Param<'_>]) -> Option<u8>
+    ensures { result ≡ absent_letter row.now params.now }
+{
+    if let Some(letter) = missing_letter(row.must.as_slice(), params) {
+        return Some(letter);
+    }
+    if !names_call(row.purpose, params) {
+        return Some(b'C');
+    }
+    if !are_requested(params) {
+        return Some(b'X');
+    }
+    None
+}
+
+// The text behind the parameters, where descriptions count.
+fn counted(described: bool, body: &[u8]) -> &[u8]
+    ensures { result.now ≡ counted described body.now }
+{
+    if described { body } else { b"" }
+}
+
+// What the values of these parameters and this text ask for.
 fn asked_for<'m>(
     alloc: Global,
     found: &Meant,
     params: &'m [Param<'_>],
+    text: &[u8],
     table: &Table,
-) -> Result<Asks<'m>, CodeFault>
-    ensures { AnswersAs (asked_for found.now.row.purpose found.now.target params.now table.now) result }
+) -> Result<Asks<'m>, Stop>
+    ensures { StopsAs (asked_for found.now.row.purpose found.now.target params.now text.now table.now) result }
 {
     match found.row.purpose {
         Purpose::ForReport => {
             let items = Bytes::of(value_at(b"F", params));
             Ok(Asks::Reports(found.target, Audit { items }))
         }
-        Purpose::ForDeed => Ok(Asks::Does(found.target, deed_of(alloc, params, table)?)),
+        Purpose::ForDeed(connecting) => Ok(Asks::Does(
+            found.target,
+            deed_of(alloc, connecting, params, text, table)?,
+        )),
     }
 }
 
-/// What a command asks for whose verb and name mean this and whose K says that, by its parameters (RFC 3435, 2.3 and
-/// 3.2.2).
+/// What a command asks for whose verb and name mean this and whose K says that, by its parameters and the text behind
+/// them (RFC 3435, 2.3 and 3.2.2).
 ///
-/// Else the return code of the first fault, in this order: the parameters from top to bottom, 511 for an extension
-/// that isn't understood, 539 for a code that isn't the verb's, 510 for one that stood before; 510 where one is
-/// missing; 510 for a K that can't be read; then the values of N (539), X (510), Q (508), D (510, and 502 for a map
-/// that is too large), R, T and S. It takes memory to read D and R, and without it answers `OutOfMemory`.
+/// Else what is at fault first, in this order: the parameter lines from top to bottom, 511 for an extension that isn't
+/// understood, 539 for a code that isn't the verb's, 510 for one that stood before; 510 for one that is missing, for C
+/// where a deletion has I without it, and for X where R, S, D, T or Q stand there without it; 510 for a K that can't be
+/// read; then the values of N (539), B (539), C (510), I (510), M (517), L (541, and else 535), X (510), Q (508), D
+/// (510, and 502 for a map that is too large), R, T and S; and 509 for a description that can't be read, where the verb
+/// takes one. It takes memory to read D and R, and without it answers `OutOfMemory`.
 #[tactic(auto, unfolding(crate::specs::Order::asked))]
 pub fn asked<'m>(
     alloc: Global,
     found: &Meant,
     params: &'m [Param<'_>],
+    body: &[u8],
     confirms: &KValue,
     table: &Table,
-) -> Result<Asks<'m>, CodeFault>
-    ensures { AnswersAs (asked found.now params.now confirms.now table.now) result }
+) -> Result<Asks<'m>, Stop>
+    ensures { StopsAs (asked found.now params.now body.now confirms.now table.now) result }
 {
-    if let Some(code) = params_fault(&found.row, params) {
-        return Err(CodeFault::Code(code));
+    if let Some(refused) = params_fault(&found.row, params) {
+        return Err(Stop::AtFault(refused));
     }
-    if !has_all(found.row.must.as_slice(), params) {
-        return Err(CodeFault::of(ReturnCode::ProtocolError));
+    if let Some(letter) = absent_letter(&found.row, params) {
+        return Err(Stop::of(Place::Missing(letter), ReturnCode::ProtocolError));
     }
     if !is_readable(confirms) {
-        return Err(CodeFault::of(ReturnCode::ProtocolError));
+        return Err(Stop::of(Place::Value(b'K'), ReturnCode::ProtocolError));
     }
-    asked_for(alloc, found, params, table)
+    let text = counted(found.row.described, body);
+    asked_for(alloc, found, params, text, table)
+}
+
+// What a command asks for, whose K was read before, or what of it is at fault first.
+#[tactic(auto, unfolding(crate::specs::Order::judged))]
+fn judged<'m>(
+    alloc: Global,
+    message: &'m Message<'_>,
+    confirms: &KValue,
+    names: &Names,
+) -> Result<Asks<'m>, Stop>
+    ensures { StopsAs (judged_in message.now confirms.now names.now) result }
+{
+    let found = meant(message, names)?;
+    let Message::Command { params, body, .. } = message else {
+        return Err(Stop::of(Place::Verb, ReturnCode::UnsupportedCommand));
+    };
+    let (params, body) = (params.as_slice(), body.as_slice());
+    asked(alloc, &found, params, body, confirms, &names.table)
 }
 
 /// What a command asks for, whose K was read before, or the return code of its first fault: that of `meant`, else
 /// that of `asked`.
-#[tactic(auto, unfolding(crate::specs::Order::form_of))]
+#[tactic(auto, using(crate::proofs::RefusedLemmas::form_is))]
 pub fn form<'m>(
     alloc: Global,
     message: &'m Message<'_>,
@@ -71,6 +141,23 @@ pub fn form<'m>(
 ) -> Result<Asks<'m>, CodeFault>
     ensures { AnswersAs (form_in message.now confirms.now names.now) result }
 {
-    let found = meant(message, names)?;
-    asked(alloc, &found, message.params(), confirms, &names.table)
+    Ok(judged(alloc, message, confirms, names)?)
+}
+
+/// Why `form` refuses a command whose K was read before, with what of it is at fault; `None` where it doesn't.
+///
+/// It reads the values once more, so it is for people who ask why, and its only error is want of memory.
+pub fn explained(
+    alloc: Global,
+    message: &Message<'_>,
+    confirms: &KValue,
+    names: &Names,
+) -> Result<Option<Refused>, OutOfMemory>
+    ensures { IfOk result (λ refused. refused ≡ explained_in message.now confirms.now names.now) }
+{
+    match judged(alloc, message, confirms, names) {
+        Ok(_) => Ok(None),
+        Err(Stop::AtFault(refused)) => Ok(Some(refused)),
+        Err(Stop::OutOfMemory) => Err(AllocError),
+    }
 }

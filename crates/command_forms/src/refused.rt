@@ -1,9 +1,10 @@
-//! Why a command is refused, in words for people.
+//! Why a command is refused, and in words for people.
 ghost use Rattle.std.specs.Prelude.{◌≡◌, ◌++◌, IfOk, OnOk};
+ghost use Rattle.command_forms.specs.Refusing.{stopped};
 ghost use Rattle.command_forms.specs.Explaining.{place_name, place_number, words_from, explanation_of};
 ghost use Rattle.mg_bytes.specs.ReturnCode.{code_with};
 
-use mg_bytes::{OutOfMemory, ReturnCode, Text, put_decimal};
+use mg_bytes::{CodeFault, OutOfMemory, ReturnCode, Text, put_decimal};
 use std::alloc::Global;
 
 /// What of a command is at fault.
@@ -19,6 +20,8 @@ pub enum Place {
     Missing(u8),
     /// The value of the parameter with this letter.
     Value(u8),
+    /// The description of the remote end.
+    Description,
 }
 
 /// Why a command is refused.
@@ -31,12 +34,52 @@ pub struct Refused {
 }
 
 /// Why the judging of a command stops.
-#[derive(Clone, Copy)]
-pub(crate) enum Stop {
+#[derive(Clone, Copy, Debug)]
+pub enum Stop {
     /// Memory was refused.
     OutOfMemory,
-    /// A fault was found.
+    /// The command is refused.
     AtFault(Refused),
+}
+
+impl Stop {
+    ghost use Rattle.mg_bytes.specs.ReturnCode.{number_of};
+    ghost use Rattle.command_forms.specs.Refusing.{refusal};
+    ghost use Rattle.command_forms.specs.declared.refused.Stop.TheVariants as stops;
+
+    /// The stop for this return code at this place.
+    pub(crate) fn of(place: Place, code: ReturnCode) -> Stop
+        ensures { result ≡ stops.AtFault (refusal place (number_of code)) }
+    {
+        Stop::AtFault(Refused {
+            code: code.number(),
+            at: place,
+        })
+    }
+}
+
+impl From<Stop> for CodeFault {
+    ghost use Rattle.command_forms.specs.Refusing.{stop_fault};
+
+    ghost from_gives = { λ stop fault. fault ≡ stop_fault stop };
+
+    fn from(stop: Stop) -> CodeFault {
+        match stop {
+            Stop::OutOfMemory => CodeFault::OutOfMemory,
+            Stop::AtFault(refused) => CodeFault::Code(refused.code),
+        }
+    }
+}
+
+/// What was read at this place, or the stop for its fault there.
+pub(crate) fn placed<A>(place: Place, read: Result<A, CodeFault>) -> Result<A, Stop>
+    ensures { result ≡ stopped place read }
+{
+    match read {
+        Ok(value) => Ok(value),
+        Err(CodeFault::OutOfMemory) => Err(Stop::OutOfMemory),
+        Err(CodeFault::Code(code)) => Err(Stop::AtFault(Refused { code, at: place })),
+    }
 }
 
 fn place_name(place: Place) -> &'static [u8]
@@ -48,6 +91,7 @@ fn place_name(place: Place) -> &'static [u8]
         Place::Line(_) => b"parameter line ",
         Place::Missing(_) => b"missing parameter ",
         Place::Value(_) => b"value of parameter ",
+        Place::Description => b"remote description",
     }
 }
 
@@ -55,7 +99,7 @@ fn put_place_number(alloc: Global, out: &mut Vec<u8>, place: Place) -> Result<()
     ensures { OnOk result (out.new.items ≡ out.old.items ++ place_number place) }
 {
     match place {
-        Place::Verb | Place::Name => {}
+        Place::Verb | Place::Name | Place::Description => {}
         Place::Line(number) => put_decimal(alloc, out, number as u64)?,
         Place::Missing(letter) | Place::Value(letter) => out.push(letter)?,
     }

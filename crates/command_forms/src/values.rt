@@ -1,18 +1,18 @@
-//! The values of a command's parameters.
+//! The values of a command's parameters, and its description.
 ghost use Rattle.std.specs.Prelude.{◌≡◌, codes, option_map};
 ghost use Rattle.mg_bytes.specs.CodeFault.{AnswersAs};
 ghost use Rattle.mgcp_text.specs.Message.{param_at};
-ghost use Rattle.command_forms.specs.Values.{is_readable, entity_at, identifier_from, handling_at, change_at, request_of, request_at, deed_of};
+ghost use Rattle.command_forms.specs.Values.{is_readable, said_at, entity_at, encoding_from, identifier_from, mode_from};
+ghost use Rattle.command_forms.specs.Values.{handling_at, change_at, remote_of};
+ghost use Rattle.connections.specs.Options.{options_of};
 
-use crate::forms::{Deed, RequestForm};
-use crate::params::value_at;
+use connections::{Encoding, Mode, Options, read_encoding, read_mode, read_options};
 use digit_map::{MapChange, MapFault, read_change};
 use endpoint_names::{Entity, Table, read_entity};
-use event_syntax::{
-    Handling, Notifying, Quarantined, read_detect, read_events, read_handling, read_signals,
-};
+use event_syntax::{Handling, Notifying, Quarantined, read_handling};
 use mg_bytes::{CodeFault, Identifier, ReturnCode};
 use mgcp_text::{KValue, Param, param_at};
+use sdp_subset::{SdpFault, Session, read_sdp};
 use std::alloc::Global;
 
 /// Whether K can be read (RFC 3435, 3.2.2.1).
@@ -25,7 +25,7 @@ pub(crate) fn is_readable(confirms: &KValue) -> bool
     }
 }
 
-// The entity that N says, where it stands there.
+/// The entity that N says, where it stands there (RFC 3435, 2.1.4 and 2.3.3).
 pub(crate) fn entity_at(table: &Table, params: &[Param<'_>]) -> Result<Option<Entity>, CodeFault>
     ensures { AnswersAs (entity_at table.now (param_at (codes "N") params.now)) result }
 {
@@ -38,7 +38,20 @@ pub(crate) fn entity_at(table: &Table, params: &[Param<'_>]) -> Result<Option<En
     }
 }
 
-// The identifier of a request.
+/// The encoding that B says, where it stands there (RFC 3435, 2.3.2 and 3.2.2).
+pub(crate) fn encoding_at(params: &[Param<'_>]) -> Result<Option<Encoding>, CodeFault>
+    ensures { AnswersAs (said_at encoding_from (param_at (codes "B") params.now)) result }
+{
+    let Some(param) = param_at(b"B", params) else {
+        return Ok(None);
+    };
+    match read_encoding(param.value.as_slice()) {
+        Some(encoding) => Ok(Some(encoding)),
+        None => Err(CodeFault::of(ReturnCode::UnsupportedParameter)),
+    }
+}
+
+/// The identifier of a call, a connection or a request (RFC 3435, 2.1.3, 2.3.3 and appendix A).
 pub(crate) fn identifier_from(value: &[u8]) -> Result<Identifier, CodeFault>
     ensures { AnswersAs (identifier_from value.now) result }
 {
@@ -48,7 +61,54 @@ pub(crate) fn identifier_from(value: &[u8]) -> Result<Identifier, CodeFault>
     }
 }
 
-// How quarantined events are handled by Q: step and process where Q is absent.
+/// The identifier that stands behind this code, where it stands there.
+pub(crate) fn identifier_at(
+    code: &[u8],
+    params: &[Param<'_>],
+) -> Result<Option<Identifier>, CodeFault>
+    ensures { AnswersAs (said_at identifier_from (param_at code.now params.now)) result }
+{
+    let Some(param) = param_at(code, params) else {
+        return Ok(None);
+    };
+    Ok(Some(identifier_from(param.value.as_slice())?))
+}
+
+/// The mode of this name (RFC 3435, 2.3.5 and 3.2.2).
+pub(crate) fn mode_from(value: &[u8]) -> Result<Mode, CodeFault>
+    ensures { AnswersAs (mode_from value.now) result }
+{
+    match read_mode(value) {
+        Some(mode) => Ok(mode),
+        None => Err(CodeFault::of(ReturnCode::UnsupportedMode)),
+    }
+}
+
+/// The mode that M names, where it stands there.
+pub(crate) fn mode_at(params: &[Param<'_>]) -> Result<Option<Mode>, CodeFault>
+    ensures { AnswersAs (said_at mode_from (param_at (codes "M") params.now)) result }
+{
+    let Some(param) = param_at(b"M", params) else {
+        return Ok(None);
+    };
+    Ok(Some(mode_from(param.value.as_slice())?))
+}
+
+/// The options that L asks for, where it stands there (RFC 3435, 2.3.5 and 3.2.2).
+#[tactic(auto, using(crate::proofs::OptionCodes::options_small))]
+pub(crate) fn options_at(params: &[Param<'_>]) -> Result<Option<Options>, CodeFault>
+    ensures { AnswersAs (said_at options_of (param_at (codes "L") params.now)) result }
+{
+    let Some(param) = param_at(b"L", params) else {
+        return Ok(None);
+    };
+    match read_options(param.value.as_slice()) {
+        Ok(options) => Ok(Some(options)),
+        Err(code) => Err(CodeFault::Code(code)),
+    }
+}
+
+/// How quarantined events are handled by Q: step and process where Q is absent (RFC 3435, 2.3.3).
 pub(crate) fn handling_at(params: &[Param<'_>]) -> Result<Handling, CodeFault>
     ensures { AnswersAs (handling_at (param_at (codes "Q") params.now)) result }
 {
@@ -71,7 +131,7 @@ fn map_value<'m>(params: &'m [Param<'_>]) -> Option<&'m [u8]>
     }
 }
 
-// What D does with the digit map: it stays where D is absent.
+/// What D does with the digit map: it stays where D is absent (RFC 3435, 2.3.3).
 pub(crate) fn change_at(alloc: Global, params: &[Param<'_>]) -> Result<MapChange, CodeFault>
     ensures { AnswersAs (change_at (param_at (codes "D") params.now)) result }
 {
@@ -83,43 +143,16 @@ pub(crate) fn change_at(alloc: Global, params: &[Param<'_>]) -> Result<MapChange
     }
 }
 
-// What is requested with this identifier, by Q, D, R, T and S.
-#[tactic(auto, unfolding(crate::specs::Values::request_of))]
-fn request_of(alloc: Global, value: &[u8], params: &[Param<'_>]) -> Result<RequestForm, CodeFault>
-    ensures { AnswersAs (request_of value.now params.now) result }
+/// The description of the remote end, where there is a text (RFC 3435, 2.3.5 and 3.4).
+pub(crate) fn remote_of(text: &[u8]) -> Result<Option<Session>, CodeFault>
+    ensures { AnswersAs (remote_of text.now) result }
 {
-    let identifier = identifier_from(value)?;
-    let handling = handling_at(params)?;
-    let map = change_at(alloc, params)?;
-    let requested = read_events(alloc, value_at(b"R", params))?;
-    let detected = read_detect(value_at(b"T", params))?;
-    let signals = read_signals(value_at(b"S", params))?;
-    Ok(RequestForm {
-        identifier,
-        requested,
-        detected,
-        signals,
-        handling,
-        map,
-    })
-}
-
-// The request, where X stands there.
-fn request_at(alloc: Global, params: &[Param<'_>]) -> Result<Option<RequestForm>, CodeFault>
-    ensures { AnswersAs (request_at (param_at (codes "X") params.now) params.now) result }
-{
-    let Some(param) = param_at(b"X", params) else {
+    if text.is_empty() {
         return Ok(None);
-    };
-    Ok(Some(request_of(alloc, param.value.as_slice(), params)?))
-}
-
-/// What is to be done on a line, by N, and by X with what is requested.
-#[tactic(auto, unfolding(crate::specs::Values::deed_of))]
-pub(crate) fn deed_of(alloc: Global, params: &[Param<'_>], table: &Table) -> Result<Deed, CodeFault>
-    ensures { AnswersAs (deed_of params.now table.now) result }
-{
-    let entity = entity_at(table, params)?;
-    let request = request_at(alloc, params)?;
-    Ok(Deed { entity, request })
+    }
+    match read_sdp(text) {
+        Ok(session) => Ok(Some(session)),
+        Err(SdpFault::NotInSubset) => Err(CodeFault::of(ReturnCode::RemoteDescriptionError)),
+        Err(SdpFault::OutOfMemory) => Err(CodeFault::OutOfMemory),
+    }
 }

@@ -5,29 +5,44 @@ ghost use Rattle.command_forms.specs.Verbs.{row_of};
 use crate::forms::Target;
 use mgcp_text::{Bytes, Verb};
 
-/// Where the name of a command may mean all lines.
+/// Which wildcard the name of a command may have.
 #[derive(Clone, Copy)]
-pub(crate) enum AllLines {
-    /// With all parameters.
-    Always,
-    /// Where it asks for no items: F is absent or empty.
-    WithoutItems,
+pub(crate) enum Wildcard {
+    Never,
+    /// That for all lines.
+    All,
+    /// That for all lines, where it asks for no items: F is absent or empty.
+    AllWithoutItems,
+    /// That for all lines, where it names neither a call nor a connection: C and I are absent.
+    AllWithoutCall,
+    /// That for any one line.
+    Any,
+}
+
+/// What a deed does with the connections of a line.
+#[derive(Clone, Copy)]
+pub(crate) enum Connecting {
+    Keeps,
+    Creates,
+    Modifies,
+    Deletes,
 }
 
 /// What a verb asks for.
 #[derive(Clone, Copy)]
 pub(crate) enum Purpose {
     ForReport,
-    ForDeed,
+    ForDeed(Connecting),
 }
 
 /// A verb that is served: the codes of the parameters that it must have and of those that it may have, each a letter;
-/// where its name may mean all lines; and what it asks for.
+/// which wildcard its name may have; whether a description counts; and what it asks for.
 #[derive(Drop)]
 pub(crate) struct VerbRow {
     pub must: Bytes<'static>,
     pub may: Bytes<'static>,
-    pub all_lines: AllLines,
+    pub wildcard: Wildcard,
+    pub described: bool,
     pub purpose: Purpose,
 }
 
@@ -43,25 +58,48 @@ pub(crate) fn row_of(verb: Verb) -> Option<VerbRow>
     ensures { result ≡ row_of verb }
 {
     match verb {
+        Verb::Epcf => Some(VerbRow {
+            must: Bytes::of(b""),
+            may: Bytes::of(b"B"),
+            wildcard: Wildcard::All,
+            described: false,
+            purpose: Purpose::ForDeed(Connecting::Keeps),
+        }),
         Verb::Rqnt => Some(VerbRow {
             must: Bytes::of(b"X"),
-            may: Bytes::of(b"NRSDTQ"),
-            all_lines: AllLines::Always,
-            purpose: Purpose::ForDeed,
+            may: Bytes::of(b"NBRSDTQ"),
+            wildcard: Wildcard::All,
+            described: false,
+            purpose: Purpose::ForDeed(Connecting::Keeps),
+        }),
+        Verb::Crcx => Some(VerbRow {
+            must: Bytes::of(b"CM"),
+            may: Bytes::of(b"NBLXRSDTQ"),
+            wildcard: Wildcard::Any,
+            described: true,
+            purpose: Purpose::ForDeed(Connecting::Creates),
+        }),
+        Verb::Mdcx => Some(VerbRow {
+            must: Bytes::of(b"CI"),
+            may: Bytes::of(b"NBMLXRSDTQ"),
+            wildcard: Wildcard::Never,
+            described: true,
+            purpose: Purpose::ForDeed(Connecting::Modifies),
+        }),
+        Verb::Dlcx => Some(VerbRow {
+            must: Bytes::of(b""),
+            may: Bytes::of(b"CINBXRSDTQ"),
+            wildcard: Wildcard::AllWithoutCall,
+            described: false,
+            purpose: Purpose::ForDeed(Connecting::Deletes),
         }),
         Verb::Auep => Some(VerbRow {
             must: Bytes::of(b""),
             may: Bytes::of(b"F"),
-            all_lines: AllLines::WithoutItems,
+            wildcard: Wildcard::AllWithoutItems,
+            described: false,
             purpose: Purpose::ForReport,
         }),
-        Verb::Epcf
-        | Verb::Ntfy
-        | Verb::Crcx
-        | Verb::Mdcx
-        | Verb::Dlcx
-        | Verb::Aucx
-        | Verb::Rsip
-        | Verb::Other => None,
+        Verb::Ntfy | Verb::Aucx | Verb::Rsip | Verb::Other => None,
     }
 }

@@ -5,5 +5,6 @@ pub mod StandingLemmas
 pub mod LifeLaws
 pub mod OrderLaws
 pub mod VersionLaws
+pub mod IdentifierLemmas
 pub mod CodeLaws
 pub mod Computing

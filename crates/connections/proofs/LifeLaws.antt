@@ -1,6 +1,7 @@
 -- Numbers, places and versions, whatever happens.
 use Rattle.std.proofs.Common.{◌≡◌, ◌≢◌, ℕ, ◌+◌, ◌<◌, ◌≤◌, Bool, true, false, nat_lt, List, [], ◌∷◌, get_or, map, Option, Some, None, refl, sym, ap, arith}
 use Rattle.std.specs.Prelude.{Result, Ok, Err}
+use Rattle.std.proofs.lemmas.Bool.Decides.{nat_tests}
 use Rattle.mg_bytes.specs.Checks.{unless, checked, given}
 use Rattle.connections.specs.declared.answer.Created.{Created}
 use Rattle.connections.specs.declared.codec.Encoding.{Encoding}
@@ -93,6 +94,31 @@ pub never_less : (standing : Standing) (happenings : List Happening) → standin
 unfolding after
 never_less standing [] = omega arith
 never_less standing (happening ∷ more) = trans_le _ _ _ (one_later standing happening) (never_less (after_one standing happening) more)
+
+-- The last number never goes past the greatest
+
+created_at_most : (standing : Standing) (found : Option ℕ) (below : Bool) (made : Result Connection ℕ) → (below ≡ true → standing.last < greatest) → standing.last ≤ greatest
+    → (left_by standing (creation_by standing found below made)).last ≤ greatest
+created_at_most standing None below made less few = few
+created_at_most standing (Some place) false made less few = few
+created_at_most standing (Some place) true (Err code) less few = few
+created_at_most standing (Some place) true (Ok connection) less few = let below : standing.last < greatest = less refl in omega arith
+
+one_at_most : (standing : Standing) (happening : Happening) → standing.last ≤ greatest → (after_one standing happening).last ≤ greatest
+unfolding created modified deleted
+one_at_most standing (creates encoding creation) few =
+    created_at_most standing (place_where is_free standing.places) (nat_lt standing.last greatest) (begun encoding creation (standing.last + 1))
+    (λ (e : nat_lt standing.last greatest ≡ true). grind (arith, nat_tests)) few
+one_at_most standing (modifies encoding call id change) few =
+    let e = modified_at_same encoding change standing (place_of call id standing.places) in rw e few
+one_at_most standing (deletes deletion) few =
+    let e = deleted_same standing (record standing { places = map (without deletion) standing.places }) (refused deletion standing.places) refl in
+    rw e few
+
+pub never_past : (standing : Standing) (happenings : List Happening) → standing.last ≤ greatest → (after standing happenings).last ≤ greatest
+unfolding after
+never_past standing [] few = few
+never_past standing (happening ∷ more) few = never_past (after_one standing happening) more (one_at_most standing happening few)
 
 pub numbers_rise : (encoding other : Encoding) (creation later : Creation) (standing : Standing) (happenings : List Happening)
     (first second : Done Created) → created encoding creation standing ≡ Ok first

@@ -73,7 +73,7 @@ abbrev pub codec_name : Codec → List ℕ
 codec_name Pcmu = codes "PCMU"
 codec_name Pcma = codes "PCMA"
 
--- the value of B: `e:mu` or `e:A` (RFC 3435, 2.1.6 and 3.2.2)
+-- the value of B: `e:mu` or `e:A` (RFC 3435, 2.3.2 and 3.2.2)
 abbrev pub encoding_named : List ℕ → Option Encoding
 encoding_named value =
     if same_but_case value (codes "e:mu") then Some Mu else

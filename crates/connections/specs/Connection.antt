@@ -17,7 +17,8 @@ use Rattle.connections.specs.Codecs.{codecs_by, offered_of, are_same_codecs}
 use Rattle.connections.specs.Modes.{sends}
 use Rattle.connections.specs.Numbers.{greatest}
 
--- the local list: the codecs that were asked for, or without any those of the line's encoding
+-- the local list: of the codecs that were asked for those that are known; where none were asked for, those of the
+-- line's encoding
 abbrev pub local_list : CodecChoice → Encoding → Option Codecs
 local_list ByEncoding encoding = Some (codecs_by encoding)
 local_list NoneKnown encoding = None

@@ -114,6 +114,14 @@ pcma_connection = record first_connection {
   remote = Some (offering (8 ∷ []));
 }
 
+-- the same as it was modified: with a remote description that offers PCMA alone, so that the local list has both
+abbrev pub cut_connection : Connection
+cut_connection = record first_connection {
+  codecs = record { local = Both Pcmu; in_force = Only Pcma };
+  remote = Some (offering (8 ∷ []));
+  version = 2;
+}
+
 -- a line with this connection alone
 abbrev pub with_one : Connection → Standing
 with_one connection = record line { last = 1; places = Some connection ∷ replicate 3 None }

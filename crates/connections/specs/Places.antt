@@ -32,7 +32,7 @@ abbrev pub holds_both : List ℕ → List ℕ → Option Connection → Bool
 holds_both call id None = false
 holds_both call id (Some connection) = is_of_call call connection && has_id id connection
 
--- the first place of which this is so, counted from one
+-- the first place of which this is so, counted on from this number
 unfoldable pub place_from : ℕ → (Option Connection → Bool) → List (Option Connection) → Option ℕ
 place_from place test [] = None
 place_from place test (held ∷ more) = if test held then Some place else place_from (place + 1) test more

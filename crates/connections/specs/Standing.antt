@@ -1,5 +1,6 @@
--- The connections of a line, and what commands do to them (RFC 3435, 2.3.5 to 2.3.11). The numbers are this gateway's
--- profile: four places, connections numbered from 1 on and never again, a port for each place.
+-- The connections of a line, and what commands do to them (RFC 3435, 2.3.5 to 2.3.7, 2.3.9 and 2.3.11). This gateway's
+-- profile: a line has four places, each with a port of its own; its connections are numbered from 1 on, and no number
+-- is given again.
 use Rattle.std.specs.Prelude.{ℕ, ⊤, Bool, true, false, ◌&&◌, ◌+◌, ◌*◌, nat_lt, is_some, if◌then◌else◌, List, [], ◌∷◌, map, get_or, set, replicate, Option, Some, None, Result, Ok, Err}
 use Rattle.std.specs.List.{list_any}
 use Rattle.std.specs.declared.net.ipv4_addr.Ipv4Addr.{Ipv4Addr}

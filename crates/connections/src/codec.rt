@@ -25,7 +25,7 @@ pub enum Codecs {
     Both(Codec),
 }
 
-/// The encoding of a line (RFC 3435, 2.1.6).
+/// The encoding of a line (RFC 3435, 2.3.2).
 #[derive(Clone, Copy)]
 pub enum Encoding {
     /// Mu-law.

@@ -60,10 +60,34 @@ pub(crate) fn copy_of(remote: &Option<Session>) -> Option<Session>
 {
     match remote {
         None => None,
-        Some(session) => match session.try_copy() {
-            Ok(copy) => Some(copy),
-            Err(_) => unreachable!(),
-        },
+        Some(session) => Some(session.copy()),
+    }
+}
+
+impl Creation {
+    /// An equal creation. It takes no memory.
+    pub fn copy(&self) -> Creation
+        ensures { result ≡ self.now }
+    {
+        Creation {
+            call: self.call.copy(),
+            mode: self.mode,
+            options: self.options,
+            remote: copy_of(&self.remote),
+        }
+    }
+}
+
+impl Change {
+    /// An equal change. It takes no memory.
+    pub fn copy(&self) -> Change
+        ensures { result ≡ self.now }
+    {
+        Change {
+            mode: self.mode,
+            options: self.options,
+            remote: copy_of(&self.remote),
+        }
     }
 }
 

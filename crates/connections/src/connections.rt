@@ -223,12 +223,12 @@ impl Connections {
         &self.places
     }
 
-    /// Equal connections. It takes no memory, so it is never refused any.
-    pub fn try_copy(&self) -> Result<Connections, OutOfMemory>
-        ensures { result ≡ Ok self.now }
+    /// Equal connections. It takes no memory.
+    pub fn copy(&self) -> Connections
+        ensures { result ≡ self.now }
     {
         let [first, second, third, fourth] = &self.places;
-        Ok(Connections {
+        Connections {
             address: self.address,
             port: self.port,
             last: self.last,
@@ -238,7 +238,14 @@ impl Connections {
                 copy_held(third),
                 copy_held(fourth),
             ],
-        })
+        }
+    }
+
+    /// The same as `copy`, for who asks where a copy can be refused: this one never is.
+    pub fn try_copy(&self) -> Result<Connections, OutOfMemory>
+        ensures { result ≡ Ok self.now }
+    {
+        Ok(self.copy())
     }
 }
 

@@ -17,7 +17,7 @@ ghost use Rattle.connections.specs.Life.{creates, modifies, deletes, after, numb
 ghost use Rattle.connections.specs.Example.{this_host, offering, local_with, local_of, line, calls_in, receives, towards};
 ghost use Rattle.connections.specs.Example.{asking, creating, with_calls, no_change, changes_mode, changes_options};
 ghost use Rattle.connections.specs.Example.{changes_remote, changing, asked, asked_time, none_known, first_connection};
-ghost use Rattle.connections.specs.Example.{pcma_connection, with_one};
+ghost use Rattle.connections.specs.Example.{pcma_connection, cut_connection, with_one};
 
 /// L is items of a name and a value, which commas part; a name stands once, in any case.
 pub fn options_are_items_of_a_name_and_a_value()
@@ -36,7 +36,8 @@ pub fn options_are_items_of_a_name_and_a_value()
     ensures ignored_twice { options_of (codes "x-a:1,X-A:2") ≡ Err 541 }
     ensures others_of_x { options_of (codes "x-a:1,x-b:1") ≡ Ok no_options }
     ensures no_hyphen { options_of (codes "xy:1") ≡ Err 541 }
-    ensures upper_case { options_of (codes "B:64,GC:0,NT:IN") ≡ Ok no_options }
+    ensures upper_case { options_of (codes "B:64,E:on,GC:0,R:g,S:off,T:0,NT:IN") ≡ Ok no_options }
+    ensures colon_in_a_value { options_of (codes "x-y:1:2") ≡ Ok no_options }
 {}
 
 /// Of the codecs PCMU and PCMA count, each at its first place only.
@@ -113,6 +114,9 @@ pub fn modes_have_names()
     ensures both { mode_named (mode_text mode.SendReceive) ≡ Some mode.SendReceive }
     ensures conference { mode_named (mode_text mode.Conference) ≡ Some mode.Conference }
     ensures inactive { mode_named (mode_text mode.Inactive) ≡ Some mode.Inactive }
+    ensures other_cases { map mode_named
+        (codes "SENDONLY" ∷ codes "RecvOnly" ∷ codes "SENDrecv" ∷ codes "CONFRNCE" ∷ codes "Inactive" ∷ [])
+        ≡ map Some (mode.SendOnly ∷ mode.ReceiveOnly ∷ mode.SendReceive ∷ mode.Conference ∷ mode.Inactive ∷ []) }
     ensures other { mode_named (codes "loopback") ≡ None }
     ensures texts { map mode_text (mode.SendOnly ∷ mode.ReceiveOnly ∷ mode.SendReceive ∷ mode.Conference ∷ mode.Inactive ∷ [])
         ≡ codes "sendonly" ∷ codes "recvonly" ∷ codes "sendrecv" ∷ codes "confrnce" ∷ codes "inactive" ∷ [] }
@@ -197,7 +201,12 @@ pub fn connections_are_modified()
           remote = Some (offering (8 ∷ []));
           version = 2;
         }) }
+    ensures description_alone { changing (codes "1") (changes_remote (8 ∷ [])) (with_one first_connection)
+        ≡ Ok (Some (local_of 1 2 3000 (8 ∷ []))) }
     ensures mode_alone { changing (codes "1") (changes_mode mode.Inactive) (with_one first_connection) ≡ Ok None }
+    ensures call_as_it_was { left_by (with_one first_connection) (modified encoding.Mu (codes "1a") (codes "1")
+        (changes_mode mode.Inactive) (with_one first_connection))
+        ≡ with_one (record first_connection { mode = mode.Inactive }) }
     ensures nothing { left_by (with_one first_connection) (modified encoding.Mu (codes "1A") (codes "1") no_change
         (with_one first_connection)) ≡ with_one first_connection }
     // A remote description that leaves the list as it was is kept, and nothing is answered.
@@ -227,6 +236,30 @@ pub fn connections_are_modified()
     ensures both_codecs { changing (codes "1")
         (record (changes_remote (0 ∷ 8 ∷ [])) { options = Some (asked (list.Both codec.Pcma) 30) }) (with_one pcma_connection)
         ≡ Ok (Some (local_with 1 2 3000 (8 ∷ 0 ∷ []) 30)) }
+    // Each change that shows has a version of its own.
+    ensures next_change { changing (codes "1") (changes_options (asked_time 30)) (after (with_one first_connection)
+        (modifies encoding.Mu (codes "1A") (codes "1") (changes_remote (8 ∷ [])) ∷ []))
+        ≡ Ok (Some (local_with 1 3 3000 (8 ∷ []) 30)) }
+    // The list in force is worked out anew with the remote description that stands.
+    ensures offered_before { changing (codes "1") (changes_options no_options) (with_one pcma_connection)
+        ≡ Ok (Some (local_of 1 2 3000 (8 ∷ []))) }
+    ensures not_offered_before { changing (codes "1") (changes_options (asked (list.Only codec.Pcmu) 30))
+        (with_one pcma_connection) ≡ Err 534 }
+{}
+
+/// What becomes of the local list alone shows nowhere: the version stays, and nothing is answered. Here the list in force
+/// is PCMA before and after.
+pub fn the_local_list_alone_changes_no_description()
+    ensures local_list { left_by (with_one cut_connection) (modified encoding.Mu (codes "1a") (codes "1")
+        (changes_options (asked (list.Only codec.Pcma) 20)) (with_one cut_connection))
+        ≡ with_one (record cut_connection {
+          options = asked (list.Only codec.Pcma) 20;
+          codecs = record { local = list.Only codec.Pcma; in_force = list.Only codec.Pcma };
+        }) }
+    ensures local_list_unsaid { changing (codes "1") (changes_options (asked (list.Only codec.Pcma) 20))
+        (with_one cut_connection) ≡ Ok None }
+    ensures encoding_unseen { answered_by (modified encoding.A (codes "1A") (codes "1") no_change
+        (with_one cut_connection)) ≡ Ok None }
 {}
 
 /// A modification is refused with the first code that applies: 516, 515, 534, 527, 502.
@@ -236,6 +269,7 @@ pub fn modifications_are_refused_in_an_order()
         ≡ Err 516 }
     ensures no_id { changing (codes "9") (changes_options none_known) (with_one first_connection) ≡ Err 515 }
     ensures zeros { changing (codes "01") no_change (with_one first_connection) ≡ Err 515 }
+    ensures lower_case { changing (codes "a") no_change (with_one (record first_connection { number = 10 })) ≡ Ok None }
     ensures of_another_call { changing (codes "1") no_change (with_calls (codes "B" ∷ codes "1A" ∷ [])) ≡ Err 515 }
     ensures own { changing (codes "2") no_change (with_calls (codes "B" ∷ codes "1A" ∷ [])) ≡ Ok None }
     ensures codec { changing (codes "1") (changes_remote (18 ∷ [])) (with_one first_connection) ≡ Err 534 }
@@ -265,6 +299,9 @@ pub fn connections_are_deleted()
     ensures no_call { deleted (deletion.OfCall (codes "2")) (with_one first_connection) ≡ Err 516 }
     ensures no_call_before { deleted (deletion.One (codes "2") (codes "9")) (with_one first_connection) ≡ Err 516 }
     ensures no_id { deleted (deletion.One (codes "1A") (codes "2")) (with_one first_connection) ≡ Err 515 }
+    ensures zeros { deleted (deletion.One (codes "1A") (codes "01")) (with_one first_connection) ≡ Err 515 }
+    ensures lower_case { whether (deleted (deletion.One (codes "1A") (codes "a"))
+        (with_one (record first_connection { number = 10 }))) ≡ Ok tt }
     ensures answered { whether (deleted (deletion.One (codes "1A") (codes "2")) (with_one first_connection)) ≡ Err 515 }
     ensures of_another_call { deleted (deletion.One (codes "1A") (codes "1")) (with_calls (codes "B" ∷ codes "1A" ∷ [])) ≡ Err 515 }
     // Call and identifier count, both.

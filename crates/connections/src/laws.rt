@@ -10,20 +10,22 @@ ghost use Rattle.connections.specs.declared.connection.Connection.{Connection};
 ghost use Rattle.connections.specs.declared.connection.Creation.{Creation};
 ghost use Rattle.connections.specs.declared.deletion.Deletion.{Deletion};
 ghost use Rattle.connections.specs.Codecs.{offers, listed, listed_or_none, offered_of};
-ghost use Rattle.connections.specs.Numbers.{greatest};
+ghost use Rattle.connections.specs.Numbers.{names_number, greatest};
 ghost use Rattle.connections.specs.Connection.{agreed, can_be, begun, begun_with, given_or, remote_or, renewed, renewed_to, is_changed};
 ghost use Rattle.connections.specs.Places.{is_free, holds_call, holds_both, place_where};
-ghost use Rattle.connections.specs.Standing.{Standing, Done, described, created, created_done, place_of, modified, deleted};
+ghost use Rattle.connections.specs.Standing.{Standing, Done, described, answered_by, created, created_done, place_of, modified, deleted};
 ghost use Rattle.connections.specs.Life.{Happening, creates, modifies, deletes, after_one, after};
 
 /// A connection gets the number after the last one, and no later connection of the line gets it again, whatever happens in
-/// between (RFC 3435, 2.1.3).
+/// between (RFC 3435, 2.1.3). No number is past the greatest.
 pub fn a_number_is_never_used_again()
     ensures next { (encoding : Encoding) (creation : Creation) (standing : Standing) (done : Done Created) →
         created encoding creation standing ≡ Ok done →
         (done.answer.number ≡ standing.last + 1) × (done.leaves.last ≡ standing.last + 1) }
     ensures never_less { (standing : Standing) (happenings : List Happening) →
         standing.last ≤ (after standing happenings).last }
+    ensures never_past { (standing : Standing) (happenings : List Happening) →
+        standing.last ≤ greatest → (after standing happenings).last ≤ greatest }
     ensures again { (encoding other : Encoding) (creation later : Creation) (standing : Standing)
         (happenings : List Happening) (first second : Done Created) → created encoding creation standing ≡ Ok first →
         created other later (after first.leaves happenings) ≡ Ok second → first.answer.number < second.answer.number }
@@ -101,12 +103,40 @@ pub fn what_both_have_is_in_force()
         listed_or_none (offered_of payloads codecs) ≡ filter (offers payloads) (listed codecs) }
 {}
 
-/// A connection that is modified has the next version where its description has changed (RFC 2327, 6); where it hasn't, the
-/// description is the same.
+/// A connection that is modified has the next version where its list of codecs in force or its packet time has changed
+/// (RFC 2327, 6), and its description is answered; where neither has, version and description stay, and nothing is
+/// answered.
 pub fn a_version_has_one_description()
-    ensures next { (encoding : Encoding) (change : Change) (was is : Connection) → renewed encoding change was ≡ Ok is →
-        is_changed was is.options is.codecs ≡ true → is.version ≡ was.version + 1 }
+    ensures next { (encoding : Encoding) (change : Change) (was is : Connection) →
+        renewed encoding change was ≡ Ok is →
+        (listed is.codecs.in_force ≡ listed was.codecs.in_force →
+        is.options.packet_time ≡ was.options.packet_time → ⊥) → is.version ≡ was.version + 1 }
+    ensures stays { (encoding : Encoding) (change : Change) (was is : Connection) →
+        renewed encoding change was ≡ Ok is →
+        listed is.codecs.in_force ≡ listed was.codecs.in_force →
+        is.options.packet_time ≡ was.options.packet_time → is.version ≡ was.version }
     ensures same { (encoding : Encoding) (change : Change) (was is : Connection) (standing : Standing) (place : ℕ) →
-        renewed encoding change was ≡ Ok is → is_changed was is.options is.codecs ≡ false →
+        renewed encoding change was ≡ Ok is →
+        listed is.codecs.in_force ≡ listed was.codecs.in_force →
+        is.options.packet_time ≡ was.options.packet_time →
         described standing place is ≡ described standing place was }
+    ensures told { (encoding : Encoding) (call id : List ℕ) (change : Change) (standing : Standing) (place : ℕ)
+        (was is : Connection) → place_of call id standing.places ≡ Ok place →
+        get_or standing.places place None ≡ Some was → renewed encoding change was ≡ Ok is →
+        (listed is.codecs.in_force ≡ listed was.codecs.in_force →
+        is.options.packet_time ≡ was.options.packet_time → ⊥) →
+        answered_by (modified encoding call id change standing) ≡ Ok (Some (described standing place is)) }
+    ensures untold { (encoding : Encoding) (call id : List ℕ) (change : Change) (standing : Standing) (place : ℕ)
+        (was is : Connection) → place_of call id standing.places ≡ Ok place →
+        get_or standing.places place None ≡ Some was → renewed encoding change was ≡ Ok is →
+        listed is.codecs.in_force ≡ listed was.codecs.in_force →
+        is.options.packet_time ≡ was.options.packet_time →
+        answered_by (modified encoding call id change standing) ≡ Ok None }
+{}
+
+/// An identifier names one number at most, in whatever case it is written (RFC 3435, 2.1.3), and so one connection of a
+/// line.
+pub fn an_identifier_names_one_number()
+    ensures { (id : List ℕ) (number other : ℕ) → number ≤ greatest → other ≤ greatest →
+        names_number id number ≡ true → names_number id other ≡ true → number ≡ other }
 {}

@@ -1,5 +1,5 @@
-//! The connections of a line (RFC 3435, 2.1.3 and 2.3.5 to 2.3.11): which stand at its places, and what the commands
-//! CreateConnection, ModifyConnection, DeleteConnection and AuditConnection do to them.
+//! The connections of a line (RFC 3435, 2.1.3, 2.3.5 to 2.3.7, 2.3.9 and 2.3.11): which stand at its places, and what the
+//! commands CreateConnection, ModifyConnection, DeleteConnection and AuditConnection do to them.
 //!
 //! Nothing here reads a message or knows other lines. Only writers take memory; what a command refuses changes nothing.
 #![tactic(auto)]

@@ -13,7 +13,8 @@ use Rattle.plain_machine.specs.Packing.{put_out}
 use Rattle.plain_machine.specs.Setup.{IsSetUp}
 use Rattle.plain_machine.specs.Machine.{Machine, Effect, opening}
 use Rattle.plain_machine.specs.Happening.{effect}
-use Rattle.plain_machine.specs.Refusing.{refusal_of, tick_refusal, Ends, refused_by}
+use Rattle.std.specs.Result.{result_err}
+use Rattle.plain_machine.specs.Refusing.{refusal_of, tick_refusal, Ends}
 use Rattle.plain_machine.specs.Lists.{machine_after, outputs_from, plain, are_taken}
 use Rattle.plain_machine.proofs.EndLaws.{ends_fine}
 use Rattle.plain_machine.proofs.EffectLaws.{effect_lines, effect_now}
@@ -36,7 +37,7 @@ goes_on setup k m is event were are a none p =
     let same = effect_alike setup k m event a none in
     record { alike = rw (p.machine) same.machine; outputs = p.outputs ∙ ap (λ (sent : List Sent). were ++ put_out sent) same.sent }
 
-pub step_goes : (setup : Setup) (k m : Machine) (is : State) (event : GatewayEvent) (were are : List OutDatagram) (result : Result (Unit {0}) Refusal) → Ends k event (refused_by result)
+pub step_goes : (setup : Setup) (k m : Machine) (is : State) (event : GatewayEvent) (were are : List OutDatagram) (result : Result (Unit {0}) Refusal) → Ends k event (result_err result)
     → AllOr (purged_in k) result (effect setup (purged_in k) event) is were are → Alike k m → OnOk result (GoesOn setup m event (machine_in is) were are)
 step_goes setup k m is event were are (Ok x) e all a = goes_on setup (purged_in k) m is event were are (alike_purged k m a) (refusal_purged k event ∙ ends_fine k event e) all
 step_goes setup k m is event were are (Err refusal) e all a = tt
@@ -73,7 +74,7 @@ sound_after setup m is event were are s none p = rw p.machine (record {
 })
 
 pub step_sound : (setup : Setup) (k : Machine) (is : State) (event : GatewayEvent) (were are : List OutDatagram) (result : Result (Unit {0}) Refusal) → IsSound setup k
-    → Ends k event (refused_by result) → AllOr (purged_in k) result (effect setup (purged_in k) event) is were are → IsSound setup (machine_in is)
+    → Ends k event (result_err result) → AllOr (purged_in k) result (effect setup (purged_in k) event) is were are → IsSound setup (machine_in is)
 step_sound setup k is event were are (Ok x) s e all =
     sound_after setup (purged_in k) is event were are (purged_sound setup k s) (refusal_purged k event ∙ ends_fine k event e) all
 step_sound setup k is event were are (Err refusal) s e all = rw all.machine (purged_sound setup k s)
@@ -152,7 +153,7 @@ ends_alike g setup events event given is s e =
     rw (← is) (rw (refusal_alike g.machine (plain g.setup events) event s.alike, takes_alike g.machine (plain g.setup events) event s.alike) at e)
 
 pub took_ok : (g g' : GatewayState) (event : GatewayEvent) (were are : List OutDatagram) (result : Result (Unit {0}) Refusal) → g'.setup ≡ g.setup
-    → Ends g.machine event (refused_by result)
+    → Ends g.machine event (result_err result)
     → ((m : Machine) → Alike g.machine m → OnOk result (GoesOn g.setup m event g'.machine were are)) → OnOk result (Took g (event ∷ []) g' were are)
 took_ok g g' event were are (Ok x) same e goes = took_one g g' event were are same (ends_fine g.machine event e) goes
 took_ok g g' event were are (Err refusal) same e goes = tt

@@ -74,11 +74,11 @@ unfolding handled
 command_done setup result was is were mid are source said verb id name params body is_new same branch told done =
     let both = on_true is_new _ branch told in
     subst (λ (m : Message). Does result (handled_as (transaction_of setup (machine_in was) (message m)) setup (machine_in was) source (message m)) was is were are) (sym same)
-    (subst (λ (looked : Looked). Does result (transacted_by looked (machine_in was) source (asked setup was verb id name params)) was is were are) (sym both.0)
-    (subst (λ (out : List OutDatagram). Does result (executed (machine_in was) source (asked setup was verb id name params)) was is out are) both.1
+    (subst (λ (looked : Looked). Does result (transacted_by looked (machine_in was) source (asked setup was verb id name params body)) was is were are) (sym both.0)
+    (subst (λ (out : List OutDatagram). Does result (executed (machine_in was) source (asked setup was verb id name params body)) was is out are) both.1
     (subst (λ (m : Message). Does result (executed (machine_in was) source (transaction id (line_of_name setup name) (spans_of (k_of (params_in m))) (done_by (form_in m (k_of (params_in m)) setup.names) setup was.floor.endpoints was.clock id))) was is mid are) same (done (line_of_name setup name))))) where
-      asked : Setup → State → Verb → ℕ → List ℕ → List Param → Transaction
-      asked setup was verb id name params = transaction id (line_of_name setup name) (spans_of (k_of params)) (commanded setup was.floor.endpoints was.clock id (record { verb = verb; name = name; params = params }) (k_of params))
+      asked : Setup → State → Verb → ℕ → List ℕ → List Param → List ℕ → Transaction
+      asked setup was verb id name params body = transaction id (line_of_name setup name) (spans_of (k_of params)) (commanded setup was.floor.endpoints was.clock id (record { verb = verb; name = name; params = params; body = body }) (k_of params))
 
 -- the first of these, and then the others
 pub went_next : (setup : Setup) (source : SocketAddrV4) (all texts : List (List ℕ)) (text : List ℕ) (was between is : State) (were mid are : List OutDatagram) → all ≡ text ∷ texts

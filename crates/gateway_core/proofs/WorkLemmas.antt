@@ -1,8 +1,9 @@
 -- What is done at an event, piece by piece.
-use Rattle.std.proofs.Common.{◌≡◌, ℕ, ◌≤◌, ◌+◌, Bool, true, false, not, List, [], ◌∷◌, ◌++◌, length, map, drop, replicate, Option, Some, None, Ok, refl, sym, ap, ◌∙◌, append-nil, arith}
+use Rattle.std.proofs.Common.{◌≡◌, ℕ, ◌≤◌, ◌+◌, Bool, true, false, not, List, [], ◌∷◌, ◌++◌, length, map, drop, Option, Some, None, Ok, refl, sym, ap, ◌∙◌, append-nil, arith}
 use Rattle.std.specs.Prelude.{is_some, ◌==◌}
-use Rattle.std.specs.List.{enumerate_from}
-use Rattle.std.proofs.lemmas.List.{length-replicate, drop_all}
+use Rattle.std.specs.List.{enumerate_from, range_with_len}
+use Rattle.std.proofs.lemmas.List.{drop_all}
+use Rattle.std.proofs.lemmas.List.FromFn.{length-map-range_with_len}
 use Rattle.history.specs.Kept.{HistoryState, settled_at as history_at, from_young}
 use Rattle.mg_line.specs.declared.phone.Act.{Act}
 use Rattle.mg_line.specs.Acting.{is_heeded}
@@ -137,16 +138,16 @@ ends_refused setup event was is sent given some is_given e happened =
 
 -- Openings
 
-pub opening_sound : (config : Config) (setup : Setup) (m : Machine) → setup_of config ≡ Ok setup → m.endpoints.stations ≡ replicate setup.names.lines (opening_station setup)
+pub opening_sound : (config : Config) (setup : Setup) (m : Machine) → setup_of config ≡ Ok setup → m.endpoints.stations ≡ map (opening_station setup) (range_with_len 1 setup.names.lines)
     → m.now ≡ 0 → IsSound setup m
 opening_sound config setup m is stations now = record {
   set_up = setup_is config setup is;
-  all = ap length stations ∙ length-replicate setup.names.lines (opening_station setup);
+  all = ap length stations ∙ length-map-range_with_len (opening_station setup) 1 setup.names.lines;
   moment = rw now (omega arith);
 }
 
-pub opening_few : (config : Config) (setup : Setup) (stations : List Station) → setup_of config ≡ Ok setup → stations ≡ replicate setup.names.lines (opening_station setup) → length stations ≤ 16
-opening_few config setup stations is same = rw (ap length same ∙ length-replicate setup.names.lines (opening_station setup)) (setup_is config setup is).lines
+pub opening_few : (config : Config) (setup : Setup) (stations : List Station) → setup_of config ≡ Ok setup → stations ≡ map (opening_station setup) (range_with_len 1 setup.names.lines) → length stations ≤ 16
+opening_few config setup stations is same = rw (ap length same ∙ length-map-range_with_len (opening_station setup) 1 setup.names.lines) (setup_is config setup is).lines
 
 -- A list of names is whole at its end
 pub names_end : {B : Type 0} (f : ℕ × Station → B) (report : List B) (place : ℕ) (stations : List Station) → length stations ≤ place

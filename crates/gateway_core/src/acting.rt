@@ -3,7 +3,8 @@ ghost use Rattle.std.specs.Prelude.{IsTrue, IfOk};
 ghost use Rattle.mg_line.specs.Acting.{is_possible};
 ghost use Rattle.plain_machine.specs.Machine.{told_in, station_at};
 ghost use Rattle.plain_machine.specs.Acting.{acted_on, acted};
-ghost use Rattle.plain_machine.specs.Refusing.{act_refusal, is_unheeded, ends, refused_by};
+ghost use Rattle.std.specs.Result.{result_err};
+ghost use Rattle.plain_machine.specs.Refusing.{act_refusal, is_unheeded, ends};
 ghost use Rattle.gateway_core.specs.Sound.{MayTell, IsLine};
 ghost use Rattle.gateway_core.specs.State.{machine_in, Happens};
 ghost use Rattle.gateway_core.specs.Tells.{HasTurn};
@@ -53,7 +54,7 @@ pub(crate) fn act_on(
     ensures happens { Happens result (told_in (machine_in state.old)
         (acted context.entry.setup.now state.old.floor.endpoints line state.old.clock act)) state.old state.new }
     ensures ends { ends (act_refusal (station_at state.old.floor.endpoints line) act)
-        (is_unheeded (station_at state.old.floor.endpoints line) act) (refused_by result) }
+        (is_unheeded (station_at state.old.floor.endpoints line) act) (result_err result) }
 {
     let Some(station) = state.floor.station(line) else {
         return Err(Refusal::NoSuchLine);

@@ -8,7 +8,8 @@ ghost use Rattle.history.specs.Memory.{most_firsts};
 ghost use Rattle.history.specs.Looking.{new, look_of};
 ghost use Rattle.piggyback.specs.Parts.{parts_of};
 ghost use Rattle.plain_machine.specs.Arriving.{largest_datagram, texts_of};
-ghost use Rattle.plain_machine.specs.Refusing.{ends, refused_by};
+ghost use Rattle.std.specs.Result.{result_err};
+ghost use Rattle.plain_machine.specs.Refusing.{ends};
 ghost use Rattle.command_forms.specs.Order.{form_in};
 ghost use Rattle.mgcp_text.specs.declared.message.Message.TheVariants.{Command};
 ghost use Rattle.plain_machine.specs.Done.{only_answer};
@@ -285,7 +286,7 @@ pub(crate) fn take_datagram(
     requires { MayTell context.setup.now state.old.clock }
     ensures happens { Happens result (took_all context.entry.setup.now (machine_in state.old) source (texts_of bytes.now))
         state.old state.new }
-    ensures ends { ends None (nat_lt largest_datagram (length bytes.now)) (refused_by result) }
+    ensures ends { ends None (nat_lt largest_datagram (length bytes.now)) (result_err result) }
 {
     let mut out = Vec::new(context.alloc);
     if bytes.len() > LARGEST_DATAGRAM {

@@ -1,22 +1,25 @@
 //! What a command does and answers: it asks for a report, or for a deed.
 ghost use Rattle.std.specs.Prelude.{◌≡◌, true, IfOk};
+ghost use Rattle.std.specs.List.{list_all};
+ghost use Rattle.mgcp_text.specs.Writing.{is_writable_param};
 ghost use Rattle.endpoint_names.specs.Table.{is_domain};
 ghost use Rattle.command_forms.specs.Order.{form_in};
-ghost use Rattle.plain_machine.specs.Requesting.{deed_done};
+ghost use Rattle.plain_machine.specs.Requesting.{deed_done, line_with_place, done_there, done_for};
 ghost use Rattle.plain_machine.specs.Commanding.{audited, fitting, line_request, line_deed, done_by};
 ghost use Rattle.gateway_core.specs.Sound.{MayTell};
 ghost use Rattle.gateway_core.specs.Tells.{Tells};
 
 use crate::answering::LARGEST_DATAGRAM;
+use crate::connecting::answer_with;
 use crate::context::Context;
 use crate::floor::Floor;
-use crate::reporting::{names_of, report_of};
-use crate::requesting::{deed_on_all, refused_by};
+use crate::reporting::{name_alone, names_of, report_of};
+use crate::requesting::{deed_on_all, line_with_place, news_of, refused_by};
 use command_forms::{Asks, Audit, Deed, RequestForm, Target, form};
 use event_requests::Request as EventRequest;
 use mg_bytes::{CodeFault, OutOfMemory, ReturnCode};
 use mg_line::Request;
-use mgcp_text::{Answer, Bytes, KValue, Message, TransactionId};
+use mgcp_text::{Answer, Bytes, KValue, Message, Params, TransactionId};
 use plain_machine::{LineDeed, OutDatagram};
 use std::alloc::AllocError;
 
@@ -37,6 +40,10 @@ fn audited(
             None => return Ok(Answer::plain(context.alloc, ReturnCode::UnknownEndpoint.number())),
         },
         Target::All => names_of(context, floor)?,
+        Target::Any => return Ok(Answer::plain(
+            context.alloc,
+            ReturnCode::WildcardTooComplicated.number(),
+        )),
     };
     Ok(Answer::with(ReturnCode::Executed.number(), report, Bytes::of(b"")))
 }
@@ -52,8 +59,54 @@ fn fitting(context: Context<'_>, id: TransactionId, wanted: Answer) -> Result<An
     Ok(wanted)
 }
 
-// A deed on the lines that it is for: on all of them, or on none.
+// A deed on the lines that it is for: on all of them, or on none. Its answer has these further parameters.
 fn deed_done(
+    context: Context<'_>,
+    floor: &mut Floor,
+    moment: u64,
+    lines: Target,
+    more: Params<'static>,
+    deed: &LineDeed,
+    sent: &mut Vec<OutDatagram>,
+) -> Result<Answer, OutOfMemory>
+    requires may { MayTell context.setup.now moment }
+    requires writable { list_all is_writable_param more ≡ true }
+    ensures answer { IfOk result (λ answer. answer ≡ (deed_done context.entry.setup.now floor.old.endpoints lines
+        more.entry deed.now moment).answer) }
+    ensures told { Tells result (deed_done context.entry.setup.now floor.old.endpoints lines more.entry deed.now moment).told
+        floor.old floor.new sent.old.items sent.new.items }
+{
+    if let Some(code) = refused_by(floor, lines, deed) {
+        return Ok(Answer::plain(context.alloc, code));
+    }
+    let answer = answer_with(context, more, deed, &news_of(floor, lines, deed))?;
+    deed_on_all(context, floor, moment, lines, deed, sent)?;
+    Ok(answer)
+}
+
+// A deed on any one line: the least that has a place for one more connection. The answer names it.
+fn done_there(
+    context: Context<'_>,
+    floor: &mut Floor,
+    moment: u64,
+    deed: &LineDeed,
+    sent: &mut Vec<OutDatagram>,
+) -> Result<Answer, OutOfMemory>
+    requires { MayTell context.setup.now moment }
+    ensures answer { IfOk result (λ answer. answer ≡ (done_there (line_with_place floor.old.endpoints)
+        context.entry.setup.now floor.old.endpoints deed.now moment).answer) }
+    ensures told { Tells result (done_there (line_with_place floor.old.endpoints) context.entry.setup.now
+        floor.old.endpoints deed.now moment).told floor.old floor.new sent.old.items sent.new.items }
+{
+    let Some(line) = line_with_place(floor) else {
+        return Ok(Answer::plain(context.alloc, ReturnCode::NoEndpointAvailable.number()));
+    };
+    let more = name_alone(context, line)?;
+    deed_done(context, floor, moment, Target::One(line), more, deed, sent)
+}
+
+// A deed for such lines.
+fn done_for(
     context: Context<'_>,
     floor: &mut Floor,
     moment: u64,
@@ -62,16 +115,17 @@ fn deed_done(
     sent: &mut Vec<OutDatagram>,
 ) -> Result<Answer, OutOfMemory>
     requires { MayTell context.setup.now moment }
-    ensures answer { IfOk result (λ answer. answer ≡ (deed_done context.entry.setup.now floor.old.endpoints target
+    ensures answer { IfOk result (λ answer. answer ≡ (done_for context.entry.setup.now floor.old.endpoints target
         deed.now moment).answer) }
-    ensures told { Tells result (deed_done context.entry.setup.now floor.old.endpoints target deed.now moment).told
+    ensures told { Tells result (done_for context.entry.setup.now floor.old.endpoints target deed.now moment).told
         floor.old floor.new sent.old.items sent.new.items }
 {
-    if let Some(code) = refused_by(floor, target, deed) {
-        return Ok(Answer::plain(context.alloc, code));
+    let none = Params::new(context.alloc);
+    match target {
+        Target::One(_) => deed_done(context, floor, moment, target, none, deed, sent),
+        Target::All => deed_done(context, floor, moment, target, none, deed, sent),
+        Target::Any => done_there(context, floor, moment, deed, sent),
     }
-    deed_on_all(context, floor, moment, target, deed, sent)?;
-    Ok(Answer::plain(context.alloc, ReturnCode::Executed.number()))
 }
 
 // What a request asks of a line.
@@ -91,12 +145,22 @@ fn line_request(context: Context<'_>, form: RequestForm) -> Result<Request, OutO
 fn line_deed(context: Context<'_>, deed: Deed) -> Result<LineDeed, OutOfMemory>
     ensures { IfOk result (λ done. done ≡ line_deed deed) }
 {
-    let Deed { entity, request } = deed;
+    let Deed {
+        entity,
+        encoding,
+        connections,
+        request,
+    } = deed;
     let request = match request {
         Some(form) => Some(line_request(context, form)?),
         None => None,
     };
-    Ok(LineDeed { entity, request })
+    Ok(LineDeed {
+        entity,
+        encoding,
+        connections,
+        request,
+    })
 }
 
 /// What a command does whose K was read: its answer, and behind what there is what lines send because of it.
@@ -126,7 +190,7 @@ pub(crate) fn commanded(
         ),
         Ok(Asks::Does(target, deed)) => {
             let deed = line_deed(context, deed)?;
-            deed_done(context, floor, moment, target, &deed, sent)
+            done_for(context, floor, moment, target, &deed, sent)
         }
     }
 }

@@ -229,6 +229,8 @@ pub(crate) fn with_line(station: &Station, line: Line) -> Result<Station, OutOfM
     Ok(Station {
         line,
         post: copy_of(&station.post)?,
+        encoding: station.encoding,
+        connections: station.connections.copy(),
     })
 }
 
@@ -239,5 +241,7 @@ pub(crate) fn with_post(station: &Station, post: Post) -> Result<Station, OutOfM
     Ok(Station {
         line: station.line.try_copy()?,
         post,
+        encoding: station.encoding,
+        connections: station.connections.copy(),
     })
 }

@@ -10,6 +10,7 @@ use crate::state::State;
 use crate::stopped::Stopped;
 use crate::working::step_state;
 use arrayvec::ArrayVec;
+use connections::Connection;
 use history::History;
 use mg_line::Hook;
 use plain_machine::{Config, ConfigFault, Event, Outputs, Refusal, Setup};
@@ -39,8 +40,9 @@ impl Model for Gateway {
 }
 
 impl Gateway {
-    ghost use Rattle.plain_machine.specs.Refusing.{Ends, refused_by};
-    ghost use Rattle.plain_machine.specs.Lists.{plain, hook_of, signals_of, lost_of};
+    ghost use Rattle.std.specs.Result.{result_err};
+    ghost use Rattle.plain_machine.specs.Refusing.{Ends};
+    ghost use Rattle.plain_machine.specs.Lists.{plain, hook_of, signals_of, connections_of, lost_of};
     ghost use Rattle.gateway_core.specs.Stands.{Stands, Opens, Took, StoppedAt};
 
     /// A gateway of this configuration, at moment 0.
@@ -94,6 +96,18 @@ impl Gateway {
             .signals()
     }
 
+    /// What each of the four places of a line, from 1 to the number of lines, holds (RFC 3435, 2.1.3).
+    pub fn connections(&self, line: u16) -> &[Option<Connection>]
+        requires low { 1 ≤ line }
+        requires high { line ≤ self.now.setup.names.lines }
+        ensures { (events : List GatewayEvent) → Stands self.now events →
+            connections_of (plain self.now.setup events) line ≡ Some result.now }
+    {
+        self.state.floor.stations()[usize::from(line) - 1]
+            .connections
+            .list()
+    }
+
     /// How many events of a line, from 1 to the number of lines, found no room in its quarantine, up to
     /// 18,446,744,073,709,551,615 (RFC 3435, 4.4.1).
     pub fn lost(&self, line: u16) -> u64
@@ -119,7 +133,7 @@ impl Gateway {
     fn step_onto(&mut self, event: Event<'_>, outputs: &mut Outputs) -> Result<(), Refusal>
         ensures ok { OnOk result (Took self.old (event_of event.entry ∷ []) self.new outputs.old outputs.new) }
         ensures err { OnErr result (Took self.old [] self.new outputs.old outputs.new) }
-        ensures ends { Ends self.old.machine (event_of event.entry) (refused_by result) }
+        ensures ends { Ends self.old.machine (event_of event.entry) (result_err result) }
     {
         let context = Context {
             alloc: self.alloc,
@@ -136,7 +150,7 @@ impl Gateway {
         ensures err { OnErr result (Took self.old [] self.new [] []) }
         // It is refused exactly as the plain machine says, or for want of memory, and never so where it takes none.
         ensures ends { (before : List GatewayEvent) → Stands self.old before →
-            Ends (plain self.old.setup before) (event_of event.entry) (refused_by result) }
+            Ends (plain self.old.setup before) (event_of event.entry) (result_err result) }
     {
         let mut outputs = Outputs::new(self.alloc);
         match self.step_onto(event, &mut outputs) {

@@ -7,6 +7,7 @@
 mod acting;
 mod answering;
 mod commanding;
+mod connecting;
 mod context;
 mod falling;
 mod floor;

@@ -124,6 +124,8 @@ pub(crate) fn tell(
             Ok(Station {
                 line: station.line,
                 post,
+                encoding: station.encoding,
+                connections: station.connections,
             })
         }
     }

@@ -83,6 +83,8 @@ fn answered_on(
     let becomes = Station {
         line: step.line,
         post,
+        encoding: station.encoding,
+        connections: station.connections.copy(),
     };
     tell(context, occasion, becomes, step.notice, out)
 }

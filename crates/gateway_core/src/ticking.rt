@@ -2,7 +2,8 @@
 ghost use Rattle.std.specs.Prelude.{◌≡◌, ◌<◌, ◌^◌, not};
 ghost use Rattle.plain_machine.specs.Falling.{is_due, pass};
 ghost use Rattle.plain_machine.specs.Happening.{ticked};
-ghost use Rattle.plain_machine.specs.Refusing.{tick_refusal, ends, refused_by};
+ghost use Rattle.std.specs.Result.{result_err};
+ghost use Rattle.plain_machine.specs.Refusing.{tick_refusal, ends};
 ghost use Rattle.gateway_core.specs.Sound.{MayTell};
 ghost use Rattle.gateway_core.specs.State.{machine_in, Happens};
 
@@ -41,7 +42,7 @@ pub(crate) fn tick(
     ensures happens { Happens result (ticked (machine_in state.old) moment
         (pass context.entry.setup.now state.old.floor.endpoints moment)) state.old state.new }
     ensures ends { ends (tick_refusal state.old.clock moment)
-        (not (is_due state.old.floor.endpoints moment)) (refused_by result) }
+        (not (is_due state.old.floor.endpoints moment)) (result_err result) }
 {
     if let Some(refusal) = tick_refusal(state.clock, moment) {
         return Err(refusal);

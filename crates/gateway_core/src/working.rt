@@ -2,7 +2,8 @@
 ghost use Rattle.std.specs.Prelude.{◌≡◌, OnOk, OnErr};
 ghost use Rattle.plain_machine.specs.Event.{event_of};
 ghost use Rattle.plain_machine.specs.Happening.{effect};
-ghost use Rattle.plain_machine.specs.Refusing.{Ends, refused_by};
+ghost use Rattle.std.specs.Result.{result_err};
+ghost use Rattle.plain_machine.specs.Refusing.{Ends};
 ghost use Rattle.gateway_core.specs.Sound.{IsSound};
 ghost use Rattle.gateway_core.specs.Alike.{Alike, GoesOn};
 ghost use Rattle.gateway_core.specs.State.{machine_in, found_in, purged_in, Happens, PutsOut, AllOr};
@@ -25,7 +26,7 @@ fn happen(
     requires { IsSound context.setup.now (machine_in state.old) }
     ensures happens { Happens result (effect context.entry.setup.now (machine_in state.old) (event_of event.entry))
         state.old state.new }
-    ensures ends { Ends (machine_in state.old) (event_of event.entry) (refused_by result) }
+    ensures ends { Ends (machine_in state.old) (event_of event.entry) (result_err result) }
 {
     match event {
         Event::Datagram { source, bytes } => take_datagram(context, state, source, bytes),
@@ -47,7 +48,7 @@ fn carry_out(
         state.new outputs.old outputs.new) }
     ensures err { OnErr result (outputs.new ≡ outputs.old) }
     ensures found { OnErr result (found_in state.new ≡ found_in state.old) }
-    ensures ends { Ends (machine_in state.old) (event_of event.entry) (refused_by result) }
+    ensures ends { Ends (machine_in state.old) (event_of event.entry) (result_err result) }
 {
     let sent = happen(context, state, event)?;
     if sent.is_empty() {
@@ -68,7 +69,7 @@ fn attempt(
     ensures all { AllOr (purged_in (machine_in state.old)) result
         (effect context.entry.setup.now (purged_in (machine_in state.old)) (event_of event.entry))
         state.new outputs.old outputs.new }
-    ensures ends { Ends (machine_in state.old) (event_of event.entry) (refused_by result) }
+    ensures ends { Ends (machine_in state.old) (event_of event.entry) (result_err result) }
 {
     let clock = state.clock;
     state.floor.settle();
@@ -100,7 +101,7 @@ pub(crate) fn step_state(
         (GoesOn context.entry.setup.now m (event_of event.entry) (machine_in state.new) outputs.old outputs.new) }
     ensures err { (m : _) → Alike (machine_in state.old) m → OnErr result (Alike (machine_in state.new) m) }
     ensures no_outputs { OnErr result (outputs.new ≡ outputs.old) }
-    ensures ends { Ends (machine_in state.old) (event_of event.entry) (refused_by result) }
+    ensures ends { Ends (machine_in state.old) (event_of event.entry) (result_err result) }
 {
     attempt(context, state, event, outputs)
 }

@@ -118,7 +118,7 @@ handled_acks setup m source no_header = refl
 handled_acks setup m source (bad_version id) = transacted_none (look_of most_firsts m.history id m.now) m source (refusing m id 528) (All-nil NoAck)
 handled_acks setup m source (bad_body id) = transacted_none (look_of most_firsts m.history id m.now) m source (refusing m id 510) (All-nil NoAck)
 handled_acks setup m source (message (messages.Command verb id name params body)) =
-    let command : Command = record { verb = verb; name = name; params = params } in
+    let command : Command = record { verb = verb; name = name; params = params; body = body } in
     transacted_none (look_of most_firsts m.history id m.now) m source (command_with setup m id command (k_of params))
     (command_goes setup Any AnyOwn NoAck (none_turns setup) none_own_turns command (k_of params) m.endpoints m.now id (holds_any m.endpoints)).sent
 handled_acks setup m source (message (messages.Response code id params body)) =

@@ -6,26 +6,38 @@ use Rattle.std.proofs.lemmas.Bool.Decides.{Decides-eqb}
 use Rattle.std.proofs.lemmas.List.Elements.{filter_passes}
 use Rattle.std.proofs.lemmas.Option.{none-some}
 use Rattle.mg_bytes.specs.Checks.{first_fault}
-use Rattle.mgcp_text.specs.Answer.{plain_code}
+use Rattle.mgcp_text.specs.Answer.{Answer, plain_code}
 use Rattle.mgcp_text.specs.declared.confirmation.KValue.{KValue}
+use Rattle.mgcp_text.specs.declared.message.Param.{Param}
 use Rattle.command_forms.specs.Command.{Command}
 use Rattle.command_forms.specs.Meaning.{is_for}
 use Rattle.command_forms.specs.Order.{form_of}
 use Rattle.command_forms.specs.declared.forms.Asks.{Asks}
 use Rattle.command_forms.specs.declared.forms.Asks.TheVariants.{Reports, Does}
 use Rattle.command_forms.specs.declared.forms.Audit.{Audit}
+use Rattle.command_forms.specs.declared.forms.ConnectionDeed.{ConnectionDeed}
+use Rattle.command_forms.specs.declared.forms.ConnectionDeed.TheVariants.{Keep}
 use Rattle.command_forms.specs.declared.forms.Deed.{Deed}
 use Rattle.command_forms.specs.declared.forms.Target.{Target}
-use Rattle.command_forms.specs.declared.forms.Target.TheVariants.{One}
+use Rattle.command_forms.specs.declared.forms.Target.TheVariants.{One, All as AllLines, Any as AnyLine}
 use Rattle.plain_machine.specs.declared.line_deed.LineDeed.{LineDeed}
 use Rattle.plain_machine.specs.declared.setup.Setup.{Setup}
 use Rattle.plain_machine.specs.declared.station.Station.{Station}
+use Rattle.plain_machine.specs.Connecting.{Shown, nothing_shown, done_code, connected}
 use Rattle.plain_machine.specs.Commanding.{line_deed, done_by, commanded}
 use Rattle.plain_machine.specs.Done.{Done, only_answer}
 use Rattle.plain_machine.specs.Machine.{Endpoints, told, station_at, numbered}
-use Rattle.plain_machine.specs.Requesting.{refusal_on, refused_by, lines_meant, deed_on, deed_on_all, unless_refused, deed_done}
+use Rattle.plain_machine.specs.Reporting.{name_of_line}
+use Rattle.plain_machine.specs.Requesting.{refusal_on, refused_by, lines_meant, encoding_with, deed_on, deed_on_all, shown_by, shown_on, shown_of, answer_with, unless_refused, deed_done, line_with_place, done_there, done_for}
 use Rattle.machine_laws.specs.Refusals.{refusal_at, IsRefused, NoneRefuses}
 use Rattle.machine_laws.proofs.LineLemmas.{own_stays, not_among, among_from, none_stays, sent_from_each, passing_from, place_of, all_there}
+
+-- what a deed does and is answered where no line refuses it
+abbrev done_whole : Setup → Endpoints → Target → List Param → LineDeed → ℕ → Done
+done_whole setup endpoints lines more deed moment = record {
+  told = deed_on_all setup endpoints lines deed moment;
+  answer = answer_with more deed (shown_of endpoints lines deed);
+}
 
 -- The first line that refuses
 
@@ -81,10 +93,10 @@ least_refuses endpoints lines deed (suc place) code refuses none =
     (sym (line_at endpoints lines deed place) ∙ ap (refusal_at endpoints lines deed) (sym same) ∙ refuses)
     (λ before less. sym (line_at endpoints lines deed before) ∙ none (1 + before) (omega (arith, less)))
 
-pub refused_deed : (setup : Setup) (endpoints : Endpoints) (lines : Target) (deed : LineDeed) (moment : ℕ) (refused : IsRefused endpoints lines deed)
-    → deed_done setup endpoints lines deed moment ≡ only_answer endpoints (plain_code refused.code)
-refused_deed setup endpoints lines deed moment refused =
-    ap (λ (x : Option ℕ). unless_refused x endpoints (record { told = deed_on_all setup endpoints lines deed moment; answer = plain_code 200 }))
+pub refused_deed : (setup : Setup) (endpoints : Endpoints) (lines : Target) (more : List Param) (deed : LineDeed) (moment : ℕ) (refused : IsRefused endpoints lines deed)
+    → deed_done setup endpoints lines more deed moment ≡ only_answer endpoints (plain_code refused.code)
+refused_deed setup endpoints lines more deed moment refused =
+    ap (λ (x : Option ℕ). unless_refused x endpoints (done_whole setup endpoints lines more deed moment))
     (least_refuses endpoints lines deed refused.line refused.code refused.refuses refused.least)
 
 -- Either a line refuses or none does
@@ -131,15 +143,33 @@ none_of_all : (endpoints : Endpoints) (lines : Target) (deed : LineDeed) → Non
 unfolding refused_by
 none_of_all endpoints lines deed none = none_refuses lines deed 1 endpoints.stations (λ place. sym (line_at endpoints lines deed place) ∙ none (1 + place))
 
-all_done : (setup : Setup) (endpoints : Endpoints) (lines : Target) (deed : LineDeed) (moment : ℕ) → NoneRefuses endpoints lines deed
-    → deed_done setup endpoints lines deed moment ≡ record { told = deed_on_all setup endpoints lines deed moment; answer = plain_code 200 }
-all_done setup endpoints lines deed moment none =
-    ap (λ (x : Option ℕ). unless_refused x endpoints (record { told = deed_on_all setup endpoints lines deed moment; answer = plain_code 200 }))
+all_done : (setup : Setup) (endpoints : Endpoints) (lines : Target) (more : List Param) (deed : LineDeed) (moment : ℕ) → NoneRefuses endpoints lines deed
+    → deed_done setup endpoints lines more deed moment ≡ done_whole setup endpoints lines more deed moment
+all_done setup endpoints lines more deed moment none =
+    ap (λ (x : Option ℕ). unless_refused x endpoints (done_whole setup endpoints lines more deed moment))
     (none_of_all endpoints lines deed none)
 
-pub done_answer : (setup : Setup) (endpoints : Endpoints) (lines : Target) (deed : LineDeed) (moment : ℕ) → NoneRefuses endpoints lines deed
-    → (deed_done setup endpoints lines deed moment).answer ≡ plain_code 200
-done_answer setup endpoints lines deed moment none = ap (λ (x : Done). x.answer) (all_done setup endpoints lines deed moment none)
+pub done_answer : (setup : Setup) (endpoints : Endpoints) (lines : Target) (more : List Param) (deed : LineDeed) (moment : ℕ) → NoneRefuses endpoints lines deed
+    → (deed_done setup endpoints lines more deed moment).answer ≡ answer_with more deed (shown_of endpoints lines deed)
+done_answer setup endpoints lines more deed moment none = ap (λ (x : Done). x.answer) (all_done setup endpoints lines more deed moment none)
+
+-- where connections stay there is nothing to be told
+none_shown : (endpoints : Endpoints) (lines : Target) (deed : LineDeed) → deed.connections ≡ Keep → shown_of endpoints lines deed ≡ nothing_shown
+unfolding shown_of connected
+none_shown endpoints AllLines deed keeps = refl
+none_shown endpoints AnyLine deed keeps = refl
+none_shown endpoints (One line) deed keeps = by_station (station_at endpoints line) where
+  by_station : (found : Option Station) → shown_on found deed ≡ nothing_shown
+  by_station None = refl
+  by_station (Some station) =
+      ap (λ (connections : ConnectionDeed). shown_by (connected connections (encoding_with deed station) station.connections)) keeps
+
+pub done_keeping : (setup : Setup) (endpoints : Endpoints) (lines : Target) (deed : LineDeed) (moment : ℕ) → NoneRefuses endpoints lines deed → deed.connections ≡ Keep
+    → (deed_done setup endpoints lines [] deed moment).answer ≡ plain_code 200
+done_keeping setup endpoints lines deed moment none keeps =
+    done_answer setup endpoints lines [] deed moment none
+    ∙ ap (λ (shown : Shown). answer_with [] deed shown) (none_shown endpoints lines deed keeps)
+    ∙ ap (λ (connections : ConnectionDeed). let answer : Answer = record { code = done_code connections; params = []; body = [] } in answer) keeps
 
 apart_from_passing : (p : ℕ → Bool) (n line : ℕ) (stations : List Station) → p line ≡ false → All (λ (one : ℕ). line ≢ one) (passing_from p n stations)
 apart_from_passing p n line stations fails k d within same =
@@ -166,24 +196,24 @@ deed_station setup endpoints lines deed moment line = by_station (station_at end
   by_station None at = none_stays (lines_meant endpoints lines) endpoints (deed_on setup deed moment) line at
   by_station (Some station) at = by_test station (is_for lines line) refl at
 
-pub done_station : (setup : Setup) (endpoints : Endpoints) (lines : Target) (deed : LineDeed) (moment line : ℕ) → NoneRefuses endpoints lines deed
-    → station_at (deed_done setup endpoints lines deed moment).told.endpoints line
+pub done_station : (setup : Setup) (endpoints : Endpoints) (lines : Target) (more : List Param) (deed : LineDeed) (moment line : ℕ) → NoneRefuses endpoints lines deed
+    → station_at (deed_done setup endpoints lines more deed moment).told.endpoints line
     ≡ option_map (λ (station : Station). if is_for lines line then (deed_on setup deed moment line station).station else station) (station_at endpoints line)
-done_station setup endpoints lines deed moment line none =
-    ap (λ (x : Done). station_at x.told.endpoints line) (all_done setup endpoints lines deed moment none) ∙ deed_station setup endpoints lines deed moment line
+done_station setup endpoints lines more deed moment line none =
+    ap (λ (x : Done). station_at x.told.endpoints line) (all_done setup endpoints lines more deed moment none) ∙ deed_station setup endpoints lines deed moment line
 
-pub done_sent : (setup : Setup) (endpoints : Endpoints) (lines : Target) (deed : LineDeed) (moment : ℕ) → NoneRefuses endpoints lines deed
-    → (deed_done setup endpoints lines deed moment).told.sent
+pub done_sent : (setup : Setup) (endpoints : Endpoints) (lines : Target) (more : List Param) (deed : LineDeed) (moment : ℕ) → NoneRefuses endpoints lines deed
+    → (deed_done setup endpoints lines more deed moment).told.sent
     ≡ flat_map (λ (one : ℕ × Station). (deed_on setup deed moment one.0 one.1).sent) (filter (λ (one : ℕ × Station). is_for lines one.0) (numbered endpoints))
-done_sent setup endpoints lines deed moment none =
-    ap (λ (x : Done). x.told.sent) (all_done setup endpoints lines deed moment none)
+done_sent setup endpoints lines more deed moment none =
+    ap (λ (x : Done). x.told.sent) (all_done setup endpoints lines more deed moment none)
     ∙ sent_from_each (is_for lines) 1 endpoints.stations endpoints (deed_on setup deed moment) (all_there endpoints)
 
 -- One line
 
-pub one_line_alone : (setup : Setup) (endpoints : Endpoints) (deed : LineDeed) (moment line other : ℕ) → other ≢ line
-    → station_at (deed_done setup endpoints (One line) deed moment).told.endpoints other ≡ station_at endpoints other
-one_line_alone setup endpoints deed moment line other apart = by_refusal (refused_by endpoints (One line) deed) where
+pub one_line_alone : (setup : Setup) (endpoints : Endpoints) (more : List Param) (deed : LineDeed) (moment line other : ℕ) → other ≢ line
+    → station_at (deed_done setup endpoints (One line) more deed moment).told.endpoints other ≡ station_at endpoints other
+one_line_alone setup endpoints more deed moment line other apart = by_refusal (refused_by endpoints (One line) deed) where
   not_meant : is_for (One line) other ≡ false
   not_meant = by_test (line == other) refl where
     by_test : (b : Bool) → (line == other) ≡ b → b ≡ false
@@ -191,17 +221,17 @@ one_line_alone setup endpoints deed moment line other apart = by_refusal (refuse
     by_test false e = refl
 
   by_refusal : (refusal : Option ℕ)
-      → station_at (unless_refused refusal endpoints (record { told = deed_on_all setup endpoints (One line) deed moment; answer = plain_code 200 })).told.endpoints other
+      → station_at (unless_refused refusal endpoints (done_whole setup endpoints (One line) more deed moment)).told.endpoints other
       ≡ station_at endpoints other
   by_refusal None =
       not_among (lines_meant endpoints (One line)) endpoints (deed_on setup deed moment) other (apart_from_passing (is_for (One line)) 1 other endpoints.stations not_meant)
   by_refusal (Some code) = refl
 
-pub own_alone : (setup : Setup) (endpoints : Endpoints) (lines : Target) (deed : LineDeed) (moment : ℕ)
-    → (deed_done setup endpoints lines deed moment).told.endpoints.own ≡ endpoints.own
-own_alone setup endpoints lines deed moment = by_refusal (refused_by endpoints lines deed) where
+pub own_alone : (setup : Setup) (endpoints : Endpoints) (lines : Target) (more : List Param) (deed : LineDeed) (moment : ℕ)
+    → (deed_done setup endpoints lines more deed moment).told.endpoints.own ≡ endpoints.own
+own_alone setup endpoints lines more deed moment = by_refusal (refused_by endpoints lines deed) where
   by_refusal : (refusal : Option ℕ)
-      → (unless_refused refusal endpoints (record { told = deed_on_all setup endpoints lines deed moment; answer = plain_code 200 })).told.endpoints.own ≡ endpoints.own
+      → (unless_refused refusal endpoints (done_whole setup endpoints lines more deed moment)).told.endpoints.own ≡ endpoints.own
   by_refusal None = own_stays (lines_meant endpoints lines) endpoints (deed_on setup deed moment)
   by_refusal (Some code) = refl
 
@@ -209,8 +239,26 @@ own_alone setup endpoints lines deed moment = by_refusal (refused_by endpoints l
 
 pub deed_of_command : (setup : Setup) (endpoints : Endpoints) (moment id : ℕ) (command : Command) (confirms : KValue) (lines : Target) (deed : Deed)
     → form_of command confirms setup.names ≡ Ok (Does lines deed)
-    → commanded setup endpoints moment id command confirms ≡ deed_done setup endpoints lines (line_deed deed) moment
+    → commanded setup endpoints moment id command confirms ≡ done_for setup endpoints lines (line_deed deed) moment
 deed_of_command setup endpoints moment id command confirms lines deed is = ap (λ (x : Result Asks ℕ). done_by x setup endpoints moment id) is
+
+-- for which lines a deed is
+
+pub deed_on_one : (setup : Setup) (endpoints : Endpoints) (deed : LineDeed) (moment line : ℕ)
+    → done_for setup endpoints (One line) deed moment ≡ deed_done setup endpoints (One line) [] deed moment
+deed_on_one setup endpoints deed moment line = refl
+
+pub deed_on_each : (setup : Setup) (endpoints : Endpoints) (deed : LineDeed) (moment : ℕ)
+    → done_for setup endpoints AllLines deed moment ≡ deed_done setup endpoints AllLines [] deed moment
+deed_on_each setup endpoints deed moment = refl
+
+pub deed_on_any : (setup : Setup) (endpoints : Endpoints) (deed : LineDeed) (moment line : ℕ) → line_with_place endpoints ≡ Some line
+    → done_for setup endpoints AnyLine deed moment ≡ deed_done setup endpoints (One line) (name_of_line setup line ∷ []) deed moment
+deed_on_any setup endpoints deed moment line is = ap (λ (found : Option ℕ). done_there found setup endpoints deed moment) is
+
+pub deed_on_no_line : (setup : Setup) (endpoints : Endpoints) (deed : LineDeed) (moment : ℕ) → line_with_place endpoints ≡ None
+    → done_for setup endpoints AnyLine deed moment ≡ only_answer endpoints (plain_code 410)
+deed_on_no_line setup endpoints deed moment is = ap (λ (found : Option ℕ). done_there found setup endpoints deed moment) is
 
 pub audit_stays : (setup : Setup) (endpoints : Endpoints) (moment id : ℕ) (command : Command) (confirms : KValue) (lines : Target) (audit : Audit)
     → form_of command confirms setup.names ≡ Ok (Reports lines audit) → (commanded setup endpoints moment id command confirms).told ≡ told endpoints []

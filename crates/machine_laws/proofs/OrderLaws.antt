@@ -5,13 +5,14 @@ use Rattle.std.proofs.lemmas.List.Elements.{All-nil, All-cons}
 use Rattle.std.proofs.lemmas.List.Kept.{AllPairs-cons}
 use Rattle.std.specs.declared.net.socket_addr.SocketAddrV4.{SocketAddrV4}
 use Rattle.mgcp_text.specs.declared.confirmation.KValue.{KValue}
-use Rattle.mgcp_text.specs.Answer.{plain_code}
+use Rattle.mgcp_text.specs.declared.message.Param.{Param}
 use Rattle.command_forms.specs.Command.{Command}
 use Rattle.command_forms.specs.Meaning.{is_for}
 use Rattle.command_forms.specs.Order.{form_of}
 use Rattle.command_forms.specs.declared.forms.Asks.{Asks}
 use Rattle.command_forms.specs.declared.forms.Asks.TheVariants.{Reports, Does}
 use Rattle.command_forms.specs.declared.forms.Target.{Target}
+use Rattle.command_forms.specs.declared.forms.Target.TheVariants.{One, All as AllLines, Any as AnyLine}
 use Rattle.plain_machine.specs.declared.line_deed.LineDeed.{LineDeed}
 use Rattle.plain_machine.specs.declared.setup.Setup.{Setup}
 use Rattle.plain_machine.specs.declared.station.Station.{Station}
@@ -20,7 +21,8 @@ use Rattle.plain_machine.specs.Commanding.{line_deed, done_by, commanded}
 use Rattle.plain_machine.specs.Machine.{Endpoints, Machine}
 use Rattle.plain_machine.specs.Message.{answer, own_of, Sent}
 use Rattle.plain_machine.specs.Notifying.{Turn}
-use Rattle.plain_machine.specs.Requesting.{refused_by, deed_on, deed_on_all, unless_refused}
+use Rattle.plain_machine.specs.Reporting.{name_of_line}
+use Rattle.plain_machine.specs.Requesting.{refused_by, deed_on, deed_on_all, shown_of, answer_with, unless_refused, deed_done, line_with_place, done_there, done_for}
 use Rattle.machine_laws.specs.Owning.{IsOfALine, IsOfALesserLine}
 use Rattle.machine_laws.proofs.LineLemmas.{sent_in, stations_passing, sent_from_each, all_there}
 use Rattle.machine_laws.proofs.SendLemmas.{OnceAtMost, silent, once, deed_once}
@@ -79,14 +81,27 @@ deeds_in_order setup endpoints lines deed moment =
     subst (InOrder 1) (sym (sent_from_each (is_for lines) 1 endpoints.stations endpoints (deed_on setup deed moment) (all_there endpoints)))
     (in_order (is_for lines) 1 endpoints.stations (deed_on setup deed moment) (λ line station. deed_once setup deed moment line station))
 
+deed_in_order : (setup : Setup) (endpoints : Endpoints) (lines : Target) (more : List Param) (deed : LineDeed) (moment : ℕ)
+    → InOrder 1 (deed_done setup endpoints lines more deed moment).told.sent
+deed_in_order setup endpoints lines more deed moment = by_refusal (refused_by endpoints lines deed) where
+  by_refusal : (refusal : Option ℕ)
+      → InOrder 1 (unless_refused refusal endpoints
+      (record { told = deed_on_all setup endpoints lines deed moment; answer = answer_with more deed (shown_of endpoints lines deed) })).told.sent
+  by_refusal None = deeds_in_order setup endpoints lines deed moment
+  by_refusal (Some code) = nothing 1
+
+for_in_order : (setup : Setup) (endpoints : Endpoints) (target : Target) (deed : LineDeed) (moment : ℕ) → InOrder 1 (done_for setup endpoints target deed moment).told.sent
+for_in_order setup endpoints (One line) deed moment = deed_in_order setup endpoints (One line) [] deed moment
+for_in_order setup endpoints AllLines deed moment = deed_in_order setup endpoints AllLines [] deed moment
+for_in_order setup endpoints AnyLine deed moment = by_line (line_with_place endpoints) where
+  by_line : (found : Option ℕ) → InOrder 1 (done_there found setup endpoints deed moment).told.sent
+  by_line None = nothing 1
+  by_line (Some line) = deed_in_order setup endpoints (One line) (name_of_line setup line ∷ []) deed moment
+
 done_in_order : (asks : Result Asks ℕ) (setup : Setup) (endpoints : Endpoints) (moment id : ℕ) → InOrder 1 (done_by asks setup endpoints moment id).told.sent
 done_in_order (Err code) setup endpoints moment id = nothing 1
 done_in_order (Ok (Reports target audit)) setup endpoints moment id = nothing 1
-done_in_order (Ok (Does target deed)) setup endpoints moment id = by_refusal (refused_by endpoints target (line_deed deed)) where
-  by_refusal : (refusal : Option ℕ)
-      → InOrder 1 (unless_refused refusal endpoints (record { told = deed_on_all setup endpoints target (line_deed deed) moment; answer = plain_code 200 })).told.sent
-  by_refusal None = deeds_in_order setup endpoints target (line_deed deed) moment
-  by_refusal (Some code) = nothing 1
+done_in_order (Ok (Does target deed)) setup endpoints moment id = for_in_order setup endpoints target (line_deed deed) moment
 
 pub command_own : (setup : Setup) (endpoints : Endpoints) (moment id : ℕ) (command : Command) (confirms : KValue)
     → All IsOfALine (commanded setup endpoints moment id command confirms).told.sent

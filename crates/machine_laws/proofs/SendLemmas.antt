@@ -22,7 +22,7 @@ use Rattle.plain_machine.specs.Falling.{happened_on, own_happened}
 use Rattle.plain_machine.specs.Machine.{Endpoints}
 use Rattle.plain_machine.specs.Posting.{repeated_as, resent_by, resent_on, reply_on}
 use Rattle.plain_machine.specs.Commanding.{line_deed}
-use Rattle.plain_machine.specs.Requesting.{with_entity, asked_if, deed_on}
+use Rattle.plain_machine.specs.Requesting.{with_entity, with_connections, asked_if, deed_on}
 use Rattle.plain_machine.specs.Responding.{answered_if, responded_on, own_responded}
 use Rattle.plain_machine.proofs.TurnLemmas.{OnAll, Turns, OwnTurns, Holds}
 use Rattle.machine_laws.specs.Owning.{is_acknowledgement}
@@ -54,7 +54,7 @@ noted_none setup line moment station done = by_notice done.notice where
 
 deed_none : (setup : Setup) (deed : LineDeed) (moment line : ℕ) (station : Station) → All NoAck (deed_on setup deed moment line station).sent
 unfolding deed_on
-deed_none setup deed moment line station = noted_none setup line moment (with_entity deed.entity station) (asked_if deed.request station.line moment)
+deed_none setup deed moment line station = noted_none setup line moment (with_connections deed (with_entity deed.entity station)) (asked_if deed.request station.line moment)
 
 responded_none : (setup : Setup) (line moment code id : ℕ) (station : Station) → All NoAck (responded_on setup line moment station code id).sent
 unfolding responded_on
@@ -118,4 +118,4 @@ noted_once setup line moment station done = by_notice done.notice where
 
 pub deed_once : (setup : Setup) (deed : LineDeed) (moment line : ℕ) (station : Station) → OnceAtMost line (deed_on setup deed moment line station).sent
 unfolding deed_on
-deed_once setup deed moment line station = noted_once setup line moment (with_entity deed.entity station) (asked_if deed.request station.line moment)
+deed_once setup deed moment line station = noted_once setup line moment (with_connections deed (with_entity deed.entity station)) (asked_if deed.request station.line moment)

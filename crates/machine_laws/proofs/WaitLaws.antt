@@ -42,11 +42,11 @@ use Rattle.plain_machine.specs.Machine.{Endpoints, Machine, Told, opening_statio
 use Rattle.plain_machine.specs.Message.{Sent}
 use Rattle.plain_machine.specs.Notifying.{Turn, posted, with_notice, noted}
 use Rattle.plain_machine.specs.Posting.{numbers, line_of_id, repeated_as, resent_by, replied, replied_to}
-use Rattle.plain_machine.specs.Requesting.{with_entity, asked_if, deed_on}
+use Rattle.plain_machine.specs.Requesting.{with_entity, with_connections, asked_if, deed_on}
 use Rattle.plain_machine.specs.Responding.{answered_if, responded_on, own_responded}
 use Rattle.plain_machine.proofs.EffectLaws.{either_own, either_line, some_line, on_this}
 use Rattle.plain_machine.proofs.FlightLaws.{next_below, repeated_same, heard_same, no_command_when_due, repeat_carries, repeat_keeps, own_carries, own_keeps}
-use Rattle.plain_machine.proofs.TurnLemmas.{OnAll, Turns, OwnTurns, Holds, of_line, on_copies, pass_goes, handled_on_all, events_on_all}
+use Rattle.plain_machine.proofs.TurnLemmas.{OnAll, Turns, OwnTurns, Holds, of_line, on_made, pass_goes, handled_on_all, events_on_all}
 use Rattle.mgcp_text.specs.Reading.{read_text}
 use Rattle.machine_laws.specs.Waiting.{in_flight, IsInOrder, AreInOrder}
 use Rattle.machine_laws.proofs.LineLemmas.{others_stay_on, own_stays_on, this_turns, AreThere, all_there}
@@ -117,7 +117,7 @@ asked_awaits (Some request) line moment = notifies_once.request line request mom
 deed_waits : (setup : Setup) (deed : LineDeed) (line moment : ℕ) (station : Station) → IsInOrder line station → IsInOrder line (deed_on setup deed moment line station).station
 unfolding deed_on
 deed_waits setup deed line moment station is =
-    noted_waits setup line moment (with_entity deed.entity station) (asked_if deed.request station.line moment) is.number (asked_awaits deed.request station.line moment)
+    noted_waits setup line moment (with_connections deed (with_entity deed.entity station)) (asked_if deed.request station.line moment) is.number (asked_awaits deed.request station.line moment)
     (still_waits line station.post.pending station.line.state (asked_if deed.request station.line moment).line.state is.waits (λ waits. asked_waits deed.request station.line moment waits))
 
 act_waits : (setup : Setup) (line moment : ℕ) (act : Act) (station : Station) → IsInOrder line station → IsInOrder line (acted_on setup line moment act station).station
@@ -193,7 +193,7 @@ each_in_order endpoints all = record { lines = λ line station at. of_line IsInO
 
 opening_all : (setup : Setup) → AllHold (opening setup).endpoints
 opening_all setup = record {
-  stations = on_copies IsInOrder (opening_station setup) 1 setup.names.lines (λ i low high. record { waits = tt; number = omega arith });
+  stations = on_made IsInOrder (opening_station setup) 1 setup.names.lines (λ i low high. record { waits = tt; number = omega arith });
   own = tt;
 }
 

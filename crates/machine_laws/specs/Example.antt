@@ -1,6 +1,7 @@
 -- What the worked examples speak of.
 use Rattle.std.specs.Prelude.{ℕ, List, [], ◌∷◌, codes, Some, None}
 use Rattle.std.specs.declared.net.socket_addr.SocketAddrV4.{SocketAddrV4}
+use Rattle.command_forms.specs.declared.forms.ConnectionDeed.TheVariants as deeds
 use Rattle.mg_line.specs.declared.phone.Act.TheVariants as acts
 use Rattle.mg_line.specs.Story.{requests, with_signals}
 use Rattle.plain_machine.specs.declared.line_deed.LineDeed.{LineDeed}
@@ -17,7 +18,12 @@ saying to moment text = record { to = to; moment = moment; owner = of_none; said
 
 -- a deed that asks for these signals
 abbrev pub signalling : List ℕ → LineDeed
-signalling signals = record { entity = None; request = Some (with_signals signals (requests (codes "A5") [])) }
+signalling signals = record {
+  entity = None;
+  encoding = None;
+  connections = deeds.Keep;
+  request = Some (with_signals signals (requests (codes "A5") []));
+}
 
 -- sixteen lines of which 2 and 3 are off hook
 abbrev pub two_off_hook : Endpoints

@@ -80,11 +80,13 @@ pub fn lines_refuse_deeds()
 
 /// Where lines refuse with different codes, that of the least line is the answer.
 pub fn the_least_line_that_refuses_answers()
-    ensures least { (deed_done example two_off_hook All (signalling (codes "L/rg,L/dl")) 1000).answer ≡ plain_code 402 }
-    ensures one { (deed_done example two_off_hook (One 3) (signalling (codes "L/rg,L/dl")) 1000).answer
+    ensures least { (deed_done example two_off_hook All [] (signalling (codes "L/rg,L/dl")) 1000).answer
+        ≡ plain_code 402 }
+    ensures one { (deed_done example two_off_hook (One 3) [] (signalling (codes "L/rg,L/dl")) 1000).answer
         ≡ plain_code 401 }
-    ensures later { (deed_done example two_off_hook All (signalling (codes "L/rg")) 1000).answer ≡ plain_code 401 }
-    ensures none { (deed_done example two_off_hook All (signalling (codes "L/vmwi(+)")) 1000).answer ≡ plain_code 200 }
+    ensures later { (deed_done example two_off_hook All [] (signalling (codes "L/rg")) 1000).answer ≡ plain_code 401 }
+    ensures none { (deed_done example two_off_hook All [] (signalling (codes "L/vmwi(+)")) 1000).answer
+        ≡ plain_code 200 }
 {}
 
 /// An acknowledgement is `000` and the id, to where the response came from; no other message is one.

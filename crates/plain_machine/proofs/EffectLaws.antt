@@ -6,6 +6,7 @@ use Rattle.std.specs.Prelude.{slice_set, slice_get, ◌==◌, if◌then◌else�
 use Rattle.std.proofs.lemmas.Grind.{common_steps}
 use Rattle.std.specs.declared.net.socket_addr.SocketAddrV4.{SocketAddrV4}
 use Rattle.mgcp_text.specs.declared.message.Message.TheVariants as messages
+use Rattle.mgcp_text.specs.declared.message.Param.{Param}
 use Rattle.mgcp_text.specs.Confirmation.{k_of}
 use Rattle.mgcp_text.specs.Reading.{Outcome, message, no_header, bad_version, bad_body, read_text}
 use Rattle.plain_machine.specs.declared.own.Own.{Own}
@@ -23,10 +24,13 @@ use Rattle.plain_machine.specs.Posting.{line_of_id}
 use Rattle.plain_machine.specs.Responding.{responded_on, own_responded}
 use Rattle.plain_machine.specs.declared.due_item.DueItem.{DueItem}
 use Rattle.plain_machine.specs.Done.{Done}
-use Rattle.plain_machine.specs.Requesting.{refused_by, lines_meant, unless_refused}
+use Rattle.plain_machine.specs.declared.line_deed.LineDeed.{LineDeed}
+use Rattle.plain_machine.specs.Requesting.{refused_by, lines_meant, unless_refused, deed_done, line_with_place, done_there, done_for}
 use Rattle.plain_machine.specs.Commanding.{line_deed, done_by}
 use Rattle.command_forms.specs.declared.forms.Asks.{Asks}
 use Rattle.command_forms.specs.declared.forms.Asks.TheVariants.{Reports, Does}
+use Rattle.command_forms.specs.declared.forms.Target.{Target}
+use Rattle.command_forms.specs.declared.forms.Target.TheVariants.{One, All, Any}
 use Rattle.command_forms.specs.Order.{form_of}
 use Rattle.plain_machine.specs.Answering.{Transaction, executed, transacted_by, handled, took_all}
 use Rattle.plain_machine.specs.Happening.{effect}
@@ -37,7 +41,7 @@ lines_in endpoints = length endpoints.stations
 set_same : (stations : List Station) (i : ℕ) (station : Station) → length (slice_set stations i station) ≡ length stations
 set_same stations i station = grind (arith, common_steps)
 
-turned_lines : (endpoints : Endpoints) (line : ℕ) (turn : Station → Turn) → lines_in (on_line endpoints line turn).endpoints ≡ lines_in endpoints
+pub turned_lines : (endpoints : Endpoints) (line : ℕ) (turn : Station → Turn) → lines_in (on_line endpoints line turn).endpoints ≡ lines_in endpoints
 unfolding on_line
 turned_lines endpoints line turn = by_station (station_at endpoints line) where
   by_station : (found : Option Station) → lines_in (turned_at found endpoints line turn).endpoints ≡ lines_in endpoints
@@ -72,11 +76,24 @@ asked_lines : (refusal : Option ℕ) (endpoints : Endpoints) (done : Done) → l
 asked_lines None endpoints done same = same
 asked_lines (Some code) endpoints done same = refl
 
+deed_lines : (setup : Setup) (endpoints : Endpoints) (lines : Target) (more : List Param) (deed : LineDeed) (moment : ℕ)
+    → lines_in (deed_done setup endpoints lines more deed moment).told.endpoints ≡ lines_in endpoints
+deed_lines setup endpoints lines more deed moment =
+    asked_lines (refused_by endpoints lines deed) endpoints _ (several_lines (lines_meant endpoints lines) endpoints _)
+
+target_lines : (setup : Setup) (endpoints : Endpoints) (target : Target) (deed : LineDeed) (moment : ℕ)
+    → lines_in (done_for setup endpoints target deed moment).told.endpoints ≡ lines_in endpoints
+target_lines setup endpoints (One line) deed moment = deed_lines setup endpoints (One line) [] deed moment
+target_lines setup endpoints All deed moment = deed_lines setup endpoints All [] deed moment
+target_lines setup endpoints Any deed moment = by_line (line_with_place endpoints) where
+  by_line : (found : Option ℕ) → lines_in (done_there found setup endpoints deed moment).told.endpoints ≡ lines_in endpoints
+  by_line None = refl
+  by_line (Some line) = deed_lines setup endpoints (One line) _ deed moment
+
 done_lines : (asks : Result Asks ℕ) (setup : Setup) (endpoints : Endpoints) (moment id : ℕ) → lines_in (done_by asks setup endpoints moment id).told.endpoints ≡ lines_in endpoints
 done_lines (Err code) setup endpoints moment id = refl
 done_lines (Ok (Reports target audit)) setup endpoints moment id = refl
-done_lines (Ok (Does target deed)) setup endpoints moment id =
-    asked_lines (refused_by endpoints target (line_deed deed)) endpoints _ (several_lines (lines_meant endpoints target) endpoints _)
+done_lines (Ok (Does target deed)) setup endpoints moment id = target_lines setup endpoints target (line_deed deed) moment
 
 handled_keeps : (setup : Setup) (m : Machine) (source : SocketAddrV4) (outcome : Outcome) → Keeps m (handled setup m source outcome)
 unfolding handled
@@ -84,7 +101,7 @@ handled_keeps setup m source no_header = record { lines = refl; now = refl }
 handled_keeps setup m source (bad_version id) = transacted_keeps (look_of most_firsts m.history id m.now) m source _ refl
 handled_keeps setup m source (bad_body id) = transacted_keeps (look_of most_firsts m.history id m.now) m source _ refl
 handled_keeps setup m source (message (messages.Command verb id name params body)) =
-    transacted_keeps (look_of most_firsts m.history id m.now) m source _ (done_lines (form_of (record { verb = verb; name = name; params = params }) (k_of params) setup.names) setup m.endpoints m.now id)
+    transacted_keeps (look_of most_firsts m.history id m.now) m source _ (done_lines (form_of (record { verb = verb; name = name; params = params; body = body }) (k_of params) setup.names) setup m.endpoints m.now id)
 handled_keeps setup m source (message (messages.Response code id params body)) = record { lines = either_lines m.endpoints (line_of_id id) (own_responded m.now code id) (λ station. responded_on setup (line_of_id id) m.now station code id); now = refl }
 
 pub handled_now : (setup : Setup) (m : Machine) (source : SocketAddrV4) (outcome : Outcome) → (handled setup m source outcome).machine.now ≡ m.now
@@ -101,6 +118,9 @@ took_keeps setup m source (text ∷ texts) =
     let rest = took_keeps setup (handled setup m source (read_text text)).machine source texts in
     record { lines = rest.lines ∙ first.lines; now = rest.now ∙ first.now }
 
+pub took_lines : (setup : Setup) (m : Machine) (source : SocketAddrV4) (texts : List (List ℕ)) → length (took_all setup m source texts).machine.endpoints.stations ≡ length m.endpoints.stations
+took_lines setup m source texts = (took_keeps setup m source texts).lines
+
 -- what falls due changes a station, and adds none
 pub happened_lines : (setup : Setup) (endpoints : Endpoints) (item : DueItem) → lines_in (happened setup endpoints item).endpoints ≡ lines_in endpoints
 happened_lines setup endpoints item =
@@ -115,7 +135,7 @@ passed_lines (suc n) setup endpoints moment = by_due (due_by endpoints moment) (
   by_due None rest = refl
   by_due (Some item) rest = rest item ∙ happened_lines setup endpoints item
 
-pass_lines : (setup : Setup) (endpoints : Endpoints) (moment : ℕ) → lines_in (pass setup endpoints moment).endpoints ≡ lines_in endpoints
+pub pass_lines : (setup : Setup) (endpoints : Endpoints) (moment : ℕ) → lines_in (pass setup endpoints moment).endpoints ≡ lines_in endpoints
 unfolding pass
 pass_lines setup endpoints moment = passed_lines (room endpoints moment) setup endpoints moment
 

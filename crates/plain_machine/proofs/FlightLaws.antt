@@ -48,14 +48,14 @@ use Rattle.plain_machine.specs.Posting.{numbers, first_number, number_after, id_
 use Rattle.plain_machine.specs.Notifying.{Turn, posted, with_notice, noted}
 use Rattle.plain_machine.specs.Machine.{Endpoints, Told, told, opening_station, opening, station_at, turned_at, on_line, on_own, with_own}
 use Rattle.plain_machine.specs.Acting.{acted_on}
-use Rattle.plain_machine.specs.Requesting.{with_entity, asked_if, deed_on}
+use Rattle.plain_machine.specs.Requesting.{with_entity, with_connections, asked_if, deed_on}
 use Rattle.plain_machine.specs.Commanding.{line_deed}
 use Rattle.plain_machine.specs.Falling.{happened_on, own_happened}
 use Rattle.plain_machine.specs.Responding.{answered_if, responded_on, own_responded, responded}
 use Rattle.plain_machine.specs.Lists.{machine_after}
 use Rattle.plain_machine.specs.Flights.{Waits, HasOwnId, BeginsNothing, IsSame, Carries}
 use Rattle.plain_machine.proofs.EffectLaws.{other_station, either_own, either_line, some_line, on_still}
-use Rattle.plain_machine.proofs.TurnLemmas.{Turns, OwnTurns, Holds, of_line, on_copies, events_on_all}
+use Rattle.plain_machine.proofs.TurnLemmas.{Turns, OwnTurns, Holds, of_line, on_made, events_on_all}
 
 -- A line that waits for the answer waits on, and tells nothing
 
@@ -217,7 +217,7 @@ asked_awaits (Some request) line moment = notifies_once.request line request mom
 deed_flies : (setup : Setup) (deed : LineDeed) (line moment : ℕ) (station : Station) → Flies line station → Flies line (deed_on setup deed moment line station).station
 unfolding deed_on
 deed_flies setup deed line moment station flies =
-    noted_flies setup line moment (with_entity deed.entity station) (asked_if deed.request station.line moment) flies.below (asked_awaits deed.request station.line moment)
+    noted_flies setup line moment (with_connections deed (with_entity deed.entity station)) (asked_if deed.request station.line moment) flies.below (asked_awaits deed.request station.line moment)
     (still_waits line station.post.pending station.line.state (asked_if deed.request station.line moment).line.state flies.waits
     (λ waits. (asked_waits deed.request station.line moment waits).state))
 
@@ -275,7 +275,7 @@ own_flying = record {
 
 all_fly : (setup : Setup) (events : List GatewayEvent) → Holds Flies HasOwnId (machine_after setup (opening setup) events).endpoints
 all_fly setup events = events_on_all setup Flies HasOwnId Any (flying setup) own_flying (opening setup) events (record {
-  stations = on_copies Flies (opening_station setup) 1 setup.names.lines (λ i low high. record { waits = tt; below = omega arith });
+  stations = on_made Flies (opening_station setup) 1 setup.names.lines (λ i low high. record { waits = tt; below = omega arith });
   own = tt;
 })
 
@@ -308,7 +308,7 @@ pub no_command_at_a_deed : (setup : Setup) (deed : LineDeed) (line moment : ℕ)
     → station.post.pending ≡ Some message → BeginsNothing station (deed_on setup deed moment line station)
 unfolding deed_on
 no_command_at_a_deed setup deed line moment station message waits pending =
-    let begins = noted_begins_nothing setup line moment (with_entity deed.entity station) (asked_if deed.request station.line moment)
+    let begins = noted_begins_nothing setup line moment (with_connections deed (with_entity deed.entity station)) (asked_if deed.request station.line moment)
     (asked_waits deed.request station.line moment (it_waits line station message waits pending)).silent in
     record { pending = begins.pending; sent = begins.sent }
 
@@ -389,7 +389,7 @@ own_keeps moment own message pending = post_keeps 0 moment own.post message pend
 
 -- A response changes its own line alone, or the gateway itself
 
-line_stays : (endpoints : Endpoints) (line other : ℕ) (turn : Station → Turn) → other ≢ line → station_at (on_line endpoints line turn).endpoints other ≡ station_at endpoints other
+pub line_stays : (endpoints : Endpoints) (line other : ℕ) (turn : Station → Turn) → other ≢ line → station_at (on_line endpoints line turn).endpoints other ≡ station_at endpoints other
 unfolding on_line
 line_stays endpoints line other turn apart = by_station (station_at endpoints line) refl where
   by_zero : (station : Station) (b c : Bool) → (line == 0) ≡ b → (other == 0) ≡ c → (if b then None else slice_get endpoints.stations (line - 1)) ≡ Some station

@@ -1,5 +1,5 @@
 -- Every message that is sent ends in a line end, has no dot line, and is no longer than a datagram may be.
-use Rattle.std.proofs.Common.{◌≡◌, ℕ, ◌<◌, ◌≤◌, ◌^◌, Bool, true, false, ◌||◌, ◌==◌, if◌then◌else◌, List, [], ◌∷◌, ◌++◌, length, map, codes, Option, Some, None, Result, Ok, Err, inl, inr, refl, sym, ap, ◌∙◌, arith, lit<}
+use Rattle.std.proofs.Common.{◌≡◌, ℕ, ◌+◌, ◌<◌, ◌≤◌, ◌^◌, Bool, true, false, ◌||◌, ◌==◌, if◌then◌else◌, List, [], ◌∷◌, ◌++◌, length, map, codes, Option, Some, None, Result, Ok, Err, inl, inr, refl, sym, ap, ◌∙◌, arith, lit<, ⊎_elim}
 use Rattle.std.specs.Prelude.{◌⊎◌, All, Any, IfSome, flat_map, nat_le}
 use Rattle.std.specs.Fmt.{decimal}
 use Rattle.std.specs.List.{list_all, slice_index_or}
@@ -8,7 +8,9 @@ use Rattle.std.proofs.lemmas.Bool.{leb-true}
 use Rattle.std.proofs.lemmas.Bool.Decides.{nat_tests}
 use Rattle.std.proofs.lemmas.Fmt.{length-decimal-le}
 use Rattle.std.proofs.lemmas.Grind.{flat_map-append}
+use Rattle.std.specs.Cmp.Derive.{both_true}
 use Rattle.std.proofs.lemmas.List.{length-append, map-append}
+use Rattle.std.proofs.lemmas.List.Folds.{list_all-append}
 use Rattle.std.proofs.lemmas.List.Elements.{All-nil, All-cons, All-head, All-tail, All-append}
 use Rattle.std.proofs.lemmas.Slice.Eq.{bytes_eq-Decides}
 use Rattle.std.specs.declared.net.socket_addr.SocketAddrV4.{SocketAddrV4}
@@ -21,7 +23,7 @@ use Rattle.mgcp_text.specs.declared.message.Param.{Param}
 use Rattle.mgcp_text.specs.declared.message.Message.TheVariants as messages
 use Rattle.mgcp_text.specs.Confirmation.{k_of}
 use Rattle.mgcp_text.specs.Reading.{Outcome, message, no_header, bad_version, bad_body, id_in, read_text}
-use Rattle.mgcp_text.specs.Writing.{code_text, comment, response_line, ended, written, is_writable_param, is_writable_body}
+use Rattle.mgcp_text.specs.Writing.{code_text, comment, response_line, param_line, body_text, ended, written, is_writable_param, is_writable_body}
 use Rattle.mgcp_text.specs.Answer.{Answer, IsAnswer, plain_code, response_of}
 use Rattle.mgcp_text.proofs.AnswerLemmas.{answer_writable}
 use Rattle.mgcp_text.proofs.IdLemmas.{IsId, read_id}
@@ -35,8 +37,7 @@ use Rattle.history.specs.Kept.{firsts_in}
 use Rattle.history.specs.Looking.{Told as Looked, new, repeat, confirmed, full, look_of}
 use Rattle.history.proofs.LookLaws.{repeat_kept}
 use Rattle.command_forms.specs.declared.forms.Target.{Target}
-use Rattle.command_forms.specs.declared.forms.Target.TheVariants.{One, All as AllLines}
-use Rattle.command_forms.specs.declared.verbs.Meant.{Meant}
+use Rattle.command_forms.specs.declared.forms.Target.TheVariants.{One, All as AllLines, Any as AnyLine}
 use Rattle.mg_packages.specs.declared.hook.Hook.{Hook}
 use Rattle.mg_packages.specs.declared.hook.Hook.TheVariants.{OnHook, OffHook}
 use Rattle.mg_line.specs.Line.{LineState}
@@ -48,27 +49,34 @@ use Rattle.plain_machine.specs.Message.{Sent, of_none, answer as answers, again,
 use Rattle.plain_machine.specs.Machine.{Endpoints, Machine, Effect, opening, station_at, numbered}
 use Rattle.plain_machine.specs.Arriving.{largest_datagram, texts_of}
 use Rattle.plain_machine.specs.Packing.{messages_in, put_out}
-use Rattle.plain_machine.specs.Reporting.{hook_event, with_item, with_items, name_param, names_of}
+use Rattle.plain_machine.specs.Reporting.{hook_event, with_item, with_items, name_of_line, name_param, names_of}
 use Rattle.command_forms.specs.declared.forms.Asks.{Asks}
 use Rattle.command_forms.specs.declared.forms.Asks.TheVariants.{Reports, Does}
 use Rattle.command_forms.specs.declared.forms.Audit.{Audit}
 use Rattle.command_forms.specs.Command.{Command}
-use Rattle.command_forms.specs.Meaning.{meant}
 use Rattle.command_forms.specs.Order.{form_of}
 use Rattle.endpoint_names.specs.declared.names.Names.{Names}
 use Rattle.command_forms.specs.Codes.{name_codes, param_codes, has_code}
-use Rattle.command_forms.proofs.FormLemmas.{name_first, asked_behind}
-use Rattle.command_forms.proofs.CodeLemmas.{name_code, param_code}
+use Rattle.command_forms.proofs.CodeLemmas.{form_code as forms_code}
 use Rattle.plain_machine.specs.Setup.{IsSetUp}
 use Rattle.plain_machine.specs.Done.{Done}
-use Rattle.plain_machine.specs.Requesting.{refused_by, unless_refused}
+use Rattle.command_forms.specs.declared.forms.ConnectionDeed.{ConnectionDeed}
+use Rattle.command_forms.specs.declared.forms.ConnectionDeed.TheVariants.{Keep, Create, Modify, Delete}
+use Rattle.endpoint_names.specs.declared.name.Pattern.TheVariants as patterns
+use Rattle.endpoint_names.specs.Name.{name_text}
+use Rattle.plain_machine.specs.declared.line_deed.LineDeed.{LineDeed}
+use Rattle.plain_machine.specs.Connecting.{Shown, done_code}
+use Rattle.plain_machine.specs.Requesting.{encoding_with, refused_by, shown_on, shown_of, answer_with, unless_refused, deed_done, line_with_place, done_there, done_for}
 use Rattle.plain_machine.specs.Commanding.{reported, line_audited, audited, fitting, line_deed, done_by, commanded}
 use Rattle.plain_machine.proofs.CommandLaws.{Goes, IsOut, Sound, OwnSound, sound_turns, sound_own_turns, opening_is_sound}
-use Rattle.plain_machine.proofs.TurnLemmas.{Holds, acted_goes, responded_goes, pass_goes, command_goes, handled_on_all, event_on_all}
+use Rattle.plain_machine.proofs.TurnLemmas.{Holds, of_line, acted_goes, responded_goes, pass_goes, command_goes, handled_on_all, event_on_all}
 use Rattle.plain_machine.proofs.EffectLaws.{effect_lines, handled_lines}
 use Rattle.plain_machine.proofs.ListLaws.{lines_of_opening}
 use Rattle.plain_machine.proofs.CodeLemmas.{IsCode, refusal_code}
-use Rattle.plain_machine.proofs.NameLemmas.{names_writable}
+use Rattle.plain_machine.proofs.NameLemmas.{line_writable, names_writable}
+use Rattle.plain_machine.proofs.NotificationLemmas.{param_short, name_short}
+use Rattle.plain_machine.proofs.StandingLemmas.{OfConnections, AnyOwn, AnySent, HasLine, keeps_places, connection_turns, any_own_turns, opening_has_places}
+use Rattle.plain_machine.proofs.ShownLemmas.{IsShown, nothing_is, connected_is, line_inside}
 use Rattle.plain_machine.specs.Answering.{Transaction, response_to, answer_text, reply, executed, transacted_by, refusing, handled, took_all}
 use Rattle.plain_machine.specs.Responding.{asks_for_acknowledgement, acknowledged}
 use Rattle.plain_machine.specs.Happening.{effect}
@@ -186,11 +194,16 @@ unless_answered : (id : ℕ) (endpoints : Endpoints) (refusal : Option ℕ) (don
 unless_answered id endpoints None done has small goes = goes
 unless_answered id endpoints (Some code) done has small goes = code_goes code id has small
 
+-- each line has its places for connections
+abbrev HasLines : Setup → Endpoints → Type 0
+HasLines setup endpoints = Holds (OfConnections (HasLine setup)) AnyOwn endpoints
+
 -- a machine that belongs to a setup, and whose commands in flight can go out again
 record Fits (setup : Setup) (m : Machine) : Type 0 where
   set_up : IsSetUp setup
   lines : length m.endpoints.stations ≡ setup.names.lines
   holds : Holds Sound OwnSound m.endpoints
+  places : HasLines setup m.endpoints
 
 audit_is : (setup : Setup) (endpoints : Endpoints) (target : Target) (audit : Audit) → IsSetUp setup → length endpoints.stations ≡ setup.names.lines → IsAnswer (audited setup endpoints target audit)
 unfolding audited names_of
@@ -203,14 +216,95 @@ audit_is setup endpoints AllLines audit set_up lines =
     names_are setup endpoints (names_writable setup endpoints.stations set_up.domain few) where
       names_are : (setup : Setup) (endpoints : Endpoints) → list_all is_writable_param (map (name_param setup) (numbered endpoints)) ≡ true → IsAnswer (reported (map (name_param setup) (numbered endpoints)))
       names_are setup endpoints each = record { three_digits = omega arith; each = each; whole = is_no_body }
+audit_is setup endpoints AnyLine audit set_up lines = code_is 503 (omega arith)
 
-form_answered : (asks : Result Asks ℕ) (setup : Setup) (endpoints : Endpoints) (moment id : ℕ) → IsSetUp setup → length endpoints.stations ≡ setup.names.lines → IsId id
+-- What a deed is answered
+
+-- parameters that are few can be written, and are short
+abbrev Params : List Param → ℕ → Type 0
+Params params most = (list_all is_writable_param params ≡ true) × (length (flat_map (λ param. ended (param_line param)) params) ≤ most)
+
+params_both : (some more : List Param) (most other : ℕ) → Params some most → Params more other → Params (some ++ more) (most + other)
+params_both some more most other one two =
+    let text : Param → List ℕ = λ param. ended (param_line param) in
+    let each : list_all is_writable_param (some ++ more) ≡ true = list_all-append is_writable_param some more ∙ both_true one.0 two.0 in
+    let whole : flat_map text (some ++ more) ≡ flat_map text some ++ flat_map text more = flat_map-append text some more in
+    let short : length (flat_map text (some ++ more)) ≤ most + other = rw whole (omega (arith, one.1, two.1, length-append (flat_map text some) (flat_map text more))) in
+    (each, short)
+
+body_short : (body : List ℕ) (most : ℕ) → length body ≤ most → length (body_text body) ≤ most + 2
+body_short [] most few = omega arith
+body_short (b ∷ bs) most few = omega arith
+
+deed_code : (deed : ConnectionDeed) → done_code deed ≤ 999
+deed_code Keep = omega arith
+deed_code (Create creation) = omega arith
+deed_code (Modify call id change) = omega arith
+deed_code (Delete deletion) = omega arith
+
+-- what is shown, and with at most the name of a line
+shown_short : (code id : ℕ) (params more : List Param) (body : List ℕ) → id ≤ 999999999 → Params params 100 → Params more 100 → length body ≤ 400
+    → length (written (response_of id (record { code = code; params = params ++ more; body = body }))) ≤ largest_datagram
+unfolding written
+shown_short code id params more body small one two few =
+    let text : Param → List ℕ = λ param. ended (param_line param) in
+    let head = first_line code id small in
+    let middle = (params_both params more 100 100 one two).1 in
+    let end = body_short body 400 few in
+    let front = length-append (ended (response_line code id)) (flat_map text (params ++ more)) in
+    let whole = length-append (ended (response_line code id) ++ flat_map text (params ++ more)) (body_text body) in
+    omega (arith, head, middle, end, front, whole)
+
+answer_with_goes : (id : ℕ) (more : List Param) (deed : LineDeed) (shown : Shown) → IsId id → Params more 100 → IsShown shown → Goes (written (response_of id (answer_with more deed shown)))
+answer_with_goes id more deed shown has one is =
+    let both = params_both shown.params more 100 100 (is.each, is.params) one in
+    short_goes id (answer_with more deed shown) has (record { three_digits = deed_code deed.connections; each = both.0; whole = is.whole })
+    (shown_short (done_code deed.connections) id shown.params more shown.body has.1 (is.each, is.params) one is.body)
+
+shown_of_is : (setup : Setup) (endpoints : Endpoints) (lines : Target) (deed : LineDeed) → IsSetUp setup → HasLines setup endpoints → IsShown (shown_of endpoints lines deed)
+unfolding shown_of
+shown_of_is setup endpoints (One line) deed set_up has = by_station (station_at endpoints line) refl where
+  by_station : (found : Option Station) → station_at endpoints line ≡ found → IsShown (shown_on found deed)
+  by_station None at = nothing_is
+  by_station (Some station) at =
+      connected_is setup set_up line station.connections (of_line (OfConnections (HasLine setup)) endpoints line station has.stations at) deed.connections (encoding_with deed station)
+shown_of_is setup endpoints AllLines deed set_up has = nothing_is
+shown_of_is setup endpoints AnyLine deed set_up has = nothing_is
+
+deed_answered : (setup : Setup) (endpoints : Endpoints) (lines : Target) (more : List Param) (deed : LineDeed) (moment id : ℕ) → IsSetUp setup → HasLines setup endpoints → IsId id
+    → Params more 100 → AnswerGoes id (deed_done setup endpoints lines more deed moment)
+deed_answered setup endpoints lines more deed moment id set_up places has one =
+    unless_answered id endpoints (refused_by endpoints lines deed) _ has (refusal_code endpoints lines deed)
+    (answer_with_goes id more deed (shown_of endpoints lines deed) has one (shown_of_is setup endpoints lines deed set_up places))
+
+no_more : Params [] 100
+no_more = (refl, omega arith)
+
+name_more : (setup : Setup) (line : ℕ) → IsSetUp setup → line ≤ 16 → Params (name_of_line setup line ∷ []) 100
+name_more setup line set_up few =
+    let fine : is_writable_param (name_of_line setup line) ≡ true = line_writable setup line set_up.domain (omega arith) in
+    let short = param_short (codes "Z") (name_text (patterns.One line) setup.names.domain) 72 (omega arith) (name_short line setup.names.domain few set_up.domain) in
+    (rw fine refl, omega (arith, short, length-append (ended (param_line (name_of_line setup line))) []))
+
+target_answered : (setup : Setup) (endpoints : Endpoints) (target : Target) (deed : LineDeed) (moment id : ℕ) → IsSetUp setup → length endpoints.stations ≡ setup.names.lines
+    → HasLines setup endpoints → IsId id → AnswerGoes id (done_for setup endpoints target deed moment)
+target_answered setup endpoints (One line) deed moment id set_up lines places has = deed_answered setup endpoints (One line) [] deed moment id set_up places has no_more
+target_answered setup endpoints AllLines deed moment id set_up lines places has = deed_answered setup endpoints AllLines [] deed moment id set_up places has no_more
+target_answered setup endpoints AnyLine deed moment id set_up lines places has = by_line (line_with_place endpoints) refl where
+  by_line : (found : Option ℕ) → line_with_place endpoints ≡ found → AnswerGoes id (done_there found setup endpoints deed moment)
+  by_line None is = code_goes 410 id has (omega arith)
+  by_line (Some line) is =
+      let last = line_inside endpoints line is in
+      deed_answered setup endpoints (One line) (name_of_line setup line ∷ []) deed moment id set_up places has
+      (name_more setup line set_up (omega (arith, last, lines, set_up.lines)))
+
+form_answered : (asks : Result Asks ℕ) (setup : Setup) (endpoints : Endpoints) (moment id : ℕ) → IsSetUp setup → length endpoints.stations ≡ setup.names.lines → HasLines setup endpoints → IsId id
     → ((code : ℕ) → asks ≡ Err code → IsCode code) → AnswerGoes id (done_by asks setup endpoints moment id)
-form_answered (Err code) setup endpoints moment id set_up lines has small = code_goes code id has (small code refl)
-form_answered (Ok (Reports target audit)) setup endpoints moment id set_up lines has small =
+form_answered (Err code) setup endpoints moment id set_up lines places has small = code_goes code id has (small code refl)
+form_answered (Ok (Reports target audit)) setup endpoints moment id set_up lines places has small =
     fitting_goes id (audited setup endpoints target audit) has (audit_is setup endpoints target audit set_up lines)
-form_answered (Ok (Does target deed)) setup endpoints moment id set_up lines has small =
-    unless_answered id endpoints (refused_by endpoints target (line_deed deed)) _ has (refusal_code endpoints target (line_deed deed)) (code_goes 200 id has (omega arith))
+form_answered (Ok (Does target deed)) setup endpoints moment id set_up lines places has small =
+    target_answered setup endpoints target (line_deed deed) moment id set_up lines places has
 
 small_name : (code : ℕ) → has_code name_codes code ≡ true → IsCode code
 small_name code has = grind (arith, nat_tests)
@@ -218,22 +312,12 @@ small_name code has = grind (arith, nat_tests)
 small_param : (code : ℕ) → has_code param_codes code ≡ true → IsCode code
 small_param code has = grind (arith, nat_tests)
 
-abbrev code_in : ℕ → Result Asks ℕ → ℕ
-code_in other (Ok asks) = other
-code_in other (Err code) = code
-
 form_code : (command : Command) (confirms : KValue) (names : Names) (code : ℕ) → form_of command confirms names ≡ Err code → IsCode code
-form_code command confirms names code is = by_meant (meant command names) refl where
-  by_meant : (found : Result Meant ℕ) → meant command names ≡ found → IsCode code
-  by_meant (Err other) bad =
-      let same : other ≡ code = ap (code_in 0) (sym (name_first command confirms names other bad) ∙ is) in
-      rw (← same) (small_name other (name_code command names other bad))
-  by_meant (Ok found) fine =
-      small_param code (param_code found command.params confirms names.table code (sym (asked_behind command confirms names found fine) ∙ is))
+form_code command confirms names code is = ⊎_elim (small_name code) (small_param code) (forms_code command confirms names code is)
 
 command_answered : (setup : Setup) (m : Machine) (id : ℕ) (command : Command) (confirms : KValue) → Fits setup m → IsId id → AnswerGoes id (commanded setup m.endpoints m.now id command confirms)
 command_answered setup m id command confirms fits has =
-    form_answered (form_of command confirms setup.names) setup m.endpoints m.now id fits.set_up fits.lines has (λ code is. form_code command confirms setup.names code is)
+    form_answered (form_of command confirms setup.names) setup m.endpoints m.now id fits.set_up fits.lines fits.places has (λ code is. form_code command confirms setup.names code is)
 
 -- What is kept and sent
 
@@ -280,7 +364,7 @@ handled_goes setup m source (bad_version id) fits all has =
 handled_goes setup m source (bad_body id) fits all has =
     transacted_goes _ m source (refusing m id 510) all (code_goes 510 id has (omega arith)) (All-nil IsOut) refl
 handled_goes setup m source (message (messages.Command verb id name params body)) fits all has =
-    let command : Command = record { verb = verb; name = name; params = params } in
+    let command : Command = record { verb = verb; name = name; params = params; body = body } in
     transacted_goes _ m source _ all (command_answered setup m id command (k_of params) fits has)
     (command_goes setup Sound OwnSound IsOut (sound_turns setup fits.set_up) sound_own_turns command (k_of params) m.endpoints m.now id fits.holds).sent refl
 handled_goes setup m source (message (messages.Response code id params body)) fits all has = record {
@@ -294,6 +378,7 @@ handled_fits setup m source outcome fits = record {
   set_up = fits.set_up;
   lines = handled_lines setup m source outcome ∙ fits.lines;
   holds = handled_on_all setup Sound OwnSound IsOut (sound_turns setup fits.set_up) sound_own_turns m source outcome fits.holds;
+  places = handled_on_all setup (OfConnections (HasLine setup)) AnyOwn AnySent (connection_turns setup (HasLine setup) (keeps_places setup)) any_own_turns m source outcome fits.places;
 }
 
 texts_go : (setup : Setup) (m : Machine) (source : SocketAddrV4) (texts : List (List ℕ)) → Fits setup m → AreKept m.history → GoesOut (took_all setup m source texts)
@@ -317,6 +402,7 @@ event_fits setup m event fits = record {
   set_up = fits.set_up;
   lines = effect_lines setup m event ∙ fits.lines;
   holds = event_on_all setup Sound OwnSound IsOut (sound_turns setup fits.set_up) sound_own_turns m event fits.holds;
+  places = event_on_all setup (OfConnections (HasLine setup)) AnyOwn AnySent (connection_turns setup (HasLine setup) (keeps_places setup)) any_own_turns m event fits.places;
 }
 
 -- What goes out
@@ -350,7 +436,7 @@ pub nothing_kept : (setup : Setup) → AreKept (opening setup).history
 nothing_kept setup = All-nil (λ (first : KeptFirst). Goes first.answer)
 
 opening_fits : (setup : Setup) → IsSetUp setup → Fits setup (opening setup)
-opening_fits setup set_up = record { set_up = set_up; lines = lines_of_opening setup; holds = opening_is_sound setup set_up }
+opening_fits setup set_up = record { set_up = set_up; lines = lines_of_opening setup; holds = opening_is_sound setup set_up; places = opening_has_places setup }
 
 pub sent_as_messages : (setup : Setup) (events : List GatewayEvent) → IsSetUp setup
     → flat_map messages_in (outputs_from setup (opening setup) events) ≡ datagrams_of (sent_from setup (opening setup) events)

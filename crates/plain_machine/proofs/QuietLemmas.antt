@@ -10,6 +10,8 @@ use Rattle.mgcp_text.specs.Confirmation.{k_of}
 use Rattle.mgcp_text.specs.Reading.{Outcome, message, no_header, bad_version, bad_body}
 use Rattle.command_forms.specs.declared.forms.Asks.{Asks}
 use Rattle.command_forms.specs.declared.forms.Asks.TheVariants.{Reports, Does}
+use Rattle.command_forms.specs.declared.forms.Target.{Target}
+use Rattle.command_forms.specs.declared.forms.Target.TheVariants.{One, All, Any}
 use Rattle.command_forms.specs.Order.{form_of}
 use Rattle.outbound.specs.declared.repeat.Repeat.{Repeat}
 use Rattle.outbound.specs.declared.repeat.Repeat.TheVariants.{Sent as SentAgain, GivenUp}
@@ -35,7 +37,7 @@ use Rattle.plain_machine.specs.Machine.{Endpoints, Machine, OwnTurn, station_at,
 use Rattle.plain_machine.specs.Acting.{acted_on, acted}
 use Rattle.plain_machine.specs.Falling.{due_by, happened_on, own_happened, happened, go_on, passed, room, pass}
 use Rattle.plain_machine.specs.Done.{Done}
-use Rattle.plain_machine.specs.Requesting.{refused_by, with_entity, asked_if, deed_on, lines_meant, unless_refused}
+use Rattle.plain_machine.specs.Requesting.{refused_by, with_entity, with_connections, asked_if, deed_on, lines_meant, unless_refused, deed_done, line_with_place, done_there, done_for}
 use Rattle.plain_machine.specs.Commanding.{line_deed, done_by}
 use Rattle.plain_machine.specs.Responding.{asks_for_acknowledgement, acknowledged, answered_if, responded_on, own_responded, responded}
 use Rattle.plain_machine.specs.Answering.{transaction_of, heard_as}
@@ -87,7 +89,7 @@ own_happened_quiet Resend moment own = resent_quiet 0 moment own.post
 
 deed_on_quiet : (setup : Setup) (deed : LineDeed) (moment line : ℕ) (station : Station) → Quiet (deed_on setup deed moment line station).sent
 unfolding deed_on
-deed_on_quiet setup deed moment line station = noted_quiet setup line moment (with_entity deed.entity station) (asked_if deed.request station.line moment)
+deed_on_quiet setup deed moment line station = noted_quiet setup line moment (with_connections deed (with_entity deed.entity station)) (asked_if deed.request station.line moment)
 
 responded_on_quiet : (setup : Setup) (line moment : ℕ) (station : Station) (code id : ℕ) → Quiet (responded_on setup line moment station code id).sent
 unfolding responded_on
@@ -172,17 +174,29 @@ unless_quiet : (refusal : Option ℕ) (endpoints : Endpoints) (done : Done) → 
 unless_quiet None endpoints done quiet = quiet
 unless_quiet (Some code) endpoints done quiet = refl
 
+deed_quiet : (setup : Setup) (endpoints : Endpoints) (lines : Target) (more : List Param) (deed : LineDeed) (moment : ℕ)
+    → Quiet (deed_done setup endpoints lines more deed moment).told.sent
+deed_quiet setup endpoints lines more deed moment =
+    unless_quiet (refused_by endpoints lines deed) endpoints _
+    (all_quiet (lines_meant endpoints lines) endpoints _ (deed_on_quiet setup deed moment))
+
+target_quiet : (setup : Setup) (endpoints : Endpoints) (target : Target) (deed : LineDeed) (moment : ℕ) → Quiet (done_for setup endpoints target deed moment).told.sent
+target_quiet setup endpoints (One line) deed moment = deed_quiet setup endpoints (One line) [] deed moment
+target_quiet setup endpoints All deed moment = deed_quiet setup endpoints All [] deed moment
+target_quiet setup endpoints Any deed moment = by_line (line_with_place endpoints) where
+  by_line : (found : Option ℕ) → Quiet (done_there found setup endpoints deed moment).told.sent
+  by_line None = refl
+  by_line (Some line) = deed_quiet setup endpoints (One line) _ deed moment
+
 done_quiet : (asks : Result Asks ℕ) (setup : Setup) (endpoints : Endpoints) (moment id : ℕ) → Quiet (done_by asks setup endpoints moment id).told.sent
 done_quiet (Err code) setup endpoints moment id = refl
 done_quiet (Ok (Reports target audit)) setup endpoints moment id = refl
-done_quiet (Ok (Does target deed)) setup endpoints moment id =
-    unless_quiet (refused_by endpoints target (line_deed deed)) endpoints _
-    (all_quiet (lines_meant endpoints target) endpoints _ (deed_on_quiet setup (line_deed deed) moment))
+done_quiet (Ok (Does target deed)) setup endpoints moment id = target_quiet setup endpoints target (line_deed deed) moment
 
 pub command_quiet : (setup : Setup) (m : Machine) (outcome : Outcome) → IfSome (transaction_of setup m outcome) (λ t. Quiet t.done.told.sent)
 command_quiet setup m no_header = tt
 command_quiet setup m (bad_version id) = refl
 command_quiet setup m (bad_body id) = refl
 command_quiet setup m (message (messages.Command verb id name params body)) =
-    done_quiet (form_of (record { verb = verb; name = name; params = params }) (k_of params) setup.names) setup m.endpoints m.now id
+    done_quiet (form_of (record { verb = verb; name = name; params = params; body = body }) (k_of params) setup.names) setup m.endpoints m.now id
 command_quiet setup m (message (messages.Response code id params body)) = tt

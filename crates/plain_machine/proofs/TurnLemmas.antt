@@ -1,6 +1,7 @@
 -- What holds of each station and of the gateway itself whatever happens, and of all that they send: what does at each turn.
 use Rattle.std.proofs.Common.{◌≡◌, ℕ, zero, suc, ◌+◌, ◌-◌, ◌<◌, ◌≤◌, Bool, true, false, ◌==◌, if◌then◌else◌, List, [], ◌∷◌, Option, Some, None, Result, Ok, Err, refl, subst, arith}
-use Rattle.std.specs.Prelude.{All, replicate, slice_get, slice_set}
+use Rattle.std.specs.Prelude.{All, map, slice_get, slice_set}
+use Rattle.std.specs.List.{range_with_len}
 use Rattle.std.proofs.lemmas.Bool.Decides.{nat_tests}
 use Rattle.std.proofs.lemmas.List.Elements.{All-nil, All-append}
 use Rattle.std.proofs.lemmas.Option.{none-some}
@@ -9,12 +10,14 @@ use Rattle.history.specs.Memory.{most_firsts}
 use Rattle.history.specs.Looking.{Told as Looked, new, repeat, confirmed, full, look_of}
 use Rattle.mgcp_text.specs.declared.message.Message.TheVariants as messages
 use Rattle.mgcp_text.specs.declared.confirmation.KValue.{KValue}
+use Rattle.mgcp_text.specs.declared.message.Param.{Param}
 use Rattle.mgcp_text.specs.Confirmation.{k_of}
 use Rattle.mgcp_text.specs.Reading.{Outcome, message, no_header, bad_version, bad_body, read_text}
 use Rattle.command_forms.specs.declared.forms.Asks.{Asks}
 use Rattle.command_forms.specs.declared.forms.Asks.TheVariants.{Reports, Does}
 use Rattle.command_forms.specs.declared.forms.Deed.{Deed}
 use Rattle.command_forms.specs.declared.forms.Target.{Target}
+use Rattle.command_forms.specs.declared.forms.Target.TheVariants.{One, All as AllLines, Any}
 use Rattle.command_forms.specs.Command.{Command}
 use Rattle.command_forms.specs.Order.{form_of}
 use Rattle.mg_line.specs.declared.phone.Act.{Act}
@@ -31,7 +34,8 @@ use Rattle.plain_machine.specs.Arriving.{texts_of}
 use Rattle.plain_machine.specs.Acting.{acted_on, acted}
 use Rattle.plain_machine.specs.Falling.{due_by, happened_on, own_happened, happened, go_on, passed, room, pass}
 use Rattle.plain_machine.specs.Done.{Done}
-use Rattle.plain_machine.specs.Requesting.{refused_by, deed_on, lines_meant, unless_refused}
+use Rattle.plain_machine.specs.declared.line_deed.LineDeed.{LineDeed}
+use Rattle.plain_machine.specs.Requesting.{refused_by, deed_on, lines_meant, unless_refused, deed_done, line_with_place, done_there, done_for}
 use Rattle.plain_machine.specs.Commanding.{line_deed, done_by}
 use Rattle.plain_machine.specs.Posting.{line_of_id}
 use Rattle.plain_machine.specs.Responding.{responded_on, own_responded, responded}
@@ -66,10 +70,11 @@ on_set P n (first ∷ stations) (suc place) station all is =
     let here : n + suc place ≡ n + 1 + place = omega arith in
     (all.0, on_set P (n + 1) stations place station all.1 (subst (λ (i : ℕ). P i station) here is))
 
-pub on_copies : (P : ℕ → Station → Type 0) (station : Station) (n count : ℕ) → ((i : ℕ) → n ≤ i → i < n + count → P i station) → OnAll P n (replicate count station)
-on_copies P station n zero each = tt
-on_copies P station n (suc count) each =
-    (each n (omega arith) (omega arith), on_copies P station (n + 1) count (λ i low high. each i (omega (arith, low)) (omega (arith, high))))
+pub on_made : (P : ℕ → Station → Type 0) (made : ℕ → Station) (n count : ℕ) → ((i : ℕ) → n ≤ i → i < n + count → P i (made i))
+    → OnAll P n (map made (range_with_len n count))
+on_made P made n zero each = tt
+on_made P made n (suc count) each =
+    (each n (omega arith) (omega arith), on_made P made (n + 1) count (λ i low high. each i (omega (arith, low)) (omega (arith, high))))
 
 -- A turn
 
@@ -166,7 +171,7 @@ module _ (setup : Setup) (P : ℕ → Station → Type 0) (R : Own → Type 0) (
       either_goes endpoints (line_of_id id) (own_responded moment code id) (λ station. responded_on setup (line_of_id id) moment station code id) all
       (own_turns.response moment code id) (turns.response (line_of_id id) moment code id)
 
-  happened_goes : (endpoints : Endpoints) (item : DueItem) → Holds P R endpoints → GoesOn P R Q (happened setup endpoints item)
+  pub happened_goes : (endpoints : Endpoints) (item : DueItem) → Holds P R endpoints → GoesOn P R Q (happened setup endpoints item)
   happened_goes endpoints item all =
       either_goes endpoints item.line (own_happened item.due item.moment) (happened_on item.due setup item.line item.moment) all
       (own_turns.happening item.due item.moment) (turns.happening item.due item.line item.moment)
@@ -196,13 +201,30 @@ module _ (setup : Setup) (P : ℕ → Station → Type 0) (R : Own → Type 0) (
   unless_goes None endpoints done all goes = goes
   unless_goes (Some code) endpoints done all goes = stays endpoints all
 
+  abbrev DeedGoes : LineDeed → Type 0
+  DeedGoes deed = (line moment : ℕ) (station : Station) → P line station → Good P Q line (deed_on setup deed moment line station)
+
+  deed_goes : (endpoints : Endpoints) (lines : Target) (more : List Param) (deed : LineDeed) (moment : ℕ) → Holds P R endpoints → DeedGoes deed
+      → DoneGoes (deed_done setup endpoints lines more deed moment)
+  deed_goes endpoints lines more deed moment all good =
+      unless_goes (refused_by endpoints lines deed) endpoints _ all
+      (several_go (lines_meant endpoints lines) endpoints _ all (λ line station. good line moment station))
+
+  target_goes : (endpoints : Endpoints) (target : Target) (deed : LineDeed) (moment : ℕ) → Holds P R endpoints → DeedGoes deed
+      → DoneGoes (done_for setup endpoints target deed moment)
+  target_goes endpoints (One line) deed moment all good = deed_goes endpoints (One line) [] deed moment all good
+  target_goes endpoints AllLines deed moment all good = deed_goes endpoints AllLines [] deed moment all good
+  target_goes endpoints Any deed moment all good = by_line (line_with_place endpoints) where
+    by_line : (found : Option ℕ) → DoneGoes (done_there found setup endpoints deed moment)
+    by_line None = stays endpoints all
+    by_line (Some line) = deed_goes endpoints (One line) _ deed moment all good
+
   form_goes : (command : Command) (confirms : KValue) (asks : Result Asks ℕ) → form_of command confirms setup.names ≡ asks → (endpoints : Endpoints) (moment id : ℕ) → Holds P R endpoints
       → DoneGoes (done_by asks setup endpoints moment id)
   form_goes command confirms (Err code) is endpoints moment id all = stays endpoints all
   form_goes command confirms (Ok (Reports target audit)) is endpoints moment id all = stays endpoints all
   form_goes command confirms (Ok (Does target deed)) is endpoints moment id all =
-      unless_goes (refused_by endpoints target (line_deed deed)) endpoints _ all
-      (several_go (lines_meant endpoints target) endpoints _ all (λ line station. turns.deed command confirms target deed is line moment station))
+      target_goes endpoints target (line_deed deed) moment all (turns.deed command confirms target deed is)
 
   pub command_goes : (command : Command) (confirms : KValue) (endpoints : Endpoints) (moment id : ℕ) → Holds P R endpoints
       → DoneGoes (done_by (form_of command confirms setup.names) setup endpoints moment id)
@@ -225,10 +247,10 @@ module _ (setup : Setup) (P : ℕ → Station → Type 0) (R : Own → Type 0) (
   handled_on_all m source (bad_body id) all = transacted_on_all (look_of most_firsts m.history id m.now) m source _ all all
   handled_on_all m source (message (messages.Command verb id name params body)) all =
       transacted_on_all (look_of most_firsts m.history id m.now) m source _ all
-      (command_goes (record { verb = verb; name = name; params = params }) (k_of params) m.endpoints m.now id all).holds
+      (command_goes (record { verb = verb; name = name; params = params; body = body }) (k_of params) m.endpoints m.now id all).holds
   handled_on_all m source (message (messages.Response code id params body)) all = (responded_goes m.endpoints m.now code id all).holds
 
-  took_on_all : (m : Machine) (source : SocketAddrV4) (texts : List (List ℕ)) → Holds P R m.endpoints
+  pub took_on_all : (m : Machine) (source : SocketAddrV4) (texts : List (List ℕ)) → Holds P R m.endpoints
       → Holds P R (took_all setup m source texts).machine.endpoints
   unfolding took_all
   took_on_all m source [] all = all

@@ -108,7 +108,7 @@ transaction_of setup m no_header = None
 transaction_of setup m (bad_version id) = Some (refusing m id 528)
 transaction_of setup m (bad_body id) = Some (refusing m id 510)
 transaction_of setup m (message (messages.Command verb id name params body)) =
-    Some (command_with setup m id (record { verb = verb; name = name; params = params }) (k_of params))
+    Some (command_with setup m id (record { verb = verb; name = name; params = params; body = body }) (k_of params))
 transaction_of setup m (message (messages.Response code id params body)) = None
 
 -- what is done at what is no command: a response is heard, and what has no header does nothing

@@ -1,6 +1,8 @@
 -- The plain machine: its clock, its endpoints, and the transactions that there ever were.
-use Rattle.std.specs.Prelude.{ℕ, ◌-◌, ◌==◌, if◌then◌else◌, List, [], ◌∷◌, ◌++◌, replicate, Option, Some, None, slice_get, slice_set}
-use Rattle.std.specs.List.{enumerate_from}
+use Rattle.std.specs.Prelude.{ℕ, ◌+◌, ◌-◌, ◌*◌, ◌==◌, if◌then◌else◌, List, [], ◌∷◌, ◌++◌, map, Option, Some, None, slice_get, slice_set}
+use Rattle.std.specs.List.{enumerate_from, range_with_len}
+use Rattle.connections.specs.declared.codec.Encoding.TheVariants.{Mu}
+use Rattle.connections.specs.Standing.{no_connections}
 use Rattle.mg_line.specs.Line.{opening_line}
 use Rattle.plain_machine.specs.declared.setup.Setup.{Setup}
 use Rattle.plain_machine.specs.declared.own.Own.{Own}
@@ -46,17 +48,28 @@ told_in m change = record { machine = record m { endpoints = change.endpoints };
 abbrev pub opening_post : Setup → ℕ → Post
 opening_post setup number = record { entity = setup.agent; number = number; pending = None }
 
--- every line is as a line opens, and its numbers begin with 0
-abbrev pub opening_station : Setup → Station
-opening_station setup = record { line = opening_line; post = opening_post setup 0 }
+-- the first port of a line: each line has four places for connections, of two ports each (this gateway's profile)
+abbrev pub port_of : Setup → ℕ → ℕ
+port_of setup line = setup.media_base + 8 * (line - 1)
+
+-- every line is as a line opens, with the encoding mu and without connections, and its numbers begin with 0
+abbrev pub opening_station : Setup → ℕ → Station
+opening_station setup line = record {
+  line = opening_line;
+  post = opening_post setup 0;
+  encoding = Mu;
+  connections = no_connections setup.media_address (port_of setup line);
+}
 
 -- the numbers of the gateway itself begin with 1
 abbrev pub opening_own : Setup → Own
 opening_own setup = record { post = opening_post setup 1 }
 
 abbrev pub opening_endpoints : Setup → Endpoints
-opening_endpoints setup =
-    record { stations = replicate setup.names.lines (opening_station setup); own = opening_own setup }
+opening_endpoints setup = record {
+  stations = map (opening_station setup) (range_with_len 1 setup.names.lines);
+  own = opening_own setup;
+}
 
 abbrev pub opening : Setup → Machine
 opening setup = record { now = 0; endpoints = opening_endpoints setup; history = [] }

@@ -100,7 +100,8 @@ pub fn commands_are_done_by_what_they_are()
         transacted m source t ≡ idle m }
 {}
 
-/// What a configuration sets up has a domain, and 16 lines at most.
+/// What a configuration sets up has a domain, 16 lines at most, an address for streams, and room for the ports of 16
+/// lines.
 pub fn configurations_set_up_gateways()
     ensures { (config : Config) (setup : Setup) → setup_of config ≡ Ok setup → IsSetUp setup }
 {}

@@ -3,7 +3,7 @@ use Rattle.std.proofs.Common.{◌≡◌, ℕ, ◌+◌, ◌<◌, ◌≤◌, ◌^�
 use Rattle.std.specs.Prelude.{replicate, min, true, false, ◌&&◌, ◌==◌, nat_le, Result, Ok, Err, OnOk}
 use Rattle.std.specs.declared.alloc.AllocError.{AllocError}
 use Rattle.std.specs.List.{flat_map}
-use Rattle.std.proofs.lemmas.List.{append_cancel_left, replicate-append-replicate, take_more}
+use Rattle.std.proofs.lemmas.List.{replicate-append-replicate, take_more}
 use Rattle.std.proofs.lemmas.List.Sums.{sum_by-append}
 use Rattle.std.proofs.Math.Nat.{min-eq_left, min-eq_right}
 use Rattle.std.proofs.lemmas.Bool.{lt-ltb, le-leb, leb-true, cases_lt, cases_Bool}
@@ -14,13 +14,12 @@ use Rattle.plain_machine.specs.declared.refusal.Refusal.TheVariants.{OutOfMemory
 use Rattle.plain_machine.specs.declared.setup.Setup.{Setup}
 use Rattle.plain_machine.specs.Event.{GatewayEvent, tick}
 use Rattle.gateway_core.specs.GatewayState.{GatewayState}
-use Rattle.mg_packages.specs.declared.hook.Hook.{Hook}
 use Rattle.gateway_core.specs.Stands.{Stands, Took}
 use Rattle.plain_machine.specs.Refusing.{tick_refusal, refusal_of, Ends}
-use Rattle.plain_machine.specs.Lists.{plain, outputs_from, refusal_at, hook_of, signals_of, lost_of}
-use Rattle.signals.specs.declared.active.ActiveSignal.{ActiveSignal}
+use Rattle.plain_machine.specs.Lists.{plain}
 use Rattle.plain_machine.proofs.EndLaws.{ends_fine, ends_cause}
 use Rattle.rgw_play.specs.declared.step.Step.{Step}
+use Rattle.rgw_play.specs.Status.{LineStatus, status_of}
 use Rattle.rgw_play.specs.Moves.{Move, give, pass, ask, moves_of_wait, moves_of, all_moves, Shown, sends, refuses, tells, Went, given, move_went, went, followed, printed, is_refused}
 use Rattle.rgw_play.specs.declared.player.Player.{Player}
 use Rattle.rgw_play.specs.Player.{Prints, Moved}
@@ -208,16 +207,14 @@ both_not line lines none = ⊎_elim
     (λ (low : nat_le 1 line ≡ false). rw low refl)
     (cases_Bool (nat_le 1 line))
 
-pub told_moved : (p q : Player) (line : ℕ) (hook : Hook) (signals : List ActiveSignal) (lost : ℕ) → q.gateway ≡ p.gateway → 1 ≤ line → line ≤ p.gateway.setup.names.lines
-    → ((before : List GatewayEvent) → Stands p.gateway before → hook_of (plain p.gateway.setup before) line ≡ Some hook)
-    → ((before : List GatewayEvent) → Stands p.gateway before → signals_of (plain p.gateway.setup before) line ≡ Some signals)
-    → ((before : List GatewayEvent) → Stands p.gateway before → lost_of (plain p.gateway.setup before) line ≡ Some lost)
-    → Prints p (tells line hook signals lost ∷ []) q → Moved p (ask line ∷ []) q
+pub told_moved : (p q : Player) (line : ℕ) (status : LineStatus) → q.gateway ≡ p.gateway → 1 ≤ line → line ≤ p.gateway.setup.names.lines
+    → ((before : List GatewayEvent) → Stands p.gateway before → status_of (plain p.gateway.setup before) line ≡ Some status)
+    → Prints p (tells status ∷ []) q → Moved p (ask line ∷ []) q
 unfolding move_went
-told_moved p q line hook signals lost kept low high is active gone prints =
+told_moved p q line status kept low high is prints =
     moved_one p q (ask line) (ap (λ (g : GatewayState). g.setup) kept)
     (λ before s. subst (λ (g : GatewayState). Stands g before) (sym kept) s)
-    (λ before s. rw (le-leb 1 line low, le-leb line p.gateway.setup.names.lines high, is before s, active before s, gone before s) prints)
+    (λ before s. rw (le-leb 1 line low, le-leb line p.gateway.setup.names.lines high, is before s) prints)
 
 pub untold_moved : (p q : Player) (line : ℕ) → q.gateway ≡ p.gateway → (1 ≤ line → line ≤ p.gateway.setup.names.lines → ⊥)
     → Prints p (refuses NoSuchLine ∷ []) q → Moved p (ask line ∷ []) q

@@ -1,18 +1,22 @@
 -- The configuration and the addresses of the worked examples, and what their scripts say and show.
-use Rattle.std.specs.Prelude.{ℕ, pos, codes, List, [], ◌∷◌, Option, Result}
+use Rattle.std.specs.Prelude.{ℕ, pos, codes, decimal, List, [], ◌∷◌, ◌++◌, replicate, Option, None, Result}
 use Rattle.std.specs.List.{flat_map}
 use Rattle.std.specs.declared.net.socket_addr.SocketAddrV4.{SocketAddrV4}
 use Rattle.toml.specs.Data.{Data, string, integer, table, Members, no_members, member}
 use Rattle.mg_bytes.specs.Lines.{lines_of}
 use Rattle.mg_bytes.specs.Words.{words}
+use Rattle.mg_packages.specs.declared.hook.Hook.{Hook}
+use Rattle.connections.specs.declared.connection.Connection.{Connection}
+use Rattle.connections.specs.declared.mode.Mode.{Mode}
 use Rattle.plain_machine.specs.declared.config.Config.{Config}
 use Rattle.plain_machine.specs.declared.output.OutDatagram.{OutDatagram}
-use Rattle.plain_machine.specs.Example.{configuration, example}
-use Rattle.plain_machine.specs.Event.{GatewayEvent}
+use Rattle.plain_machine.specs.Example.{configuration, example, first_connection}
+use Rattle.plain_machine.specs.Event.{GatewayEvent, datagram}
 use Rattle.rgw_play.specs.declared.step.Step.{Step}
 use Rattle.rgw_play.specs.declared.step.ScriptLine.{ScriptLine}
 use Rattle.rgw_play.specs.Script.{line_in, steps_of}
-use Rattle.rgw_play.specs.Moves.{Move, went, printed}
+use Rattle.rgw_play.specs.Status.{LineStatus}
+use Rattle.rgw_play.specs.Moves.{Move, went, line_shown, printed}
 
 abbrev pub address : List ℕ → ℕ → SocketAddrV4
 address octets port = record { ip = record { octets = octets }; port = port }
@@ -36,6 +40,27 @@ output_of moves = flat_map printed (went example [] moves).shown
 -- the events that are taken then
 abbrev pub taken_by : List Move → List GatewayEvent
 taken_by moves = (went example [] moves).taken
+
+-- a line without signals and connections that has lost nothing
+abbrev pub idle : ℕ → Hook → LineStatus
+idle line hook = record { line = line; hook = hook; signals = []; connections = replicate 4 None; lost = 0 }
+
+-- a connection with this number, in mode recvonly
+abbrev pub numbered : ℕ → Connection
+numbered number = record first_connection { number = number }
+
+-- one with number 1, in this mode
+abbrev pub in_mode : Mode → Connection
+in_mode mode = record first_connection { mode = mode }
+
+-- the agent creates a connection on this endpoint, in this mode
+abbrev pub creates : ℕ → List ℕ → List ℕ → GatewayEvent
+creates id name mode = datagram agent
+    (codes "CRCX " ++ decimal id ++ codes " " ++ name ++ codes "@rgw.example.net MGCP 1.0\r\nC: 1A\r\nM: " ++ mode ++ codes "\r\n")
+
+-- what is printed of a line after these events
+abbrev pub told_after : List GatewayEvent → ℕ → List ℕ
+told_after events line = printed (line_shown example events line)
 
 -- what goes out to the agent at the opening
 abbrev pub to_agent : ℕ → List ℕ → OutDatagram

@@ -3,6 +3,7 @@ pub mod Input
 pub mod Configuration
 pub mod SettingsSeen
 pub mod Script
+pub mod Status
 pub mod Printing
 pub mod Moves
 pub mod Player

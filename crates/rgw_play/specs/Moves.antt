@@ -6,11 +6,10 @@ use Rattle.plain_machine.specs.declared.refusal.Refusal.{Refusal}
 use Rattle.plain_machine.specs.declared.refusal.Refusal.TheVariants.{NoSuchLine}
 use Rattle.plain_machine.specs.declared.setup.Setup.{Setup}
 use Rattle.plain_machine.specs.Event.{GatewayEvent, datagram, phone, tick}
-use Rattle.plain_machine.specs.Lists.{plain, outputs_from, refusal_at, hook_of, signals_of, lost_of}
-use Rattle.signals.specs.declared.active.ActiveSignal.{ActiveSignal}
-use Rattle.mg_packages.specs.declared.hook.Hook.{Hook}
+use Rattle.plain_machine.specs.Lists.{plain, outputs_from, refusal_at}
 use Rattle.rgw_play.specs.declared.step.Step.{Step}
 use Rattle.rgw_play.specs.declared.step.Step.TheVariants.{Datagram, Phone, Tick, At, Wait, Show}
+use Rattle.rgw_play.specs.Status.{LineStatus, status_of}
 use Rattle.rgw_play.specs.Printing.{printed_line, printed_datagram, refusal_line, shown_line}
 
 -- What steps are
@@ -48,7 +47,7 @@ all_moves steps = flat_map moves_of steps
 pub data Shown : Type 0 where
   sends : (datagrams : List OutDatagram) → Shown
   refuses : (refusal : Refusal) → Shown
-  tells : (line : ℕ) (hook : Hook) (signals : List ActiveSignal) (lost : ℕ) → Shown
+  tells : (status : LineStatus) → Shown
 
 -- what was shown, and all events that the gateway has taken
 pub record Went : Type 0 where
@@ -64,15 +63,15 @@ event_went setup before event None =
     }
 event_went setup before event (Some refusal) = record { shown = refuses refusal ∷ []; taken = before }
 
-abbrev pub told : ℕ → Option Hook → Option (List ActiveSignal) → Option ℕ → Shown
-told line (Some hook) (Some signals) (Some lost) = tells line hook signals lost
-told line hook signals lost = refuses NoSuchLine
+abbrev pub told : Option LineStatus → Shown
+told (Some status) = tells status
+told None = refuses NoSuchLine
 
 -- what a line is, or that there is none
 abbrev pub line_shown : Setup → List GatewayEvent → ℕ → Shown
 line_shown setup before line =
     if nat_le 1 line && nat_le line setup.names.lines
-    then told line (hook_of (plain setup before) line) (signals_of (plain setup before) line) (lost_of (plain setup before) line)
+    then told (status_of (plain setup before) line)
     else refuses NoSuchLine
 
 abbrev pub given : Setup → List GatewayEvent → GatewayEvent → Went
@@ -98,9 +97,9 @@ went setup before (move ∷ moves) =
 unfoldable pub printed : Shown → List ℕ
 printed (sends datagrams) = flat_map printed_datagram datagrams
 printed (refuses refusal) = printed_line (refusal_line refusal)
-printed (tells line hook signals lost) = printed_line (shown_line line hook signals lost)
+printed (tells status) = printed_line (shown_line status)
 
 unfoldable pub is_refused : Shown → Bool
 is_refused (sends datagrams) = false
 is_refused (refuses refusal) = true
-is_refused (tells line hook signals lost) = false
+is_refused (tells status) = false

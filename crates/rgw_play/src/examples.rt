@@ -1,7 +1,7 @@
 //! Worked examples of the input, the script and what is printed, as theorems.
 #![tactic(auto, unfolding(crate::proofs::Computing::on_examples))]
 
-ghost use Rattle.std.specs.Prelude.{◌≡◌, codes, pos, negsuc, true, false, [], ◌∷◌, Some, None, Ok, Err};
+ghost use Rattle.std.specs.Prelude.{◌≡◌, codes, pos, negsuc, true, false, [], ◌∷◌, Some, None, Ok, Err, replicate};
 ghost use Rattle.toml.specs.Data.{string, integer, boolean, table, no_members, member};
 ghost use Rattle.mg_line.specs.declared.phone.Act.TheVariants as acts;
 ghost use Rattle.mg_packages.specs.declared.hook.Hook.TheVariants as hooks;
@@ -15,7 +15,10 @@ ghost use Rattle.rgw_play.specs.Configuration.{config_of};
 ghost use Rattle.rgw_play.specs.Script.{act_of};
 ghost use Rattle.rgw_play.specs.Fault.{name_of_config_fault};
 ghost use Rattle.mg_packages.specs.declared.signal.Signal.TheVariants as signals;
+ghost use Rattle.connections.specs.declared.mode.Mode.TheVariants as modes;
+ghost use Rattle.rgw_play.specs.Printing.{connections_shown};
 ghost use Rattle.rgw_play.specs.Moves.{give, pass, ask, sends, refuses, tells, moves_of, printed, is_refused};
+ghost use Rattle.rgw_play.specs.Example.{idle, numbered, in_mode, creates, told_after};
 ghost use Rattle.rgw_play.specs.Example.{address, agent, line_says, script_says, output_of, taken_by, to_agent, host_at, settings_with, local, with_lines, with_media, with_names, example_config};
 
 /// Each key has its sign, in upper case.
@@ -203,18 +206,47 @@ pub fn what_is_shown_is_printed()
     ensures back { printed (refuses refusals.ClockBack) ≡ codes "! 3 ClockBack\n" }
     ensures no_line { printed (refuses refusals.NoSuchLine) ≡ codes "! 4 NoSuchLine\n" }
     ensures state { printed (refuses refusals.PhoneState) ≡ codes "! 5 PhoneState\n" }
-    ensures off { printed (tells 1 hooks.OffHook [] 0)
-        ≡ codes "line 1 off signals - connections - lost 0\n" }
-    ensures on { printed (tells 16 hooks.OnHook [] 0) ≡ codes "line 16 on signals - connections - lost 0\n" }
-    ensures tone { printed (tells 1 hooks.OffHook ((record { signal = signals.DialTone; end = Some 17000 }) ∷ []) 0)
+    ensures off { printed (tells (idle 1 hooks.OffHook)) ≡ codes "line 1 off signals - connections - lost 0\n" }
+    ensures on { printed (tells (idle 16 hooks.OnHook)) ≡ codes "line 16 on signals - connections - lost 0\n" }
+    ensures tone { printed (tells (record (idle 1 hooks.OffHook) {
+      signals = (record { signal = signals.DialTone; end = Some 17000 }) ∷ [];
+    }))
         ≡ codes "line 1 off signals L/dl:17000 connections - lost 0\n" }
-    ensures tones { printed (tells 1 hooks.OffHook ((record { signal = signals.MessageWaiting; end = None })
-        ∷ (record { signal = signals.Congestion; end = None }) ∷ (record { signal = signals.Confirm; end = Some 1500 }) ∷ []) 0)
+    ensures tones { printed (tells (record (idle 1 hooks.OffHook) {
+      signals = (record { signal = signals.MessageWaiting; end = None })
+          ∷ (record { signal = signals.Congestion; end = None }) ∷ (record { signal = signals.Confirm; end = Some 1500 }) ∷ [];
+    }))
         ≡ codes "line 1 off signals L/vmwi:-,G/cg:-,G/cf:1500 connections - lost 0\n" }
-    ensures lost { printed (tells 2 hooks.OnHook [] 12) ≡ codes "line 2 on signals - connections - lost 12\n" }
+    ensures lost { printed (tells (record (idle 2 hooks.OnHook) { lost = 12 }))
+        ≡ codes "line 2 on signals - connections - lost 12\n" }
+    ensures all { printed (tells (record {
+      line = 3;
+      hook = hooks.OffHook;
+      signals = (record { signal = signals.DialTone; end = Some 17000 }) ∷ [];
+      connections = Some (numbered 1) ∷ Some (numbered 2) ∷ None ∷ None ∷ [];
+      lost = 4;
+    })) ≡ codes "line 3 off signals L/dl:17000 connections 1:recvonly,2:recvonly lost 4\n" }
     ensures counted { is_refused (refuses refusals.PhoneState) ≡ true }
     ensures not_sent { is_refused (sends []) ≡ false }
-    ensures not_told { is_refused (tells 1 hooks.OnHook [] 0) ≡ false }
+    ensures not_told { is_refused (tells (idle 1 hooks.OnHook)) ≡ false }
+{}
+
+/// The connections of a line are shown in the order of its places, each by its identifier and its mode.
+pub fn connections_are_shown()
+    ensures first { connections_shown (Some (numbered 1) ∷ None ∷ None ∷ None ∷ []) ≡ codes " connections 1:recvonly" }
+    ensures last { connections_shown (None ∷ None ∷ None ∷ Some (numbered 4) ∷ []) ≡ codes " connections 4:recvonly" }
+    ensures between { connections_shown (Some (numbered 1) ∷ None ∷ None ∷ Some (numbered 4) ∷ [])
+        ≡ codes " connections 1:recvonly,4:recvonly" }
+    ensures by_place { connections_shown (Some (numbered 5) ∷ Some (numbered 2) ∷ Some (numbered 7) ∷ None ∷ [])
+        ≡ codes " connections 5:recvonly,2:recvonly,7:recvonly" }
+    ensures none { connections_shown (replicate 4 None) ≡ codes " connections -" }
+    ensures hexadecimal { connections_shown
+        (Some (numbered 10) ∷ Some (numbered 26) ∷ None ∷ Some (numbered 4294967295) ∷ [])
+        ≡ codes " connections A:recvonly,1A:recvonly,FFFFFFFF:recvonly" }
+    ensures modes { connections_shown (Some (in_mode modes.SendOnly) ∷ Some (in_mode modes.ReceiveOnly)
+        ∷ Some (in_mode modes.SendReceive) ∷ Some (in_mode modes.Conference) ∷ [])
+        ≡ codes " connections 1:sendonly,1:recvonly,1:sendrecv,1:confrnce" }
+    ensures inactive { connections_shown (Some (in_mode modes.Inactive) ∷ []) ≡ codes " connections 1:inactive" }
 {}
 
 /// Moves are made one after the other.
@@ -229,5 +261,10 @@ pub fn moves_show_what_they_do()
         ≡ codes "! 2 TickTooFar\n! 5 PhoneState\n! 4 NoSuchLine\n" }
     ensures shown { output_of (give (phone 1 acts.OffHook) ∷ ask 1 ∷ ask 16 ∷ [])
         ≡ codes "> 0 127.0.0.1:2727\nNTFY 10000000 aaln/1@rgw.example.net MGCP 1.0\nX: 0\nO: L/hd\n--\nline 1 off signals - connections - lost 0\nline 16 on signals - connections - lost 0\n" }
+    ensures connected { told_after
+        (creates 1 (codes "aaln/2") (codes "recvonly") ∷ creates 2 (codes "aaln/2") (codes "inactive") ∷ []) 2
+        ≡ codes "line 2 on signals - connections 1:recvonly,2:inactive lost 0\n" }
+    ensures other_line { told_after (creates 1 (codes "aaln/2") (codes "recvonly") ∷ []) 1
+        ≡ codes "line 1 on signals - connections - lost 0\n" }
     ensures no_lines { output_of (ask 0 ∷ ask 17 ∷ []) ≡ codes "! 4 NoSuchLine\n! 4 NoSuchLine\n" }
 {}

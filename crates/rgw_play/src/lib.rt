@@ -14,6 +14,7 @@ mod scene;
 mod script;
 mod session;
 mod settings;
+mod status;
 mod step;
 mod words;
 

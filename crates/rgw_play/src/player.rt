@@ -1,14 +1,13 @@
 //! Plays steps at a gateway, and prints what they show.
 ghost use Rattle.std.specs.Prelude.{◌≡◌, ◌≤◌, ◌∷◌, [], length, OnOk, replicate};
 ghost use Rattle.plain_machine.specs.Event.{event_of};
-ghost use Rattle.rgw_play.specs.Moves.{give, pass, ask, sends, refuses, tells, moves_of_wait, moves_of, all_moves};
+ghost use Rattle.rgw_play.specs.Moves.{give, pass, ask, sends, refuses, moves_of_wait, moves_of, all_moves};
 
 use crate::printing::{put_datagrams, put_line, put_refusal};
+use crate::status::status_of;
 use crate::step::Step;
 use gateway_core::{Event, Gateway, Outputs, Refusal};
 use mg_bytes::OutOfMemory;
-use mg_line::Hook;
-use signals::ActiveSignal;
 use std::alloc::{AllocError, Global};
 
 /// Plays steps at a gateway and prints what they show. After an error it isn't used again.
@@ -59,21 +58,6 @@ impl Player {
         Ok(())
     }
 
-    // Prints what a line is.
-    fn tell(
-        &mut self,
-        line: u16,
-        hook: Hook,
-        signals: &[ActiveSignal],
-        lost: u64,
-    ) -> Result<(), OutOfMemory>
-        ensures kept { OnOk result (self.new.gateway ≡ self.old.gateway) }
-        ensures printed { OnOk result (Prints self.old (tells line hook signals.now lost ∷ []) self.new) }
-    {
-        put_line(self.alloc, &mut self.out, line, hook, signals, lost)?;
-        Ok(())
-    }
-
     // Gives the gateway an event.
     fn event(&mut self, event: Event<'_>) -> Result<(), OutOfMemory>
         ensures { OnOk result (Moved self.old (give (event_of event.entry) ∷ []) self.new) }
@@ -116,15 +100,23 @@ impl Player {
         self.tick(by % 1000)
     }
 
+    // Prints what a line is.
+    fn tell(&mut self, line: u16) -> Result<(), OutOfMemory>
+        requires low { 1 ≤ line }
+        requires high { line ≤ self.old.gateway.setup.names.lines }
+        ensures { OnOk result (Moved self.old (ask line ∷ []) self.new) }
+    {
+        let status = status_of(&self.gateway, line);
+        put_line(self.alloc, &mut self.out, &status)?;
+        Ok(())
+    }
+
     // Prints what a line is, or that there is none.
     fn show(&mut self, line: u16) -> Result<(), OutOfMemory>
         ensures { OnOk result (Moved self.old (ask line ∷ []) self.new) }
     {
         if line >= 1 && line <= self.gateway.lines() {
-            let hook = self.gateway.hook(line);
-            let signals = self.gateway.signals(line);
-            let lost = self.gateway.lost(line);
-            return self.tell(line, hook, signals.as_slice(), lost);
+            return self.tell(line);
         }
         self.refuse(Refusal::NoSuchLine)
     }

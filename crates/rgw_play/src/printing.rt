@@ -2,8 +2,12 @@
 ghost use Rattle.std.specs.Prelude.{◌≡◌, ◌≤◌, ◌++◌, length, codes, IfOk, OnOk, string_bytes};
 ghost use Rattle.std.specs.List.{flat_map};
 ghost use Rattle.mg_bytes.specs.Lines.{lines_of};
-ghost use Rattle.rgw_play.specs.Printing.{printed_line, datagram_line, printed_datagram, refusal_line, hook_word, end_shown, signal_shown, signals_shown, line_head, lost_shown, shown_line};
+ghost use Rattle.rgw_play.specs.Printing.{printed_line, datagram_line, printed_datagram, refusal_line};
+ghost use Rattle.rgw_play.specs.Printing.{hook_word, end_shown, signal_shown, connection_shown, listed, held_in};
+ghost use Rattle.rgw_play.specs.Printing.{line_head, signals_shown, connections_shown, lost_shown, shown_line};
 
+use crate::status::LineStatus;
+use connections::{Connection, mode_text, write_number};
 use gateway_core::{OutDatagram, Refusal};
 use mg_bytes::{OutOfMemory, lines, put_decimal};
 use mg_line::Hook;
@@ -124,7 +128,7 @@ fn put_more_signals(
     Ok(())
 }
 
-#[tactic(auto, unfolding(crate::specs::Printing::signals_shown))]
+#[tactic(auto, unfolding(crate::specs::Printing::listed, crate::specs::Printing::signals_shown))]
 fn put_signals(
     alloc: Global,
     out: &mut Vec<u8>,
@@ -133,6 +137,7 @@ fn put_signals(
     ensures ok { OnOk result (out.new.items ≡ out.old.items ++ signals_shown signals.now) }
     ensures grows { length out.old.items ≤ length out.new.items }
 {
+    out.extend_from_slice(b" signals ")?;
     match signals {
         [] => {
             out.push(b'-')?;
@@ -145,6 +150,74 @@ fn put_signals(
     }
 }
 
+fn put_connection(
+    alloc: Global,
+    out: &mut Vec<u8>,
+    connection: &Connection,
+) -> Result<(), OutOfMemory>
+    ensures ok { OnOk result (out.new.items ≡ out.old.items ++ connection_shown connection.now) }
+    ensures grows { length out.old.items ≤ length out.new.items }
+{
+    write_number(alloc, out, connection.number)?;
+    out.push(b':')?;
+    out.extend_from_slice(mode_text(connection.mode))?;
+    Ok(())
+}
+
+fn put_more_connections(
+    alloc: Global,
+    out: &mut Vec<u8>,
+    more: &[Option<Connection>],
+) -> Result<(), OutOfMemory>
+    ensures ok { OnOk result (out.new.items ≡ out.old.items
+        ++ flat_map (λ next. codes "," ++ connection_shown next) (held_in more.now)) }
+    ensures grows { length out.old.items ≤ length out.new.items }
+{
+    for held in more {
+        let Some(connection) = held else {
+            continue;
+        };
+        out.push(b',')?;
+        put_connection(alloc, out, connection)?;
+    }
+    Ok(())
+}
+
+#[tactic(auto, unfolding(crate::specs::Printing::listed))]
+fn put_held(
+    alloc: Global,
+    out: &mut Vec<u8>,
+    places: &[Option<Connection>],
+) -> Result<(), OutOfMemory>
+    ensures ok { OnOk result (out.new.items ≡ out.old.items ++ listed connection_shown (held_in places.now)) }
+    ensures grows { length out.old.items ≤ length out.new.items }
+{
+    match places {
+        [] => {
+            out.push(b'-')?;
+            Ok(())
+        }
+        [None, more @ ..] => put_held(alloc, out, more),
+        [Some(first), more @ ..] => {
+            put_connection(alloc, out, first)?;
+            put_more_connections(alloc, out, more)
+        }
+    }
+}
+
+#[tactic(auto, unfolding(crate::specs::Printing::connections_shown))]
+fn put_connections(
+    alloc: Global,
+    out: &mut Vec<u8>,
+    places: &[Option<Connection>],
+) -> Result<(), OutOfMemory>
+    ensures ok { OnOk result (out.new.items ≡ out.old.items ++ connections_shown places.now) }
+    ensures grows { length out.old.items ≤ length out.new.items }
+{
+    out.extend_from_slice(b" connections ")?;
+    put_held(alloc, out, places)
+}
+
 #[tactic(auto, unfolding(crate::specs::Printing::line_head))]
 fn put_head(alloc: Global, out: &mut Vec<u8>, line: u16, hook: Hook) -> Result<(), OutOfMemory>
     ensures ok { OnOk result (out.new.items ≡ out.old.items ++ line_head line hook) }
@@ -154,7 +227,6 @@ fn put_head(alloc: Global, out: &mut Vec<u8>, line: u16, hook: Hook) -> Result<(
     put_decimal(alloc, out, u64::from(line))?;
     out.push(b' ')?;
     out.extend_from_slice(hook_word(hook))?;
-    out.extend_from_slice(b" signals ")?;
     Ok(())
 }
 
@@ -163,7 +235,7 @@ fn put_lost(alloc: Global, out: &mut Vec<u8>, lost: u64) -> Result<(), OutOfMemo
     ensures ok { OnOk result (out.new.items ≡ out.old.items ++ lost_shown lost) }
     ensures grows { length out.old.items ≤ length out.new.items }
 {
-    out.extend_from_slice(b" connections - lost ")?;
+    out.extend_from_slice(b" lost ")?;
     put_decimal(alloc, out, lost)
 }
 
@@ -171,18 +243,15 @@ fn put_lost(alloc: Global, out: &mut Vec<u8>, lost: u64) -> Result<(), OutOfMemo
 pub fn put_line(
     alloc: Global,
     out: &mut Vec<u8>,
-    line: u16,
-    hook: Hook,
-    signals: &[ActiveSignal],
-    lost: u64,
+    status: &LineStatus<'_>,
 ) -> Result<(), OutOfMemory>
-    ensures ok { OnOk result (out.new.items ≡ out.old.items
-        ++ printed_line (shown_line line hook signals.now lost)) }
+    ensures ok { OnOk result (out.new.items ≡ out.old.items ++ printed_line (shown_line status.now)) }
     ensures grows { length out.old.items ≤ length out.new.items }
 {
-    put_head(alloc, out, line, hook)?;
-    put_signals(alloc, out, signals)?;
-    put_lost(alloc, out, lost)?;
+    put_head(alloc, out, status.line, status.hook)?;
+    put_signals(alloc, out, status.signals.as_slice())?;
+    put_connections(alloc, out, status.connections)?;
+    put_lost(alloc, out, status.lost)?;
     out.push(b'\n')?;
     Ok(())
 }

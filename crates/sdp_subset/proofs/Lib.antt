@@ -5,3 +5,4 @@ pub mod DecimalLemmas
 pub mod AsideLaws
 pub mod WrittenLaws
 pub mod Computing
+pub mod WholeLemmas

@@ -77,15 +77,15 @@ lines_again (line ∷ lines) all = lines_ended line (flat_map ended lines) all.0
 -- ---- an address
 
 -- the four octets of an address
-record HasOctets (address : Ipv4Addr) : Type 0 where
-  a : ℕ
-  b : ℕ
-  c : ℕ
-  d : ℕ
-  parts : address.octets ≡ a ∷ b ∷ c ∷ d ∷ []
-  each : AllByRecursion (λ octet. octet ≤ 255) (a ∷ b ∷ c ∷ d ∷ [])
+pub record HasOctets (address : Ipv4Addr) : Type 0 where
+  pub a : ℕ
+  pub b : ℕ
+  pub c : ℕ
+  pub d : ℕ
+  pub parts : address.octets ≡ a ∷ b ∷ c ∷ d ∷ []
+  pub each : AllByRecursion (λ octet. octet ≤ 255) (a ∷ b ∷ c ∷ d ∷ [])
 
-octets_are : (address : Ipv4Addr) → length address.octets ≡ 4 → AllByRecursion (λ octet. octet ≤ 255) address.octets → HasOctets address
+pub octets_are : (address : Ipv4Addr) → length address.octets ≡ 4 → AllByRecursion (λ octet. octet ≤ 255) address.octets → HasOctets address
 octets_are address four each = by_list address.octets refl four each where
   by_list : (octets : List ℕ) → address.octets ≡ octets → length octets ≡ 4 → AllByRecursion (λ octet. octet ≤ 255) octets → HasOctets address
   by_list [] is size each = absurd (omega arith)
@@ -95,10 +95,10 @@ octets_are address four each = by_list address.octets refl four each where
   by_list (a ∷ b ∷ c ∷ d ∷ []) is size each = record { a = a; b = b; c = c; d = d; parts = is; each = each }
   by_list (a ∷ b ∷ c ∷ d ∷ e ∷ more) is size each = absurd (omega arith)
 
-abbrev dotted : ℕ → ℕ → ℕ → ℕ → List ℕ
+abbrev pub dotted : ℕ → ℕ → ℕ → ℕ → List ℕ
 dotted a b c d = decimal a ++ (46 ∷ (decimal b ++ (46 ∷ (decimal c ++ (46 ∷ decimal d)))))
 
-address_is : (address : Ipv4Addr) (o : HasOctets address) → address_text address ≡ dotted o.a o.b o.c o.d
+pub address_is : (address : Ipv4Addr) (o : HasOctets address) → address_text address ≡ dotted o.a o.b o.c o.d
 address_is address o = rw (o.parts) refl
 
 octet_again : (n : ℕ) → n ≤ 255 → octet_of (decimal n) ≡ Some n
@@ -275,7 +275,7 @@ time_is_line = line_is (codes "t=0 0") (refl, (refl, (refl, (refl, (refl, tt))))
 
 -- ---- the session
 
-abbrev session_with_parts : Option Origin → Ipv4Addr → ℕ → List ℕ → Option ℕ → Session
+abbrev pub session_with_parts : Option Origin → Ipv4Addr → ℕ → List ℕ → Option ℕ → Session
 session_with_parts origin address port payloads ptime = record { origin = origin; address = address; port = port; payloads = payloads; ptime = ptime }
 
 module _ (address : Ipv4Addr) (port : ℕ) (payloads : List ℕ) where
@@ -313,19 +313,27 @@ module _ (address : Ipv4Addr) (port : ℕ) (payloads : List ℕ) where
   lines_read origin ptime o low are =
       is_read_in origin ptime ∙ rw (audio_again port payloads low are, is_used origin ptime, connection_again address o) refl
 
+-- the lines of what is written are those of the session
+pub lines_written : (session : Session) → IsSession session → lines_of (written session) ≡ session_lines session
+unfolding written
+lines_written session is =
+    let o = octets_are session.address is.four is.each in
+    lines_again (session_lines session) (are_lines session.address session.port session.payloads session.origin session.ptime o)
+
 -- what is written is read as the same session, without its origin and packet time
 pub read_again : (session : Session) → IsSession session → session_of (written session) ≡ Some (as_read session)
-unfolding session_of written
+unfolding session_of
 read_again session is =
     let o = octets_are session.address is.four is.each in
-    ap session_in (lines_again (session_lines session) (are_lines session.address session.port session.payloads session.origin session.ptime o))
+    ap session_in (lines_written session is)
     ∙ lines_read session.address session.port session.payloads session.origin session.ptime o is.low is.types
 
 -- and the text describes that one
 pub reads_again : (session : Session) → IsSession session → Reads (written session) (Some (as_read session))
 reads_again session is = subst (λ (outcome : Option Session). Reads (written session) outcome) (read_again session is) (reads_some (written session))
 
-pub ok_reads : {E : Type 0} (session : Session) (given : Result (List ℕ) E) → IsSession session → IfOk given (λ text. text ≡ written session)
-    → IfOk given (λ text. Reads text (Some (as_read session)))
-ok_reads session (Ok text) is e = rw e (reads_again session is)
-ok_reads session (Err fault) is e = tt
+-- what holds of a session's text holds of what was written of it
+pub ok_written : {E : Type 0} (P : List ℕ → Type 0) (session : Session) (given : Result (List ℕ) E) → P (written session) → IfOk given (λ text. text ≡ written session)
+    → IfOk given P
+ok_written P session (Ok text) holds e = rw e holds
+ok_written P session (Err fault) holds e = tt

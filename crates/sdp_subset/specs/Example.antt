@@ -1,5 +1,5 @@
 -- What the worked examples speak of.
-use Rattle.std.specs.Prelude.{ℕ, List, [], ◌∷◌, ◌++◌, codes, Option, Some, None}
+use Rattle.std.specs.Prelude.{ℕ, List, [], ◌∷◌, ◌++◌, codes, replicate, Option, Some, None}
 use Rattle.std.specs.declared.net.ipv4_addr.Ipv4Addr.{Ipv4Addr}
 use Rattle.sdp_subset.specs.declared.session.Session.{Session}
 use Rattle.sdp_subset.specs.Reading.{session_of}
@@ -31,3 +31,13 @@ originated number version session = record session { origin = Some (record { num
 -- the session with a packet time
 abbrev pub timed : ℕ → Session → Session
 timed ms session = record session { ptime = Some ms }
+
+-- a session whose numbers are the greatest, with so many payload types
+abbrev pub greatest : ℕ → Session
+greatest count = record {
+  origin = Some (record { number = 4294967295; version = 4294967295 });
+  address = record { octets = 255 ∷ 255 ∷ 255 ∷ 255 ∷ [] };
+  port = 65535;
+  payloads = replicate count 127;
+  ptime = Some 65535;
+}

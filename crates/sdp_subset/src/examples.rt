@@ -1,7 +1,7 @@
 //! Worked examples of the definitions, as theorems: each sentence of a definition has one that a slip in it breaks.
 #![tactic(auto, unfolding(crate::proofs::Computing::on_examples))]
 
-ghost use Rattle.std.specs.Prelude.{◌≡◌, ◌++◌, codes, map, replicate, [], ◌∷◌, Some, None, Ok, Err, true, false};
+ghost use Rattle.std.specs.Prelude.{◌≡◌, ◌++◌, codes, map, replicate, [], ◌∷◌, Some, None, Ok, Err, true, false, length};
 ghost use Rattle.std.specs.List.{concat};
 ghost use Rattle.sdp_subset.specs.declared.fault.SdpFault.TheVariants as faults;
 ghost use Rattle.sdp_subset.specs.Payloads.{is_payload, are_payloads, payloads_from, has_room, with_payload};
@@ -12,7 +12,7 @@ ghost use Rattle.sdp_subset.specs.Reading.{port_of, payload_of, payloads_of, aud
 ghost use Rattle.sdp_subset.specs.Reading.{session_of, answer_of, session_read, sdp_fault_number};
 ghost use Rattle.sdp_subset.specs.Writing.{address_text, written, as_read};
 ghost use Rattle.sdp_subset.specs.Example.{host, offered, from_host, read_with_audio, read_with_connection};
-ghost use Rattle.sdp_subset.specs.Example.{originated, timed};
+ghost use Rattle.sdp_subset.specs.Example.{originated, timed, greatest};
 
 /// A payload type is a number up to 127, and there are 1 to 32 of them.
 pub fn payload_types_have_seven_bits()
@@ -258,6 +258,12 @@ pub fn sessions_are_written_line_by_line()
         ++ codes "m=audio 0 RTP/AVP 0\r\n" }
     ensures address { address_text (host 12) ≡ codes "10.0.0.12" }
     ensures again { as_read (timed 20 (originated 1 1 (offered 1 0 (0 ∷ [])))) ≡ offered 1 0 (0 ∷ []) }
+{}
+
+/// The greatest numbers are written in 259 bytes, and in 139 with two payload types.
+pub fn the_greatest_numbers_are_written_in_259_bytes()
+    ensures all { length (written (greatest 32)) ≡ 259 }
+    ensures two { length (written (greatest 2)) ≡ 139 }
 {}
 
 /// The longest datagram's worth of text is read as any other.

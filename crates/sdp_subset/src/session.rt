@@ -30,16 +30,23 @@ pub struct Session {
 impl Session {
     ghost use Rattle.std.specs.Prelude.{◌≡◌, Ok};
 
-    /// An equal session. It takes no memory, so it is never refused any.
-    pub fn try_copy(&self) -> Result<Session, OutOfMemory>
-        ensures { result ≡ Ok self.now }
+    /// An equal session. It takes no memory.
+    pub fn copy(&self) -> Session
+        ensures { result ≡ self.now }
     {
-        Ok(Session {
+        Session {
             origin: self.origin,
             address: self.address,
             port: self.port,
             payloads: self.payloads.copy(),
             ptime: self.ptime,
-        })
+        }
+    }
+
+    /// The same as `copy`, for who asks where a copy can be refused: this one never is.
+    pub fn try_copy(&self) -> Result<Session, OutOfMemory>
+        ensures { result ≡ Ok self.now }
+    {
+        Ok(self.copy())
     }
 }

@@ -1,6 +1,7 @@
 //! How a session is written (RFC 2327, 6; RFC 3435, 3.4).
-ghost use Rattle.std.specs.Prelude.{◌≡◌, ◌≤◌, ◌++◌, IfOk, OnOk, Some, decimal, length};
-ghost use Rattle.std.specs.List.{AllByRecursion, flat_map};
+ghost use Rattle.std.specs.Prelude.{◌≡◌, ◌≤◌, ◌++◌, IfOk, OnOk, IfSome, Some, false, codes, decimal, length, slice_get};
+ghost use Rattle.std.specs.List.{AllByRecursion, flat_map, list_any};
+ghost use Rattle.mg_bytes.specs.Lines.{cut, lines_of, is_dot_line};
 ghost use Rattle.sdp_subset.specs.declared.session.Session.{Session};
 ghost use Rattle.sdp_subset.specs.Writing.{address_text, origin_line, origin_lines, connection_line, time_lines};
 ghost use Rattle.sdp_subset.specs.Writing.{payloads_text, audio_line, ptime_lines};
@@ -157,13 +158,35 @@ fn port_in(session: &Session) -> u16
     session.port
 }
 
+// The numbers of an origin, which have 32 bits.
+fn numbers_of(origin: Option<Origin>)
+    ensures { IfSome origin (λ origin. (origin.number ≤ 4294967295) × (origin.version ≤ 4294967295)) }
+{
+    if let Some(origin) = origin {
+        let _numbers = (origin.number, origin.version);
+    }
+}
+
+// The packet time, which has 16 bits.
+fn time_of(ptime: Option<u16>)
+    ensures { IfSome ptime (λ ms. ms ≤ 65535) }
+{
+    if let Some(ms) = ptime {
+        let _time = ms;
+    }
+}
+
 // What the types of its parts say of a session.
 fn bounds_of(session: &Session)
-    ensures { IsSession session.now }
+    ensures is { IsSession session.now }
+    ensures numbers { IfSome session.now.origin (λ origin. (origin.number ≤ 4294967295) × (origin.version ≤ 4294967295)) }
+    ensures time { IfSome session.now.ptime (λ ms. ms ≤ 65535) }
 {
     let _octets = octets_of(session.address);
     let _port = port_in(session);
     let _payloads = session.payloads.as_slice();
+    numbers_of(session.origin);
+    time_of(session.ptime);
 }
 
 /// The text of a session (RFC 2327, 6; RFC 3435, 3.4): `v=0`; with an origin `o=- number version IN IP4 a.b.c.d` and
@@ -173,8 +196,13 @@ pub fn write_sdp(alloc: Global, session: &Session) -> Result<Text, OutOfMemory>
     ensures form { IfOk result (λ text. text ≡ written session.now) }
     // It is read with the same address, port and payload types.
     ensures reads { IfOk result (λ text. Reads text (Some (as_read session.now))) }
+    // Its lines each have CRLF and no blanks round them; the first is `v=0`, and none is a single dot (RFC 3435, 3.5.5).
+    ensures whole { IfOk result (λ text. flat_map (λ line. line ++ codes "\r\n") (lines_of text) ≡ text) }
+    ensures first { IfOk result (λ text. slice_get (lines_of text) 0 ≡ Some (codes "v=0")) }
+    ensures no_dots { IfOk result (λ text. list_any is_dot_line (cut text) ≡ false) }
+    ensures short { IfOk result (λ text. length text ≤ 300) }
 {
-    // The second clause stands on what these types say.
+    // All clauses but the first stand on what these types say.
     bounds_of(session);
     session_text(alloc, session)
 }

@@ -5,19 +5,24 @@
 ghost use Rattle.std.specs.Prelude.{◌≡◌, ◌++◌, codes, [], ◌∷◌, replicate, true, false, None, Some, Ok};
 ghost use Rattle.mgcp_text.specs.Answer.{plain_code};
 ghost use Rattle.command_forms.specs.declared.forms.Asks.TheVariants.{Reports};
-ghost use Rattle.command_forms.specs.declared.forms.Target.TheVariants.{One, All};
+ghost use Rattle.connections.specs.declared.deletion.Deletion.TheVariants as deletions;
+ghost use Rattle.command_forms.specs.declared.forms.ConnectionDeed.TheVariants as deeds;
+ghost use Rattle.command_forms.specs.declared.forms.Target.TheVariants.{One, All, Any};
 ghost use Rattle.command_forms.specs.declared.forms.Audit.{Audit};
 ghost use Rattle.history.specs.Looking.{full};
 ghost use Rattle.mg_line.specs.declared.phone.Act.TheVariants as acts;
 ghost use Rattle.plain_machine.specs.Event.{phone};
 ghost use Rattle.plain_machine.specs.Machine.{opening, opening_endpoints, with_own, idle};
 ghost use Rattle.plain_machine.specs.Done.{only_answer};
+ghost use Rattle.plain_machine.specs.Connecting.{counts_param, nothing_shown};
+ghost use Rattle.plain_machine.specs.Requesting.{shown_of};
 ghost use Rattle.plain_machine.specs.Commanding.{audited, done_by};
 ghost use Rattle.plain_machine.specs.Falling.{due_by, pass};
 ghost use Rattle.plain_machine.specs.Responding.{asks_for_acknowledgement};
 ghost use Rattle.plain_machine.specs.Answering.{transaction, transacted_by};
 ghost use Rattle.plain_machine.specs.Lists.{outputs_of};
 ghost use Rattle.plain_machine.specs.Example.{example, agent, audit, from_agent, one_answer, to_agent_at, rqnt, sends, ntfy, lifted_on_2, response, stations, announcing, busiest, wide};
+ghost use Rattle.plain_machine.specs.Example.{requesting_nothing, holding, first_connection};
 
 /// The answer to a line's command lets that line go on, under its own ids, whichever it is.
 pub fn an_answer_is_for_its_line()
@@ -93,4 +98,30 @@ pub fn what_is_read_of_k_confirms()
     ensures refused { outputs_of example (from_agent (audit 1301) ∷ from_agent (audit 1302 ++ codes "M: x\r\nK: 1301\r\n")
         ∷ from_agent (audit 1301) ∷ [])
         ≡ one_answer (codes "200 1301 OK\r\n") ++ one_answer (codes "539 1302\r\n") }
+{}
+
+/// Of one line that there is it is told what a deed does to its connections; of all lines, of any one line and of a line
+/// that there isn't nothing is told, whatever the deed.
+pub fn some_deeds_tell_of_no_connection()
+    ensures one {
+        let deleting = deeds.Delete (deletions.One (codes "1a") (codes "1")) in
+        let line = holding (Some first_connection ∷ replicate 3 None) in
+        shown_of (stations (line ∷ [])) (One 1) (record (requesting_nothing None) { connections = deleting })
+        ≡ record { params = counts_param ∷ []; body = [] }
+    }
+    ensures all {
+        let deleting = deeds.Delete (deletions.One (codes "1a") (codes "1")) in
+        let line = holding (Some first_connection ∷ replicate 3 None) in
+        shown_of (stations (line ∷ [])) All (record (requesting_nothing None) { connections = deleting }) ≡ nothing_shown
+    }
+    ensures any {
+        let deleting = deeds.Delete (deletions.One (codes "1a") (codes "1")) in
+        let line = holding (Some first_connection ∷ replicate 3 None) in
+        shown_of (stations (line ∷ [])) Any (record (requesting_nothing None) { connections = deleting }) ≡ nothing_shown
+    }
+    ensures no_line {
+        let deleting = deeds.Delete (deletions.One (codes "1a") (codes "1")) in
+        let line = holding (Some first_connection ∷ replicate 3 None) in
+        shown_of (stations (line ∷ [])) (One 2) (record (requesting_nothing None) { connections = deleting }) ≡ nothing_shown
+    }
 {}

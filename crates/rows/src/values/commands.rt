@@ -1,11 +1,13 @@
 //! Calls about what commands ask for, on a gateway of 16 lines that knows no host.
 use crate::values::names::{DOMAIN, pattern_text};
-use command_forms::{Asks, Deed, RequestForm, Target, form};
+use command_forms::{Asks, ConnectionDeed, Deed, RequestForm, Target, form};
+use connections::{CodecChoice, Deletion, Mode, Options, encoding_text, mode_text, write_options};
 use digit_map::MapChange;
 use endpoint_names::{Names, Pattern, Table};
 use event_syntax::{write_detect, write_events, write_handling, write_signals};
-use mg_bytes::Text;
+use mg_bytes::{Identifier, Text, put_decimal};
 use mgcp_text::{TextFault, read_k, read_message};
+use sdp_subset::Session;
 use std::alloc::Global;
 use std::io;
 use tales::{code_text, refused, said};
@@ -36,11 +38,100 @@ fn request_text(alloc: Global, request: &RequestForm) -> io::Result<String> {
     said(alloc, &out)
 }
 
+// The call and the identifier of a connection, each where it is named.
+fn put_names(out: &mut Vec<u8>, call: &Identifier, id: Option<&Identifier>) -> io::Result<()> {
+    put_line(out, b"C:", call.as_slice())?;
+    match id {
+        Some(id) => put_line(out, b"I:", id.as_slice()),
+        None => Ok(()),
+    }
+}
+
+fn put_mode(out: &mut Vec<u8>, mode: Mode) -> io::Result<()> {
+    put_line(out, b"M:", mode_text(mode))
+}
+
+fn put_options(alloc: Global, out: &mut Vec<u8>, options: Options) -> io::Result<()> {
+    match options.codecs {
+        CodecChoice::These(codecs) => {
+            let text = write_options(alloc, codecs, options.packet_time)?;
+            put_line(out, b"L:", text.as_bytes())
+        }
+        CodecChoice::ByEncoding => {
+            out.extend_from_slice(b"L:p:")?;
+            put_decimal(alloc, out, u64::from(options.packet_time))?;
+            put_line(out, b"", b"")
+        }
+        CodecChoice::NoneKnown => put_line(out, b"L:", b"none"),
+    }
+}
+
+// The port and the payload types of the remote description, where there is one.
+fn put_remote(alloc: Global, out: &mut Vec<u8>, remote: &Option<Session>) -> io::Result<()> {
+    let Some(session) = remote else {
+        return Ok(());
+    };
+    out.extend_from_slice(b"RTP:")?;
+    put_decimal(alloc, out, u64::from(session.port))?;
+    for payload in session.payloads.as_slice() {
+        out.push(b' ')?;
+        put_decimal(alloc, out, u64::from(*payload))?;
+    }
+    put_line(out, b"", b"")
+}
+
+// What becomes of the connections of a line.
+fn put_connections(alloc: Global, out: &mut Vec<u8>, deed: &ConnectionDeed) -> io::Result<()> {
+    match deed {
+        ConnectionDeed::Keep => Ok(out.extend_from_slice(b"keep ")?),
+        ConnectionDeed::Create(creation) => {
+            out.extend_from_slice(b"create ")?;
+            put_names(out, &creation.call, None)?;
+            put_mode(out, creation.mode)?;
+            put_options(alloc, out, creation.options)?;
+            put_remote(alloc, out, &creation.remote)
+        }
+        ConnectionDeed::Modify { call, id, change } => {
+            out.extend_from_slice(b"modify ")?;
+            put_names(out, call, Some(id))?;
+            if let Some(mode) = change.mode {
+                put_mode(out, mode)?;
+            }
+            if let Some(options) = change.options {
+                put_options(alloc, out, options)?;
+            }
+            put_remote(alloc, out, &change.remote)
+        }
+        ConnectionDeed::Delete(deletion) => {
+            out.extend_from_slice(b"delete ")?;
+            match deletion {
+                Deletion::All => Ok(()),
+                Deletion::OfCall(call) => put_names(out, call, None),
+                Deletion::One(call, id) => put_names(out, call, Some(id)),
+            }
+        }
+    }
+}
+
+// What a deed does to connections, and the encoding that it gives.
+fn becomes_text(alloc: Global, deed: &Deed) -> io::Result<String> {
+    let mut out = Vec::new(alloc);
+    put_connections(alloc, &mut out, &deed.connections)?;
+    if let Some(encoding) = deed.encoding {
+        put_line(&mut out, b"B:", encoding_text(encoding))?;
+    }
+    if out.as_slice().ends_with(b" ") {
+        out.pop();
+    }
+    said(alloc, &out)
+}
+
 // The lines that a command is for, by the name that means them.
 fn target_text(alloc: Global, target: Target) -> io::Result<String> {
     match target {
         Target::One(line) => pattern_text(alloc, Pattern::One(line)),
         Target::All => pattern_text(alloc, Pattern::All),
+        Target::Any => pattern_text(alloc, Pattern::Any),
     }
 }
 
@@ -57,13 +148,14 @@ fn asks_text(alloc: Global, call: &str, asks: &Asks<'_>) -> io::Result<String> {
     match asks {
         Asks::Reports(target, _) => target_text(alloc, *target),
         Asks::Does(_, deed) if call == "asks" => deed_text(alloc, deed),
+        Asks::Does(_, deed) if call == "becomes" => becomes_text(alloc, deed),
         Asks::Does(target, _) => target_text(alloc, *target),
     }
 }
 
 /// What a call gives: a return code where the command is refused. Nothing where there is no such call here.
 pub fn answer(alloc: Global, call: &str, value: &[u8]) -> io::Result<Option<String>> {
-    if call != "command on" && call != "asks" {
+    if call != "command on" && call != "asks" && call != "becomes" {
         return Ok(None);
     }
     let message = match read_message(alloc, value) {

@@ -4,6 +4,9 @@ use Rattle.gateway_core.proofs.StandLemmas.{stands_for_nothing}
 use Rattle.gateway_core.proofs.WorkLemmas.{opening_sound, opening_few}
 use Rattle.gateway_core.proofs.gateway.Gateway.new.Goals as goal
 
+pub opening_stations-requires : goal.opening_stations-requires
+opening_stations-requires c = setup_is _ _ (sym c.in_ok-setup.ensures)
+
 pub of-requires : goal.of-requires
 of-requires c = opening_few _ _ _ (sym c.in_ok-setup.ensures) c.in_ok-stations.ensures
 

@@ -1,6 +1,0 @@
-use Rattle.std.proofs.Common.{◌≡◌, ◌+◌, [], take, drop}
-use Rattle.command_forms.specs.Explaining.{line_fault}
-use Rattle.command_forms.proofs.explaining.line_fault.Given as goal
-
-abbrev pub invariant-loop-place : goal.invariant-loop-place
-invariant-loop-place l = line_fault l.row (l.place + 1) (take l.place l.params) (drop l.place l.params) ≡ line_fault l.row 1 [] l.params

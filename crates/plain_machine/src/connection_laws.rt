@@ -1,0 +1,194 @@
+//! Laws of connections (RFC 3435, 2.1.3, 2.3.2, 2.3.5 to 2.3.7 and 2.3.9), for every setup and every list of events.
+ghost use Rattle.std.specs.Prelude.{ℕ, ◌≡◌, ◌≢◌, ◌+◌, ◌<◌, ◌≤◌, ◌++◌, [], ◌∷◌, List, length, get_or, true, false, Option, Some, None, Ok};
+ghost use Rattle.std.specs.Option.{unwrap_or};
+ghost use Rattle.std.specs.declared.net.socket_addr.SocketAddrV4.{SocketAddrV4};
+ghost use Rattle.connections.specs.declared.connection.Connection.{Connection};
+ghost use Rattle.connections.specs.declared.connection.Creation.{Creation};
+ghost use Rattle.connections.specs.declared.deletion.Deletion.{Deletion};
+ghost use Rattle.connections.specs.Numbers.{names_number};
+ghost use Rattle.connections.specs.Standing.{is_meant, no_connections};
+ghost use Rattle.connections.specs.Life.{Happening, after, numbers_in};
+ghost use Rattle.mgcp_text.specs.declared.confirmation.KValue.{KValue};
+ghost use Rattle.mgcp_text.specs.declared.message.Param.{Param};
+ghost use Rattle.mgcp_text.specs.declared.message.Verb.TheVariants.{Epcf};
+ghost use Rattle.mgcp_text.specs.Answer.{plain_code};
+ghost use Rattle.mgcp_text.specs.Reading.{Outcome};
+ghost use Rattle.mg_line.specs.declared.phone.Act.{Act};
+ghost use Rattle.command_forms.specs.declared.forms.Asks.TheVariants.{Does};
+ghost use Rattle.command_forms.specs.declared.forms.ConnectionDeed.TheVariants as deeds;
+ghost use Rattle.command_forms.specs.declared.forms.Deed.{Deed};
+ghost use Rattle.command_forms.specs.declared.forms.Target.{Target};
+ghost use Rattle.command_forms.specs.declared.forms.Target.TheVariants.{All};
+ghost use Rattle.command_forms.specs.Command.{Command};
+ghost use Rattle.command_forms.specs.Meaning.{is_for};
+ghost use Rattle.command_forms.specs.Order.{form_of};
+ghost use Rattle.plain_machine.specs.declared.due_item.DueItem.{DueItem};
+ghost use Rattle.plain_machine.specs.declared.line_deed.LineDeed.{LineDeed};
+ghost use Rattle.plain_machine.specs.declared.setup.Setup.{Setup};
+ghost use Rattle.plain_machine.specs.declared.station.Station.{Station};
+ghost use Rattle.plain_machine.specs.Acting.{acted};
+ghost use Rattle.plain_machine.specs.Answering.{Transaction, transaction_of, handled, took_all};
+ghost use Rattle.plain_machine.specs.Connecting.{id_param};
+ghost use Rattle.plain_machine.specs.Event.{GatewayEvent};
+ghost use Rattle.plain_machine.specs.Falling.{happened, pass};
+ghost use Rattle.plain_machine.specs.Happening.{effect};
+ghost use Rattle.plain_machine.specs.Machine.{Endpoints, Machine, told, port_of, station_at};
+ghost use Rattle.plain_machine.specs.Notifying.{silent};
+ghost use Rattle.plain_machine.specs.Done.{only_answer};
+ghost use Rattle.plain_machine.specs.Requesting.{connected_on, refusal_by, shown_by, deed_on, deed_on_all, deed_done, done_for};
+ghost use Rattle.plain_machine.specs.Requesting.{has_place, line_with_place};
+ghost use Rattle.plain_machine.specs.Responding.{responded};
+ghost use Rattle.plain_machine.specs.Commanding.{line_deed, commanded};
+ghost use Rattle.plain_machine.specs.Lists.{plain, connections_of};
+ghost use Rattle.plain_machine.specs.Calls.{connection_at, port_at, standing_at, NumbersGoOn, Stands};
+
+/// A line has four places for connections, and so at most four connections. What stands there is what creations,
+/// modifications and deletions left, one after the other, on a line that had none.
+pub fn a_line_has_at_most_four_connections()
+    ensures places { (setup : Setup) (events : List GatewayEvent) (line : ℕ) (places : List (Option Connection)) →
+        connections_of (plain setup events) line ≡ Some places → length places ≡ 4 }
+    ensures most { (setup : Setup) (events : List GatewayEvent) (line : ℕ) (places : List (Option Connection)) →
+        connections_of (plain setup events) line ≡ Some places → length (numbers_in places) ≤ 4 }
+    ensures life { (setup : Setup) (events : List GatewayEvent) (line : ℕ) (station : Station) →
+        station_at (plain setup events).endpoints line ≡ Some station →
+        (happenings : List Happening)
+        × (station.connections ≡ after (no_connections setup.media_address (port_of setup line)) happenings) }
+{}
+
+/// Nothing but a deed that creates, modifies or deletes changes the connections of a line: an act at a telephone, a
+/// response and what falls due leave those of every line as they are, and so does a deed that keeps them.
+pub fn nothing_else_changes_connections()
+    ensures act { (setup : Setup) (endpoints : Endpoints) (line moment other : ℕ) (act : Act) →
+        standing_at (acted setup endpoints line moment act).endpoints other ≡ standing_at endpoints other }
+    ensures response { (setup : Setup) (endpoints : Endpoints) (moment code id other : ℕ) →
+        standing_at (responded setup endpoints moment code id).endpoints other ≡ standing_at endpoints other }
+    ensures due { (setup : Setup) (endpoints : Endpoints) (item : DueItem) (other : ℕ) →
+        standing_at (happened setup endpoints item).endpoints other ≡ standing_at endpoints other }
+    ensures pass { (setup : Setup) (endpoints : Endpoints) (moment other : ℕ) →
+        standing_at (pass setup endpoints moment).endpoints other ≡ standing_at endpoints other }
+    ensures deed { (setup : Setup) (endpoints : Endpoints) (target : Target) (deed : LineDeed) (moment other : ℕ) →
+        deed.connections ≡ deeds.Keep →
+        standing_at (done_for setup endpoints target deed moment).told.endpoints other ≡ standing_at endpoints other }
+{}
+
+/// No two connections of a gateway receive at one port.
+pub fn two_connections_never_share_a_port()
+    ensures { (setup : Setup) (events : List GatewayEvent) (line other place next port : ℕ) →
+        port_at (plain setup events) line place ≡ Some port → port_at (plain setup events) other next ≡ Some port →
+        (line ≡ other) × (place ≡ next) }
+{}
+
+/// Two connections of a line have two numbers, and so no identifier is that of both; and a number that stood on a line
+/// and stands no more is never given again there.
+pub fn a_number_is_never_given_twice_on_a_line()
+    ensures apart { (setup : Setup) (events : List GatewayEvent) (line place other : ℕ) (connection next : Connection) →
+        connection_at (plain setup events) line place ≡ Some connection →
+        connection_at (plain setup events) line other ≡ Some next → connection.number ≡ next.number → place ≡ other }
+    ensures named { (setup : Setup) (events : List GatewayEvent) (line place other : ℕ) (id : List ℕ)
+        (connection next : Connection) → connection_at (plain setup events) line place ≡ Some connection →
+        connection_at (plain setup events) line other ≡ Some next → names_number id connection.number ≡ true →
+        names_number id next.number ≡ true → place ≡ other }
+    ensures again { (setup : Setup) (before between later : List GatewayEvent) (line number : ℕ) →
+        Stands (plain setup before) line number → (Stands (plain setup (before ++ between)) line number → ⊥) →
+        Stands (plain setup ((before ++ between) ++ later)) line number → ⊥ }
+{}
+
+/// Within an event, too, a number is given once. A connection that is created gets the number after the last one of its
+/// line: that is answered, and is the last one from then on. And no last number ever gets less: at an act, a text of a
+/// datagram or all of them, a thing that falls due or all that does.
+pub fn a_number_is_given_once_within_an_event_too()
+    ensures given { (setup : Setup) (deed : LineDeed) (creation : Creation) (moment line : ℕ) (station : Station) →
+        deed.connections ≡ deeds.Create creation → refusal_by deed station ≡ None →
+        ((shown_by (connected_on deed station)).params ≡ id_param (station.connections.last + 1) ∷ [])
+        × ((deed_on setup deed moment line station).station.connections.last ≡ station.connections.last + 1) }
+    ensures act { (setup : Setup) (endpoints : Endpoints) (line moment : ℕ) (act : Act) →
+        NumbersGoOn endpoints (acted setup endpoints line moment act).endpoints }
+    ensures due { (setup : Setup) (endpoints : Endpoints) (item : DueItem) →
+        NumbersGoOn endpoints (happened setup endpoints item).endpoints }
+    ensures pass { (setup : Setup) (endpoints : Endpoints) (moment : ℕ) →
+        NumbersGoOn endpoints (pass setup endpoints moment).endpoints }
+    ensures text { (setup : Setup) (m : Machine) (source : SocketAddrV4) (outcome : Outcome) →
+        NumbersGoOn m.endpoints (handled setup m source outcome).machine.endpoints }
+    ensures texts { (setup : Setup) (m : Machine) (source : SocketAddrV4) (texts : List (List ℕ)) →
+        NumbersGoOn m.endpoints (took_all setup m source texts).machine.endpoints }
+    ensures event { (setup : Setup) (m : Machine) (event : GatewayEvent) →
+        NumbersGoOn m.endpoints (effect setup m event).machine.endpoints }
+{}
+
+/// A command that is refused, and so answered neither with 200 nor with 250 (RFC 3435, 2.4), changes no line, and no line
+/// sends anything because of it. That holds of every text that is a command, also where its version isn't known or its
+/// parameters can't be read.
+pub fn what_is_refused_changes_no_line()
+    ensures text { (setup : Setup) (m : Machine) (outcome : Outcome) (t : Transaction) →
+        transaction_of setup m outcome ≡ Some t → t.done.answer.code ≢ 200 → t.done.answer.code ≢ 250 →
+        t.done.told ≡ told m.endpoints [] }
+    ensures after { (setup : Setup) (m : Machine) (source : SocketAddrV4) (outcome : Outcome) (t : Transaction) →
+        transaction_of setup m outcome ≡ Some t → t.done.answer.code ≢ 200 → t.done.answer.code ≢ 250 →
+        (handled setup m source outcome).machine.endpoints ≡ m.endpoints }
+    ensures command { (setup : Setup) (endpoints : Endpoints) (moment id : ℕ) (command : Command) (confirms : KValue) →
+        (commanded setup endpoints moment id command confirms).answer.code ≢ 200 →
+        (commanded setup endpoints moment id command confirms).answer.code ≢ 250 →
+        (commanded setup endpoints moment id command confirms).told ≡ told endpoints [] }
+{}
+
+/// A deletion that the line doesn't refuse empties the places of the connections that it means, and no others.
+pub fn a_deletion_empties_what_it_means()
+    ensures meant { (setup : Setup) (deed : LineDeed) (deletion : Deletion) (moment line place : ℕ) (station : Station)
+        (connection : Connection) → deed.connections ≡ deeds.Delete deletion → refusal_by deed station ≡ None →
+        get_or station.connections.places place None ≡ Some connection → is_meant deletion connection ≡ true →
+        get_or (deed_on setup deed moment line station).station.connections.places place None ≡ None }
+    ensures others { (setup : Setup) (deed : LineDeed) (deletion : Deletion) (moment line place : ℕ) (station : Station)
+        (connection : Connection) → deed.connections ≡ deeds.Delete deletion →
+        get_or station.connections.places place None ≡ Some connection → is_meant deletion connection ≡ false →
+        get_or (deed_on setup deed moment line station).station.connections.places place None ≡ Some connection }
+    ensures free { (setup : Setup) (deed : LineDeed) (deletion : Deletion) (moment line place : ℕ) (station : Station) →
+        deed.connections ≡ deeds.Delete deletion → get_or station.connections.places place None ≡ None →
+        get_or (deed_on setup deed moment line station).station.connections.places place None ≡ None }
+{}
+
+/// What an EndpointConfiguration changes is the encoding alone (RFC 3435, 2.3.2): a line that it is for has that which is
+/// given from then on, is else as it was, and sends nothing; and no line refuses it.
+pub fn an_endpoint_configuration_gives_an_encoding()
+    ensures alone { (setup : Setup) (command : Command) (confirms : KValue) (target : Target) (deed : Deed)
+        (moment line : ℕ) (station : Station) → command.verb ≡ Epcf →
+        form_of command confirms setup.names ≡ Ok (Does target deed) →
+        deed_on setup (line_deed deed) moment line station
+        ≡ silent (record station { encoding = unwrap_or deed.encoding station.encoding }) }
+    ensures taken { (setup : Setup) (command : Command) (confirms : KValue) (target : Target) (deed : Deed)
+        (station : Station) → command.verb ≡ Epcf → form_of command confirms setup.names ≡ Ok (Does target deed) →
+        refusal_by (line_deed deed) station ≡ None }
+{}
+
+/// Of a deed on all lines the least line that refuses it gives the code, and then nothing is done. Where none refuses, it is
+/// done.
+pub fn the_least_line_that_refuses_decides()
+    ensures refuses { (setup : Setup) (endpoints : Endpoints) (more : List Param) (deed : LineDeed) (moment line code : ℕ)
+        (station : Station) → station_at endpoints line ≡ Some station → refusal_by deed station ≡ Some code →
+        ((other : ℕ) (another : Station) → other < line → station_at endpoints other ≡ Some another →
+        refusal_by deed another ≡ None) →
+        deed_done setup endpoints All more deed moment ≡ only_answer endpoints (plain_code code) }
+    ensures fine { (setup : Setup) (endpoints : Endpoints) (more : List Param) (deed : LineDeed) (moment : ℕ) →
+        ((line : ℕ) (station : Station) → station_at endpoints line ≡ Some station → refusal_by deed station ≡ None) →
+        (deed_done setup endpoints All more deed moment).told ≡ deed_on_all setup endpoints All deed moment }
+{}
+
+/// A deed that is done is done once on each line that it is for, by what the line was, and leaves every other line as it is.
+pub fn a_deed_is_done_on_its_lines()
+    ensures each { (setup : Setup) (endpoints : Endpoints) (target : Target) (deed : LineDeed) (moment line : ℕ)
+        (station : Station) → is_for target line ≡ true → station_at endpoints line ≡ Some station →
+        station_at (deed_on_all setup endpoints target deed moment).endpoints line
+        ≡ Some (deed_on setup deed moment line station).station }
+    ensures others { (setup : Setup) (endpoints : Endpoints) (target : Target) (deed : LineDeed) (moment line : ℕ) →
+        is_for target line ≡ false →
+        station_at (deed_on_all setup endpoints target deed moment).endpoints line ≡ station_at endpoints line }
+{}
+
+/// Any one line is the least that has a place for one more connection.
+pub fn the_line_that_is_chosen_is_the_least_with_a_place()
+    ensures place { (endpoints : Endpoints) (line : ℕ) → line_with_place endpoints ≡ Some line →
+        (station : Station) × (station_at endpoints line ≡ Some station) × (has_place (line, station) ≡ true) }
+    ensures least { (endpoints : Endpoints) (line other : ℕ) (station : Station) → line_with_place endpoints ≡ Some line →
+        other < line → station_at endpoints other ≡ Some station → has_place (other, station) ≡ false }
+    ensures none { (endpoints : Endpoints) (line : ℕ) (station : Station) → line_with_place endpoints ≡ None →
+        station_at endpoints line ≡ Some station → has_place (line, station) ≡ false }
+{}
