@@ -17,8 +17,8 @@ use Rattle.event_syntax.specs.declared.request.RequestedEvent.{RequestedEvent}
 use Rattle.event_syntax.specs.RequestSpelling.{are_requested}
 use Rattle.event_syntax.specs.Requested.{requested_in as requested_entries, requested_of, are_writable_requested}
 use Rattle.event_syntax.specs.Detect.{detected_of}
-use Rattle.event_syntax.specs.Signals.{signals_of}
-use Rattle.event_syntax.proofs.ReadLemmas.{read_is_writable}
+use Rattle.event_values.specs.Signals.{signals_of}
+use Rattle.event_values.proofs.SignalReading.{read_is_writable}
 use Rattle.event_syntax.proofs.DetectLaws.{read_is_writable as detected_is_writable}
 use Rattle.event_syntax.proofs.RequestReading.{read_is_writable as requested_is_writable}
 use Rattle.sdp_subset.specs.declared.session.Session.{Session}

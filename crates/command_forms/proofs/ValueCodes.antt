@@ -6,19 +6,20 @@ use Rattle.mgcp_text.specs.declared.message.Param.{Param}
 use Rattle.mg_packages.specs.declared.signal.Kind.{Kind}
 use Rattle.mg_packages.specs.Looking.{in_package, event_in, signal_in, kind_of}
 use Rattle.digit_map.specs.declared.fault.MapFault.{MapFault}
-use Rattle.digit_map.specs.Reading.{map_of}
+use Rattle.digit_map.specs.Reading.{map_of, or_code}
 use Rattle.event_syntax.specs.declared.events.Events.{Events}
 use Rattle.event_syntax.specs.declared.request.EmbeddedRequest.{EmbeddedRequest}
-use Rattle.event_syntax.specs.Cuts.{Form, form_of, items, entries}
-use Rattle.event_syntax.specs.Faults.{each, each_up_to, ◌>>=◌}
-use Rattle.event_syntax.specs.Spelling.{are_detected, are_signals}
+use Rattle.event_cuts.specs.Cuts.{Form, form_of, items, entries}
+use Rattle.event_cuts.specs.Faults.{each, each_up_to, ◌>>=◌}
+use Rattle.event_syntax.specs.EventSpelling.{are_detected}
+use Rattle.event_values.specs.SignalSpelling.{are_signals}
 use Rattle.event_syntax.specs.RequestSpelling.{are_requested}
 use Rattle.event_syntax.specs.Events.{events_called}
 use Rattle.event_syntax.specs.Detect.{most_events, without_parameters, detected_from, detected, detected_in, detected_of}
-use Rattle.event_syntax.specs.Handling.{handling_of}
-use Rattle.event_syntax.specs.Signals.{most_signals, setting_of, signal_called, signal_entry_from, signal_entry, signals_in, signals_of}
+use Rattle.event_values.specs.Handling.{handling_of}
+use Rattle.event_values.specs.Signals.{most_signals, setting_of, signal_called, signal_entry_from, signal_entry, signals_in, signals_of}
 use Rattle.event_syntax.specs.Actions.{Word, word_of, Deed, plain, embed, accumulate_and_embed, Said, said_by, said_of, Rule, ruled_by, said_in, rule_from, rule_of}
-use Rattle.event_syntax.specs.Embedding.{embedded_event_by, embedded_event, map_from, nothing_embedded, with_events, with_signals, with_map, with_part_named, with_part_in, with_part_from, with_part, with_parts, embedded_in}
+use Rattle.event_syntax.specs.Embedding.{embedded_event_by, embedded_event, nothing_embedded, with_events, with_signals, with_map, with_part_named, with_part_in, with_part_from, with_part, with_parts, embedded_in}
 use Rattle.event_syntax.specs.Requested.{response_of, requested, requested_in, requested_of}
 use Rattle.command_forms.specs.Values.{handling_at}
 use Rattle.command_forms.specs.Codes.{param_codes, has_code}
@@ -140,7 +141,7 @@ embedded_event_coded : (entry : List ℕ) → Coded (embedded_event entry)
 unfolding embedded_event
 embedded_event_coded entry = coded_on (rule_of entry) _ (rule_coded entry) (λ rule. deed_coded rule rule.deed)
 
-map_coded : (read : Result (List ℕ) MapFault) → Coded (map_from read)
+map_coded : (read : Result (List ℕ) MapFault) → Coded (or_code read)
 map_coded read = search rules
 
 part_named_coded : (request : EmbeddedRequest) (name value : List ℕ) → Coded (with_part_named request name value)
@@ -150,7 +151,7 @@ part_named_coded request name value =
     (coded_on (each_up_to most_events embedded_event (entries value)) _ (coded_up_to most_events embedded_event (entries value) embedded_event_coded) (λ events. tt))
     (coded_if (same_but_case name (codes "S")) (with_signals request value) (with_map request value)
     (coded_on (signals_in value) _ (coded_up_to most_signals signal_entry (entries value) signal_entry_coded) (λ signals. tt))
-    (coded_on (map_from (map_of value)) _ (map_coded (map_of value)) (λ map. tt)))
+    (coded_on (or_code (map_of value)) _ (map_coded (map_of value)) (λ map. tt)))
 
 part_coded : (request : EmbeddedRequest) (part : List ℕ) → Coded (with_part request part)
 unfolding with_part

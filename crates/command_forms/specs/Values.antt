@@ -16,14 +16,13 @@ use Rattle.connections.specs.declared.mode.Mode.{Mode}
 use Rattle.connections.specs.Codecs.{encoding_named}
 use Rattle.connections.specs.Modes.{mode_named}
 use Rattle.digit_map.specs.declared.change.MapChange.{MapChange}
-use Rattle.digit_map.specs.declared.fault.MapFault.{MapFault}
-use Rattle.digit_map.specs.declared.fault.MapFault.TheVariants.{OutOfMemory, Syntax, TooLarge}
+use Rattle.digit_map.specs.Reading.{or_code}
 use Rattle.digit_map.specs.Change.{change_of}
-use Rattle.event_syntax.specs.declared.handling.Handling.{Handling}
-use Rattle.event_syntax.specs.declared.handling.Notifying.TheVariants.{Step}
-use Rattle.event_syntax.specs.declared.handling.Quarantined.TheVariants.{Process}
-use Rattle.event_syntax.specs.Faults.{◌>>=◌}
-use Rattle.event_syntax.specs.Handling.{handling_of}
+use Rattle.event_values.specs.declared.handling.Handling.{Handling}
+use Rattle.event_values.specs.declared.handling.Notifying.TheVariants.{Step}
+use Rattle.event_values.specs.declared.handling.Quarantined.TheVariants.{Process}
+use Rattle.event_cuts.specs.Faults.{◌>>=◌}
+use Rattle.event_values.specs.Handling.{handling_of}
 
 -- K, what is confirmed (RFC 3435, 3.2.2.1): whether it can be read
 abbrev pub is_readable : KValue → Bool
@@ -59,16 +58,9 @@ abbrev pub handling_at : Option Param → Result Handling ℕ
 handling_at None = Ok (record { notifying = Step; quarantined = Process })
 handling_at (Some param) = handling_of param.value
 
--- D, what the request does with the digit map (RFC 3435, 2.3.3): a map that isn't spelled is 510, one that is too large
--- 502 (this gateway's profile); reading doesn't end in want of memory here
-abbrev pub map_read : Result MapChange MapFault → Result MapChange ℕ
-map_read (Ok change) = Ok change
-map_read (Err Syntax) = Err 510
-map_read (Err TooLarge) = Err 502
-map_read (Err OutOfMemory) = Err 510
-
+-- D, what the request does with the digit map (RFC 3435, 2.3.3)
 abbrev pub change_at : Option Param → Result MapChange ℕ
-change_at param = map_read (change_of (option_map (λ found. found.value) param))
+change_at param = or_code (change_of (option_map (λ found. found.value) param))
 
 -- the description of the remote end, where there is a text (RFC 3435, 2.3.5 and 3.4)
 abbrev pub remote_of : List ℕ → Result (Option Session) ℕ

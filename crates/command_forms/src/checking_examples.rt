@@ -1,14 +1,11 @@
-//! Worked examples of single checks, as theorems: a parameter by itself, an F in a request, and a fault in which no reading
-//! ends.
+//! Worked examples of single checks, as theorems: a parameter by itself, and an F in a request.
 #![tactic(auto, unfolding(crate::proofs::Computing::on_examples))]
 
 ghost use Rattle.std.specs.Prelude.{◌≡◌, codes, [], ◌∷◌, Some, Err, true, false};
 ghost use Rattle.mgcp_text.specs.declared.message.Param.{Param};
-ghost use Rattle.digit_map.specs.declared.fault.MapFault.TheVariants.{OutOfMemory};
 ghost use Rattle.command_forms.specs.declared.verbs.Wildcard.TheVariants as wildcards;
 ghost use Rattle.command_forms.specs.Meaning.{takes_all};
 ghost use Rattle.command_forms.specs.Params.{is_critical, is_ignored, param_fault};
-ghost use Rattle.command_forms.specs.Values.{map_read};
 ghost use Rattle.command_forms.specs.Example.{request_on, refused, items_alone, of_identifier};
 
 /// Only where its row asks that no items stand there may F keep a command from all lines: a request with F is for all
@@ -37,9 +34,4 @@ pub fn short_codes_are_no_extensions()
     ensures empty_ignored { is_ignored [] ≡ false }
     ensures one_critical { is_critical (codes "X") ≡ false }
     ensures one_ignored { is_ignored (codes "x") ≡ false }
-{}
-
-/// A digit map that memory doesn't hold would be 510: no reading ends so.
-pub fn want_of_memory_has_a_code()
-    ensures { map_read (Err OutOfMemory) ≡ Err 510 }
 {}

@@ -7,10 +7,10 @@ ghost use Rattle.mg_packages.specs.declared.event.Event.TheVariants.{OffHook, On
 ghost use Rattle.mg_packages.specs.declared.signal.Signal.TheVariants.{DialTone};
 ghost use Rattle.digit_map.specs.declared.change.MapChange.TheVariants.{Replace};
 ghost use Rattle.event_syntax.specs.declared.events.Events.TheVariants.{One};
-ghost use Rattle.event_syntax.specs.declared.handling.Notifying.TheVariants.{Loop};
-ghost use Rattle.event_syntax.specs.declared.handling.Quarantined.TheVariants.{Process};
+ghost use Rattle.event_values.specs.declared.handling.Notifying.TheVariants.{Loop};
+ghost use Rattle.event_values.specs.declared.handling.Quarantined.TheVariants.{Process};
 ghost use Rattle.event_syntax.specs.declared.request.Action.TheVariants.{Notify};
-ghost use Rattle.event_syntax.specs.declared.signals.Setting.TheVariants.{Start};
+ghost use Rattle.event_values.specs.declared.signals.Setting.TheVariants.{Start};
 ghost use Rattle.connections.specs.declared.codec.Codec.TheVariants.{Pcmu, Pcma};
 ghost use Rattle.connections.specs.declared.codec.Codecs.TheVariants.{Only, Both};
 ghost use Rattle.connections.specs.declared.codec.Encoding.TheVariants.{Mu, A};

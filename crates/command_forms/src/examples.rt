@@ -9,10 +9,10 @@ ghost use Rattle.mg_packages.specs.declared.event.Event.TheVariants.{OffHook, On
 ghost use Rattle.mg_packages.specs.declared.signal.Signal.TheVariants.{DialTone, Ringing, MessageWaiting};
 ghost use Rattle.digit_map.specs.declared.change.MapChange.TheVariants.{Remove, Replace};
 ghost use Rattle.event_syntax.specs.declared.events.Events.TheVariants.{AllOfLine, One, Letters};
-ghost use Rattle.event_syntax.specs.declared.handling.Notifying.TheVariants.{Step, Loop};
-ghost use Rattle.event_syntax.specs.declared.handling.Quarantined.TheVariants.{Process, Discard};
+ghost use Rattle.event_values.specs.declared.handling.Notifying.TheVariants.{Step, Loop};
+ghost use Rattle.event_values.specs.declared.handling.Quarantined.TheVariants.{Process, Discard};
 ghost use Rattle.event_syntax.specs.declared.request.Action.TheVariants.{Notify, Accumulate, Dial};
-ghost use Rattle.event_syntax.specs.declared.signals.Setting.TheVariants.{Start, Stop, Lasting};
+ghost use Rattle.event_values.specs.declared.signals.Setting.TheVariants.{Start, Stop, Lasting};
 ghost use Rattle.event_syntax.specs.Ranges.{letters_in};
 ghost use Rattle.mgcp_text.specs.declared.confirmation.KValue.TheVariants.{Absent, Unreadable};
 ghost use Rattle.connections.specs.declared.codec.Encoding.TheVariants.{Mu};

@@ -7,7 +7,7 @@ ghost use Rattle.command_forms.specs.Values.{handling_at, change_at, remote_of};
 ghost use Rattle.connections.specs.Options.{options_of};
 
 use connections::{Encoding, Mode, Options, read_encoding, read_mode, read_options};
-use digit_map::{MapChange, MapFault, read_change};
+use digit_map::{MapChange, read_change};
 use endpoint_names::{Entity, Table, read_entity};
 use event_syntax::{Handling, Notifying, Quarantined, read_handling};
 use mg_bytes::{CodeFault, Identifier, ReturnCode};
@@ -135,12 +135,7 @@ fn map_value<'m>(params: &'m [Param<'_>]) -> Option<&'m [u8]>
 pub(crate) fn change_at(alloc: Global, params: &[Param<'_>]) -> Result<MapChange, CodeFault>
     ensures { AnswersAs (change_at (param_at (codes "D") params.now)) result }
 {
-    match read_change(alloc, map_value(params)) {
-        Ok(change) => Ok(change),
-        Err(MapFault::OutOfMemory) => Err(CodeFault::OutOfMemory),
-        Err(MapFault::Syntax) => Err(CodeFault::of(ReturnCode::ProtocolError)),
-        Err(MapFault::TooLarge) => Err(CodeFault::of(ReturnCode::InsufficientResources)),
-    }
+    Ok(read_change(alloc, map_value(params))?)
 }
 
 /// The description of the remote end, where there is a text (RFC 3435, 2.3.5 and 3.4).

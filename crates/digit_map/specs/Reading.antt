@@ -2,6 +2,8 @@
 use Rattle.std.specs.Prelude.{◌≡◌, ⊤, ℕ, nat_le, not, List, [], ◌∷◌, length, filter, Option, Result, Ok, Err}
 use Rattle.mg_bytes.specs.Blanks.{is_blank}
 use Rattle.mg_bytes.specs.Checks.{unless, first_fault, checked}
+use Rattle.mg_bytes.specs.declared.code_fault.CodeFault.{CodeFault}
+use Rattle.mg_bytes.specs.declared.code_fault.CodeFault.TheVariants as code_faults
 use Rattle.digit_map.specs.declared.fault.MapFault.{MapFault}
 use Rattle.digit_map.specs.declared.fault.MapFault.TheVariants.{OutOfMemory, Syntax, TooLarge}
 use Rattle.digit_map.specs.Spelling.{is_map}
@@ -29,6 +31,24 @@ AnswersAs said (Ok value) = said ≡ Ok value
 AnswersAs said (Err OutOfMemory) = ⊤
 AnswersAs said (Err Syntax) = said ≡ Err Syntax
 AnswersAs said (Err TooLarge) = said ≡ Err TooLarge
+
+-- the return code that answers a fault: 510 (protocol error) for a text that isn't spelled as a map, 502 (insufficient
+-- resources) for a map that is too large (this gateway's profile); reading doesn't end in want of memory here
+abbrev pub map_code : MapFault → ℕ
+map_code Syntax = 510
+map_code TooLarge = 502
+map_code OutOfMemory = 510
+
+-- what is read, or the code of its fault
+abbrev pub or_code : {A : Type 0} → Result A MapFault → Result A ℕ
+or_code (Ok value) = Ok value
+or_code (Err fault) = Err (map_code fault)
+
+-- a fault of a call as it is answered: with its code, or as want of memory
+abbrev pub code_fault_of : MapFault → CodeFault
+code_fault_of OutOfMemory = code_faults.OutOfMemory
+code_fault_of Syntax = code_faults.Code 510
+code_fault_of TooLarge = code_faults.Code 502
 
 -- a fault's number, from 1
 abbrev pub map_fault_number : MapFault → ℕ

@@ -5,7 +5,7 @@ ghost use Rattle.std.specs.Prelude.{◌≡◌, ℕ, List, codes, true, false, []
 ghost use Rattle.std.specs.List.{list_all};
 ghost use Rattle.digit_map.specs.Cuts.{left_parenthesis, right_parenthesis, bar, strings_of, positions_of, set_of, parts_of};
 ghost use Rattle.digit_map.specs.Spelling.{is_position, is_map};
-ghost use Rattle.digit_map.specs.Reading.{map_of, map_fault_number, AnswersAs};
+ghost use Rattle.digit_map.specs.Reading.{map_of, or_code, map_code, code_fault_of, map_fault_number, AnswersAs};
 ghost use Rattle.digit_map.specs.Change.{change_of};
 ghost use Rattle.digit_map.specs.Words.{is_word};
 ghost use Rattle.digit_map.specs.Example.{dialled, verdict, critical, copies, letters_of};
@@ -14,6 +14,7 @@ use crate::change::MapChange;
 use crate::fault::MapFault;
 use crate::part::Part;
 use crate::verdict::Verdict;
+use mg_bytes::CodeFault;
 
 /// The names of bytes stand for what is written.
 pub fn marks_have_names()
@@ -270,6 +271,18 @@ pub fn sixty_four_letters_have_verdicts()
     ensures one_more { verdict (copies 63 (codes "x")) (copies 64 (codes "5")) ≡ Verdict.Impossible }
     ensures longest { let map = copies 409 (codes "[0-9]") ++ codes "123" in
         verdict map (copies 64 (codes "5")) ≡ Verdict.Partial }
+{}
+
+/// A text that isn't spelled is answered with 510, a map that is too large with 502; want of memory, in which no reading
+/// ends, would be 510.
+pub fn faults_have_codes()
+    ensures none { or_code (map_of (codes "x.T")) ≡ Ok (codes "x.T") }
+    ensures syntax { or_code (map_of []) ≡ Err 510 }
+    ensures size { map_code MapFault.TooLarge ≡ 502 }
+    ensures memory { map_code MapFault.OutOfMemory ≡ 510 }
+    ensures answered_syntax { code_fault_of MapFault.Syntax ≡ CodeFault.Code 510 }
+    ensures answered_size { code_fault_of MapFault.TooLarge ≡ CodeFault.Code 502 }
+    ensures answered_memory { code_fault_of MapFault.OutOfMemory ≡ CodeFault.OutOfMemory }
 {}
 
 /// Faults are numbered from 1, in the order in which they are declared.

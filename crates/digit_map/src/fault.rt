@@ -1,7 +1,7 @@
 //! Why a text gives no digit map.
 ghost use Rattle.std.specs.Prelude.{◌≡◌};
 
-use mg_bytes::OutOfMemory;
+use mg_bytes::{CodeFault, OutOfMemory, ReturnCode};
 
 /// Why a text gives no digit map.
 #[derive(Clone, Copy)]
@@ -32,5 +32,19 @@ impl From<OutOfMemory> for MapFault {
 
     fn from(_refused: OutOfMemory) -> MapFault {
         MapFault::OutOfMemory
+    }
+}
+
+impl From<MapFault> for CodeFault {
+    ghost use Rattle.digit_map.specs.Reading.{code_fault_of};
+
+    ghost from_gives = { λ fault answered. answered ≡ code_fault_of fault };
+
+    fn from(fault: MapFault) -> CodeFault {
+        match fault {
+            MapFault::OutOfMemory => CodeFault::OutOfMemory,
+            MapFault::Syntax => CodeFault::of(ReturnCode::ProtocolError),
+            MapFault::TooLarge => CodeFault::of(ReturnCode::InsufficientResources),
+        }
     }
 }

@@ -3,29 +3,8 @@ ghost use Rattle.std.specs.Prelude.{◌≡◌};
 ghost use Rattle.event_requests.specs.Naming.{has_letter, is_of_line, is_letter_of, names, event_of};
 
 use event_syntax::{Events, Observed};
-use mg_bytes::Letter;
+use mg_bytes::{LETTERS, Letter};
 use mg_packages::{Event, Package, completion_of};
-
-/// The letters of sets, in their order.
-const LETTERS: [Letter; 17] = [
-    Letter::Zero,
-    Letter::One,
-    Letter::Two,
-    Letter::Three,
-    Letter::Four,
-    Letter::Five,
-    Letter::Six,
-    Letter::Seven,
-    Letter::Eight,
-    Letter::Nine,
-    Letter::Star,
-    Letter::Hash,
-    Letter::A,
-    Letter::B,
-    Letter::C,
-    Letter::D,
-    Letter::Timer,
-];
 
 // Whether a letter is one of a set.
 fn has_letter(set: &[bool], letter: Letter) -> bool

@@ -13,30 +13,32 @@ use Rattle.mg_bytes.specs.declared.code_fault.CodeFault.TheVariants.{OutOfMemory
 use Rattle.mg_bytes.proofs.DigitLemmas.{both_true}
 use Rattle.digit_map.specs.declared.fault.MapFault.{MapFault}
 use Rattle.digit_map.specs.declared.fault.MapFault.TheVariants as map_faults
-use Rattle.digit_map.specs.Reading.{map_of}
+use Rattle.digit_map.specs.Reading.{map_of, or_code}
 use Rattle.digit_map.proofs.ReadingLaws.{read_again}
 use Rattle.event_syntax.specs.declared.events.Events.{Events}
 use Rattle.event_syntax.specs.declared.request.EmbeddedEvent.{EmbeddedEvent}
 use Rattle.event_syntax.specs.declared.request.EmbeddedRequest.{EmbeddedRequest}
 use Rattle.event_syntax.specs.declared.request.Response.TheVariants.{Embed, AccumulateAndEmbed}
 use Rattle.event_syntax.specs.declared.request.RequestedEvent.{RequestedEvent}
-use Rattle.event_syntax.specs.declared.signals.SignalRequest.{SignalRequest}
+use Rattle.event_values.specs.declared.signals.SignalRequest.{SignalRequest}
 use Rattle.event_syntax.specs.declared.request.Action.TheVariants.{Notify, Accumulate, Dial, Ignore}
-use Rattle.event_syntax.specs.declared.cut.Cut.TheVariants.{Commas, Parentheses}
-use Rattle.event_syntax.specs.Cuts.{Form, is_nil, form_of, form_from, items, entries, pieces}
-use Rattle.event_syntax.specs.Faults.{each, each_up_to, ◌>>=◌}
-use Rattle.event_syntax.specs.Spelling.{is_event, are_signals}
+use Rattle.event_cuts.specs.declared.cut.Cut.TheVariants.{Commas, Parentheses}
+use Rattle.event_cuts.specs.Cuts.{Form, is_nil, form_of, form_from, items, entries, pieces}
+use Rattle.event_cuts.specs.Faults.{each, each_up_to, ◌>>=◌}
+use Rattle.event_syntax.specs.EventSpelling.{is_event}
+use Rattle.event_values.specs.SignalSpelling.{are_signals}
 use Rattle.event_syntax.specs.RequestSpelling.{is_part_in, is_part_with, is_part_from, is_part, are_parts, is_action_with, is_action_from, is_action, is_requested_with, is_requested_from, is_requested, are_requested_within, are_requested}
-use Rattle.event_syntax.specs.Signals.{most_signals, signal_entry, signals_in, is_writable_signal, are_writable_signals}
+use Rattle.event_values.specs.Signals.{most_signals, signal_entry, signals_in, is_writable_signal, are_writable_signals}
 use Rattle.event_syntax.specs.Detect.{most_events}
 use Rattle.event_syntax.specs.Events.{events_called, is_writable}
 use Rattle.event_syntax.specs.Actions.{Word, keeps, acts, embeds, word_named, word_with, word_from, word_of, Deed, plain, embed, accumulate_and_embed, by_one, by_two, deed_of, not_keeps, Said, saying, said_by, said_of, said_in, takes, Rule, ruled_by, rule_from, rule_of}
-use Rattle.event_syntax.specs.Embedding.{embedded_event_by, embedded_event, map_from, nothing_embedded, with_events, with_signals, with_map, with_part_named, with_part_in, with_part_from, with_part, with_parts, embedded_in, Gives}
+use Rattle.event_syntax.specs.Embedding.{embedded_event_by, embedded_event, nothing_embedded, with_events, with_signals, with_map, with_part_named, with_part_in, with_part_from, with_part, with_parts, embedded_in, Gives}
 use Rattle.event_syntax.specs.Requested.{requested_by, response_of, requested, requested_in, requested_of, events_part, signals_part, map_part, parts_text, is_writable_embedded_event, is_writable_map, is_something, is_writable_request, is_writable_entry, are_writable_requested}
 use Rattle.event_syntax.proofs.ActionLemmas.{embed_alike, both_alike}
-use Rattle.event_syntax.proofs.JoinLemmas.{false_of_not}
-use Rattle.event_syntax.proofs.PartLemmas.{some_pieces}
-use Rattle.event_syntax.proofs.ReadLemmas.{Passes, passes_on, passes_more, passes_each, entry_passes, along}
+use Rattle.event_cuts.proofs.JoinLemmas.{false_of_not}
+use Rattle.event_cuts.proofs.PartLemmas.{some_pieces}
+use Rattle.event_cuts.proofs.PassLemmas.{Passes, passes_on, passes_more, passes_each, along}
+use Rattle.event_values.proofs.SignalReading.{entry_passes}
 use Rattle.event_syntax.proofs.EventLemmas.{called_passes}
 
 -- texts that are spelled
@@ -353,7 +355,7 @@ with_signals_passes request value good inside =
     ))
 
 map_read : (value : List ℕ) (read : Result (List ℕ) MapFault) → map_of value ≡ read
-    → Passes (λ map. is_writable_map (Some map) ≡ true) (map_from read)
+    → Passes (λ map. is_writable_map (Some map) ≡ true) (or_code read)
 map_read value (Ok map) is = rw (read_again value map is) ((bytes_eq-Decides map map).1 refl)
 map_read value (Err map_faults.Syntax) is = lit≤ tt
 map_read value (Err map_faults.TooLarge) is = lit≤ tt
@@ -361,7 +363,7 @@ map_read value (Err map_faults.OutOfMemory) is = lit≤ tt
 
 with_map_passes : (request : EmbeddedRequest) (value : List ℕ) → Good request → Passes Whole (with_map request value)
 with_map_passes request value good =
-    passes_on (λ map. is_writable_map (Some map) ≡ true) Whole (map_from (map_of value)) _ (map_read value (map_of value) refl)
+    passes_on (λ map. is_writable_map (Some map) ≡ true) Whole (or_code (map_of value)) _ (map_read value (map_of value) refl)
     (λ map ok. (
       record { few = good.few; events = good.events; signals = good.signals; map = ok },
       has_map request.events request.signals map,

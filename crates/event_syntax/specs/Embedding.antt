@@ -4,14 +4,12 @@ use Rattle.std.specs.Prelude.{◌≡◌, ⊤, ℕ, if◌then◌else◌, List, []
 use Rattle.mg_bytes.specs.Case.{same_but_case}
 use Rattle.mg_bytes.specs.declared.code_fault.CodeFault.{CodeFault}
 use Rattle.mg_bytes.specs.declared.code_fault.CodeFault.TheVariants.{OutOfMemory, Code}
-use Rattle.digit_map.specs.declared.fault.MapFault.{MapFault}
-use Rattle.digit_map.specs.declared.fault.MapFault.TheVariants as map_faults
-use Rattle.digit_map.specs.Reading.{map_of}
+use Rattle.digit_map.specs.Reading.{map_of, or_code}
 use Rattle.event_syntax.specs.declared.request.EmbeddedEvent.{EmbeddedEvent}
 use Rattle.event_syntax.specs.declared.request.EmbeddedRequest.{EmbeddedRequest}
-use Rattle.event_syntax.specs.Faults.{◌>>=◌, each_up_to}
-use Rattle.event_syntax.specs.Cuts.{Form, form_of, items, entries}
-use Rattle.event_syntax.specs.Signals.{signals_in}
+use Rattle.event_cuts.specs.Faults.{◌>>=◌, each_up_to}
+use Rattle.event_cuts.specs.Cuts.{Form, form_of, items, entries}
+use Rattle.event_values.specs.Signals.{signals_in}
 use Rattle.event_syntax.specs.Detect.{most_events}
 use Rattle.event_syntax.specs.Actions.{Deed, plain, embed, accumulate_and_embed, Rule, rule_of}
 
@@ -26,14 +24,6 @@ unfoldable pub embedded_event : List ℕ → Result EmbeddedEvent ℕ
 embedded_event entry = do
   rule ← rule_of entry
   embedded_event_by rule rule.deed
-
--- Its D: a map that isn't spelled is 510, one that is too large 502 (this gateway's profile)
-
-abbrev pub map_from : Result (List ℕ) MapFault → Result (List ℕ) ℕ
-map_from (Ok map) = Ok map
-map_from (Err map_faults.Syntax) = Err 510
-map_from (Err map_faults.TooLarge) = Err 502
-map_from (Err map_faults.OutOfMemory) = Err 510
 
 -- Its parts, from left to right
 
@@ -52,7 +42,7 @@ with_signals request value = do
 
 abbrev pub with_map : EmbeddedRequest → List ℕ → Result EmbeddedRequest ℕ
 with_map request value = do
-  map ← map_from (map_of value)
+  map ← or_code (map_of value)
   Ok (record request { map = Some map })
 
 abbrev pub with_part_named : EmbeddedRequest → List ℕ → List ℕ → Result EmbeddedRequest ℕ

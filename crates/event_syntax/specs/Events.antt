@@ -12,7 +12,7 @@ use Rattle.mg_packages.specs.declared.package.Package.TheVariants.{Line, Generic
 use Rattle.mg_packages.specs.Looking.{in_package, event_in, event_name}
 use Rattle.event_syntax.specs.declared.events.Events.{Events}
 use Rattle.event_syntax.specs.declared.events.Events.TheVariants.{AllOfLine, One, Letters}
-use Rattle.event_syntax.specs.Faults.{◌>>=◌}
+use Rattle.event_cuts.specs.Faults.{◌>>=◌}
 use Rattle.event_syntax.specs.Ranges.{in_brackets, letters_in, letters_text}
 
 -- Reading

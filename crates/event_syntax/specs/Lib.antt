@@ -1,15 +1,10 @@
-pub mod Faults
-pub mod Cuts
 pub mod Ranges
-pub mod Spelling
-pub mod Signals
+pub mod EventSpelling
 pub mod Events
 pub mod Detect
-pub mod Handling
-pub mod Observed
+pub mod EventExample
 pub mod RequestSpelling
 pub mod Actions
 pub mod Embedding
 pub mod Requested
-pub mod Example
 pub mod RequestExample

@@ -1,14 +1,14 @@
 -- What R is read as in the worked examples.
 use Rattle.std.specs.Prelude.{ℕ, Bool, true, false, List, [], ◌∷◌, Some, Result, Ok}
 use Rattle.event_syntax.specs.declared.events.Events.{Events}
-use Rattle.event_syntax.specs.declared.signals.SignalRequest.{SignalRequest}
+use Rattle.event_values.specs.declared.signals.SignalRequest.{SignalRequest}
 use Rattle.event_syntax.specs.declared.request.Action.{Action}
 use Rattle.event_syntax.specs.declared.request.EmbeddedEvent.{EmbeddedEvent}
 use Rattle.event_syntax.specs.declared.request.EmbeddedRequest.{EmbeddedRequest}
 use Rattle.event_syntax.specs.declared.request.Response.{Response}
 use Rattle.event_syntax.specs.declared.request.Response.TheVariants.{Plain, Embed}
 use Rattle.event_syntax.specs.declared.request.RequestedEvent.{RequestedEvent}
-use Rattle.event_syntax.specs.Faults.{◌>>=◌}
+use Rattle.event_cuts.specs.Faults.{◌>>=◌}
 use Rattle.event_syntax.specs.Embedding.{nothing_embedded}
 use Rattle.event_syntax.specs.Requested.{requested_of, requested_text}
 

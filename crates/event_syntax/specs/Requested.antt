@@ -12,11 +12,11 @@ use Rattle.event_syntax.specs.declared.request.EmbeddedRequest.{EmbeddedRequest}
 use Rattle.event_syntax.specs.declared.request.Response.{Response}
 use Rattle.event_syntax.specs.declared.request.Response.TheVariants.{Plain, Embed, AccumulateAndEmbed}
 use Rattle.event_syntax.specs.declared.request.RequestedEvent.{RequestedEvent}
-use Rattle.event_syntax.specs.declared.signals.SignalRequest.{SignalRequest}
-use Rattle.event_syntax.specs.Faults.{◌>>=◌, each_up_to}
-use Rattle.event_syntax.specs.Cuts.{left_parenthesis, right_parenthesis, entries}
+use Rattle.event_values.specs.declared.signals.SignalRequest.{SignalRequest}
+use Rattle.event_cuts.specs.Faults.{◌>>=◌, each_up_to}
+use Rattle.event_cuts.specs.Cuts.{in_parentheses, entries}
 use Rattle.event_syntax.specs.RequestSpelling.{are_requested}
-use Rattle.event_syntax.specs.Signals.{signals_text, are_writable_signals}
+use Rattle.event_values.specs.Signals.{signals_text, are_writable_signals}
 use Rattle.event_syntax.specs.Events.{events_text, is_writable}
 use Rattle.event_syntax.specs.Detect.{most_events}
 use Rattle.event_syntax.specs.Actions.{Deed, plain, embed, accumulate_and_embed, Rule, rule_of, takes}
@@ -58,9 +58,6 @@ action_text Ignore = codes "I"
 
 abbrev pub keep_text : Bool → List (List ℕ)
 keep_text keep = if keep then codes "K" ∷ [] else []
-
-abbrev pub in_parentheses : List ℕ → List ℕ
-in_parentheses text = left_parenthesis ∷ (text ++ right_parenthesis ∷ [])
 
 abbrev pub listed : List (List ℕ) → List ℕ
 listed texts = join_with_byte comma texts

@@ -1,67 +1,21 @@
 //! The events to look for while a notification isn't answered: the value of T (RFC 3435, 2.3.3).
 ghost use Rattle.std.specs.Prelude.{◌≡◌, ◌≤◌, length, true, IfOk};
 ghost use Rattle.mg_bytes.specs.CodeFault.{AnswersAs, answer_of};
-ghost use Rattle.event_syntax.specs.Cuts.{entries};
-ghost use Rattle.event_syntax.specs.Faults.{each};
+ghost use Rattle.event_cuts.specs.Cuts.{entries};
+ghost use Rattle.event_cuts.specs.Faults.{each};
 ghost use Rattle.event_syntax.specs.Detect.{detected, detected_in, detected_of, detected_text, are_writable_events};
 
-use crate::cut::entries;
+use crate::event_spelling::are_detected;
 use crate::events::{Events, events_called, put_events};
-use crate::form::{Inside, form_of};
-use crate::spelling::{are_detected, has_at_most};
-use arrayvec::ArrayVec;
-use mg_bytes::{CodeFault, OutOfMemory, ReturnCode, Text};
+use event_cuts::{Inside, entries, form_of, has_at_most};
+use mg_bytes::{CodeFault, Few, OutOfMemory, ReturnCode, Text};
 use std::alloc::Global;
-use std::marker::Model;
 
 /// The most entries that T and R may have.
 pub(crate) const MOST_EVENTS: usize = 32;
 
-/// The entries of T, at most 32. A contract sees their list.
-#[derive(Drop)]
-pub struct DetectedEvents {
-    list: ArrayVec<Events, 32>,
-}
-
-impl Model for DetectedEvents {
-    ghost use Rattle.std.specs.Prelude.{◌≤◌, List, length};
-    ghost use Rattle.event_syntax.specs.declared.events.Events.{Events};
-
-    ghost Value = { List Events };
-
-    ghost view = { λ d. d.list.items };
-
-    ghost invariant = { λ d. length d.list.items ≤ 32 };
-}
-
-impl DetectedEvents {
-    ghost use Rattle.std.specs.Prelude.{◌≡◌, ◌<◌, ◌≤◌, ◌++◌, ◌∷◌, [], length};
-
-    /// No entries.
-    pub fn new() -> Self
-        ensures { result ≡ [] }
-    {
-        DetectedEvents {
-            list: ArrayVec::new(),
-        }
-    }
-
-    /// Adds an entry at the end; there are fewer than 32 before.
-    pub fn push(&mut self, events: Events)
-        requires { length self.old < 32 }
-        ensures { self.new ≡ self.old ++ events ∷ [] }
-    {
-        self.list.push(events);
-    }
-
-    /// The entries.
-    pub fn as_slice(&self) -> &[Events]
-        ensures value { result.now ≡ self.now }
-        ensures few { length result.now ≤ 32 }
-    {
-        self.list.as_slice()
-    }
-}
+/// The entries of T, at most 32.
+pub type DetectedEvents = Few<Events, 32>;
 
 #[tactic(auto, unfolding(crate::specs::Detect::detected))]
 fn detected(entry: &[u8]) -> Result<Events, u16>

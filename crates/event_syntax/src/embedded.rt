@@ -1,20 +1,17 @@
 //! Embedded requests: what stands in the parentheses of E.
 ghost use Rattle.std.specs.Prelude.{◌≡◌, ◌≤◌, length};
-ghost use Rattle.event_syntax.specs.Cuts.{entries};
-ghost use Rattle.event_syntax.specs.Faults.{each, each_up_to};
+ghost use Rattle.event_cuts.specs.Cuts.{entries};
+ghost use Rattle.event_cuts.specs.Faults.{each, each_up_to};
 ghost use Rattle.event_syntax.specs.Detect.{most_events};
-ghost use Rattle.event_syntax.specs.Embedding.{embedded_event, map_from, with_part_named};
+ghost use Rattle.event_syntax.specs.Embedding.{embedded_event, with_part_named};
 ghost use Rattle.event_syntax.specs.Embedding.{with_part, embedded_in, Gives};
-ghost use Rattle.digit_map.specs.Reading.{map_of};
 
-use crate::cut::{entries, items};
 use crate::detect::MOST_EVENTS;
-use crate::form::{Inside, form_of};
 use crate::request::{EmbeddedEvent, EmbeddedEvents, EmbeddedRequest};
 use crate::rule::{Deed, rule_of};
-use crate::signals::{SignalRequests, signals_in};
-use crate::spelling::has_at_most;
-use digit_map::{MapFault, MapText, read_map};
+use digit_map::read_map;
+use event_cuts::{Inside, entries, form_of, has_at_most, items};
+use event_values::{SignalRequests, signals_in};
 use mg_bytes::{CodeFault, ReturnCode, same_no_case};
 use std::alloc::Global;
 
@@ -54,17 +51,6 @@ fn events_in(value: &[u8]) -> Result<EmbeddedEvents, u16>
     each_event(value)
 }
 
-fn map_in(alloc: Global, value: &[u8]) -> Result<MapText, CodeFault>
-    ensures { Gives (map_from (map_of value.now)) result }
-{
-    match read_map(alloc, value) {
-        Ok(map) => Ok(map),
-        Err(MapFault::OutOfMemory) => Err(CodeFault::OutOfMemory),
-        Err(MapFault::Syntax) => Err(CodeFault::of(ReturnCode::ProtocolError)),
-        Err(MapFault::TooLarge) => Err(CodeFault::of(ReturnCode::InsufficientResources)),
-    }
-}
-
 // A request with the part of this name.
 fn with_part_named(
     alloc: Global,
@@ -81,7 +67,7 @@ fn with_part_named(
         let signals = signals_in(value).map_err(CodeFault::Code)?;
         Ok(EmbeddedRequest { signals, ..request })
     } else {
-        let map = Some(map_in(alloc, value)?);
+        let map = Some(read_map(alloc, value)?);
         Ok(EmbeddedRequest { map, ..request })
     }
 }

@@ -1,18 +1,15 @@
-//! The values of parameters that name events and signals (RFC 3435, 3.2.2): R, S, T, Q and O.
+//! The values of parameters that name events and signals (RFC 3435, 3.2.2): R and T, and with them S, Q and O, which
+//! `event_values` reads.
 //!
-//! A value is cut at the commas and parentheses that stand outside of others; its spelling is judged as a whole, and
-//! then it is read entry by entry. Reading S, T and Q takes no memory.
+//! The spelling of a value is judged as a whole, and then it is read entry by entry. Reading T takes no memory.
 #![tactic(auto)]
 
-mod cut;
 mod detect;
 mod embedded;
+pub mod event_examples;
+pub mod event_laws;
+mod event_spelling;
 mod events;
-pub mod examples;
-mod form;
-mod handling;
-pub mod laws;
-mod observed;
 mod range;
 mod request;
 pub mod request_examples;
@@ -21,17 +18,16 @@ mod request_spelling;
 mod request_writing;
 mod requested;
 mod rule;
-mod signals;
-mod spelling;
 
 pub use crate::detect::{DetectedEvents, read_detect, write_detect};
 pub use crate::events::Events;
-pub use crate::handling::{Handling, Notifying, Quarantined, read_handling, write_handling};
-pub use crate::observed::{Observed, read_observed, write_observed};
 pub use crate::request::{
     Action, EmbeddedEvent, EmbeddedEvents, EmbeddedRequest, Embedding, RequestedEvent,
     RequestedEvents, Response,
 };
 pub use crate::request_writing::write_events;
 pub use crate::requested::read_events;
-pub use crate::signals::{Setting, SignalRequest, SignalRequests, read_signals, write_signals};
+pub use event_values::{
+    Handling, Notifying, Observed, Quarantined, Setting, SignalRequest, SignalRequests,
+    read_handling, read_observed, read_signals, write_handling, write_observed, write_signals,
+};

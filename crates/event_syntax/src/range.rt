@@ -4,28 +4,7 @@ ghost use Rattle.mg_bytes.specs.Letter.{byte_of};
 ghost use Rattle.event_syntax.specs.Ranges.{in_brackets, is_bracketed, letters_in, letters_of, letters_text};
 
 use digit_map::{is_in_range, is_range};
-use mg_bytes::{Letter, OutOfMemory};
-
-/// The letters of D events, in the order in which sets of them are written.
-const LETTERS: [Letter; 17] = [
-    Letter::Zero,
-    Letter::One,
-    Letter::Two,
-    Letter::Three,
-    Letter::Four,
-    Letter::Five,
-    Letter::Six,
-    Letter::Seven,
-    Letter::Eight,
-    Letter::Nine,
-    Letter::Star,
-    Letter::Hash,
-    Letter::A,
-    Letter::B,
-    Letter::C,
-    Letter::D,
-    Letter::Timer,
-];
+use mg_bytes::{LETTERS, OutOfMemory};
 
 /// What stands between `[` and `]`; `None` for a text that doesn't stand in brackets.
 pub(crate) fn in_brackets(text: &[u8]) -> Option<&[u8]>

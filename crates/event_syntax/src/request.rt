@@ -1,9 +1,8 @@
 //! What R holds (RFC 3435, 2.3.3): events with what is done at them, and requests embedded in these.
 use crate::events::Events;
-use crate::signals::SignalRequests;
-use arrayvec::ArrayVec;
 use digit_map::MapText;
-use mg_bytes::OutOfMemory;
+use event_values::SignalRequests;
+use mg_bytes::{Few, OutOfMemory};
 use std::alloc::Global;
 use std::marker::Model;
 use std::rc::Rc;
@@ -47,51 +46,8 @@ impl Default for EmbeddedEvent {
     }
 }
 
-/// The entries of R in an embedded request, at most 32. A contract sees their list.
-#[derive(Drop)]
-pub struct EmbeddedEvents {
-    entries: ArrayVec<EmbeddedEvent, 32>,
-}
-
-impl Model for EmbeddedEvents {
-    ghost use Rattle.std.specs.Prelude.{◌≤◌, List, length};
-    ghost use Rattle.event_syntax.specs.declared.request.EmbeddedEvent.{EmbeddedEvent};
-
-    ghost Value = { List EmbeddedEvent };
-
-    ghost view = { λ e. e.entries.items };
-
-    ghost invariant = { λ e. length e.entries.items ≤ 32 };
-}
-
-impl EmbeddedEvents {
-    ghost use Rattle.std.specs.Prelude.{◌≡◌, ◌<◌, ◌≤◌, ◌++◌, ◌∷◌, [], length};
-
-    /// No entries.
-    pub fn new() -> Self
-        ensures { result ≡ [] }
-    {
-        EmbeddedEvents {
-            entries: ArrayVec::new(),
-        }
-    }
-
-    /// Adds an entry at the end; there are fewer than 32 before.
-    pub fn push(&mut self, entry: EmbeddedEvent)
-        requires { length self.old < 32 }
-        ensures { self.new ≡ self.old ++ entry ∷ [] }
-    {
-        self.entries.push(entry);
-    }
-
-    /// The entries.
-    pub fn as_slice(&self) -> &[EmbeddedEvent]
-        ensures value { result.now ≡ self.now }
-        ensures few { length result.now ≤ 32 }
-    {
-        self.entries.as_slice()
-    }
-}
+/// The entries of R in an embedded request, at most 32.
+pub type EmbeddedEvents = Few<EmbeddedEvent, 32>;
 
 /// What stands in the parentheses of E: an R, an S, and a digit map where one is given.
 #[derive(Drop)]
@@ -181,48 +137,5 @@ impl Default for RequestedEvent {
     }
 }
 
-/// The entries of R, at most 32. A contract sees their list.
-#[derive(Drop)]
-pub struct RequestedEvents {
-    entries: ArrayVec<RequestedEvent, 32>,
-}
-
-impl Model for RequestedEvents {
-    ghost use Rattle.std.specs.Prelude.{◌≤◌, List, length};
-    ghost use Rattle.event_syntax.specs.declared.request.RequestedEvent.{RequestedEvent};
-
-    ghost Value = { List RequestedEvent };
-
-    ghost view = { λ r. r.entries.items };
-
-    ghost invariant = { λ r. length r.entries.items ≤ 32 };
-}
-
-impl RequestedEvents {
-    ghost use Rattle.std.specs.Prelude.{◌≡◌, ◌<◌, ◌≤◌, ◌++◌, ◌∷◌, [], length};
-
-    /// No entries.
-    pub fn new() -> Self
-        ensures { result ≡ [] }
-    {
-        RequestedEvents {
-            entries: ArrayVec::new(),
-        }
-    }
-
-    /// Adds an entry at the end; there are fewer than 32 before.
-    pub fn push(&mut self, entry: RequestedEvent)
-        requires { length self.old < 32 }
-        ensures { self.new ≡ self.old ++ entry ∷ [] }
-    {
-        self.entries.push(entry);
-    }
-
-    /// The entries.
-    pub fn as_slice(&self) -> &[RequestedEvent]
-        ensures value { result.now ≡ self.now }
-        ensures few { length result.now ≤ 32 }
-    {
-        self.entries.as_slice()
-    }
-}
+/// The entries of R, at most 32.
+pub type RequestedEvents = Few<RequestedEvent, 32>;

@@ -5,11 +5,12 @@ ghost use Rattle.std.specs.Prelude.{◌≡◌, codes, [], ◌∷◌, Some, None,
 ghost use Rattle.event_syntax.specs.Requested.{requested_of, requested_text, are_writable_requested};
 ghost use Rattle.event_syntax.specs.RequestExample.{does, keeps, embeds, one_entry, inside, with_events, with_signals};
 ghost use Rattle.event_syntax.specs.RequestExample.{with_map, nothing, embedded_does, as_written};
-ghost use Rattle.event_syntax.specs.Example.{asks, range_of};
+ghost use Rattle.event_values.specs.Example.{asks};
+ghost use Rattle.event_syntax.specs.EventExample.{range_of};
 
 use crate::events::Events;
 use crate::request::Action;
-use crate::signals::Setting;
+use event_values::Setting;
 use mg_packages::{Event, Signal};
 
 /// An entry of R says what is done at its events: N where nothing is said, or K alone.

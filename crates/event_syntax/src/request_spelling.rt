@@ -2,13 +2,13 @@
 //! one, and only once the spelling is right.
 ghost use Rattle.std.specs.Prelude.{◌≡◌, ◌&&◌, codes};
 ghost use Rattle.std.specs.List.{list_all};
-ghost use Rattle.event_syntax.specs.Cuts.{items};
+ghost use Rattle.event_cuts.specs.Cuts.{items};
 ghost use Rattle.event_syntax.specs.RequestSpelling.{is_part, is_called, at_most_once, is_embed, is_action};
 ghost use Rattle.event_syntax.specs.RequestSpelling.{are_actions, is_requested, are_requested_within, are_requested};
 
-use crate::cut::{entries, items};
-use crate::form::{Inside, form_of};
-use crate::spelling::{are_parameters, are_signals, is_event, is_word};
+use crate::event_spelling::is_event;
+use event_cuts::{Inside, are_parameters, entries, form_of, is_word, items};
+use event_values::are_signals;
 use mg_bytes::same_no_case;
 
 #[tactic(auto, unfolding(crate::specs::RequestSpelling::is_called))]

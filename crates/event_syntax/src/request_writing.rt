@@ -7,8 +7,8 @@ ghost use Rattle.event_syntax.specs.Requested.{requested_text};
 
 use crate::events::put_events;
 use crate::request::{Action, EmbeddedEvent, EmbeddedRequest, RequestedEvent, Response};
-use crate::signals::{SignalRequest, write_signals};
 use digit_map::MapText;
+use event_values::{SignalRequest, write_signals};
 use mg_bytes::{OutOfMemory, Text};
 use std::alloc::Global;
 

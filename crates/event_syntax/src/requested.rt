@@ -1,19 +1,18 @@
 //! The events that are requested: the value of R (RFC 3435, 2.3.3).
 ghost use Rattle.std.specs.Prelude.{◌≡◌, ◌≤◌, length, true, IfOk};
 ghost use Rattle.mg_bytes.specs.CodeFault.{AnswersAs};
-ghost use Rattle.event_syntax.specs.Cuts.{entries};
-ghost use Rattle.event_syntax.specs.Faults.{each};
+ghost use Rattle.event_cuts.specs.Cuts.{entries};
+ghost use Rattle.event_cuts.specs.Faults.{each};
 ghost use Rattle.event_syntax.specs.Actions.{deed_seen};
 ghost use Rattle.event_syntax.specs.Embedding.{embedded_in, Gives};
 ghost use Rattle.event_syntax.specs.Requested.{response_of, requested, requested_in, requested_of, are_writable_requested};
 
-use crate::cut::entries;
 use crate::detect::MOST_EVENTS;
 use crate::embedded::embedded_in;
 use crate::request::{Embedding, RequestedEvent, RequestedEvents, Response};
 use crate::request_spelling::are_requested;
 use crate::rule::{Deed, rule_of};
-use crate::spelling::has_at_most;
+use event_cuts::{entries, has_at_most};
 use mg_bytes::{CodeFault, ReturnCode};
 use std::alloc::Global;
 

@@ -29,7 +29,7 @@ use Rattle.plain_machine.specs.Done.{Done, only_answer}
 use Rattle.piggyback.specs.Parts.{parts_of}
 use Rattle.plain_machine.specs.Arriving.{texts_of}
 use Rattle.plain_machine.specs.Answering.{line_of_name, spans_of, Transaction, transaction, executed, transacted_by, transacted, transaction_of, handled_as, handled, took_all}
-use Rattle.gateway_core.specs.Tells.{Goes}
+use Rattle.gateway_floor.specs.Tells.{Goes}
 use Rattle.plain_machine.proofs.EffectLaws.{handled_now}
 use Rattle.gateway_core.specs.declared.state.State.{State}
 use Rattle.gateway_core.specs.State.{machine_in, Went, Does, Happened}

@@ -1,7 +1,7 @@
 -- What is done at an event, piece by piece.
-use Rattle.std.proofs.Common.{◌≡◌, ℕ, ◌≤◌, ◌+◌, Bool, true, false, not, List, [], ◌∷◌, ◌++◌, length, map, drop, Option, Some, None, Ok, refl, sym, ap, ◌∙◌, append-nil, arith}
+use Rattle.std.proofs.Common.{◌≡◌, ℕ, ◌≤◌, ◌+◌, Bool, true, false, not, List, [], ◌∷◌, ◌++◌, length, map, drop, Option, Some, None, Ok, refl, sym, ap, ◌∙◌, append-nil, arith, ◌<◌, ◌^◌}
 use Rattle.std.specs.Prelude.{is_some, ◌==◌}
-use Rattle.std.specs.List.{enumerate_from, range_with_len}
+use Rattle.std.specs.List.{enumerate_from, range_with_len, list_all}
 use Rattle.std.proofs.lemmas.List.{drop_all}
 use Rattle.std.proofs.lemmas.List.FromFn.{length-map-range_with_len}
 use Rattle.history.specs.Kept.{HistoryState, settled_at as history_at, from_young}
@@ -28,13 +28,17 @@ use Rattle.plain_machine.specs.Packing.{packed}
 use Rattle.plain_machine.specs.Happening.{ticked, effect}
 use Rattle.plain_machine.specs.Refusing.{refusal_of, is_unheeded, takes_none, ends, Ends}
 use Rattle.plain_machine.proofs.FallingLaws.{pass_none}
-use Rattle.plain_machine.proofs.NameLemmas.{setup_is}
-use Rattle.gateway_core.proofs.FloorLemmas.{not_true}
+use Rattle.plain_machine.proofs.NameLemmas.{setup_is, line_writable}
+use Rattle.gateway_floor.proofs.FloorLemmas.{not_true}
 use Rattle.gateway_core.specs.declared.state.State.{State}
-use Rattle.gateway_core.specs.FloorState.{FloorState, settled_at}
+use Rattle.gateway_floor.specs.FloorState.{FloorState, settled_at}
 use Rattle.gateway_core.specs.Sound.{IsSound}
-use Rattle.gateway_core.specs.Tells.{Goes}
+use Rattle.gateway_floor.specs.Tells.{Goes}
 use Rattle.gateway_core.specs.State.{Found, machine_in, found_in, CanGoBack, Happened, purged_in, Went, PutsOut}
+use Rattle.mgcp_text.specs.declared.message.Param.{Param}
+use Rattle.mgcp_text.specs.Writing.{is_writable_param}
+use Rattle.endpoint_names.specs.Table.{is_domain}
+use Rattle.plain_machine.specs.Reporting.{name_of_line}
 
 -- What happened
 
@@ -167,3 +171,10 @@ pub as_found : (was : State) (floor : FloorState) (history : HistoryState) (betw
     → ◌≡◌ {A = Machine} (record { now = was.clock; endpoints = floor.endpoints; history = history.kept }) (purged_in (machine_in was))
 as_found was floor history between found floor_back history_back =
     rw (floor_back, history_back) (ap (λ (f : Found). let m : Machine = record { now = was.clock; endpoints = f.endpoints; history = f.history } in m) found)
+
+-- a name by itself can be written
+pub name_is_fine : (setup : Setup) (line : ℕ) (params : List Param) → is_domain setup.names.domain ≡ true → line < 2 ^ 64 → params ≡ name_of_line setup line ∷ []
+    → list_all is_writable_param params ≡ true
+name_is_fine setup line params domain small is =
+    let fine : is_writable_param (name_of_line setup line) ≡ true = line_writable setup line domain small in
+    ap (list_all is_writable_param) is ∙ (rw fine refl)

@@ -14,15 +14,15 @@ ghost use Rattle.command_forms.specs.Order.{form_in};
 ghost use Rattle.mgcp_text.specs.declared.message.Message.TheVariants.{Command};
 ghost use Rattle.plain_machine.specs.Done.{only_answer};
 ghost use Rattle.plain_machine.specs.Commanding.{done_by};
-ghost use Rattle.gateway_core.specs.Sound.{MayTell};
+ghost use Rattle.gateway_stations.specs.Telling.{MayTell};
 ghost use Rattle.plain_machine.specs.Answering.{transaction, span_of, spans_of, executed, transacted, refusing, handled, took_all};
 ghost use Rattle.gateway_core.specs.State.{machine_in, Went, Does, Happens};
 
 use crate::commanding::commanded;
-use crate::context::Context;
 use crate::responding::respond;
-use crate::sending::{Origin, send, send_all};
+use crate::sending::{Origin, send_all};
 use crate::state::State;
+use gateway_stations::{Context, send};
 use history::{IdSpan, Look};
 use mg_bytes::{OutOfMemory, ReturnCode, Sequence, Text};
 use mgcp_text::{Answer, IdRange, KValue, Message, TextFault, read_k, read_message};

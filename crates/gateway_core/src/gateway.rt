@@ -3,14 +3,13 @@ ghost use Rattle.std.specs.Prelude.{◌≡◌, ◌∷◌, [], List, map, ◌<◌
 ghost use Rattle.plain_machine.specs.Setup.{setup_of};
 ghost use Rattle.plain_machine.specs.Event.{GatewayEvent, event_of};
 
-use crate::context::Context;
-use crate::floor::Floor;
-use crate::opening::{judged, opening_own, opening_stations};
 use crate::state::State;
 use crate::stopped::Stopped;
 use crate::working::step_state;
 use arrayvec::ArrayVec;
 use connections::Connection;
+use gateway_floor::{Floor, judged, opening_own, opening_stations};
+use gateway_stations::Context;
 use history::History;
 use mg_line::Hook;
 use plain_machine::{Config, ConfigFault, Event, Outputs, Refusal, Setup};

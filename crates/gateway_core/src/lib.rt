@@ -7,18 +7,10 @@
 mod acting;
 mod answering;
 mod commanding;
-mod connecting;
-mod context;
-mod falling;
-mod floor;
 mod gateway;
 pub mod laws;
-mod notifying;
-mod opening;
 mod packing;
-mod posting;
 mod reporting;
-mod requesting;
 mod responding;
 mod sending;
 mod state;

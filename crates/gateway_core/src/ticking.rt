@@ -4,12 +4,12 @@ ghost use Rattle.plain_machine.specs.Falling.{is_due, pass};
 ghost use Rattle.plain_machine.specs.Happening.{ticked};
 ghost use Rattle.std.specs.Result.{result_err};
 ghost use Rattle.plain_machine.specs.Refusing.{tick_refusal, ends};
-ghost use Rattle.gateway_core.specs.Sound.{MayTell};
+ghost use Rattle.gateway_stations.specs.Telling.{MayTell};
 ghost use Rattle.gateway_core.specs.State.{machine_in, Happens};
 
-use crate::context::Context;
-use crate::falling::{is_due, pass};
 use crate::state::State;
+use gateway_floor::{is_due, pass};
+use gateway_stations::Context;
 use plain_machine::{OutDatagram, Refusal};
 
 /// Moments are below this (in ms).

@@ -6,8 +6,8 @@ use Rattle.mg_packages.specs.declared.signal.Kind.{Kind}
 use Rattle.mg_packages.specs.declared.signal.Kind.TheVariants.{TimeOut, Brief, OnOff}
 use Rattle.mg_packages.specs.declared.signal.Signal.{Signal}
 use Rattle.mg_packages.specs.Looking.{kind_of}
-use Rattle.event_syntax.specs.declared.observed.Observed.{Observed}
-use Rattle.event_syntax.specs.declared.observed.Observed.TheVariants.{Happened, Ended}
+use Rattle.event_values.specs.declared.observed.Observed.{Observed}
+use Rattle.event_values.specs.declared.observed.Observed.TheVariants.{Happened, Ended}
 use Rattle.signals.specs.Stopping.{without}
 use Rattle.mg_line.specs.declared.due.Due.{Due as LineDue}
 use Rattle.mg_line.specs.declared.due.Due.TheVariants.{DigitTimer, SignalEnd}

@@ -18,7 +18,7 @@ ghost use Rattle.mg_bytes.specs.CodeFault.{answer_of, code_fault_number};
 ghost use Rattle.mg_bytes.specs.ReturnCode.{number_of, words_of, code_with};
 
 use crate::code_fault::CodeFault;
-use crate::letter::Letter;
+use crate::letter::{LETTERS, Letter};
 use crate::return_code::ReturnCode;
 
 /// The names of bytes stand for what is written.
@@ -148,6 +148,7 @@ pub fn ports_are_numbers_from_1_to_65535()
 /// The letters of a digit map are the ten digits, `*`, `#`, A to D and T, in this order and in any case.
 pub fn keys_and_t_are_letters()
     ensures bytes { map byte_of all_letters ≡ codes "0123456789*#ABCDT" }
+    ensures listed { LETTERS ≡ all_letters }
     ensures digit { letter_of 55 ≡ Some Letter.Seven }
     ensures star { letter_of 42 ≡ Some Letter.Star }
     ensures hash { letter_of 35 ≡ Some Letter.Hash }

@@ -28,6 +28,27 @@ pub enum Letter {
     Timer,
 }
 
+/// The letters, in the order in which sets of them are written.
+pub const LETTERS: [Letter; 17] = [
+    Letter::Zero,
+    Letter::One,
+    Letter::Two,
+    Letter::Three,
+    Letter::Four,
+    Letter::Five,
+    Letter::Six,
+    Letter::Seven,
+    Letter::Eight,
+    Letter::Nine,
+    Letter::Star,
+    Letter::Hash,
+    Letter::A,
+    Letter::B,
+    Letter::C,
+    Letter::D,
+    Letter::Timer,
+];
+
 impl Letter {
     /// The byte that it is written as, in upper case.
     #[tactic(auto, unfolding(crate::specs::Letter::letter_of))]

@@ -11,8 +11,8 @@ use Rattle.mg_packages.specs.declared.signal.Kind.TheVariants.{TimeOut, Brief, O
 use Rattle.mg_packages.specs.declared.signal.Signal.{Signal}
 use Rattle.mg_packages.specs.Looking.{kind_of}
 use Rattle.mg_bytes.specs.declared.letter.Letter.TheVariants.{Timer}
-use Rattle.event_syntax.specs.declared.observed.Observed.{Observed}
-use Rattle.event_syntax.specs.declared.observed.Observed.TheVariants.{Happened, Ended}
+use Rattle.event_values.specs.declared.observed.Observed.{Observed}
+use Rattle.event_values.specs.declared.observed.Observed.TheVariants.{Happened, Ended}
 use Rattle.signals.specs.Stopping.{without}
 use Rattle.outbound.specs.declared.repeat.Repeat.{Repeat}
 use Rattle.outbound.specs.declared.repeat.Repeat.TheVariants.{Sent as SentAgain, GivenUp}

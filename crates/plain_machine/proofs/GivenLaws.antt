@@ -154,8 +154,7 @@ number_given setup deed creation moment line station is fine =
     let encoding : Encoding = encoding_with deed station in
     let was : Standing = station.connections in
     let request : Option ℕ = option_and_then (refusal_of station.line) deed.request in
-    let given = created_given encoding creation was request (subst (λ (d : ConnectionDeed). first_fault (result_err (connected d encoding was) ∷ request ∷ []) ≡ None) is fine) in
-    (
+    let given = created_given encoding creation was request (subst (λ (d : ConnectionDeed). first_fault (result_err (connected d encoding was) ∷ request ∷ []) ≡ None) is fine) in (
       subst (λ (d : ConnectionDeed). (shown_by (connected d encoding was)).params ≡ id_param (was.last + 1) ∷ []) (sym is) given.0,
       ap (λ (s : Standing). s.last) (deed_connections setup deed moment line station) ∙ ap (λ (d : ConnectionDeed). (after was (happenings d encoding)).last) is ∙ given.1,
     )
@@ -212,8 +211,7 @@ numbers_go_on were are as_many holds line was at = by_station (station_at were l
   by_station None before e = absurd cc
   by_station (Some station) before e =
       let here = still_there were are line station as_many before in
-      let same : station.connections ≡ was = cc in
-      (
+      let same : station.connections ≡ was = cc in (
         here.0.connections,
         ap connections_in here.1,
         subst (λ (s : Standing). s.last ≤ here.0.connections.last) same (of_line (OfConnections (NoLess were)) are line here.0 holds.stations here.1 station before),

@@ -1,6 +1,6 @@
 //! The quarantined events of a line.
 
-use event_syntax::Observed;
+use event_values::Observed;
 use mg_bytes::OutOfMemory;
 use std::alloc::Global;
 use std::marker::Model;

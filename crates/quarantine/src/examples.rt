@@ -6,7 +6,7 @@ ghost use Rattle.quarantine.specs.Held.{most_lost, nothing_held, holding, first_
 ghost use Rattle.quarantine.specs.Given.{is_taken, coming};
 ghost use Rattle.quarantine.specs.Example.{happened, come, held_of, given_of, holds};
 
-use event_syntax::Observed;
+use event_values::Observed;
 use mg_packages::{Event, Signal};
 
 /// Events are held in the order in which they come, and each as often as it comes.

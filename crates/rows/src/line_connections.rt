@@ -1,7 +1,7 @@
 //! The connections of a line, a row each. It receives at 127.0.0.1 from port 3000 on.
 //!
-//! - `create  C: 1A  M: recvonly  L: p:30  RTP: 8 0` a connection is asked for, and answered `I 1` and the lines of its
-//!   description; L and RTP, the payload types that the other side offers, can be left out;
+//! - `create  C: 1A  M: recvonly  L: p:30  RTP: 8 0` a connection is asked for, and answered `I 1`, its number in decimal
+//!   digits, and the lines of its description; L and RTP, the payload types that the other side offers, can be left out;
 //! - `modify  C: 1A  I: 1  M: sendrecv` is answered with a description where that changes, and else `-`;
 //! - `delete  C: 1A  I: 1` one, `delete  C: 1A` those of a call, `delete` all: `-`;
 //! - `audit  I: 1` is answered `C 1A`, `M sendrecv`, `RTP known` or `unknown`, and the lines of the description;

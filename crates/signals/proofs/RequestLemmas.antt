@@ -5,9 +5,9 @@ use Rattle.mg_packages.specs.declared.hook.Hook.{Hook}
 use Rattle.mg_packages.specs.declared.signal.Signal.{Signal}
 use Rattle.mg_packages.specs.declared.signal.Signal.TheVariants.{DialTone, Busy, Reorder, Ringing, RingSplash, MessageWaiting, Ringback, Congestion, Confirm}
 use Rattle.mg_packages.specs.Looking.{is_same_signal, time_of}
-use Rattle.event_syntax.specs.declared.signals.Setting.{Setting}
-use Rattle.event_syntax.specs.declared.signals.Setting.TheVariants.{Start, Stop, Lasting}
-use Rattle.event_syntax.specs.declared.signals.SignalRequest.{SignalRequest}
+use Rattle.event_values.specs.declared.signals.Setting.{Setting}
+use Rattle.event_values.specs.declared.signals.Setting.TheVariants.{Start, Stop, Lasting}
+use Rattle.event_values.specs.declared.signals.SignalRequest.{SignalRequest}
 use Rattle.signals.specs.declared.active.ActiveSignal.{ActiveSignal}
 use Rattle.signals.specs.declared.slot.Slot.{Slot}
 use Rattle.signals.specs.declared.slot.Slot.TheVariants.{Idle, Endless, Until}

@@ -5,7 +5,7 @@ ghost use Rattle.mg_packages.specs.Looking.{is_same_signal};
 ghost use Rattle.signals.specs.Applying.{refused_entry, refusal_of, end_after, goes_on, after_start, after_entry, entries_for, after_entries};
 
 use crate::active::{ActiveSignal, is_forbidden, is_time_out};
-use event_syntax::{Setting, SignalRequest};
+use event_values::{Setting, SignalRequest};
 use mg_packages::{Hook, Signal, refused_in, time_of};
 
 fn refused_entry(hook: Hook, request: SignalRequest) -> Option<u16>

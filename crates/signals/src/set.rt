@@ -10,7 +10,7 @@ use crate::due::{earlier, end_of};
 use crate::request::after_entries;
 use crate::slot::{Slot, held_in, place_of, slot_of};
 use arrayvec::ArrayVec;
-use event_syntax::SignalRequest;
+use event_values::SignalRequest;
 use mg_packages::{Hook, SIGNALS, Signal};
 use std::marker::Model;
 

@@ -2,6 +2,7 @@
 //!
 //! Where the gateway is refused memory it must be as the twin still is: in what can be read of it, and in what it does
 //! next, be that the same event or another.
+use connections::Connection;
 use gateway_core::{Event, Gateway, Outputs, Refusal};
 use rgw_play::{PlayFault, Scene, Step, judge};
 use std::alloc::Global;
@@ -46,6 +47,32 @@ pub fn are_events(steps: &[Step]) -> bool {
     true
 }
 
+// Whether both places are free, or hold connections that are told apart by nothing that a command can name or change.
+fn is_same_connection(one: &Option<Connection>, other: &Option<Connection>) -> bool {
+    match (one, other) {
+        (None, None) => true,
+        (Some(one), Some(other)) => {
+            one.number == other.number
+                && one.call.as_slice() == other.call.as_slice()
+                && one.mode == other.mode
+                && one.version == other.version
+        }
+        _ => false,
+    }
+}
+
+fn are_same_connections(one: &[Option<Connection>], other: &[Option<Connection>]) -> bool {
+    if one.len() != other.len() {
+        return false;
+    }
+    for (held, twin) in one.iter().zip(other) {
+        if !is_same_connection(held, twin) {
+            return false;
+        }
+    }
+    true
+}
+
 /// Whether all that can be read of two gateways is the same.
 pub fn are_same(one: &Gateway, other: &Gateway) -> bool {
     let lines = one.lines();
@@ -56,6 +83,7 @@ pub fn are_same(one: &Gateway, other: &Gateway) -> bool {
         if one.hook(line) != other.hook(line)
             || one.lost(line) != other.lost(line)
             || one.signals(line).as_slice() != other.signals(line).as_slice()
+            || !are_same_connections(one.connections(line), other.connections(line))
         {
             return false;
         }

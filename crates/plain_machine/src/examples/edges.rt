@@ -103,25 +103,17 @@ pub fn what_is_read_of_k_confirms()
 /// Of one line that there is it is told what a deed does to its connections; of all lines, of any one line and of a line
 /// that there isn't nothing is told, whatever the deed.
 pub fn some_deeds_tell_of_no_connection()
-    ensures one {
-        let deleting = deeds.Delete (deletions.One (codes "1a") (codes "1")) in
+    ensures one { let deleting = deeds.Delete (deletions.One (codes "1a") (codes "1")) in
         let line = holding (Some first_connection ∷ replicate 3 None) in
         shown_of (stations (line ∷ [])) (One 1) (record (requesting_nothing None) { connections = deleting })
-        ≡ record { params = counts_param ∷ []; body = [] }
-    }
-    ensures all {
-        let deleting = deeds.Delete (deletions.One (codes "1a") (codes "1")) in
+        ≡ record { params = counts_param ∷ []; body = [] } }
+    ensures all { let deleting = deeds.Delete (deletions.One (codes "1a") (codes "1")) in
         let line = holding (Some first_connection ∷ replicate 3 None) in
-        shown_of (stations (line ∷ [])) All (record (requesting_nothing None) { connections = deleting }) ≡ nothing_shown
-    }
-    ensures any {
-        let deleting = deeds.Delete (deletions.One (codes "1a") (codes "1")) in
+        shown_of (stations (line ∷ [])) All (record (requesting_nothing None) { connections = deleting }) ≡ nothing_shown }
+    ensures any { let deleting = deeds.Delete (deletions.One (codes "1a") (codes "1")) in
         let line = holding (Some first_connection ∷ replicate 3 None) in
-        shown_of (stations (line ∷ [])) Any (record (requesting_nothing None) { connections = deleting }) ≡ nothing_shown
-    }
-    ensures no_line {
-        let deleting = deeds.Delete (deletions.One (codes "1a") (codes "1")) in
+        shown_of (stations (line ∷ [])) Any (record (requesting_nothing None) { connections = deleting }) ≡ nothing_shown }
+    ensures no_line { let deleting = deeds.Delete (deletions.One (codes "1a") (codes "1")) in
         let line = holding (Some first_connection ∷ replicate 3 None) in
-        shown_of (stations (line ∷ [])) (One 2) (record (requesting_nothing None) { connections = deleting }) ≡ nothing_shown
-    }
+        shown_of (stations (line ∷ [])) (One 2) (record (requesting_nothing None) { connections = deleting }) ≡ nothing_shown }
 {}

@@ -1,5 +1,5 @@
 //! Calls that read a value: what is read, as it is written again, or a code.
-use digit_map::{MapFault, read_map};
+use digit_map::read_map;
 use event_syntax::{
     read_detect, read_events, read_handling, read_observed, read_signals, write_detect,
     write_events, write_handling, write_observed, write_signals,
@@ -36,12 +36,8 @@ fn of_o(alloc: Global, value: &[u8]) -> Result<Text, CodeFault> {
 
 // A digit map without its blanks.
 fn of_d(alloc: Global, value: &[u8]) -> Result<Text, CodeFault> {
-    match read_map(alloc, value) {
-        Ok(map) => Ok(Text::of(Vec::from_slice(alloc, map.as_bytes())?)),
-        Err(MapFault::Syntax) => Err(CodeFault::Code(510)),
-        Err(MapFault::TooLarge) => Err(CodeFault::Code(502)),
-        Err(MapFault::OutOfMemory) => Err(CodeFault::OutOfMemory),
-    }
+    let map = read_map(alloc, value)?;
+    Ok(Text::of(Vec::from_slice(alloc, map.as_bytes())?))
 }
 
 // What a call gives, if there is such a call.

@@ -11,10 +11,10 @@ use digit_map::{
     MapChange, MapFault, MapText, Matcher, SlowMap, Verdict, is_in_range, is_range, read_change,
     read_map,
 };
-use mg_bytes::{Letter, OutOfMemory, letter_of};
+use mg_bytes::{CodeFault, Letter, OutOfMemory, letter_of};
 use std::alloc::Global;
 use std::io;
-use tales::{refused, value_of, yes_or_no};
+use tales::{code_text, refused, value_of, yes_or_no};
 
 // What is dialled; nothing where that has another sign, or more than 64.
 fn letters_of(alloc: Global, dialled: &[u8]) -> Result<Option<Vec<Letter>>, OutOfMemory> {
@@ -101,14 +101,6 @@ pub fn answer_of_all(alloc: Global, call: &str, fields: &str) -> io::Result<Opti
     Ok(Some(given.to_string(alloc)?))
 }
 
-fn fault_text(alloc: Global, fault: MapFault) -> io::Result<String> {
-    match fault {
-        MapFault::Syntax => Ok("510".to_string(alloc)?),
-        MapFault::TooLarge => Ok("502".to_string(alloc)?),
-        MapFault::OutOfMemory => Err(refused()),
-    }
-}
-
 // A map, by a copy of it.
 fn map_text(alloc: Global, map: &MapText) -> io::Result<String> {
     Ok(String::from_utf8_lossy(alloc, map.try_copy()?.as_bytes())?)
@@ -117,7 +109,7 @@ fn map_text(alloc: Global, map: &MapText) -> io::Result<String> {
 fn read(alloc: Global, value: &[u8]) -> io::Result<String> {
     match read_map(alloc, value) {
         Ok(map) => map_text(alloc, &map),
-        Err(fault) => fault_text(alloc, fault),
+        Err(fault) => code_text(alloc, CodeFault::from(fault)),
     }
 }
 
@@ -131,7 +123,7 @@ fn changed(alloc: Global, value: &[u8]) -> io::Result<String> {
         Ok(MapChange::Keep) => Ok("keep".to_string(alloc)?),
         Ok(MapChange::Remove) => Ok("remove".to_string(alloc)?),
         Ok(MapChange::Replace(map)) => map_text(alloc, &map),
-        Err(fault) => fault_text(alloc, fault),
+        Err(fault) => code_text(alloc, CodeFault::from(fault)),
     }
 }
 

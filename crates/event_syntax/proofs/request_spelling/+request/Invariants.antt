@@ -1,6 +1,6 @@
 use Rattle.std.proofs.Common.{◌≡◌, ◌+◌, ◌*◌, ◌-◌}
 use Rattle.std.specs.List.{list_all}
-use Rattle.event_syntax.specs.Cuts.{items, entries}
+use Rattle.event_cuts.specs.Cuts.{items, entries}
 use Rattle.event_syntax.specs.RequestSpelling.{is_part, is_action, is_requested, are_requested_within}
 use Rattle.event_syntax.proofs.request_spelling.+request.Given as goal
 

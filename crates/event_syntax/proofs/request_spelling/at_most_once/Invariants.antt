@@ -1,6 +1,6 @@
 use Rattle.std.proofs.Common.{◌≡◌, ◌+◌, ◌≤◌}
 use Rattle.std.specs.Prelude.{count_by}
-use Rattle.event_syntax.specs.Cuts.{items}
+use Rattle.event_cuts.specs.Cuts.{items}
 use Rattle.event_syntax.specs.RequestSpelling.{is_called}
 use Rattle.event_syntax.proofs.request_spelling.at_most_once.Given as goal
 

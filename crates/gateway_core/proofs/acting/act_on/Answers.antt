@@ -1,5 +1,5 @@
 use Rattle.std.proofs.Common.{refl}
-use Rattle.gateway_core.proofs.FloorLemmas.{goes_on_line}
+use Rattle.gateway_floor.proofs.FloorLemmas.{goes_on_line}
 use Rattle.gateway_core.proofs.WorkLemmas.{happened_goes, happened_passing}
 use Rattle.gateway_core.proofs.acting.act_on.Goals as goal
 

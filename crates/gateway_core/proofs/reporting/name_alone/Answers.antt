@@ -1,6 +1,6 @@
 use Rattle.std.proofs.Common.{◌≡◌, ◌∷◌, [], rules, arith}
 use Rattle.plain_machine.specs.Reporting.{name_of_line}
-use Rattle.gateway_core.proofs.NewsLemmas.{name_is_fine}
+use Rattle.gateway_core.proofs.WorkLemmas.{name_is_fine}
 use Rattle.gateway_core.proofs.reporting.name_alone.Goals as goal
 
 pub returns-clause-writable : goal.returns-clause-writable

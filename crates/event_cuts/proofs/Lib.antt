@@ -1,0 +1,10 @@
+pub mod Computing
+pub mod CutLemmas
+pub mod PartLemmas
+pub mod JoinLemmas
+pub mod ClosedLemmas
+pub mod EachLemmas
+pub mod PassLemmas
+pub mod FaultLemmas
+pub mod WriteLemmas
+pub mod PutLemmas

@@ -1,9 +1,0 @@
-use Rattle.std.proofs.Common.{◌≡◌}
-use Rattle.event_syntax.specs.Cuts.{entries}
-use Rattle.event_syntax.specs.Faults.{each}
-use Rattle.event_syntax.specs.Observed.{observed_entry}
-use Rattle.event_syntax.proofs.EachLemmas.{put_before}
-use Rattle.event_syntax.proofs.observed.read_observed.Given as goal
-
-abbrev pub invariant-loop-entry : goal.invariant-loop-entry
-invariant-loop-entry l = put_before l.list (each observed_entry l.entry-iterator) ≡ each observed_entry (entries l.value)

@@ -1,0 +1,19 @@
+//! The values of S, Q and O (RFC 3435, 3.2.2): the signals that are asked for, how quarantined events are handled, and
+//! the events that a notification tells.
+//!
+//! The spelling of a value is judged as a whole, and then it is read entry by entry. Reading S and Q takes no memory.
+#![tactic(auto)]
+
+pub mod examples;
+mod handling;
+pub mod laws;
+mod observed;
+mod signal_spelling;
+mod signals;
+
+pub use crate::handling::{Handling, Notifying, Quarantined, read_handling, write_handling};
+pub use crate::observed::{Observed, read_observed, write_observed};
+pub use crate::signal_spelling::are_signals;
+pub use crate::signals::{
+    Setting, SignalRequest, SignalRequests, read_signals, signals_in, write_signals,
+};

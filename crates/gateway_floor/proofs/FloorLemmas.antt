@@ -1,0 +1,275 @@
+-- What is saved of the floor is put back, and what comes to one line after the other.
+use Rattle.std.proofs.Common.{◌≡◌, ℕ, zero, suc, ◌+◌, ◌-◌, ◌<◌, ◌≤◌, Bool, true, false, List, [], ◌∷◌, ◌++◌, length, map, filter, drop, Option, Some, None, refl, sym, ◌∙◌, ap, subst, append_assoc, append-nil, get_or, arith}
+use Rattle.std.specs.Prelude.{slice_set, not, ◌==◌, if◌then◌else◌}
+use Rattle.std.specs.Option.{unwrap_or}
+use Rattle.std.proofs.lemmas.Option.{slice_get-get_or}
+use Rattle.mg_line.specs.declared.phone.Act.{Act}
+use Rattle.mg_line.specs.Acting.{is_heeded}
+use Rattle.plain_machine.specs.Acting.{acted_on, acted}
+use Rattle.std.specs.List.{enumerate_from}
+use Rattle.std.proofs.lemmas.Bool.Decides.{nat_tests}
+use Rattle.std.proofs.lemmas.Grind.{common_steps}
+use Rattle.std.proofs.lemmas.List.{set-set, set-get_or, map-append, drop_all}
+use Rattle.command_forms.specs.declared.forms.Target.{Target}
+use Rattle.command_forms.specs.Meaning.{is_for}
+use Rattle.plain_machine.specs.declared.own.Own.{Own}
+use Rattle.plain_machine.specs.declared.station.Station.{Station}
+use Rattle.plain_machine.specs.declared.output.OutDatagram.{OutDatagram}
+use Rattle.plain_machine.specs.Message.{datagram_of, datagrams_of}
+use Rattle.plain_machine.specs.Notifying.{Turn, silent}
+use Rattle.plain_machine.specs.declared.setup.Setup.{Setup}
+use Rattle.plain_machine.specs.declared.due_item.DueItem.{DueItem}
+use Rattle.plain_machine.specs.Machine.{Endpoints, OwnTurn, Told, told, afterwards, station_at, with_station, with_own, with_turn, on_line, on_own, on_lines}
+use Rattle.plain_machine.specs.Falling.{due_by, happened, pass}
+use Rattle.plain_machine.proofs.EffectLaws.{on_this, same_station}
+use Rattle.plain_machine.proofs.FirstLemmas.{by_moment}
+use Rattle.plain_machine.proofs.FallingLaws.{pass_none, pass_some, left, left_falls}
+use Rattle.plain_machine.specs.Refusing.{is_unheeded}
+use Rattle.gateway_stations.specs.Telling.{MayTell, IsLine}
+use Rattle.gateway_floor.specs.declared.floor.Saved.{Saved}
+use Rattle.gateway_floor.specs.declared.floor.Saved.TheVariants.{OfLine, OfGateway}
+use Rattle.gateway_floor.specs.FloorState.{FloorState, settled_at}
+use Rattle.gateway_floor.specs.Saving.{manned, undone, restored}
+use Rattle.gateway_floor.specs.Tells.{Goes}
+use Rattle.gateway_stations.specs.Turns.{HasTurn, OwnHasTurn}
+
+-- what was saved last is put back first
+restored_snoc : (log : List Saved) (saved : Saved) (endpoints : Endpoints) → restored (log ++ saved ∷ []) endpoints ≡ restored log (undone saved endpoints)
+unfolding restored
+restored_snoc [] saved endpoints = refl
+restored_snoc (first ∷ log) saved endpoints = ap (undone first) (restored_snoc log saved endpoints)
+
+-- a station that is exchanged and put back
+exchanged_back : (stations is : List Station) (place : ℕ) (was station : Station) → was ≡ get_or stations place was → is ≡ slice_set stations place station
+    → slice_set is place was ≡ stations
+exchanged_back stations is place was station had set =
+    ap (λ (x : List Station). slice_set x place was) set
+    ∙ set-set stations place station was
+    ∙ ap (λ (x : Station). slice_set stations place x) had
+    ∙ set-get_or stations place was
+
+-- what is changed is saved as it was
+saved_more : (log log' : List Saved) (saved : Saved) (was is : Endpoints) → undone saved is ≡ was → log' ≡ log ++ saved ∷ [] → restored log' is ≡ restored log was
+saved_more log log' saved was is back grown = ap (λ (x : List Saved). restored x is) grown ∙ restored_snoc log saved is ∙ ap (restored log) back
+
+-- what was saved last is put back
+pub restored_less : (log log' : List Saved) (saved : Saved) (was is : Endpoints) → log ≡ log' ++ saved ∷ [] → is ≡ undone saved was → restored log' is ≡ restored log was
+restored_less log log' saved was is popped set = ap (restored log') set ∙ sym (restored_snoc log' saved was) ∙ ap (λ (x : List Saved). restored x was) (sym popped)
+
+-- a station isn't added by that
+pub undone_lines : (saved : Saved) (was is : Endpoints) → is ≡ undone saved was → length is.stations ≡ length was.stations
+undone_lines (OfLine place station) was is set = ap (λ (e : Endpoints). length e.stations) set ∙ same_length was.stations place station where
+  same_length : (stations : List Station) (place : ℕ) (station : Station) → length (slice_set stations place station) ≡ length stations
+  same_length stations place station = grind (arith, common_steps)
+undone_lines (OfGateway own) was is set = ap (λ (e : Endpoints). length e.stations) set
+
+pub restored_none : (log : List Saved) (endpoints : Endpoints) → log ≡ [] → restored log endpoints ≡ endpoints
+unfolding restored
+restored_none log endpoints none = rw none refl
+
+-- ---- what comes to the floor
+
+pub goes_nowhere : (floor : FloorState) (change : Told) (out : List OutDatagram) → change ≡ told floor.endpoints [] → Goes change floor floor out out
+goes_nowhere floor change out none = rw none (record { endpoints = refl; found = refl; sent = sym (append-nil out) })
+
+-- one thing, and then the others
+pub goes_then : (first : Told) (next : Endpoints → Told) (was between is : FloorState) (were mid are : List OutDatagram)
+    → Goes first was between were mid → Goes (next between.endpoints) between is mid are → Goes (afterwards first next) was is were are
+goes_then first next was between is were mid are one rest = record {
+  endpoints = rest.endpoints ∙ ap (λ (e : Endpoints). (next e).endpoints) one.endpoints;
+  found = rest.found ∙ one.found;
+  sent = rest.sent
+      ∙ ap (λ (e : Endpoints). mid ++ datagrams_of (next e).sent) one.endpoints
+      ∙ ap (λ (x : List OutDatagram). x ++ datagrams_of (next first.endpoints).sent) one.sent
+      ∙ append_assoc were (datagrams_of first.sent) (datagrams_of (next first.endpoints).sent)
+      ∙ ap (λ (x : List OutDatagram). were ++ x) (sym (map-append datagram_of first.sent (next first.endpoints).sent));
+}
+
+-- the same under another name
+pub goes_so : (change other : Told) (was is : FloorState) (were are : List OutDatagram) → other ≡ change → Goes change was is were are → Goes other was is were are
+goes_so change other was is were are same goes = rw same goes
+
+-- one line has its turn
+pub goes_on_line : (endpoints : Endpoints) (line : ℕ) (station becomes : Station) (turn : Station → Turn) (was is : FloorState) (were are : List OutDatagram)
+    → was.endpoints ≡ endpoints → Some station ≡ station_at endpoints line → HasTurn (turn station) becomes were are
+    → is ≡ record was { endpoints = with_station endpoints line becomes } → Goes (on_line endpoints line turn) was is were are
+goes_on_line endpoints line station becomes turn was is were are here at has put = rw (on_this endpoints line station turn (sym at)) (record {
+  endpoints = ap (λ (f : FloorState). f.endpoints) put ∙ ap (with_station endpoints line) has.station;
+  found = ap (λ (f : FloorState). f.found) put;
+  sent = has.sent;
+})
+
+-- the gateway itself has its turn
+pub goes_on_own : (own becomes : Own) (turn : Own → OwnTurn) (was is : FloorState) (were are : List OutDatagram) → own ≡ was.endpoints.own → OwnHasTurn (turn own) becomes were are
+    → is ≡ record was { endpoints = with_own was.endpoints becomes } → Goes (on_own was.endpoints turn) was is were are
+goes_on_own own becomes turn was is were are here has put =
+    let turned : OwnHasTurn (turn was.endpoints.own) becomes were are = subst (λ (o : Own). OwnHasTurn (turn o) becomes were are) here has in
+    record {
+      endpoints = ap (λ (f : FloorState). f.endpoints) put ∙ ap (with_own was.endpoints) turned.own;
+      found = ap (λ (f : FloorState). f.found) put;
+      sent = turned.sent;
+    }
+
+-- what sends nothing, behind what there is
+pub goes_silently : (change : Told) (was is : FloorState) (out : List OutDatagram) → Goes change was is [] [] → Goes change was is out out
+goes_silently change was is out goes = record {
+  endpoints = goes.endpoints;
+  found = goes.found;
+  sent = sym (append-nil out) ∙ ap (λ (x : List OutDatagram). out ++ x) goes.sent;
+}
+
+-- the lines that a command is for, from a place on
+abbrev pub meant_from : Target → ℕ → List Station → List ℕ
+meant_from lines place stations = filter (is_for lines) (map (λ (one : ℕ × Station). one.0) (enumerate_from (place + 1) (drop place stations)))
+
+record There (stations : List Station) (place : ℕ) : Type 0 where
+  station : Station
+  same : drop place stations ≡ station ∷ drop (place + 1) stations
+
+first_there : (stations : List Station) (place : ℕ) → place < length stations → There stations place
+first_there [] place inside = absurd (omega (arith, inside))
+first_there (first ∷ rest) zero inside = record { station = first; same = refl }
+first_there (first ∷ rest) (suc place) inside =
+    let one = first_there rest place (omega (arith, inside)) in
+    let next : suc (place + 1) ≡ suc place + 1 = omega arith in
+    record { station = one.station; same = one.same ∙ ap (λ (n : ℕ). one.station ∷ drop n (first ∷ rest)) next }
+
+pub meant_next : (lines : Target) (place : ℕ) (stations : List Station) → place < length stations
+    → meant_from lines place stations ≡ (if is_for lines (place + 1) then (place + 1) ∷ meant_from lines (place + 1) stations else meant_from lines (place + 1) stations)
+meant_next lines place stations inside = by_first (first_there stations place inside) where
+  by_first : There stations place → meant_from lines place stations
+      ≡ (if is_for lines (place + 1) then (place + 1) ∷ meant_from lines (place + 1) stations else meant_from lines (place + 1) stations)
+  by_first there = ap (λ (rest : List Station). filter (is_for lines) (map (λ (one : ℕ × Station). one.0) (enumerate_from (place + 1) rest))) there.same
+
+pub meant_end : (lines : Target) (place : ℕ) (stations : List Station) → length stations ≤ place → meant_from lines place stations ≡ []
+meant_end lines place stations past = ap (λ (rest : List Station). filter (is_for lines) (map (λ (one : ℕ × Station). one.0) (enumerate_from (place + 1) rest))) (drop_all place stations past)
+
+-- ---- what falls due
+
+pub pass_next : (setup : Setup) (moment : ℕ) (item : DueItem) (was between is : FloorState) (were mid are : List OutDatagram) → due_by was.endpoints moment ≡ Some item
+    → Goes (happened setup was.endpoints item) was between were mid → Goes (pass setup between.endpoints moment) between is mid are → Goes (pass setup was.endpoints moment) was is were are
+pass_next setup moment item was between is were mid are due one rest =
+    goes_so _ _ was is were are (pass_some setup was.endpoints moment item due)
+    (goes_then (happened setup was.endpoints item) (λ next. pass setup next moment) was between is were mid are one rest)
+
+pub pass_end : (setup : Setup) (moment : ℕ) (floor : FloorState) (out : List OutDatagram) → due_by floor.endpoints moment ≡ None → Goes (pass setup floor.endpoints moment) floor floor out out
+pass_end setup moment floor out none = goes_nowhere floor (pass setup floor.endpoints moment) out (pass_none setup floor.endpoints moment none)
+
+pub left_less : (setup : Setup) (moment : ℕ) (item : DueItem) (was between : FloorState) (were mid : List OutDatagram) → due_by was.endpoints moment ≡ Some item
+    → Goes (happened setup was.endpoints item) was between were mid → left between.endpoints moment < left was.endpoints moment
+left_less setup moment item was between were mid due one =
+    let less = left_falls setup was.endpoints moment item due in
+    let same : left between.endpoints moment ≡ left (happened setup was.endpoints item).endpoints moment = ap (λ (e : Endpoints). left e moment) one.endpoints in
+    omega (arith, less, same)
+
+-- what is due up to a moment is early where that is
+pub due_early : (setup : Setup) (endpoints : Endpoints) (moment : ℕ) (item : DueItem) → due_by endpoints moment ≡ Some item → MayTell setup moment → MayTell setup item.moment
+due_early setup endpoints moment item due may = record { domain = may.domain; early = omega (arith, may.early, (by_moment endpoints moment item due).1) }
+
+-- ---- what comes to several lines
+
+pub several_next : (lines : Target) (place : ℕ) (stations : List Station) (turn : ℕ → Station → Turn) (was between is : FloorState) (were mid are : List OutDatagram) → place < length stations
+    → true ≡ is_for lines (place + 1) → Goes (on_line was.endpoints (place + 1) (turn (place + 1))) was between were mid
+    → Goes (on_lines (meant_from lines (place + 1) stations) between.endpoints turn) between is mid are
+    → Goes (on_lines (meant_from lines place stations) was.endpoints turn) was is were are
+unfolding on_lines
+several_next lines place stations turn was between is were mid are inside meant one rest =
+    let same : meant_from lines place stations ≡ (place + 1) ∷ meant_from lines (place + 1) stations =
+    meant_next lines place stations inside
+    ∙ ap (λ (b : Bool). if b then (place + 1) ∷ meant_from lines (place + 1) stations else meant_from lines (place + 1) stations) (sym meant) in
+    rw same (goes_then (on_line was.endpoints (place + 1) (turn (place + 1))) (λ next. on_lines (meant_from lines (place + 1) stations) next turn) was between is were mid are one rest)
+
+pub several_skip : (lines : Target) (place : ℕ) (stations : List Station) (turn : ℕ → Station → Turn) (was is : FloorState) (were are : List OutDatagram) → place < length stations
+    → false ≡ is_for lines (place + 1) → Goes (on_lines (meant_from lines (place + 1) stations) was.endpoints turn) was is were are
+    → Goes (on_lines (meant_from lines place stations) was.endpoints turn) was is were are
+several_skip lines place stations turn was is were are inside other rest =
+    let same : meant_from lines place stations ≡ meant_from lines (place + 1) stations =
+    meant_next lines place stations inside
+    ∙ ap (λ (b : Bool). if b then (place + 1) ∷ meant_from lines (place + 1) stations else meant_from lines (place + 1) stations) (sym other) in
+    rw same rest
+
+pub several_end : (lines : Target) (place : ℕ) (stations : List Station) (turn : ℕ → Station → Turn) (floor : FloorState) (out : List OutDatagram) → length stations ≤ place
+    → Goes (on_lines (meant_from lines place stations) floor.endpoints turn) floor floor out out
+unfolding on_lines
+several_end lines place stations turn floor out past = rw (meant_end lines place stations past) (goes_nowhere floor (told floor.endpoints []) out refl)
+
+-- ---- the floor's own steps
+
+floor_is : {e e' f f' : Endpoints} → e ≡ e' → f ≡ f' → ◌≡◌ {A = FloorState} (record { endpoints = e; found = f }) (record { endpoints = e'; found = f' })
+floor_is same found = rw (same, found) refl
+
+-- the floor with these stations, this of the gateway itself, and what was saved
+abbrev floor_of : List Saved → List Station → Own → FloorState
+floor_of log stations own = record { endpoints = manned stations own; found = restored log (manned stations own) }
+
+-- a station is put
+pub put_done : (log log' : List Saved) (stations is : List Station) (own : Own) (place line : ℕ) (was station : Station) (floor : FloorState) → floor ≡ floor_of log stations own
+    → was ≡ get_or stations place was → is ≡ slice_set stations place station → log' ≡ log ++ OfLine place was ∷ [] → place ≡ line - 1
+    → floor_of log' is own ≡ record floor { endpoints = with_station floor.endpoints line station }
+put_done log log' stations is own place line was station floor view had set grown same =
+    floor_is (ap (λ (x : List Station). manned x own) set ∙ ap (λ (p : ℕ). manned (slice_set stations p station) own) same)
+    (saved_more log log' (OfLine place was) (manned stations own) (manned is own)
+    (ap (λ (x : List Station). manned x own) (exchanged_back stations is place was station had set)) grown)
+    ∙ ap (λ (f : FloorState). let g : FloorState = record f { endpoints = with_station f.endpoints line station } in g) (sym view)
+
+-- a station isn't put
+pub put_undone : (log log' : List Saved) (stations is back : List Station) (own own' : Own) (place : ℕ) (was station : Station) (floor : FloorState) → floor ≡ floor_of log stations own
+    → was ≡ get_or stations place was → is ≡ slice_set stations place station → manned back own' ≡ undone (OfLine place was) (manned is own) → log' ≡ log
+    → floor_of log' back own' ≡ floor
+put_undone log log' stations is back own own' place was station floor view had set undo same =
+    let there : manned back own' ≡ manned stations own = undo ∙ ap (λ (x : List Station). manned x own) (exchanged_back stations is place was station had set) in
+    floor_is there (ap (λ (x : List Saved). restored x (manned back own')) same ∙ ap (restored log) there) ∙ sym view
+
+-- what the gateway keeps for itself is put
+pub own_done : (log log' : List Saved) (stations : List Station) (was is own : Own) (floor : FloorState) → floor ≡ floor_of log stations was
+    → is ≡ own → log' ≡ log ++ OfGateway was ∷ [] → floor_of log' stations is ≡ record floor { endpoints = with_own floor.endpoints own }
+own_done log log' stations was is own floor view set grown =
+    floor_is (ap (manned stations) set) (saved_more log log' (OfGateway was) (manned stations was) (manned stations is) refl grown)
+    ∙ ap (λ (f : FloorState). let g : FloorState = record f { endpoints = with_own f.endpoints own } in g) (sym view)
+
+-- all that was saved is put back
+pub all_undone : (log log' : List Saved) (stations : List Station) (own : Own) (found : Endpoints) → log ≡ [] → log' ≡ [] → restored log (manned stations own) ≡ found
+    → floor_of log' stations own ≡ settled_at found
+all_undone log log' stations own found none still same =
+    let here : manned stations own ≡ found = sym (restored_none log (manned stations own) none) ∙ same in
+    floor_is here (restored_none log' (manned stations own) still ∙ here)
+
+-- a line whose station stays as it is
+pub goes_still : (line : ℕ) (station : Station) (becomes : Option Station) (turn : Station → Turn) (floor : FloorState) (were are : List OutDatagram) → becomes ≡ None
+    → Some station ≡ station_at floor.endpoints line → HasTurn (turn station) (unwrap_or becomes station) were are → Goes (on_line floor.endpoints line turn) floor floor were are
+goes_still line station becomes turn floor were are none at has = rw (on_this floor.endpoints line station turn (sym at)) (record {
+  endpoints = ap (λ (x : List Station). let e : Endpoints = record floor.endpoints { stations = x } in e) (sym (same_station (line == 0) floor.endpoints.stations (line - 1) station (sym at)))
+      ∙ ap (with_station floor.endpoints line) (sym (ap (λ (b : Option Station). unwrap_or b station) none) ∙ has.station);
+  found = refl;
+  sent = has.sent;
+})
+
+not_zero : (n : ℕ) → 1 ≤ n → (n == 0) ≡ false
+not_zero n some = grind (arith, nat_tests, some)
+
+-- the station at a place is that of its line
+station_there : (stations : List Station) (own : Own) (number : ℕ) (station : Station) → 1 ≤ number → number - 1 < length stations → station ≡ get_or stations (number - 1) station
+    → station_at (manned stations own) number ≡ Some station
+station_there stations own number station some inside is = rw (not_zero number some) (slice_get-get_or stations (number - 1) station inside ∙ ap Some (sym is))
+
+pub not_true : (b : Bool) → not b ≡ true → b ≡ false
+not_true true e = absurd cc
+not_true false e = refl
+
+-- an act that a line doesn't heed is done in place
+pub is_there : (stations : List Station) (own : Own) (number place : ℕ) (station : Station) → IsLine number → number - 1 < length stations → place ≡ number → station ≡ get_or stations (place - 1) station
+    → station_at (manned stations own) number ≡ Some station
+is_there stations own number place station line within same is =
+    station_there stations own number station line.some within (is ∙ ap (λ n. get_or stations (n - 1) station) same)
+
+pub unheeded_there : (stations : List Station) (own : Own) (number : ℕ) (act : Act) (station : Station) → station_at (manned stations own) number ≡ Some station
+    → is_unheeded (station_at (manned stations own) number) act ≡ true → is_heeded station.line act ≡ false
+unheeded_there stations own number act station here free = not_true (is_heeded station.line act) (rw here at free)
+
+pub passes_over : (setup : Setup) (stations : List Station) (own : Own) (number place moment : ℕ) (act : Act) (station becomes : Station) → place ≡ number
+    → station_at (manned stations own) number ≡ Some station → silent becomes ≡ acted_on setup number moment act station
+    → acted setup (manned stations own) number moment act ≡ told (manned (slice_set stations (place - 1) becomes) own) []
+passes_over setup stations own number place moment act station becomes same at passed =
+    on_this (manned stations own) number station (acted_on setup number moment act) at
+    ∙ ap (λ (t : Turn). with_turn (manned stations own) number t) (sym passed)
+    ∙ ap (λ n. told (manned (slice_set stations (n - 1) becomes) own) []) (sym same)

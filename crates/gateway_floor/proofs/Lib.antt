@@ -1,0 +1,3 @@
+pub mod FloorLemmas
+pub mod SetupLemmas
+pub mod DueLemmas

@@ -1,0 +1,29 @@
+-- Names put into a table one after the other.
+use Rattle.std.proofs.Common.{◌≡◌, ℕ, suc, ◌+◌, ◌<◌, List, [], ◌∷◌, ◌++◌, length, get_or, drop, refl, sym, ap, ◌∙◌, add-one, drop-cons, map, arith}
+use Rattle.std.specs.Prelude.{None}
+use Rattle.endpoint_names.specs.declared.table.Host.{Host}
+use Rattle.endpoint_names.specs.Table.{fault_of}
+use Rattle.plain_machine.specs.declared.config.NamedAddress.{NamedAddress}
+use Rattle.plain_machine.specs.Setup.{table_from}
+use Rattle.std.specs.List.{range_with_len}
+use Rattle.std.proofs.lemmas.List.FromFn.{map-range_with_len_more}
+use Rattle.plain_machine.specs.declared.setup.Setup.{Setup}
+use Rattle.plain_machine.specs.declared.station.Station.{Station}
+use Rattle.plain_machine.specs.Machine.{opening_station}
+
+pub name_added : (hosts more : List Host) (name : NamedAddress) (names : List NamedAddress) → fault_of hosts name.name ≡ None
+    → more ≡ hosts ++ (record { name = name.name; address = name.address }) ∷ [] → table_from more names ≡ table_from hosts (name ∷ names)
+unfolding table_from
+name_added hosts more name names free is = rw (is, free) refl
+
+-- the name at a place, and those after it
+pub name_front : (names : List NamedAddress) (i : ℕ) (name : NamedAddress) → i < length names → name ≡ get_or names i name → drop i names ≡ name ∷ drop (i + 1) names
+name_front names i name inside is =
+    drop-cons names i name inside ∙ ap (λ (x : NamedAddress). x ∷ drop (suc i) names) (sym is) ∙ ap (λ (n : ℕ). name ∷ drop n names) (sym (add-one i))
+
+-- one station more at the opening
+pub stations_more : (setup : Setup) (place : ℕ) (stations more : List Station) (station : Station) → stations ≡ map (opening_station setup) (range_with_len 1 place)
+    → station ≡ opening_station setup (place + 1) → more ≡ stations ++ station ∷ [] → more ≡ map (opening_station setup) (range_with_len 1 (place + 1))
+stations_more setup place stations more station all one is =
+    is ∙ ap (λ (front : List Station). front ++ station ∷ []) all ∙ ap (λ (last : Station). map (opening_station setup) (range_with_len 1 place) ++ last ∷ []) one
+    ∙ sym (map-range_with_len_more (opening_station setup) 1 place (place + 1) (let same : 1 + place ≡ place + 1 = omega arith in same))

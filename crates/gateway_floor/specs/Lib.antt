@@ -1,0 +1,3 @@
+pub mod FloorState
+pub mod Saving
+pub mod Tells

@@ -1,0 +1,124 @@
+//! What falls due first of all, and what happens then, each at its own moment (RFC 3435, 2.1.5, 2.1.7 and 3.5.3).
+ghost use Rattle.std.specs.Prelude.{◌≡◌, ◌<◌, ◌≤◌, ◌^◌, length};
+ghost use Rattle.plain_machine.specs.Machine.{on_line, on_own};
+ghost use Rattle.plain_machine.specs.Falling.{first_due, due_by, is_due, happened_on, own_happened, happened, pass};
+ghost use Rattle.gateway_stations.specs.Telling.{MayTell};
+ghost use Rattle.gateway_floor.specs.Saving.{manned};
+ghost use Rattle.gateway_floor.specs.Tells.{Tells};
+
+use crate::floor::Floor;
+use gateway_stations::{
+    Context, Occasion, command_item, due_on, earlier, happened_on, own_happened,
+};
+use mg_bytes::OutOfMemory;
+use plain_machine::{Due, DueItem, OutDatagram, Own, Station};
+
+/// What falls due first of all. It takes no memory.
+#[tactic(auto, unfolding(plain_machine::specs::Falling::first_due))]
+pub(crate) fn first_due(own: &Own, stations: &[Station]) -> Option<DueItem>
+    requires { length stations.now ≤ 16 }
+    ensures { result ≡ first_due (manned stations.now own.now) }
+{
+    let mut first = command_item(0, &own.post);
+    for (place, station) in stations.iter().enumerate() {
+        first = earlier(first, due_on(place as u16 + 1, station));
+    }
+    first
+}
+
+// The same where it is due up to a moment.
+#[tactic(auto, unfolding(plain_machine::specs::Falling::due_by))]
+fn due_by(floor: &Floor, moment: u64) -> Option<DueItem>
+    ensures { result ≡ due_by floor.now.endpoints moment }
+{
+    let item = floor.first_due()?;
+    if item.moment <= moment {
+        Some(item)
+    } else {
+        None
+    }
+}
+
+/// Whether something is due up to a moment (in ms). It takes no memory.
+pub fn is_due(floor: &Floor, moment: u64) -> bool
+    ensures { result ≡ is_due floor.now.endpoints moment }
+{
+    due_by(floor, moment).is_some()
+}
+
+// What falls due on this line happens.
+#[tactic(auto, unfolding(plain_machine::specs::Machine::on_line))]
+fn happen_on_line(
+    context: Context<'_>,
+    floor: &mut Floor,
+    occasion: Occasion,
+    due: Due,
+    out: &mut Vec<OutDatagram>,
+) -> Result<(), OutOfMemory>
+    requires { MayTell context.setup.now occasion.moment }
+    ensures { Tells result (on_line floor.old.endpoints occasion.line
+        (happened_on due context.entry.setup.now occasion.line occasion.moment))
+        floor.old floor.new out.old.items out.new.items }
+{
+    let Some(station) = floor.station(occasion.line) else {
+        return Ok(());
+    };
+    let becomes = happened_on(context, occasion, station, due, out)?;
+    floor.put(occasion.line, becomes)?;
+    Ok(())
+}
+
+// What falls due of the gateway itself happens.
+fn happen_itself(
+    context: Context<'_>,
+    floor: &mut Floor,
+    moment: u64,
+    due: Due,
+    out: &mut Vec<OutDatagram>,
+) -> Result<(), OutOfMemory>
+    requires { moment < 2 ^ 62 }
+    ensures { Tells result (on_own floor.old.endpoints (own_happened due moment))
+        floor.old floor.new out.old.items out.new.items }
+{
+    let becomes = own_happened(context, moment, floor.own(), due, out)?;
+    floor.put_own(becomes)?;
+    Ok(())
+}
+
+// What falls due happens at its own moment.
+fn happen(
+    context: Context<'_>,
+    floor: &mut Floor,
+    item: DueItem,
+    out: &mut Vec<OutDatagram>,
+) -> Result<(), OutOfMemory>
+    requires { MayTell context.setup.now item.moment }
+    ensures { Tells result (happened context.entry.setup.now floor.old.endpoints item)
+        floor.old floor.new out.old.items out.new.items }
+{
+    let DueItem { moment, line, due } = item;
+    if line == 0 {
+        happen_itself(context, floor, moment, due, out)?;
+    } else {
+        happen_on_line(context, floor, Occasion { line, moment }, due, out)?;
+    }
+    Ok(())
+}
+
+/// What is due up to a moment (in ms) happens, the first first, each thing at its own moment. After an error, which is for
+/// want of memory, what the event found can still be had.
+pub fn pass(
+    context: Context<'_>,
+    floor: &mut Floor,
+    moment: u64,
+    out: &mut Vec<OutDatagram>,
+) -> Result<(), OutOfMemory>
+    requires { MayTell context.setup.now moment }
+    ensures { Tells result (pass context.entry.setup.now floor.old.endpoints moment)
+        floor.old floor.new out.old.items out.new.items }
+{
+    while let Some(item) = due_by(floor, moment) {
+        happen(context, floor, item, out)?;
+    }
+    Ok(())
+}

@@ -1,0 +1,160 @@
+//! What a configuration sets up, and what there is at the opening: the stations, and what the gateway keeps for itself.
+ghost use Rattle.std.specs.Prelude.{◌≡◌, ◌≤◌, ◌<◌, ◌+◌, ◌^◌, [], length, map, IfOk};
+ghost use Rattle.std.specs.List.{AllByRecursion, range_with_len};
+ghost use Rattle.plain_machine.specs.Setup.{table_from, are_lines, is_wait, is_media_base, is_address, setup_of, IsSetUp};
+ghost use Rattle.plain_machine.specs.Machine.{port_of, opening_post, opening_station, opening_own};
+
+use connections::{Connections, Encoding};
+use endpoint_names::{Names, Table, is_domain, read_entity};
+use mg_bytes::OutOfMemory;
+use mg_line::Line;
+use plain_machine::{CommandNumber, Config, ConfigFault, NamedAddress, Own, Post, Setup, Station};
+use std::alloc::Global;
+use std::net::Ipv4Addr;
+
+// The table of these names, if each can be added.
+#[tactic(auto, unfolding(plain_machine::specs::Setup::table_from))]
+fn table_of(names: &[NamedAddress]) -> Option<Table>
+    ensures { result ≡ table_from [] names.now }
+{
+    let mut table = Table::new();
+    for name in names {
+        match table.add(name.name.as_bytes(), name.address) {
+            Ok(()) => {}
+            Err(_) => return None,
+        }
+    }
+    Some(table)
+}
+
+fn are_lines(lines: u32) -> bool
+    ensures { result ≡ are_lines lines }
+{
+    lines >= 1 && lines <= 16
+}
+
+fn is_wait(wait: u32) -> bool
+    ensures { result ≡ is_wait wait }
+{
+    wait >= 1 && wait <= 600_000
+}
+
+fn is_media_base(port: u32) -> bool
+    ensures { result ≡ is_media_base port }
+{
+    port >= 1024 && port <= 64_000 && port % 2 == 0
+}
+
+// The octets of an address: four, each of eight bits.
+fn octets_of(address: Ipv4Addr) -> [u8; 4]
+    ensures value { result ≡ address.octets }
+    ensures four { length result ≡ 4 }
+    ensures each { AllByRecursion (λ octet. octet ≤ 255) result }
+{
+    let [a, b, c, d] = address.octets();
+    [a, b, c, d]
+}
+
+// Every address is one.
+fn is_address(address: Ipv4Addr) -> bool
+    ensures { result ≡ is_address address }
+{
+    let _octets = octets_of(address);
+    true
+}
+
+/// What a configuration sets up, or its first fault, in the order of their numbers.
+#[tactic(auto, unfolding(plain_machine::specs::Setup::setup_of))]
+pub fn judged(config: Config) -> Result<Setup, ConfigFault>
+    ensures { result ≡ setup_of config }
+{
+    if !is_domain(config.domain.as_bytes()) {
+        return Err(ConfigFault::BadDomain);
+    }
+    if !are_lines(config.lines) {
+        return Err(ConfigFault::BadLines);
+    }
+    let Some(table) = table_of(config.names.as_slice()) else {
+        return Err(ConfigFault::BadAgent);
+    };
+    let Some(agent) = read_entity(config.agent.as_bytes(), &table) else {
+        return Err(ConfigFault::BadAgent);
+    };
+    if !is_wait(config.restart_wait) || !is_wait(config.disconnected_wait) {
+        return Err(ConfigFault::BadWait);
+    }
+    if !is_address(config.media_address) || !is_media_base(config.media_base) {
+        return Err(ConfigFault::BadMedia);
+    }
+    Ok(Setup {
+        names: Names {
+            domain: config.domain,
+            lines: config.lines as u16,
+            table,
+        },
+        agent,
+        restart_wait: config.restart_wait,
+        disconnected_wait: config.disconnected_wait,
+        media_address: config.media_address,
+        media_base: config.media_base,
+    })
+}
+
+// A post under which nothing was sent; its first command has this number.
+fn opening_post(setup: &Setup, number: CommandNumber) -> Post
+    ensures { result ≡ opening_post setup.now number }
+{
+    Post {
+        entity: setup.agent,
+        number,
+        pending: None,
+    }
+}
+
+// The first port of a line.
+fn port_of(setup: &Setup, line: u16) -> u16
+    requires ports { setup.now.media_base ≤ 64000 }
+    requires some { 1 ≤ line }
+    requires few { line ≤ 16 }
+    ensures value { result ≡ port_of setup.now line }
+    ensures within { result + 6 < 2 ^ 16 }
+{
+    setup.media_base as u16 + 8 * (line - 1)
+}
+
+// The station of this line, with the line as a line opens and the configured agent.
+fn opening_station(alloc: Global, setup: &Setup, line: u16) -> Result<Station, OutOfMemory>
+    requires ports { setup.now.media_base ≤ 64000 }
+    requires some { 1 ≤ line }
+    requires few { line ≤ 16 }
+    ensures { IfOk result (λ station. station ≡ opening_station setup.now line) }
+{
+    Ok(Station {
+        line: Line::new(alloc)?,
+        post: opening_post(setup, CommandNumber::first()),
+        encoding: Encoding::Mu,
+        connections: Connections::new(setup.media_address, port_of(setup, line)),
+    })
+}
+
+/// The stations of this setup at the opening. An error is for want of memory only.
+pub fn opening_stations(alloc: Global, setup: &Setup) -> Result<Vec<Station>, OutOfMemory>
+    requires { IsSetUp setup.now }
+    ensures { IfOk result (λ stations. stations.items
+        ≡ map (opening_station setup.now) (range_with_len 1 setup.now.names.lines)) }
+{
+    let mut stations = Vec::new(alloc);
+    for place in 0..setup.names.lines {
+        stations.push(opening_station(alloc, setup, place + 1)?)?;
+    }
+    Ok(stations)
+}
+
+/// What the gateway keeps for itself at the opening: it reports to the configured agent, and has nothing in flight.
+pub fn opening_own(setup: &Setup) -> Own
+    ensures { result ≡ opening_own setup.now }
+{
+    Own {
+        post: opening_post(setup, CommandNumber::first_own()),
+    }
+}

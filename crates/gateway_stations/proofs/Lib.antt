@@ -1,0 +1,2 @@
+pub mod TellLemmas
+pub mod NewsLemmas

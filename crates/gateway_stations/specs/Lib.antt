@@ -1,0 +1,3 @@
+pub mod Telling
+pub mod Turns
+pub mod News

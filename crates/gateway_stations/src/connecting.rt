@@ -1,0 +1,249 @@
+//! What a deed does to the connections of a line, and what its answer tells of them (RFC 3435, 2.3.5 to 2.3.9).
+ghost use Rattle.std.specs.Prelude.{◌≡◌, true, codes, Ok, IfOk};
+ghost use Rattle.std.specs.List.{list_all};
+ghost use Rattle.mgcp_text.specs.Writing.{is_writable_param, is_writable_body};
+ghost use Rattle.sdp_subset.specs.Writing.{written};
+ghost use Rattle.connections.specs.Standing.{left_by, created, modified, deleted};
+ghost use Rattle.plain_machine.specs.Connecting.{id_param, counts_param, created_shown, modified_shown, deleted_shown};
+ghost use Rattle.plain_machine.specs.Connecting.{showing, showing_what, done_code};
+ghost use Rattle.plain_machine.specs.Requesting.{encoding_with, connected_on, shown_by, answer_with};
+ghost use Rattle.gateway_stations.specs.News.{shown_as, connected_as};
+
+use crate::context::Context;
+use command_forms::ConnectionDeed;
+use connections::{Change, Connections, Created, Creation, Deletion, Encoding, write_number};
+use mg_bytes::{CodeFault, Identifier, OutOfMemory, ReturnCode, Text};
+use mgcp_text::{Answer, Bytes, Param, Params};
+use plain_machine::{LineDeed, Station};
+use sdp_subset::{Session, write_sdp};
+
+/// What there is to be told of the connections of a line.
+#[derive(Drop)]
+pub enum News {
+    /// Nothing.
+    Nothing,
+    /// One was created.
+    Began(Created),
+    /// One was modified, and its local description is now this.
+    Changed(Session),
+    /// One was deleted by its identifier.
+    Counted,
+}
+
+/// The connections of a line after a deed, and what there is to be told of them.
+#[derive(Drop)]
+pub(crate) struct Connected {
+    pub connections: Connections,
+    pub news: News,
+}
+
+fn begun(
+    encoding: Encoding,
+    creation: &Creation,
+    mut connections: Connections,
+) -> Result<Connected, u16>
+    ensures { connected_as result ≡ showing created_shown (created encoding creation.now connections) }
+{
+    match connections.create(encoding, creation.copy()) {
+        Ok(created) => Ok(Connected {
+            connections,
+            news: News::Began(created),
+        }),
+        Err(CodeFault::Code(code)) => Err(code),
+        Err(CodeFault::OutOfMemory) => unreachable!(),
+    }
+}
+
+// What is told of a connection that was modified.
+fn news_of(shown: Option<Session>) -> News
+    ensures { shown_as result ≡ modified_shown shown }
+{
+    match shown {
+        None => News::Nothing,
+        Some(description) => News::Changed(description),
+    }
+}
+
+fn changed(
+    encoding: Encoding,
+    call: &Identifier,
+    id: &Identifier,
+    change: &Change,
+    mut connections: Connections,
+) -> Result<Connected, u16>
+    ensures { connected_as result ≡ showing modified_shown (modified encoding call.now id.now change.now connections) }
+{
+    match connections.modify(encoding, call, id, change.copy()) {
+        Ok(shown) => Ok(Connected {
+            connections,
+            news: news_of(shown),
+        }),
+        Err(CodeFault::Code(code)) => Err(code),
+        Err(CodeFault::OutOfMemory) => unreachable!(),
+    }
+}
+
+// What is told of connections that were deleted.
+fn counted(deletion: &Deletion) -> News
+    ensures { shown_as result ≡ deleted_shown deletion.now }
+{
+    match deletion {
+        Deletion::All => News::Nothing,
+        Deletion::OfCall(_) => News::Nothing,
+        Deletion::One(_, _) => News::Counted,
+    }
+}
+
+fn ended(deletion: &Deletion, mut connections: Connections) -> Result<Connected, u16>
+    ensures { connected_as result ≡ showing_what (deleted_shown deletion.now) (deleted deletion.now connections) }
+{
+    match connections.delete(deletion) {
+        Ok(()) => Ok(Connected {
+            connections,
+            news: counted(deletion),
+        }),
+        Err(CodeFault::Code(code)) => Err(code),
+        Err(CodeFault::OutOfMemory) => unreachable!(),
+    }
+}
+
+/// The encoding that a station has for a deed: one that is given counts already.
+pub(crate) fn encoding_with(deed: &LineDeed, station: &Station) -> Encoding
+    ensures { result ≡ encoding_with deed.now station.now }
+{
+    match deed.encoding {
+        Some(encoding) => encoding,
+        None => station.encoding,
+    }
+}
+
+/// The connections of a station after a deed, and what there is to be told of them; or the code with which they refuse it.
+/// The station stays as it is. It takes no memory.
+#[tactic(auto, unfolding(plain_machine::specs::Connecting::connected))]
+pub(crate) fn connected_on(deed: &LineDeed, station: &Station) -> Result<Connected, u16>
+    ensures { connected_as result ≡ connected_on deed.now station.now }
+{
+    let encoding = encoding_with(deed, station);
+    let connections = station.connections.copy();
+    match &deed.connections {
+        ConnectionDeed::Keep => Ok(Connected {
+            connections,
+            news: News::Nothing,
+        }),
+        ConnectionDeed::Create(creation) => begun(encoding, creation, connections),
+        ConnectionDeed::Modify { call, id, change } => {
+            changed(encoding, call, id, change, connections)
+        }
+        ConnectionDeed::Delete(deletion) => ended(deletion, connections),
+    }
+}
+
+/// The connections of a station after a deed; what it refuses leaves them as they are.
+pub(crate) fn connections_left(deed: &LineDeed, station: &Station) -> Connections
+    ensures { result ≡ left_by station.now.connections (connected_on deed.now station.now) }
+{
+    match connected_on(deed, station) {
+        Ok(done) => done.connections,
+        Err(_) => station.connections.copy(),
+    }
+}
+
+/// What there is to be told of the connections of a station after a deed.
+pub fn news_on(deed: &LineDeed, station: &Station) -> News
+    ensures { shown_as result ≡ shown_by (connected_on deed.now station.now) }
+{
+    match connected_on(deed, station) {
+        Ok(done) => done.news,
+        Err(_) => News::Nothing,
+    }
+}
+
+// The identifier of a connection (RFC 3435, 2.3.5).
+fn id_param(context: Context<'_>, number: u32) -> Result<Param<'static>, OutOfMemory>
+    ensures value { IfOk result (λ param. param ≡ id_param number) }
+    ensures writable { IfOk result (λ param. is_writable_param param ≡ true) }
+{
+    let mut id = Vec::new(context.alloc);
+    write_number(context.alloc, &mut id, number)?;
+    Ok(Param {
+        code: Bytes::of(b"I"),
+        value: Bytes::owned(Text::of(id)),
+    })
+}
+
+// The counts of the packets of a connection (RFC 3435, 2.3.7): this gateway has no media.
+#[tactic(auto, unfolding(mg_bytes::specs::Blanks::trimmed, mg_bytes::specs::Blanks::trimmed_end))]
+fn counts_param() -> Param<'static>
+    ensures value { result ≡ counts_param }
+    ensures writable { is_writable_param result ≡ true }
+{
+    Param {
+        code: Bytes::of(b"P"),
+        value: Bytes::of(b"PS=0, OS=0, PR=0, OR=0, PL=0, JI=0, LA=0"),
+    }
+}
+
+fn params_of(context: Context<'_>, news: &News) -> Result<Params<'static>, OutOfMemory>
+    ensures value { IfOk result (λ params. params ≡ (shown_as news.now).params) }
+    ensures writable { IfOk result (λ params. list_all is_writable_param params ≡ true) }
+{
+    let mut params: Params<'static> = Params::new(context.alloc);
+    match news {
+        News::Nothing => {}
+        News::Began(created) => params.push(id_param(context, created.number)?)?,
+        News::Changed(_) => {}
+        News::Counted => params.push(counts_param())?,
+    }
+    Ok(params)
+}
+
+// The text of a description.
+fn text_of(context: Context<'_>, description: &Session) -> Result<Bytes<'static>, OutOfMemory>
+    ensures value { IfOk result (λ text. text ≡ written description.now) }
+    ensures writable { IfOk result (λ text. is_writable_body text ≡ true) }
+{
+    let text = write_sdp(context.alloc, description)?;
+    Ok(Bytes::owned(text))
+}
+
+#[tactic(auto, unfolding(mgcp_text::specs::Writing::is_writable_body))]
+fn body_of(context: Context<'_>, news: &News) -> Result<Bytes<'static>, OutOfMemory>
+    ensures value { IfOk result (λ body. body ≡ (shown_as news.now).body) }
+    ensures writable { IfOk result (λ body. is_writable_body body ≡ true) }
+{
+    match news {
+        News::Nothing => Ok(Bytes::of(b"")),
+        News::Began(created) => text_of(context, &created.description),
+        News::Changed(description) => text_of(context, description),
+        News::Counted => Ok(Bytes::of(b"")),
+    }
+}
+
+// The return code of a deed that is done (RFC 3435, 2.4).
+fn done_code(deed: &ConnectionDeed) -> u16
+    ensures { result ≡ done_code deed.now }
+{
+    match deed {
+        ConnectionDeed::Keep => ReturnCode::Executed.number(),
+        ConnectionDeed::Create(_) => ReturnCode::Executed.number(),
+        ConnectionDeed::Modify { .. } => ReturnCode::Executed.number(),
+        ConnectionDeed::Delete(_) => ReturnCode::ConnectionDeleted.number(),
+    }
+}
+
+/// The answer to a deed that is done, with what there is to be told of connections and then these parameters. An error is
+/// for want of memory only.
+pub fn answer_with(
+    context: Context<'_>,
+    more: Params<'static>,
+    deed: &LineDeed,
+    news: &News,
+) -> Result<Answer, OutOfMemory>
+    requires { list_all is_writable_param more ≡ true }
+    ensures { IfOk result (λ answer. answer ≡ answer_with more.entry deed.now (shown_as news.now)) }
+{
+    let mut params = params_of(context, news)?;
+    let body = body_of(context, news)?;
+    params.append(more)?;
+    Ok(Answer::with(done_code(&deed.connections), params, body))
+}

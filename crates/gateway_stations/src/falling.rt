@@ -1,0 +1,120 @@
+//! What falls due on a station, and of the gateway itself: of a line the end of timer T and the ends of signals, and the
+//! repeats of the command in flight, each at its own moment (RFC 3435, 2.1.5, 2.1.7 and 3.5.3).
+ghost use Rattle.std.specs.Prelude.{◌≡◌, ◌<◌, ◌^◌, option_map, IfOk};
+ghost use Rattle.mg_line.specs.Falling.{due_of};
+ghost use Rattle.plain_machine.specs.Falling.{line_item, command_item, due_on, earlier, happened_on, own_happened};
+ghost use Rattle.gateway_stations.specs.Telling.{MayTell, IsLine};
+ghost use Rattle.gateway_stations.specs.Turns.{HasTurn, OwnHasTurn};
+
+use crate::context::Context;
+use crate::notifying::{Occasion, tell};
+use crate::posting::{copy_of, resent_on};
+use crate::station::{with_line, with_post};
+use mg_bytes::OutOfMemory;
+use plain_machine::{Due, DueItem, OutDatagram, Own, Post, Station};
+
+// What falls due first of a line.
+fn line_item(line: u16, station: &Station) -> Option<DueItem>
+    ensures { result ≡ option_map (line_item line) (due_of station.now.line) }
+{
+    let (moment, due) = station.line.due()?;
+    Some(DueItem {
+        moment,
+        line,
+        due: Due::OfLine(due),
+    })
+}
+
+/// When the command in flight under a post is due: that of a line, or of the gateway itself, which is line 0.
+pub fn command_item(line: u16, post: &Post) -> Option<DueItem>
+    ensures { result ≡ option_map (command_item line) post.now.pending }
+{
+    match &post.pending {
+        None => None,
+        Some(message) => Some(DueItem {
+            moment: message.due(),
+            line,
+            due: Due::Resend,
+        }),
+    }
+}
+
+/// What falls due first on the station of this line.
+#[tactic(auto, unfolding(plain_machine::specs::Falling::due_on))]
+pub fn due_on(line: u16, station: &Station) -> Option<DueItem>
+    ensures { result ≡ due_on (line, station.now) }
+{
+    earlier(line_item(line, station), command_item(line, &station.post))
+}
+
+/// The earlier of two, the first where both are as early.
+pub fn earlier(first: Option<DueItem>, other: Option<DueItem>) -> Option<DueItem>
+    ensures { result ≡ earlier first other }
+{
+    match (first, other) {
+        (None, _) => other,
+        (Some(_), None) => first,
+        (Some(one), Some(two)) => {
+            if one.moment <= two.moment {
+                first
+            } else {
+                other
+            }
+        }
+    }
+}
+
+/// What falls due happens to a station. An error is for want of memory only.
+#[tactic(auto, unfolding(plain_machine::specs::Falling::happened_on, plain_machine::specs::Notifying::noted))]
+pub fn happened_on(
+    context: Context<'_>,
+    occasion: Occasion,
+    station: &Station,
+    due: Due,
+    out: &mut Vec<OutDatagram>,
+) -> Result<Station, OutOfMemory>
+    requires line { IsLine occasion.line }
+    requires may { MayTell context.setup.now occasion.moment }
+    ensures { IfOk result (λ becomes. HasTurn
+        (happened_on due context.entry.setup.now occasion.line occasion.moment station.now)
+        becomes out.old.items out.new.items) }
+{
+    match due {
+        Due::OfLine(due) => {
+            let step = station.line.fire(due, occasion.moment)?;
+            tell(
+                context,
+                occasion,
+                with_line(station, step.line)?,
+                step.notice,
+                out,
+            )
+        }
+        Due::Resend => {
+            let post = resent_on(context, occasion, &station.post, out)?;
+            with_post(station, post)
+        }
+    }
+}
+
+/// What falls due of the gateway itself happens at this moment (in ms): nothing that falls due of lines. An error is
+/// for want of memory only.
+#[tactic(auto, unfolding(plain_machine::specs::Falling::own_happened))]
+pub fn own_happened(
+    context: Context<'_>,
+    moment: u64,
+    own: &Own,
+    due: Due,
+    out: &mut Vec<OutDatagram>,
+) -> Result<Own, OutOfMemory>
+    requires { moment < 2 ^ 62 }
+    ensures { IfOk result (λ becomes. OwnHasTurn (own_happened due moment own.now)
+        becomes out.old.items out.new.items) }
+{
+    let occasion = Occasion { line: 0, moment };
+    let post = match due {
+        Due::OfLine(_) => copy_of(&own.post)?,
+        Due::Resend => resent_on(context, occasion, &own.post, out)?,
+    };
+    Ok(Own { post })
+}

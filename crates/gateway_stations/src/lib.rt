@@ -1,0 +1,26 @@
+//! What is done on one station of a gateway: a line with its post, its encoding and its connections.
+//!
+//! Each call takes a station and gives what becomes of it; what it sends goes behind the messages that there are
+//! (RFC 3435, 2.3, 3.5 and 4.4). What is done under a post is done so for the gateway itself too.
+#![tactic(auto)]
+
+mod acting;
+mod connecting;
+mod context;
+mod falling;
+mod notifying;
+mod posting;
+mod requesting;
+mod responding;
+mod sending;
+mod station;
+
+pub use crate::acting::acted_on;
+pub use crate::connecting::{News, answer_with, news_on};
+pub use crate::context::Context;
+pub use crate::falling::{command_item, due_on, earlier, happened_on, own_happened};
+pub use crate::notifying::Occasion;
+pub use crate::posting::Response;
+pub use crate::requesting::{deed_on, has_place, refusal_by};
+pub use crate::responding::{own_responded, responded_on};
+pub use crate::sending::send;

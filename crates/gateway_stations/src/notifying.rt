@@ -1,0 +1,132 @@
+//! A line tells what it has to tell: a notification goes out, and is in flight from then on (RFC 3435, 2.3.4 and 3.5).
+ghost use Rattle.std.specs.Prelude.{◌≡◌, ◌∷◌, [], true, false, codes, IfOk};
+ghost use Rattle.std.specs.List.{list_all, list_any};
+ghost use Rattle.mg_bytes.specs.Blanks.{is_blank};
+ghost use Rattle.mg_bytes.specs.Lines.{is_line_feed};
+ghost use Rattle.mgcp_text.specs.Parameter.{is_code};
+ghost use Rattle.mgcp_text.specs.Writing.{is_writable_param, written};
+ghost use Rattle.endpoint_names.specs.Table.{is_domain};
+ghost use Rattle.event_values.specs.Observed.{observed_text};
+ghost use Rattle.plain_machine.specs.Posting.{id_on, with_command};
+ghost use Rattle.plain_machine.specs.Notifying.{notification, with_notice};
+ghost use Rattle.gateway_stations.specs.Telling.{MayTell, IsLine};
+ghost use Rattle.gateway_stations.specs.Turns.{HasTurn, PostHasTurn};
+
+use crate::context::Context;
+use crate::sending::send;
+use endpoint_names::{Pattern, write_name};
+use event_values::write_observed;
+use mg_bytes::{OutOfMemory, Text};
+use mg_line::Notice;
+use mgcp_text::{Bytes, Message, Param, Params, TransactionId, Verb, write_message};
+use outbound::Pending;
+use plain_machine::{OutDatagram, Post, Station};
+
+/// Which line it is, and what time (in ms). The gateway itself is line 0.
+#[derive(Clone, Copy)]
+pub struct Occasion {
+    pub line: u16,
+    pub moment: u64,
+}
+
+// A parameter whose value is one word.
+fn word_param<'v>(code: &'static [u8], value: Bytes<'v>) -> Param<'v>
+    requires code { is_code code.now ≡ true }
+    requires no_blanks { list_any is_blank value ≡ false }
+    requires one_line { list_any is_line_feed value ≡ false }
+    ensures value { result ≡ record { code = code.now; value = value.entry } }
+    ensures writable { is_writable_param result ≡ true }
+{
+    Param {
+        code: Bytes::of(code),
+        value,
+    }
+}
+
+// X and O of a notification (RFC 3435, 2.3.4).
+fn notice_params<'n>(context: Context<'_>, notice: &'n Notice) -> Result<Params<'n>, OutOfMemory>
+    ensures value { IfOk result (λ params. params ≡ (record { code = codes "X"; value = notice.now.identifier })
+        ∷ (record { code = codes "O"; value = observed_text notice.now.observed }) ∷ []) }
+    ensures writable { IfOk result (λ params. list_all is_writable_param params ≡ true) }
+{
+    let observed = write_observed(context.alloc, notice.observed())?;
+    let mut params: Params<'n> = Params::new(context.alloc);
+    params.push(word_param(b"X", Bytes::of(notice.identifier().as_slice())))?;
+    params.push(word_param(b"O", Bytes::owned(observed)))?;
+    Ok(params)
+}
+
+// The text of the notification of a line under this id.
+#[tactic(auto, unfolding(plain_machine::specs::Notifying::notification))]
+fn notification(
+    context: Context<'_>,
+    line: u16,
+    id: TransactionId,
+    notice: &Notice,
+) -> Result<Text, OutOfMemory>
+    requires domain { is_domain context.setup.now.names.domain ≡ true }
+    ensures { IfOk result (λ text. text ≡ written (notification context.entry.setup.now line id notice.now)) }
+{
+    let domain = context.setup.names.domain.as_bytes();
+    let said = Message::Command {
+        verb: Verb::Ntfy,
+        id,
+        name: Bytes::owned(write_name(context.alloc, Pattern::One(line), domain)?),
+        params: notice_params(context, notice)?,
+        body: Bytes::of(b""),
+    };
+    write_message(context.alloc, &said)
+}
+
+// A notification begins under a line's post: it is in flight, and goes out.
+fn begin(
+    context: Context<'_>,
+    occasion: Occasion,
+    post: &Post,
+    notice: &Notice,
+    out: &mut Vec<OutDatagram>,
+) -> Result<Post, OutOfMemory>
+    requires line { IsLine occasion.line }
+    requires may { MayTell context.setup.now occasion.moment }
+    ensures { IfOk result (λ becomes. PostHasTurn (with_command occasion.line occasion.moment post.now
+        (notification context.entry.setup.now occasion.line (id_on occasion.line post.now.number) notice.now))
+        becomes out.old.items out.new.items) }
+{
+    let id = post.number.id_on(occasion.line);
+    let to = post.entity.address;
+    let text = notification(context, occasion.line, id, notice)?;
+    let pending = Pending::begin(context.alloc, id, to, text.as_bytes(), occasion.moment)?;
+    send(out, to, occasion.moment, text)?;
+    Ok(Post {
+        entity: post.entity,
+        number: post.number.after_on(occasion.line),
+        pending: Some(pending),
+    })
+}
+
+/// A station tells what its line has to tell: its notification begins, and goes out behind what there is.
+pub(crate) fn tell(
+    context: Context<'_>,
+    occasion: Occasion,
+    station: Station,
+    notice: Option<Notice>,
+    out: &mut Vec<OutDatagram>,
+) -> Result<Station, OutOfMemory>
+    requires line { IsLine occasion.line }
+    requires may { MayTell context.setup.now occasion.moment }
+    ensures { IfOk result (λ becomes. HasTurn (with_notice context.entry.setup.now occasion.line occasion.moment station notice)
+        becomes out.old.items out.new.items) }
+{
+    match notice {
+        None => Ok(station),
+        Some(notice) => {
+            let post = begin(context, occasion, &station.post, &notice, out)?;
+            Ok(Station {
+                line: station.line,
+                post,
+                encoding: station.encoding,
+                connections: station.connections,
+            })
+        }
+    }
+}
