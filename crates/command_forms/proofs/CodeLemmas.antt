@@ -21,6 +21,8 @@ use Rattle.command_forms.specs.declared.verbs.Connecting.TheVariants.{Keeps, Cre
 use Rattle.command_forms.specs.declared.verbs.Meant.{Meant}
 use Rattle.command_forms.specs.declared.verbs.Purpose.{Purpose}
 use Rattle.command_forms.specs.declared.verbs.Purpose.TheVariants.{ForReport, ForDeed}
+use Rattle.command_forms.specs.declared.verbs.Reporting.{Reporting}
+use Rattle.command_forms.specs.declared.verbs.Reporting.TheVariants.{Endpoint, Connection}
 use Rattle.command_forms.specs.declared.verbs.VerbRow.{VerbRow}
 use Rattle.command_forms.specs.Command.{Command}
 use Rattle.command_forms.specs.Refusing.{letter_k, refusal, absence, fault_at, placed, coded, ◌>>=◌}
@@ -28,7 +30,7 @@ use Rattle.command_forms.specs.Params.{param_fault, params_fault, value_at}
 use Rattle.command_forms.specs.Meaning.{meant}
 use Rattle.command_forms.specs.Values.{is_readable, said_at, entity_at, encoding_from, identifier_from, mode_from, handling_at, change_at, remote_of}
 use Rattle.command_forms.specs.Deeds.{request_of, request_at, creation_of, modification_of, deletion_of, connected_by, deed_of}
-use Rattle.command_forms.specs.Order.{absent_letter, counted, asked_for, asked, judged, form_of}
+use Rattle.command_forms.specs.Order.{audit_of, absent_letter, counted, asked_for, asked, judged_while, judged, form_while, form_of}
 use Rattle.command_forms.specs.Codes.{name_codes, param_codes, has_code}
 use Rattle.command_forms.proofs.StepLemmas.{is_err}
 use Rattle.command_forms.proofs.RefusedLemmas.{on_err}
@@ -171,9 +173,15 @@ deed_coded connecting params text hosts =
     refusable_on (request_at (param_at (codes "X") params) params) _ (request_at_coded (param_at (codes "X") params) params) (λ request.
     coded_on _ (remote_of text) _ (remote_coded text) (λ remote. tt)))))
 
+audit_coded : (reporting : Reporting) (params : List Param) → Refusable (audit_of reporting params)
+audit_coded Endpoint params = tt
+audit_coded Connection params =
+    coded_on _ (identifier_from (value_at (codes "I") params)) _ (identifier_coded (value_at (codes "I") params)) (λ identifier. tt)
+
 asked_for_coded : (purpose : Purpose) (target : Target) (params : List Param) (text : List ℕ) (hosts : List Host)
     → Refusable (asked_for purpose target params text hosts)
-asked_for_coded ForReport target params text hosts = tt
+asked_for_coded (ForReport reporting) target params text hosts =
+    refusable_on (audit_of reporting params) _ (audit_coded reporting params) (λ audit. tt)
 asked_for_coded (ForDeed connecting) target params text hosts =
     refusable_on (deed_of connecting params text hosts) _ (deed_coded connecting params text hosts) (λ deed. tt)
 
@@ -213,7 +221,7 @@ weaker P Q (Ok value) each here = tt
 weaker P Q (Err refused) each here = each refused here
 
 pub judged_coded : (command : Command) (confirms : KValue) (names : Names) → IfErr (judged command confirms names) IsFormRefusal
-unfolding judged
+unfolding judged_while
 judged_coded command confirms names =
     on_err IsFormRefusal (meant command names) _
     (weaker IsNameRefusal IsFormRefusal (meant command names) (λ refused here. inl here) (meant_coded command names)) (λ found.
@@ -225,6 +233,6 @@ alone P (Ok value) here = tt
 alone P (Err refused) here = here
 
 pub form_code : (command : Command) (confirms : KValue) (names : Names) (code : ℕ) → form_of command confirms names ≡ Err code → IsFormCode code
-unfolding form_of
+unfolding form_while
 form_code command confirms names code e =
     is_err IsFormCode (coded (judged command confirms names)) code (alone IsFormCode (judged command confirms names) (judged_coded command confirms names)) e

@@ -23,7 +23,7 @@ code_alone (Err refused) = refl
 
 pub same_code : (message : Message) (confirms : KValue) (names : Names)
     → refused_code (explained_in message confirms names) ≡ result_err (form_in message confirms names)
-same_code message confirms names = rw (form_is message confirms names) (code_alone (judged_in message confirms names))
+same_code message confirms names = rw (form_is true message confirms names) (code_alone (judged_in message confirms names))
 
 words_known : (code : ℕ) → IsFormCode code → is_some (code_with code) ≡ true
 unfolding code_with

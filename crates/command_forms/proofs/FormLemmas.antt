@@ -8,7 +8,7 @@ use Rattle.mg_bytes.specs.Numbers.{is_hex_text}
 use Rattle.mgcp_text.specs.declared.confirmation.KValue.{KValue}
 use Rattle.mgcp_text.specs.declared.message.Param.{Param}
 use Rattle.mgcp_text.specs.declared.message.Verb.{Verb}
-use Rattle.mgcp_text.specs.declared.message.Verb.TheVariants.{Rqnt}
+use Rattle.mgcp_text.specs.declared.message.Verb.TheVariants.{Auep, Aucx, Rqnt}
 use Rattle.mgcp_text.specs.Message.{param_at}
 use Rattle.endpoint_names.specs.declared.names.Names.{Names}
 use Rattle.endpoint_names.specs.declared.table.Host.{Host}
@@ -44,17 +44,19 @@ use Rattle.command_forms.specs.declared.verbs.Connecting.TheVariants.{Keeps, Cre
 use Rattle.command_forms.specs.declared.verbs.Meant.{Meant}
 use Rattle.command_forms.specs.declared.verbs.Purpose.{Purpose}
 use Rattle.command_forms.specs.declared.verbs.Purpose.TheVariants.{ForReport, ForDeed}
+use Rattle.command_forms.specs.declared.verbs.Reporting.{Reporting}
+use Rattle.command_forms.specs.declared.verbs.Reporting.TheVariants.{Endpoint, Connection}
 use Rattle.command_forms.specs.declared.verbs.VerbRow.{VerbRow}
 use Rattle.command_forms.specs.declared.verbs.Wildcard.{Wildcard}
 use Rattle.command_forms.specs.Verbs.{row_of}
 use Rattle.command_forms.specs.Command.{Command}
-use Rattle.command_forms.specs.Refusing.{letter_c, letter_k, letter_x, refusal, absence, coded}
+use Rattle.command_forms.specs.Refusing.{letter_c, letter_i, letter_k, letter_x, refusal, absence, coded, ◌>>=◌}
 use Rattle.command_forms.specs.Params.{has, missing_letter, params_fault, value_in, value_at}
 use Rattle.command_forms.specs.Meaning.{is_empty, takes_all, takes_any, meant}
 use Rattle.command_forms.specs.Values.{is_readable, said_at, entity_at, encoding_from, identifier_from, mode_from, handling_at, change_at, remote_of}
 use Rattle.command_forms.specs.Deeds.{request_of, request_at, creation_of, modification_of, deletion_by, deletion_of, connected_by, with_remote, deed_of}
-use Rattle.command_forms.specs.Order.{names_call, are_requested as are_of_request, absent_letter, counted, asked_for, asked, judged, form_of}
-use Rattle.command_forms.specs.Codes.{target_in, AreOf, HasValues, IsAt, options_or, HasCreation, HasDeletion, HasConnections, connecting_in, may_connect_all, may_connect_any, MayBeOf, HasDeed}
+use Rattle.command_forms.specs.Order.{audit_of, names_call, are_requested as are_of_request, absent_letter, counted, asked_for, asked, judged_while, form_while, form_of}
+use Rattle.command_forms.specs.Codes.{Audits, target_in, AreOf, HasValues, IsAt, options_or, HasCreation, HasDeletion, HasConnections, connecting_in, may_connect_all, may_connect_any, MayBeOf, HasDeed}
 use Rattle.command_forms.proofs.StepLemmas.{is_ok}
 use Rattle.command_forms.proofs.RefusedLemmas.{on_ok, on_placed, coded_ok}
 
@@ -62,12 +64,12 @@ use Rattle.command_forms.proofs.RefusedLemmas.{on_ok, on_placed, coded_ok}
 
 pub name_first : (command : Command) (confirms : KValue) (names : Names) (refused : Refused) → meant command names ≡ Err refused
     → form_of command confirms names ≡ Err refused.code
-unfolding form_of judged
+unfolding form_while judged_while
 name_first command confirms names refused e = rw e refl
 
 pub asked_behind : (command : Command) (confirms : KValue) (names : Names) (found : Meant) → meant command names ≡ Ok found
     → form_of command confirms names ≡ coded (asked found command.params command.body confirms names.table)
-unfolding form_of judged
+unfolding form_while judged_while
 asked_behind command confirms names found e = rw e refl
 
 -- Behind the checks of the parameters
@@ -116,7 +118,8 @@ form_meant command confirms names asks e = by_meant (meant command names) refl w
 
 target_is : (purpose : Purpose) (within : Target) (params : List Param) (text : List ℕ) (hosts : List Host) (asks : Asks)
     → asked_for purpose within params text hosts ≡ Ok asks → target_in asks ≡ within
-target_is ForReport within params text hosts asks e = search rules
+target_is (ForReport Endpoint) within params text hosts asks e = search rules
+target_is (ForReport Connection) within params text hosts asks e = search rules
 target_is (ForDeed connecting) within params text hosts asks e = search rules
 
 pub same_target : (found : Meant) (params : List Param) (body : List ℕ) (confirms : KValue) (hosts : List Host) (asks : Asks)
@@ -321,6 +324,11 @@ deed_asked : (connecting : Connecting) (within target : Target) (params : List P
     → asked_for (ForDeed connecting) within params text hosts ≡ Ok (Does target deed) → deed_of connecting params text hosts ≡ Ok deed
 deed_asked connecting within target params text hosts deed e = search rules
 
+no_deed : {P : Type 0} (read : Result Audit Refused) (within target : Target) (deed : Deed)
+    → read >>= (λ audit. Ok (Reports within audit)) ≡ Ok (Does target deed) → P
+no_deed (Ok audit) within target deed e = absurd cc
+no_deed (Err refused) within target deed e = absurd cc
+
 asked_read : (found : Meant) (params : List Param) (body : List ℕ) (confirms : KValue) (hosts : List Host) (target : Target) (deed : Deed)
     → asked found params body confirms hosts ≡ Ok (Does target deed) → IsRead found params body hosts deed
 asked_read found params body confirms hosts target deed e =
@@ -328,7 +336,7 @@ asked_read found params body confirms hosts target deed e =
     by_purpose found.row.purpose refl passes.together passes.reads where
       by_purpose : (purpose : Purpose) → found.row.purpose ≡ purpose → names_call purpose params ≡ true
           → asked_for purpose found.target params (counted found.row.described body) hosts ≡ Ok (Does target deed) → IsRead found params body hosts deed
-      by_purpose ForReport is together read = absurd cc
+      by_purpose (ForReport reporting) is together read = no_deed (audit_of reporting params) found.target target deed read
       by_purpose (ForDeed connecting) is together read = record {
         connecting = connecting;
         purpose = is;
@@ -409,7 +417,8 @@ meant_takes command names found e = search rules
 
 -- what rows say that take all lines, and any one
 abbrev AllOf : Purpose → List Param → Type 0
-AllOf ForReport params = is_empty (value_at (codes "F") params) ≡ true
+AllOf (ForReport Endpoint) params = is_empty (value_at (codes "F") params) ≡ true
+AllOf (ForReport Connection) params = ⊥
 AllOf (ForDeed Keeps) params = Unit {0}
 AllOf (ForDeed Creates) params = ⊥
 AllOf (ForDeed Modifies) params = ⊥
@@ -456,22 +465,120 @@ is_created (deeds.Create creation) e = refl
 is_created (deeds.Modify call id change) e = absurd cc
 is_created (deeds.Delete deletion) e = absurd cc
 
+-- a report is of what its row says
+record IsReport (purpose : Purpose) (params : List Param) (audit : Audit) : Type 0 where
+  reporting : Reporting
+  of_row : purpose ≡ ForReport reporting
+  read : audit_of reporting params ≡ Ok audit
+
+audit_asked : (read : Result Audit Refused) (within target : Target) (audit : Audit)
+    → read >>= (λ said. Ok (Reports within said)) ≡ Ok (Reports target audit) → read ≡ Ok audit
+audit_asked (Ok said) within target audit e = let same : said ≡ audit = cc in ap Ok same
+audit_asked (Err refused) within target audit e = absurd cc
+
+no_report : (read : Result Deed Refused) (within target : Target) (audit : Audit) → read >>= (λ deed. Ok (Does within deed)) ≡ Ok (Reports target audit) → ⊥
+no_report (Ok deed) within target audit e = absurd cc
+no_report (Err refused) within target audit e = absurd cc
+
 report_from : (purpose : Purpose) (within target : Target) (params : List Param) (text : List ℕ) (hosts : List Host) (audit : Audit)
-    → asked_for purpose within params text hosts ≡ Ok (Reports target audit) → (purpose ≡ ForReport) × (audit.items ≡ value_at (codes "F") params)
-report_from ForReport within target params text hosts audit e = (refl, search rules)
-report_from (ForDeed connecting) within target params text hosts audit e = search rules
+    → asked_for purpose within params text hosts ≡ Ok (Reports target audit) → IsReport purpose params audit
+report_from (ForReport reporting) within target params text hosts audit e =
+    record { reporting = reporting; of_row = refl; read = audit_asked (audit_of reporting params) within target audit e }
+report_from (ForDeed connecting) within target params text hosts audit e =
+    absurd (no_report (deed_of connecting params text hosts) within target audit e)
 
 report_asked : (found : Meant) (params : List Param) (body : List ℕ) (confirms : KValue) (hosts : List Host) (target : Target) (audit : Audit)
-    → asked found params body confirms hosts ≡ Ok (Reports target audit) → (found.row.purpose ≡ ForReport) × (audit.items ≡ value_at (codes "F") params)
+    → asked found params body confirms hosts ≡ Ok (Reports target audit) → IsReport found.row.purpose params audit
 report_asked found params body confirms hosts target audit e =
     report_from found.row.purpose found.target target params (counted found.row.described body) hosts audit
     (has_passed found params body confirms hosts (Reports target audit) e).reads
 
+-- what a report has: the items of F, and of a connection its identifier
+abbrev IsOf : Reporting → List Param → Audit → Type 0
+IsOf Endpoint params audit = audit.connection ≡ None
+IsOf Connection params audit = (audit.connection ≡ Some (value_at (codes "I") params)) × IfSome audit.connection (λ identifier. is_hex_text identifier ≡ true)
+
+record HasAudit (reporting : Reporting) (params : List Param) (audit : Audit) : Type 0 where
+  items : audit.items ≡ value_at (codes "F") params
+  connection : IsOf reporting params audit
+
+audit_has : (reporting : Reporting) (params : List Param) → IfOk (audit_of reporting params) (HasAudit reporting params)
+audit_has Endpoint params = record { items = refl; connection = refl }
+audit_has Connection params =
+    on_placed (HasAudit Connection params) (Value letter_i) (identifier_from (value_at (codes "I") params)) _ (λ identifier i.
+    let is = identifier_is (value_at (codes "I") params) identifier i in
+    record { items = refl; connection = (ap Some (is.0), is.1) })
+
+-- the report that a command asks for
+record IsReported (command : Command) (audit : Audit) : Type 0 where
+  row : VerbRow
+  reporting : Reporting
+  row_there : row_of command.verb ≡ Some row
+  of_row : row.purpose ≡ ForReport reporting
+  has_it : HasAudit reporting command.params audit
+
+form_reported : (command : Command) (confirms : KValue) (names : Names) (target : Target) (audit : Audit)
+    → form_of command confirms names ≡ Ok (Reports target audit) → IsReported command audit
+form_reported command confirms names target audit e =
+    let m = form_meant command confirms names (Reports target audit) e in
+    let r = report_asked m.found command.params command.body confirms names.table target audit m.asked_there in
+    record {
+      row = m.found.row;
+      reporting = r.reporting;
+      row_there = row_is command names m.found m.means;
+      of_row = r.of_row;
+      has_it = is_ok (HasAudit r.reporting command.params) (audit_of r.reporting command.params) audit (audit_has r.reporting command.params) r.read;
+    }
+
 pub audit_has_items : (command : Command) (confirms : KValue) (names : Names) (target : Target) (audit : Audit)
     → form_of command confirms names ≡ Ok (Reports target audit) → audit.items ≡ value_at (codes "F") command.params
-audit_has_items command confirms names target audit e =
-    let m = form_meant command confirms names (Reports target audit) e in
-    (report_asked m.found command.params command.body confirms names.table target audit m.asked_there).1
+audit_has_items command confirms names target audit e = (form_reported command confirms names target audit e).has_it.items
+
+-- the rows of audits, and no others, report
+row_audits : (verb : Verb) (row : VerbRow) (reporting : Reporting) → row_of verb ≡ Some row → row.purpose ≡ ForReport reporting → Audits verb
+row_audits verb row reporting e p = search rules
+
+row_of_endpoint : (verb : Verb) (row : VerbRow) (reporting : Reporting) → verb ≡ Auep → row_of verb ≡ Some row → row.purpose ≡ ForReport reporting
+    → reporting ≡ Endpoint
+row_of_endpoint verb row reporting is e p = search rules
+
+row_of_connection : (verb : Verb) (row : VerbRow) (reporting : Reporting) → verb ≡ Aucx → row_of verb ≡ Some row → row.purpose ≡ ForReport reporting
+    → reporting ≡ Connection
+row_of_connection verb row reporting is e p = search rules
+
+pub audit_has_verb : (command : Command) (confirms : KValue) (names : Names) (target : Target) (audit : Audit)
+    → form_of command confirms names ≡ Ok (Reports target audit) → Audits command.verb
+audit_has_verb command confirms names target audit e =
+    let r = form_reported command confirms names target audit e in
+    row_audits command.verb r.row r.reporting r.row_there r.of_row
+
+pub audit_of_endpoint : (command : Command) (confirms : KValue) (names : Names) (target : Target) (audit : Audit) → command.verb ≡ Auep
+    → form_of command confirms names ≡ Ok (Reports target audit) → audit.connection ≡ None
+audit_of_endpoint command confirms names target audit verb e =
+    let r = form_reported command confirms names target audit e in
+    subst (λ (reporting : Reporting). IsOf reporting command.params audit) (row_of_endpoint command.verb r.row r.reporting verb r.row_there r.of_row)
+    r.has_it.connection
+
+pub audit_of_connection : (command : Command) (confirms : KValue) (names : Names) (target : Target) (audit : Audit) → command.verb ≡ Aucx
+    → form_of command confirms names ≡ Ok (Reports target audit) → audit.connection ≡ Some (value_at (codes "I") command.params)
+audit_of_connection command confirms names target audit verb e =
+    let r = form_reported command confirms names target audit e in
+    (subst (λ (reporting : Reporting). IsOf reporting command.params audit) (row_of_connection command.verb r.row r.reporting verb r.row_there r.of_row)
+    r.has_it.connection).0
+
+pub audit_has_digits : (command : Command) (confirms : KValue) (names : Names) (target : Target) (audit : Audit)
+    → form_of command confirms names ≡ Ok (Reports target audit) → IfSome audit.connection (λ identifier. is_hex_text identifier ≡ true)
+audit_has_digits command confirms names target audit e =
+    let r = form_reported command confirms names target audit e in
+    by_reporting r.reporting r.has_it.connection where
+      by_reporting : (reporting : Reporting) → IsOf reporting command.params audit → IfSome audit.connection (λ identifier. is_hex_text identifier ≡ true)
+      by_reporting Endpoint none = rw none tt
+      by_reporting Connection one = one.1
+
+report_all : (reporting : Reporting) (params : List Param) (audit : Audit) → AllOf (ForReport reporting) params → HasAudit reporting params audit
+    → (audit.items ≡ []) × (audit.connection ≡ None)
+report_all Endpoint params audit all has_it = (empty_is audit.items (rw has_it.items all), has_it.connection)
+report_all Connection params audit all has_it = absurd all
 
 pub form_may_be : (command : Command) (confirms : KValue) (names : Names) (asks : Asks) → form_of command confirms names ≡ Ok asks → MayBeOf asks
 form_may_be command confirms names asks e =
@@ -484,10 +591,12 @@ form_may_be command confirms names asks e =
       by_asks found row (Reports (One line) audit) takes read = tt
       by_asks found row (Reports All audit) takes read =
           let is = report_asked found command.params command.body confirms names.table All audit read in
-          empty_is audit.items (rw (is.1) (subst (λ (purpose : Purpose). AllOf purpose command.params) (is.0) (row_all command.verb found.row command.params row takes)))
+          let all = subst (λ (purpose : Purpose). AllOf purpose command.params) (is.of_row) (row_all command.verb found.row command.params row takes) in
+          report_all is.reporting command.params audit all
+          (is_ok (HasAudit is.reporting command.params) (audit_of is.reporting command.params) audit (audit_has is.reporting command.params) is.read)
       by_asks found row (Reports Any audit) takes read =
           let is = report_asked found command.params command.body confirms names.table Any audit read in
-          let no : ForReport ≡ ForDeed Creates = sym (is.0) ∙ row_any command.verb found.row row takes in
+          let no : ForReport is.reporting ≡ ForDeed Creates = sym (is.of_row) ∙ row_any command.verb found.row row takes in
           absurd cc
       by_asks found row (Does (One line) deed) takes read = tt
       by_asks found row (Does All deed) takes read =

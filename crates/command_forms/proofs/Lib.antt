@@ -4,5 +4,6 @@ pub mod OptionCodes
 pub mod ValueCodes
 pub mod CodeLemmas
 pub mod FormLemmas
+pub mod RestartLemmas
 pub mod ExplainingLaws
 pub mod Computing

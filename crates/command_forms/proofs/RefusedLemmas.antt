@@ -1,5 +1,5 @@
 -- What holds of steps that may end with a refusal, one after the other.
-use Rattle.std.proofs.Common.{◌≡◌, ℕ, refl, ap, Ok, Err}
+use Rattle.std.proofs.Common.{◌≡◌, ℕ, Bool, refl, ap, Ok, Err}
 use Rattle.std.specs.Prelude.{Result, IfOk, IfErr}
 use Rattle.mgcp_text.specs.declared.confirmation.KValue.{KValue}
 use Rattle.mgcp_text.specs.declared.message.Message.{Message}
@@ -8,7 +8,7 @@ use Rattle.endpoint_names.specs.declared.names.Names.{Names}
 use Rattle.command_forms.specs.declared.refused.Place.{Place}
 use Rattle.command_forms.specs.declared.refused.Refused.{Refused}
 use Rattle.command_forms.specs.Refusing.{placed, coded, ◌>>=◌}
-use Rattle.command_forms.specs.Order.{judged_in, form_of, form_in}
+use Rattle.command_forms.specs.Order.{judged_while_in, form_while, form_while_in}
 
 -- what holds of each value that a next step gives holds of what both give
 pub on_ok : {A B : Type 0} (P : B → Type 0) (read : Result A Refused) (next : A → Result B Refused) → ((x : A) → read ≡ Ok x → IfOk (next x) P)
@@ -34,7 +34,8 @@ coded_ok (Ok x) value e = let same : x ≡ value = cc in ap Ok same
 coded_ok (Err refused) value e = absurd cc
 
 -- and so of a message
-pub form_is : (message : Message) (confirms : KValue) (names : Names) → form_in message confirms names ≡ coded (judged_in message confirms names)
-unfolding form_of
-form_is (messages.Command verb id name params body) confirms names = refl
-form_is (messages.Response code id params body) confirms names = refl
+pub form_is : (serves : Bool) (message : Message) (confirms : KValue) (names : Names)
+    → form_while_in serves message confirms names ≡ coded (judged_while_in serves message confirms names)
+unfolding form_while
+form_is serves (messages.Command verb id name params body) confirms names = refl
+form_is serves (messages.Response code id params body) confirms names = refl

@@ -1,8 +1,10 @@
 -- What the laws of this crate speak of: which codes there are, and what a form has.
-use Rattle.std.specs.Prelude.{◌≡◌, ℕ, ◌≤◌, Bool, true, false, ◌==◌, codes, List, [], ◌∷◌, Option, Some, None, is_some, Result, Ok, IfSome}
+use Rattle.std.specs.Prelude.{◌≡◌, ℕ, ◌≤◌, Bool, true, false, ◌==◌, codes, List, [], ◌∷◌, Option, Some, None, is_some, Result, Ok, IfSome, ◌⊎◌}
 use Rattle.std.specs.List.{list_any}
 use Rattle.mg_bytes.specs.Numbers.{is_hex_text}
 use Rattle.mgcp_text.specs.declared.message.Param.{Param}
+use Rattle.mgcp_text.specs.declared.message.Verb.{Verb}
+use Rattle.mgcp_text.specs.declared.message.Verb.TheVariants.{Auep, Aucx}
 use Rattle.mgcp_text.specs.Message.{param_at}
 use Rattle.endpoint_names.specs.declared.table.Host.{Host}
 use Rattle.event_syntax.specs.Requested.{requested_of, are_writable_requested}
@@ -40,6 +42,10 @@ param_codes =
 abbrev pub has_code : List ℕ → ℕ → Bool
 has_code known code = list_any (λ one. one == code) known
 
+-- the verbs of audits (RFC 3435, 2.3.10 and 2.3.11)
+abbrev pub Audits : Verb → Type 0
+Audits verb = (verb ≡ Auep) ⊎ (verb ≡ Aucx)
+
 -- the lines that a form is for
 abbrev pub target_in : Asks → Target
 target_in (Reports target audit) = target
@@ -67,10 +73,11 @@ may_connect_any (deeds.Create creation) = true
 may_connect_any (deeds.Modify call id change) = false
 may_connect_any (deeds.Delete deletion) = false
 
--- what may be asked of more than one line: of all a report without items, and such a deed; of any one such a deed
+-- what may be asked of more than one line: of all a report without items, and of no connection by itself, and such a
+-- deed; of any one such a deed
 abbrev pub MayBeOf : Asks → Type 0
 MayBeOf (Reports (One line) audit) = Unit {0}
-MayBeOf (Reports All audit) = audit.items ≡ []
+MayBeOf (Reports All audit) = (audit.items ≡ []) × (audit.connection ≡ None)
 MayBeOf (Reports Any audit) = ⊥
 MayBeOf (Does (One line) deed) = Unit {0}
 MayBeOf (Does All deed) = may_connect_all deed.connections ≡ true

@@ -1,5 +1,5 @@
 -- What the worked examples share.
-use Rattle.std.specs.Prelude.{ℕ, false, List, [], ◌∷◌, ◌++◌, codes, Option, Some, None, option_map, Result, Ok, Err}
+use Rattle.std.specs.Prelude.{ℕ, Bool, true, false, List, [], ◌∷◌, ◌++◌, codes, Option, Some, None, option_map, Result, Ok, Err}
 use Rattle.std.specs.declared.net.ipv4_addr.Ipv4Addr.{Ipv4Addr}
 use Rattle.mgcp_text.specs.declared.message.Param.{Param}
 use Rattle.mgcp_text.specs.Reading.{Outcome, message, no_header, bad_version, bad_body, read_text}
@@ -43,7 +43,7 @@ use Rattle.command_forms.specs.declared.verbs.Connecting.TheVariants.{Keeps}
 use Rattle.command_forms.specs.declared.verbs.Purpose.TheVariants.{ForDeed}
 use Rattle.command_forms.specs.declared.verbs.VerbRow.{VerbRow}
 use Rattle.command_forms.specs.declared.verbs.Wildcard.TheVariants as wildcards
-use Rattle.command_forms.specs.Order.{form_in}
+use Rattle.command_forms.specs.Order.{form_while_in}
 use Rattle.command_forms.specs.Explaining.{explained_in, explanation_of}
 
 -- 127.0.0.1
@@ -62,15 +62,15 @@ gateway = record {
 abbrev pub Reply : Type 0
 Reply = Option (Result Asks ℕ)
 
-abbrev pub form_from : Outcome → Reply
-form_from (message said) = Some (form_in said (k_of (params_in said)) gateway)
-form_from no_header = None
-form_from (bad_version id) = None
-form_from (bad_body id) = None
+abbrev pub form_from : Bool → Outcome → Reply
+form_from serves (message said) = Some (form_while_in serves said (k_of (params_in said)) gateway)
+form_from serves no_header = None
+form_from serves (bad_version id) = None
+form_from serves (bad_body id) = None
 
--- what a text asks of this gateway
+-- what a text asks of this gateway, which serves
 abbrev pub reply_to : List ℕ → Reply
-reply_to text = form_from (read_text text)
+reply_to text = form_from true (read_text text)
 
 -- a command of this verb, on this local name, with these lines
 abbrev pub command_text : List ℕ → List ℕ → List ℕ → List ℕ
@@ -79,11 +79,18 @@ command_text verb local lines = verb ++ codes " 2001 " ++ local ++ codes "@rgw.e
 abbrev pub command_on : List ℕ → List ℕ → List ℕ → Reply
 command_on verb local lines = reply_to (command_text verb local lines)
 
+-- the same before the gateway serves
+abbrev pub first_on : List ℕ → List ℕ → List ℕ → Reply
+first_on verb local lines = form_from false (read_text (command_text verb local lines))
+
 abbrev pub request_on : List ℕ → List ℕ → Reply
 request_on local lines = command_on (codes "RQNT") local lines
 
 abbrev pub audit_on : List ℕ → List ℕ → Reply
 audit_on local lines = command_on (codes "AUEP") local lines
+
+abbrev pub audit_connection_on : List ℕ → List ℕ → Reply
+audit_connection_on local lines = command_on (codes "AUCX") local lines
 
 -- on line 1
 abbrev pub request : List ℕ → Reply
@@ -91,6 +98,13 @@ request lines = request_on (codes "aaln/1") lines
 
 abbrev pub audit : List ℕ → Reply
 audit lines = audit_on (codes "aaln/1") lines
+
+abbrev pub audit_connection : List ℕ → Reply
+audit_connection lines = audit_connection_on (codes "aaln/1") lines
+
+-- on line 1 before the gateway serves
+abbrev pub first : List ℕ → List ℕ → Reply
+first verb lines = first_on verb (codes "aaln/1") lines
 
 -- the code that it is refused with
 abbrev pub refused : ℕ → Reply
@@ -170,7 +184,12 @@ asks signal setting = record { signal = signal; setting = setting }
 
 -- an audit of these lines, which asks for these items
 abbrev pub audit_of : Target → List ℕ → Reply
-audit_of target items = Some (Ok (Reports target (record { items = items })))
+audit_of target items = Some (Ok (Reports target (record { items = items; connection = None })))
+
+-- an audit of this connection of line 1, which asks for these items
+abbrev pub audit_of_connection : List ℕ → List ℕ → Reply
+audit_of_connection identifier items =
+    Some (Ok (Reports (One 1) (record { items = items; connection = Some identifier })))
 
 -- why a text is refused, where it is a message, as a line for people
 abbrev pub why_from : Outcome → Option (List ℕ)
@@ -188,6 +207,9 @@ why_request lines = why_on (codes "RQNT") (codes "aaln/1") lines
 
 abbrev pub why_audit : List ℕ → Option (List ℕ)
 why_audit lines = why_on (codes "AUEP") (codes "aaln/1") lines
+
+abbrev pub why_audit_connection : List ℕ → Option (List ℕ)
+why_audit_connection lines = why_on (codes "AUCX") (codes "aaln/1") lines
 
 abbrev pub why_create : List ℕ → Option (List ℕ)
 why_create lines = why_on (codes "CRCX") (codes "aaln/1") lines
@@ -282,7 +304,11 @@ connecting connections = record nothing { connections = connections }
 
 -- an audit that asks for these items
 abbrev pub asking_for : List ℕ → Audit
-asking_for items = record { items = items }
+asking_for items = record { items = items; connection = None }
+
+-- an audit of the connection 1, which asks for no items
+abbrev pub of_audited : Audit
+of_audited = record { items = []; connection = Some (codes "1") }
 
 -- a parameter
 abbrev pub param : List ℕ → List ℕ → Param

@@ -1,6 +1,6 @@
 -- What a command asks for, and the order in which it is checked: the first fault gives the return code (RFC 3435, 2.4;
 -- the order is this gateway's profile).
-use Rattle.std.specs.Prelude.{ℕ, Bool, true, false, ◌||◌, not, codes, List, [], ◌∷◌, Option, option_map, Result, Ok}
+use Rattle.std.specs.Prelude.{ℕ, Bool, true, false, ◌||◌, not, codes, List, [], ◌∷◌, Option, Some, None, option_map, Result, Ok}
 use Rattle.mg_bytes.specs.Checks.{unless, first_fault, checked, given}
 use Rattle.mgcp_text.specs.declared.message.Param.{Param}
 use Rattle.mgcp_text.specs.declared.message.Message.{Message}
@@ -17,21 +17,26 @@ use Rattle.command_forms.specs.declared.verbs.Connecting.TheVariants.{Keeps, Cre
 use Rattle.command_forms.specs.declared.verbs.Meant.{Meant}
 use Rattle.command_forms.specs.declared.verbs.Purpose.{Purpose}
 use Rattle.command_forms.specs.declared.verbs.Purpose.TheVariants.{ForReport, ForDeed}
+use Rattle.command_forms.specs.declared.verbs.Reporting.{Reporting}
+use Rattle.command_forms.specs.declared.verbs.Reporting.TheVariants.{Endpoint, Connection}
 use Rattle.command_forms.specs.declared.verbs.VerbRow.{VerbRow}
 use Rattle.command_forms.specs.Command.{Command, command_in}
-use Rattle.command_forms.specs.Refusing.{letter_c, letter_k, letter_x, refusal, absence, coded, ◌>>=◌}
+use Rattle.command_forms.specs.Refusing.{letter_c, letter_i, letter_k, letter_x, refusal, absence, placed, coded, ◌>>=◌}
 use Rattle.command_forms.specs.Meaning.{meant}
 use Rattle.command_forms.specs.Params.{params_fault, missing_letter, has, has_none, value_at}
-use Rattle.command_forms.specs.Values.{is_readable}
+use Rattle.command_forms.specs.Values.{is_readable, identifier_from}
 use Rattle.command_forms.specs.Deeds.{deed_of}
 
--- what is to be reported: the items of F (RFC 3435, 2.3.10)
-abbrev pub audit_of : List Param → Audit
-audit_of params = record { items = value_at (codes "F") params }
+-- what is to be reported: the items of F (RFC 3435, 2.3.10), and of a connection that which I names (RFC 3435, 2.3.11)
+abbrev pub audit_of : Reporting → List Param → Result Audit Refused
+audit_of Endpoint params = Ok (record { items = value_at (codes "F") params; connection = None })
+audit_of Connection params =
+    placed (Value letter_i) (identifier_from (value_at (codes "I") params))
+    >>= λ identifier. Ok (record { items = value_at (codes "F") params; connection = Some identifier })
 
 -- a connection that is to be deleted is named together with its call (RFC 3435, 2.3.7)
 abbrev pub names_call : Purpose → List Param → Bool
-names_call ForReport params = true
+names_call (ForReport reporting) params = true
 names_call (ForDeed Keeps) params = true
 names_call (ForDeed Creates) params = true
 names_call (ForDeed Modifies) params = true
@@ -56,7 +61,8 @@ counted true body = body
 
 -- what these parameters and this text ask of these lines
 abbrev pub asked_for : Purpose → Target → List Param → List ℕ → List Host → Result Asks Refused
-asked_for ForReport target params text hosts = Ok (Reports target (audit_of params))
+asked_for (ForReport reporting) target params text hosts =
+    audit_of reporting params >>= λ audit. Ok (Reports target audit)
 asked_for (ForDeed connecting) target params text hosts =
     deed_of connecting params text hosts >>= λ deed. Ok (Does target deed)
 
@@ -72,19 +78,41 @@ asked found params body confirms hosts =
     ∷ []))
     (asked_for found.row.purpose found.target params (counted found.row.described body) hosts)
 
--- what a command asks for, whose K was read before, or what it is refused for: the verb and the name are judged first
-unfoldable pub judged : Command → KValue → Names → Result Asks Refused
-judged command confirms names = do
+-- an audit asks for a report
+abbrev pub is_audit : Purpose → Bool
+is_audit (ForReport reporting) = true
+is_audit (ForDeed connecting) = false
+
+-- What a command asks for, whose K was read before, or what it is refused for: the verb and the name are judged first,
+-- and then a gateway that doesn't serve yet refuses what is no audit: 405 (the endpoint is restarting)
+unfoldable pub judged_while : Bool → Command → KValue → Names → Result Asks Refused
+judged_while serves command confirms names = do
   found ← meant command names
-  asked found command.params command.body confirms names.table
+  checked (unless (serves || is_audit found.row.purpose) (refusal Verb 405))
+      (asked found command.params command.body confirms names.table)
 
 -- the same of a message: one that is no command has no verb that is served
-abbrev pub judged_in : Message → KValue → Names → Result Asks Refused
-judged_in message confirms names = given (command_in message) (refusal Verb 504) (λ command. judged command confirms names)
+abbrev pub judged_while_in : Bool → Message → KValue → Names → Result Asks Refused
+judged_while_in serves message confirms names =
+    given (command_in message) (refusal Verb 504) (λ command. judged_while serves command confirms names)
 
 -- what a command asks for, or the return code of its first fault
-unfoldable pub form_of : Command → KValue → Names → Result Asks ℕ
-form_of command confirms names = coded (judged command confirms names)
+unfoldable pub form_while : Bool → Command → KValue → Names → Result Asks ℕ
+form_while serves command confirms names = coded (judged_while serves command confirms names)
+
+abbrev pub form_while_in : Bool → Message → KValue → Names → Result Asks ℕ
+form_while_in serves message confirms names =
+    given (command_in message) 504 (λ command. form_while serves command confirms names)
+
+-- these of a gateway that serves
+abbrev pub judged : Command → KValue → Names → Result Asks Refused
+judged command confirms names = judged_while true command confirms names
+
+abbrev pub judged_in : Message → KValue → Names → Result Asks Refused
+judged_in message confirms names = judged_while_in true message confirms names
+
+abbrev pub form_of : Command → KValue → Names → Result Asks ℕ
+form_of command confirms names = form_while true command confirms names
 
 abbrev pub form_in : Message → KValue → Names → Result Asks ℕ
-form_in message confirms names = given (command_in message) 504 (λ command. form_of command confirms names)
+form_in message confirms names = form_while_in true message confirms names

@@ -1,6 +1,6 @@
 -- The values of a command's parameters, and its description: what each says, or the code of its fault (RFC 3435, 3.2.2
 -- and 3.4).
-use Rattle.std.specs.Prelude.{ℕ, Bool, true, false, List, [], ◌∷◌, Option, Some, None, option_map, Result, Ok, Err}
+use Rattle.std.specs.Prelude.{ℕ, Bool, true, false, List, [], ◌∷◌, Option, Some, None, option_map, Result, Ok}
 use Rattle.std.specs.Option.{ok_or}
 use Rattle.mg_bytes.specs.Numbers.{identifier_of}
 use Rattle.mgcp_text.specs.declared.message.Param.{Param}

@@ -1,12 +1,13 @@
 -- The verbs that are served (RFC 3435, 2.3), one a row: the codes of the parameters that each must have, and of those
 -- that it may have; which wildcard its name may have; whether a description counts; and whether it asks for a report or
--- for a deed, and what that does with connections. Every verb may have K besides.
+-- for a deed, of what it reports, and what a deed does with connections. Every verb may have K besides.
 use Rattle.std.specs.Prelude.{ℕ, Bool, true, false, codes, List, [], Option, Some, None}
 use Rattle.mgcp_text.specs.declared.message.Verb.{Verb}
 use Rattle.mgcp_text.specs.declared.message.Verb.TheVariants.{Epcf, Rqnt, Ntfy, Crcx, Mdcx, Dlcx, Auep, Aucx, Rsip, Other}
 use Rattle.command_forms.specs.declared.verbs.Connecting.TheVariants.{Keeps, Creates, Modifies, Deletes}
 use Rattle.command_forms.specs.declared.verbs.Purpose.{Purpose}
 use Rattle.command_forms.specs.declared.verbs.Purpose.TheVariants.{ForReport, ForDeed}
+use Rattle.command_forms.specs.declared.verbs.Reporting.TheVariants.{Endpoint, Connection}
 use Rattle.command_forms.specs.declared.verbs.VerbRow.{VerbRow}
 use Rattle.command_forms.specs.declared.verbs.Wildcard.{Wildcard}
 use Rattle.command_forms.specs.declared.verbs.Wildcard.TheVariants.{Never, All, AllWithoutItems, AllWithoutCall, Any}
@@ -23,8 +24,8 @@ row_of Rqnt = row (codes "X") (codes "NBRSDTQ") All false (ForDeed Keeps)
 row_of Crcx = row (codes "CM") (codes "NBLXRSDTQ") Any true (ForDeed Creates)
 row_of Mdcx = row (codes "CI") (codes "NBMLXRSDTQ") Never true (ForDeed Modifies)
 row_of Dlcx = row [] (codes "CINBXRSDTQ") AllWithoutCall false (ForDeed Deletes)
-row_of Auep = row [] (codes "F") AllWithoutItems false ForReport
+row_of Auep = row [] (codes "F") AllWithoutItems false (ForReport Endpoint)
+row_of Aucx = row (codes "I") (codes "F") Never false (ForReport Connection)
 row_of Ntfy = None
-row_of Aucx = None
 row_of Rsip = None
 row_of Other = None

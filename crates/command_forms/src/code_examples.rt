@@ -4,6 +4,7 @@
 
 ghost use Rattle.std.specs.Prelude.{◌≡◌, ◌++◌, codes, map, [], ◌∷◌, true, false, None, Some, Ok, Err};
 ghost use Rattle.std.specs.List.{list_all, list_any};
+ghost use Rattle.mgcp_text.specs.declared.message.Verb.TheVariants.{Epcf, Rqnt, Ntfy, Crcx, Mdcx, Dlcx, Auep, Aucx, Rsip, Other};
 ghost use Rattle.connections.specs.declared.deletion.Deletion.TheVariants as deletions;
 ghost use Rattle.connections.specs.declared.mode.Mode.TheVariants.{Inactive};
 ghost use Rattle.connections.specs.Options.{no_options};
@@ -12,20 +13,44 @@ ghost use Rattle.command_forms.specs.declared.forms.Asks.TheVariants.{Reports, D
 ghost use Rattle.command_forms.specs.declared.forms.ConnectionDeed.TheVariants as deeds;
 ghost use Rattle.command_forms.specs.declared.forms.Target.TheVariants.{One, All, Any};
 ghost use Rattle.command_forms.specs.declared.verbs.Connecting.TheVariants.{Keeps, Creates, Modifies, Deletes};
+ghost use Rattle.command_forms.specs.declared.verbs.Purpose.TheVariants.{ForReport, ForDeed};
+ghost use Rattle.command_forms.specs.declared.verbs.Reporting.TheVariants.{Endpoint, Connection};
+ghost use Rattle.command_forms.specs.Order.{is_audit};
 ghost use Rattle.command_forms.specs.Codes.{name_codes, param_codes, has_code, AreOf, may_connect_all, may_connect_any};
 ghost use Rattle.command_forms.specs.Codes.{MayBeOf, options_or, HasCreation, HasModification, HasDeletion, connecting_in};
-ghost use Rattle.command_forms.specs.Codes.{target_in};
+ghost use Rattle.command_forms.specs.Codes.{target_in, Audits};
 ghost use Rattle.command_forms.specs.Example.{all_deeds, connecting, asking_for, param, of_creation, of_connection, of_call};
-ghost use Rattle.command_forms.specs.Example.{connection_alone, receiver, no_change, session};
+ghost use Rattle.command_forms.specs.Example.{of_audited, connection_alone, receiver, no_change, session};
 
-/// The verb and the name have codes of their own; what lines refuse has none of either.
+/// The verb and the name have codes of their own; what lines refuse, and a gateway that restarts, has none of either.
 pub fn names_and_parameters_have_their_codes()
-    ensures name { map (has_code name_codes) (500 ∷ 503 ∷ 504 ∷ 502 ∷ 510 ∷ [])
-        ≡ true ∷ true ∷ true ∷ false ∷ false ∷ [] }
+    ensures name { map (has_code name_codes) (500 ∷ 503 ∷ 504 ∷ 405 ∷ 502 ∷ 510 ∷ [])
+        ≡ true ∷ true ∷ true ∷ false ∷ false ∷ false ∷ [] }
     ensures values { list_all (has_code param_codes)
         (502 ∷ 508 ∷ 509 ∷ 510 ∷ 511 ∷ 512 ∷ 513 ∷ 517 ∷ 518 ∷ 522 ∷ 523 ∷ 535 ∷ 538 ∷ 539 ∷ 541 ∷ []) ≡ true }
     ensures others { list_any (has_code param_codes)
-        (200 ∷ 250 ∷ 401 ∷ 402 ∷ 410 ∷ 500 ∷ 503 ∷ 504 ∷ 515 ∷ 516 ∷ 519 ∷ 527 ∷ 528 ∷ 533 ∷ 534 ∷ 540 ∷ []) ≡ false }
+        (200 ∷ 250 ∷ 401 ∷ 402 ∷ 405 ∷ 410 ∷ 500 ∷ 503 ∷ 504 ∷ 515 ∷ 516 ∷ 519 ∷ 527 ∷ 528 ∷ 533 ∷ 534 ∷ 540 ∷ []) ≡ false }
+{}
+
+/// AuditEndpoint and AuditConnection audit, and no other verb does.
+pub fn two_verbs_audit()
+    ensures endpoint { Audits Auep }
+    ensures connection { Audits Aucx }
+    ensures configuration { Audits Epcf → ⊥ }
+    ensures request { Audits Rqnt → ⊥ }
+    ensures notification { Audits Ntfy → ⊥ }
+    ensures creation { Audits Crcx → ⊥ }
+    ensures modification { Audits Mdcx → ⊥ }
+    ensures deletion { Audits Dlcx → ⊥ }
+    ensures restart { Audits Rsip → ⊥ }
+    ensures unknown { Audits Other → ⊥ }
+{}
+
+/// Of what verbs ask for, the reports are audits.
+pub fn reports_are_audits()
+    ensures reports { map is_audit (ForReport Endpoint ∷ ForReport Connection ∷ []) ≡ true ∷ true ∷ [] }
+    ensures deeds { map is_audit (ForDeed Keeps ∷ ForDeed Creates ∷ ForDeed Modifies ∷ ForDeed Deletes ∷ [])
+        ≡ false ∷ false ∷ false ∷ false ∷ [] }
 {}
 
 /// A form is for a line that there is, for all of them, or for any one.
@@ -40,7 +65,8 @@ pub fn a_line_is_one_that_there_is()
     ensures deed { target_in (Does All (connecting deeds.Keep)) ≡ All }
 {}
 
-/// On all lines connections stay, or all are deleted; on any one line one is created.
+/// On all lines connections stay, or all are deleted; on any one line one is created. A report of all lines is of no
+/// connection by itself.
 pub fn deeds_are_for_more_than_one_line()
     ensures all { map may_connect_all all_deeds ≡ true ∷ false ∷ false ∷ true ∷ false ∷ false ∷ [] }
     ensures any { map may_connect_any all_deeds ≡ false ∷ true ∷ false ∷ false ∷ false ∷ false ∷ [] }
@@ -54,6 +80,9 @@ pub fn deeds_are_for_more_than_one_line()
     ensures items_on_all { MayBeOf (Reports All (asking_for (codes "ES"))) → ⊥ }
     ensures report_on_any { MayBeOf (Reports Any (asking_for [])) → ⊥ }
     ensures report_on_one { MayBeOf (Reports (One 1) (asking_for (codes "ES"))) }
+    ensures connection_on_all { MayBeOf (Reports All of_audited) → ⊥ }
+    ensures connection_on_any { MayBeOf (Reports Any of_audited) → ⊥ }
+    ensures connection_on_one { MayBeOf (Reports (One 1) of_audited) }
 {}
 
 /// A creation has the call, the mode, the options and the description of its command; without L the options are none.

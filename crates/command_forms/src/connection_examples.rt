@@ -26,6 +26,7 @@ ghost use Rattle.command_forms.specs.Example.{described, session, connects_on, c
 ghost use Rattle.command_forms.specs.Example.{creates_in, creates_asking, created};
 ghost use Rattle.command_forms.specs.declared.verbs.Connecting.TheVariants.{Keeps, Creates, Modifies, Deletes};
 ghost use Rattle.command_forms.specs.declared.verbs.Purpose.TheVariants.{ForReport, ForDeed};
+ghost use Rattle.command_forms.specs.declared.verbs.Reporting.TheVariants.{Endpoint, Connection};
 ghost use Rattle.command_forms.specs.Deeds.{deletion_by, with_remote};
 ghost use Rattle.command_forms.specs.Order.{names_call, counted};
 ghost use Rattle.command_forms.specs.Example.{called_agent, offering, connection_alone, no_change, modification};
@@ -412,7 +413,8 @@ pub fn a_call_is_made_and_ended()
 /// What no command gets as far as: only a deletion can have I without C, and only what is created or modified has a
 /// remote description.
 pub fn some_cases_are_of_no_command()
-    ensures reports { names_call ForReport connection_alone ≡ true }
+    ensures reports { names_call (ForReport Endpoint) connection_alone ≡ true }
+    ensures reports_connection { names_call (ForReport Connection) connection_alone ≡ true }
     ensures keeps { names_call (ForDeed Keeps) connection_alone ≡ true }
     ensures creates { names_call (ForDeed Creates) connection_alone ≡ true }
     ensures modifies { names_call (ForDeed Modifies) connection_alone ≡ true }

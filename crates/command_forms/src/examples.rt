@@ -88,7 +88,6 @@ pub fn audits_are_read()
 /// The verbs without a row are 504, and so is a message that is no command.
 pub fn other_verbs_are_not_served()
     ensures ntfy { command_on (codes "NTFY") (codes "aaln/1") (codes "X: 1\r\n") ≡ refused 504 }
-    ensures aucx { command_on (codes "AUCX") (codes "aaln/1") [] ≡ refused 504 }
     ensures rsip { command_on (codes "RSIP") (codes "aaln/1") [] ≡ refused 504 }
     ensures unknown { command_on (codes "PING") (codes "aaln/1") [] ≡ refused 504 }
     ensures response { form_in (messages.Response 200 2001 [] []) Absent gateway ≡ Err 504 }

@@ -6,6 +6,7 @@ ghost use Rattle.mgcp_text.specs.declared.message.Message.TheVariants as message
 ghost use Rattle.mgcp_text.specs.declared.message.Verb.TheVariants.{Auep};
 ghost use Rattle.mgcp_text.specs.declared.confirmation.KValue.TheVariants.{Absent, Unreadable};
 ghost use Rattle.command_forms.specs.Example.{gateway, why_on, why_request, why_audit, why_create, why_modify, why_delete};
+ghost use Rattle.command_forms.specs.Example.{why_audit_connection};
 ghost use Rattle.command_forms.specs.Refusing.{refusal, letter_b, letter_c, letter_d, letter_i, letter_k, letter_l, letter_m};
 ghost use Rattle.command_forms.specs.Refusing.{letter_n, letter_q, letter_r, letter_s, letter_t, letter_x};
 ghost use Rattle.command_forms.specs.Explaining.{explanation_of, explained_in};
@@ -21,7 +22,7 @@ pub fn letters_have_names()
 
 /// A verb that isn't served is at fault itself, and so is a message that is no command; else the name is.
 pub fn the_verb_or_the_name_is_at_fault()
-    ensures verb { why_on (codes "AUCX") (codes "aaln/17") []
+    ensures verb { why_on (codes "RSIP") (codes "aaln/17") []
         ≡ Some (codes "504 unknown or unsupported command: verb") }
     ensures response { explained_in (messages.Response 200 2001 [] []) Absent gateway ≡ Some (refusal Place.Verb 504) }
     ensures unknown { why_on (codes "AUEP") (codes "aaln/17") []
@@ -44,7 +45,8 @@ pub fn the_first_faulty_line_is_named()
         ≡ Some (codes "539 invalid or unsupported command parameter: parameter line 1") }
 {}
 
-/// What is missing is named by its letter, before the values are read: the first that the verb must have, then C beside
+/// What is missing is named by its letter, before the values are read: the first that the verb must have, as I of an
+/// audited connection, then C beside
 /// an I that is deleted, then X beside what is of a request.
 pub fn a_missing_parameter_is_named()
     ensures missing { why_request (codes "S: Q/a\r\nK: x\r\n")
@@ -53,18 +55,25 @@ pub fn a_missing_parameter_is_named()
     ensures both_missing { why_create [] ≡ Some (codes "510 protocol error: missing parameter C") }
     ensures mode { why_create (codes "C: x\r\n") ≡ Some (codes "510 protocol error: missing parameter M") }
     ensures connection { why_modify (codes "C: x\r\nS:\r\n") ≡ Some (codes "510 protocol error: missing parameter I") }
+    ensures audited_connection { why_audit_connection (codes "K: x\r\n")
+        ≡ Some (codes "510 protocol error: missing parameter I") }
     ensures call_beside_connection { why_delete (codes "I: 1\r\nS:\r\nN: x\r\n")
         ≡ Some (codes "510 protocol error: missing parameter C") }
     ensures identifier_beside_signals { why_delete (codes "S:\r\nK: x\r\n")
         ≡ Some (codes "510 protocol error: missing parameter X") }
 {}
 
-/// A value is named by its letter; the values are judged in the order K, N, X, Q, D, R, T, S.
+/// A value is named by its letter; the values are judged in the order K, N, X, Q, D, R, T, S, and of an audited
+/// connection K, I.
 pub fn a_faulty_value_is_named()
     ensures k { why_request (codes "N: x\r\nX: 1\r\nK: x\r\n")
         ≡ Some (codes "510 protocol error: value of parameter K") }
     ensures audit_k { explained_in (messages.Command Auep 2001 (codes "aaln/1@rgw.example.net") [] []) Unreadable gateway
         ≡ Some (refusal (Place.Value letter_k) 510) }
+    ensures k_of_connection { why_audit_connection (codes "I: x\r\nK: x\r\n")
+        ≡ Some (codes "510 protocol error: value of parameter K") }
+    ensures i_of_connection { why_audit_connection (codes "F: ES\r\nI: x\r\n")
+        ≡ Some (codes "510 protocol error: value of parameter I") }
     ensures n { why_request (codes "X: g\r\nN: x\r\n")
         ≡ Some (codes "539 invalid or unsupported command parameter: value of parameter N") }
     ensures x { why_request (codes "Q: fast\r\nX: g\r\n")

@@ -34,11 +34,13 @@ impl Target {
     }
 }
 
-/// What is to be reported (RFC 3435, 2.3.10).
+/// What is to be reported (RFC 3435, 2.3.10 and 2.3.11).
 #[derive(Drop)]
 pub struct Audit<'m> {
     /// The value of F, items with commas between them. It is empty where F is absent, since an empty F is no F.
     pub items: Bytes<'m>,
+    /// The connection whose report it is, as it was given (I); `None` for a report of the endpoint itself.
+    pub connection: Option<Identifier>,
 }
 
 /// What is requested of lines (RFC 3435, 2.3.3).
@@ -91,7 +93,8 @@ pub struct Deed {
 /// What a command asks for. A new verb changes what a report or a deed holds, and adds no third.
 #[derive(Drop)]
 pub enum Asks<'m> {
-    /// A report of these lines, which changes nothing: AuditEndpoint (RFC 3435, 2.3.10).
+    /// A report of these lines, or of a connection of one, which changes nothing: AuditEndpoint and AuditConnection
+    /// (RFC 3435, 2.3.10 and 2.3.11).
     Reports(Target, Audit<'m>),
     /// A deed on these lines: EndpointConfiguration, NotificationRequest, CreateConnection, ModifyConnection and
     /// DeleteConnection (RFC 3435, 2.3.2, 2.3.3, 2.3.5 to 2.3.7 and 2.3.9).

@@ -2,12 +2,13 @@
 //! fault (RFC 3435, 2.3, 2.4 and 3.2.2).
 //!
 //! The checks stand in one order, which is this gateway's profile, and the first that applies gives the code: `meant`
-//! judges the verb and the name, `asked` the rest, and `form` is one behind the other. Each check says its return code and
-//! what it looks at: for people `explained` says what of a refused command is at fault, and `explain` puts it into words.
-//! Nothing here knows a line: what a line refuses is judged above. Only the reading of D and R and the words for people
-//! take memory.
+//! judges the verb and the name, `asked` the rest, and `form` is one behind the other. `form_while` is the same of a
+//! gateway that may not serve yet, and then takes audits alone. Each check says its return code and what it looks at: for
+//! people `explained` says what of a refused command is at fault, and `explain` puts it into words. Nothing here knows a
+//! line: what a line refuses is judged above. Only the reading of D and R and the words for people take memory.
 #![tactic(auto)]
 
+pub mod audit_examples;
 pub mod checking_examples;
 pub mod code_examples;
 pub mod connection_examples;
@@ -20,11 +21,12 @@ mod meaning;
 mod params;
 mod reading;
 mod refused;
+pub mod restart_examples;
 mod values;
 mod verbs;
 
 pub use crate::forms::{Asks, Audit, ConnectionDeed, Deed, RequestForm, Target};
 pub use crate::meaning::meant;
-pub use crate::reading::{asked, explained, form};
+pub use crate::reading::{asked, explained, form, form_while};
 pub use crate::refused::{Place, Refused, Stop, explain};
 pub use crate::verbs::Meant;

@@ -2,16 +2,17 @@
 ghost use Rattle.std.specs.Prelude.{◌≡◌, IfOk};
 ghost use Rattle.mg_bytes.specs.CodeFault.{AnswersAs};
 ghost use Rattle.command_forms.specs.Refusing.{StopsAs};
-ghost use Rattle.command_forms.specs.Order.{names_call, are_requested, absent_letter, counted, asked_for, asked, judged_in, form_in};
+ghost use Rattle.command_forms.specs.Order.{audit_of, names_call, are_requested, absent_letter, counted, asked_for, asked};
+ghost use Rattle.command_forms.specs.Order.{is_audit, judged_while_in, form_while_in, form_in};
 ghost use Rattle.command_forms.specs.Explaining.{explained_in};
 
 use crate::deeds::deed_of;
 use crate::forms::{Asks, Audit};
 use crate::meaning::meant;
 use crate::params::{has_code, has_none, missing_letter, params_fault, value_at};
-use crate::refused::{Place, Refused, Stop};
-use crate::values::is_readable;
-use crate::verbs::{Connecting, Meant, Purpose, VerbRow};
+use crate::refused::{Place, Refused, Stop, placed};
+use crate::values::{identifier_from, is_readable};
+use crate::verbs::{Connecting, Meant, Purpose, Reporting, VerbRow};
 use endpoint_names::{Names, Table};
 use mg_bytes::{CodeFault, OutOfMemory, ReturnCode};
 use mgcp_text::{Bytes, KValue, Message, Param};
@@ -22,7 +23,7 @@ fn names_call(purpose: Purpose, params: &[Param<'_>]) -> bool
 {
     match purpose {
         Purpose::ForDeed(Connecting::Deletes) => has_code(b'C', params) || !has_code(b'I', params),
-        Purpose::ForReport
+        Purpose::ForReport(_)
         | Purpose::ForDeed(Connecting::Keeps | Connecting::Creates | Connecting::Modifies) => true,
     }
 }
@@ -57,6 +58,21 @@ fn counted(described: bool, body: &[u8]) -> &[u8]
     if described { body } else { b"" }
 }
 
+// What is to be reported by F and, of a connection, by I.
+fn audit_of<'m>(reporting: Reporting, params: &'m [Param<'_>]) -> Result<Audit<'m>, Stop>
+    ensures { StopsAs (audit_of reporting params.now) result }
+{
+    let items = Bytes::of(value_at(b"F", params));
+    let connection = match reporting {
+        Reporting::Endpoint => None,
+        Reporting::Connection => Some(placed(
+            Place::Value(b'I'),
+            identifier_from(value_at(b"I", params)),
+        )?),
+    };
+    Ok(Audit { items, connection })
+}
+
 // What the values of these parameters and this text ask for.
 fn asked_for<'m>(
     alloc: Global,
@@ -68,9 +84,8 @@ fn asked_for<'m>(
     ensures { StopsAs (asked_for found.now.row.purpose found.now.target params.now text.now table.now) result }
 {
     match found.row.purpose {
-        Purpose::ForReport => {
-            let items = Bytes::of(value_at(b"F", params));
-            Ok(Asks::Reports(found.target, Audit { items }))
+        Purpose::ForReport(reporting) => {
+            Ok(Asks::Reports(found.target, audit_of(reporting, params)?))
         }
         Purpose::ForDeed(connecting) => Ok(Asks::Does(
             found.target,
@@ -112,27 +127,56 @@ pub fn asked<'m>(
     asked_for(alloc, found, params, text, table)
 }
 
-// What a command asks for, whose K was read before, or what of it is at fault first.
-#[tactic(auto, unfolding(crate::specs::Order::judged))]
-fn judged<'m>(
+fn is_audit(purpose: Purpose) -> bool
+    ensures { result ≡ is_audit purpose }
+{
+    match purpose {
+        Purpose::ForReport(_) => true,
+        Purpose::ForDeed(_) => false,
+    }
+}
+
+// What a command asks for, whose K was read before, of a gateway that serves or doesn't yet, or what of it is at fault
+// first.
+#[tactic(auto, unfolding(crate::specs::Order::judged_while))]
+fn judged_while<'m>(
     alloc: Global,
+    serves: bool,
     message: &'m Message<'_>,
     confirms: &KValue,
     names: &Names,
 ) -> Result<Asks<'m>, Stop>
-    ensures { StopsAs (judged_in message.now confirms.now names.now) result }
+    ensures { StopsAs (judged_while_in serves message.now confirms.now names.now) result }
 {
     let found = meant(message, names)?;
     let Message::Command { params, body, .. } = message else {
         return Err(Stop::of(Place::Verb, ReturnCode::UnsupportedCommand));
     };
+    if !(serves || is_audit(found.row.purpose)) {
+        return Err(Stop::of(Place::Verb, ReturnCode::Restarting));
+    }
     let (params, body) = (params.as_slice(), body.as_slice());
     asked(alloc, &found, params, body, confirms, &names.table)
 }
 
-/// What a command asks for, whose K was read before, or the return code of its first fault: that of `meant`, else
-/// that of `asked`.
+/// What a command asks for, whose K was read before, of a gateway that serves or doesn't yet, or the return code of its
+/// first fault: that of `meant`; else 405 where it is no audit and the gateway doesn't serve (RFC 3435, 2.4 and 4.4.6);
+/// else that of `asked`.
 #[tactic(auto, using(crate::proofs::RefusedLemmas::form_is))]
+pub fn form_while<'m>(
+    alloc: Global,
+    serves: bool,
+    message: &'m Message<'_>,
+    confirms: &KValue,
+    names: &Names,
+) -> Result<Asks<'m>, CodeFault>
+    ensures { AnswersAs (form_while_in serves message.now confirms.now names.now) result }
+{
+    Ok(judged_while(alloc, serves, message, confirms, names)?)
+}
+
+/// What a command asks for of a gateway that serves, whose K was read before, or the return code of its first fault:
+/// that of `meant`, else that of `asked`.
 pub fn form<'m>(
     alloc: Global,
     message: &'m Message<'_>,
@@ -141,7 +185,7 @@ pub fn form<'m>(
 ) -> Result<Asks<'m>, CodeFault>
     ensures { AnswersAs (form_in message.now confirms.now names.now) result }
 {
-    Ok(judged(alloc, message, confirms, names)?)
+    form_while(alloc, true, message, confirms, names)
 }
 
 /// Why `form` refuses a command whose K was read before, with what of it is at fault; `None` where it doesn't.
@@ -155,7 +199,7 @@ pub fn explained(
 ) -> Result<Option<Refused>, OutOfMemory>
     ensures { IfOk result (λ refused. refused ≡ explained_in message.now confirms.now names.now) }
 {
-    match judged(alloc, message, confirms, names) {
+    match judged_while(alloc, true, message, confirms, names) {
         Ok(_) => Ok(None),
         Err(Stop::AtFault(refused)) => Ok(Some(refused)),
         Err(Stop::OutOfMemory) => Err(AllocError),

@@ -28,10 +28,17 @@ pub(crate) enum Connecting {
     Deletes,
 }
 
+/// Of what a report is.
+#[derive(Clone, Copy)]
+pub(crate) enum Reporting {
+    Endpoint,
+    Connection,
+}
+
 /// What a verb asks for.
 #[derive(Clone, Copy)]
 pub(crate) enum Purpose {
-    ForReport,
+    ForReport(Reporting),
     ForDeed(Connecting),
 }
 
@@ -98,8 +105,15 @@ pub(crate) fn row_of(verb: Verb) -> Option<VerbRow>
             may: Bytes::of(b"F"),
             wildcard: Wildcard::AllWithoutItems,
             described: false,
-            purpose: Purpose::ForReport,
+            purpose: Purpose::ForReport(Reporting::Endpoint),
         }),
-        Verb::Ntfy | Verb::Aucx | Verb::Rsip | Verb::Other => None,
+        Verb::Aucx => Some(VerbRow {
+            must: Bytes::of(b"I"),
+            may: Bytes::of(b"F"),
+            wildcard: Wildcard::Never,
+            described: false,
+            purpose: Purpose::ForReport(Reporting::Connection),
+        }),
+        Verb::Ntfy | Verb::Rsip | Verb::Other => None,
     }
 }

@@ -107,6 +107,7 @@ impl Table {
     ///
     /// `NotADomain` where the name is not 1 to 64 letters, digits, `-` and `.`; else `Twice` where the table has
     /// the name in some case; else `Full` where it has 64 names.
+    #[tactic(auto, using(crate::proofs::FixedLemmas::domain_no_blanks, crate::proofs::FixedLemmas::domain_one_line))]
     pub fn add(&mut self, name: &[u8], address: Ipv4Addr) -> Result<(), TableFault>
         ensures ok { OnOk result (self.new
             ≡ self.old ++ (record { name = name.now; address = address }) ∷ []) }

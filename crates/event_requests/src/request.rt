@@ -11,8 +11,11 @@ use crate::embedded;
 use crate::maps::{embedded_lacks, lacks_map};
 use crate::naming::event_of;
 use crate::source::{Detected, Requested};
-use event_syntax::{DetectedEvents, Embedding, Observed, RequestedEvents};
-use mg_bytes::OutOfMemory;
+use event_syntax::{
+    DetectedEvents, Embedding, Observed, RequestedEvents, write_detect, write_embedded_events,
+    write_events,
+};
+use mg_bytes::{OutOfMemory, Text};
 use mg_packages::{Event, is_persistent};
 use std::alloc::Global;
 use std::marker::Model;
@@ -41,6 +44,12 @@ impl Request {
     ghost use Rattle.event_requests.specs.Requests.{no_requests, with_embedded};
     ghost use Rattle.event_requests.specs.Choice.{is_requested, is_kept};
     ghost use Rattle.event_requests.specs.Maps.{lacks_map};
+    ghost use Rattle.std.specs.Prelude.{false};
+    ghost use Rattle.std.specs.List.{list_any};
+    ghost use Rattle.mg_bytes.specs.Blanks.{is_blank};
+    ghost use Rattle.mg_bytes.specs.Lines.{is_line_feed};
+    ghost use Rattle.event_syntax.specs.Detect.{detected_text};
+    ghost use Rattle.event_syntax.specs.Requested.{requested_text};
 
     /// Nothing is asked for. This takes no memory.
     pub fn nothing() -> Self
@@ -122,6 +131,37 @@ impl Request {
     {
         let event = event_of(observed);
         self.is_requested(event) || is_detected_in(&self.detected, event) || is_persistent(event)
+    }
+
+    /// R as it stands, in its written form (RFC 3435, 2.3.10): one word, or nothing where there are no entries. An error is
+    /// for want of memory only.
+    #[tactic(auto, using(crate::proofs::WritingLemmas::embedded_written), unfolding(event_syntax::specs::Requested::requested_text))]
+    pub fn write_requested(&self, alloc: Global) -> Result<Text, OutOfMemory>
+        ensures value { IfOk result (λ text. text ≡ requested_text self.now.requested) }
+        ensures no_blanks { IfOk result (λ text. list_any is_blank text ≡ false) }
+        ensures one_line { IfOk result (λ text. list_any is_line_feed text ≡ false) }
+    {
+        match &self.requested {
+            Requested::Nothing => Ok(Text::of(Vec::new(alloc))),
+            Requested::Command(entries) => write_events(alloc, entries.as_slice()),
+            Requested::Embedded(embedding) => {
+                write_embedded_events(alloc, embedding.request().events.as_slice())
+            }
+        }
+    }
+
+    /// T in its written form (RFC 3435, 2.3.10): one word, or nothing where there are no entries. An error is for want of
+    /// memory only.
+    #[tactic(auto, unfolding(event_syntax::specs::Detect::detected_text))]
+    pub fn write_detected(&self, alloc: Global) -> Result<Text, OutOfMemory>
+        ensures value { IfOk result (λ text. text ≡ detected_text self.now.detected) }
+        ensures no_blanks { IfOk result (λ text. list_any is_blank text ≡ false) }
+        ensures one_line { IfOk result (λ text. list_any is_line_feed text ≡ false) }
+    {
+        match &self.detected {
+            Detected::Nothing => Ok(Text::of(Vec::new(alloc))),
+            Detected::Command(entries) => write_detect(alloc, entries.as_slice()),
+        }
     }
 }
 

@@ -9,6 +9,7 @@ pub mod DetectLaws
 pub mod ActionLemmas
 pub mod GiveLemmas
 pub mod RequestMaps
+pub mod WordLemmas
 pub mod EmbeddedLaws
 pub mod RequestLaws
 pub mod RequestReading

@@ -1,15 +1,17 @@
--- A digit map can stand in parentheses.
-use Rattle.std.proofs.Common.{◌≡◌, ℕ, ◌-◌, Bool, true, false, ◌&&◌, ◌||◌, eqb, leb, List, [], ◌∷◌, ◌++◌, length, take, get_or, suc, refl, ap, arith, ⊎_elim, Option, Some, None}
-use Rattle.std.specs.Prelude.{option_map, is_some}
-use Rattle.std.specs.List.{list_all, onto_first, slice_split}
+-- A digit map can stand in parentheses, and is one word.
+use Rattle.std.proofs.Common.{◌≡◌, ℕ, ◌-◌, Bool, true, false, ◌&&◌, ◌||◌, eqb, leb, List, [], ◌∷◌, ◌++◌, length, take, get_or, suc, refl, ap, ◌∙◌, arith, ⊎_elim, Option, Some, None}
+use Rattle.std.specs.Prelude.{not, option_map, is_some}
+use Rattle.std.specs.List.{list_all, list_any, onto_first, slice_split}
 use Rattle.std.proofs.lemmas.Bool.{cases_Bool, eqb-true, le-leb}
+use Rattle.std.proofs.lemmas.List.Folds.{list_any-append}
 use Rattle.mg_bytes.specs.Letter.{letter_of}
+use Rattle.mg_bytes.specs.Lines.{is_line_feed}
 use Rattle.mg_bytes.specs.Words.{split_once}
 use Rattle.mg_bytes.proofs.DigitLemmas.{both_true}
 use Rattle.digit_map.specs.Cuts.{is_bar, ends_in, strings_of, is_inside, begins, pieces, positions_of, parts_of}
 use Rattle.digit_map.specs.Spelling.{is_digit, is_wildcard, is_part, is_range, is_dot_or_end, is_bracketed, is_position, is_string, is_map}
 use Rattle.event_cuts.specs.Spelling.{is_parameter_byte}
-use Rattle.event_cuts.proofs.JoinLemmas.{is_solid, is_plain, is_flat, flat_is_calm, plain_grouped}
+use Rattle.event_cuts.proofs.JoinLemmas.{is_solid, is_plain, is_flat, false_of_not, flat_is_calm, plain_grouped}
 use Rattle.event_cuts.proofs.ClosedLemmas.{IsClosed, calm_closed, closed_group}
 
 -- what can stand in parentheses
@@ -18,9 +20,9 @@ pub record IsInner (text : List ℕ) : Type 0 where
   pub plain : is_plain text ≡ true
   pub some : leb 1 (length text) ≡ true
 
--- a byte that is no blank, no comma and no parenthesis
+-- a byte that is no blank, no comma, no parenthesis and no line feed
 abbrev fits : ℕ → Bool
-fits b = is_solid b && is_parameter_byte b
+fits b = is_solid b && is_parameter_byte b && not (is_line_feed b)
 
 abbrev all_fit : List (List ℕ) → Bool
 all_fit texts = list_all (list_all fits) texts
@@ -33,9 +35,16 @@ apart test b c without with_ =
     (cases_Bool (eqb b c))
 
 byte_fits : (test : ℕ → Bool) (b : ℕ) → test 32 ≡ false → test 9 ≡ false → test 44 ≡ false → test 40 ≡ false → test 41 ≡ false
-    → test b ≡ true → fits b ≡ true
-byte_fits test b space tab comma left right is =
-    rw (apart test b 32 space is, apart test b 9 tab is, apart test b 44 comma is, apart test b 40 left is, apart test b 41 right is) refl
+    → test 10 ≡ false → test b ≡ true → fits b ≡ true
+byte_fits test b space tab comma left right feed is =
+    rw (
+      apart test b 32 space is,
+      apart test b 9 tab is,
+      apart test b 44 comma is,
+      apart test b 40 left is,
+      apart test b 41 right is,
+      apart test b 10 feed is,
+    ) refl
 
 -- what stands at a position
 abbrev is_mark : ℕ → Bool
@@ -43,25 +52,25 @@ is_mark b = is_some (letter_of b) || is_wildcard b
 
 mark_fits : (b : ℕ) → is_mark b ≡ true → fits b ≡ true
 unfolding letter_of
-mark_fits b is = byte_fits is_mark b refl refl refl refl refl is
+mark_fits b is = byte_fits is_mark b refl refl refl refl refl refl is
 
 digit_fits : (b : ℕ) → is_digit b ≡ true → fits b ≡ true
-digit_fits b is = byte_fits is_digit b refl refl refl refl refl is
+digit_fits b is = byte_fits is_digit b refl refl refl refl refl refl is
 
 hyphen_fits : (b : ℕ) → eqb b 45 ≡ true → fits b ≡ true
-hyphen_fits b is = byte_fits (λ c. eqb c 45) b refl refl refl refl refl is
+hyphen_fits b is = byte_fits (λ c. eqb c 45) b refl refl refl refl refl refl is
 
 left_fits : (b : ℕ) → eqb b 91 ≡ true → fits b ≡ true
-left_fits b is = byte_fits (λ c. eqb c 91) b refl refl refl refl refl is
+left_fits b is = byte_fits (λ c. eqb c 91) b refl refl refl refl refl refl is
 
 right_fits : (b : ℕ) → eqb b 93 ≡ true → fits b ≡ true
-right_fits b is = byte_fits (λ c. eqb c 93) b refl refl refl refl refl is
+right_fits b is = byte_fits (λ c. eqb c 93) b refl refl refl refl refl refl is
 
 dot_fits : (b : ℕ) → eqb b 46 ≡ true → fits b ≡ true
-dot_fits b is = byte_fits (λ c. eqb c 46) b refl refl refl refl refl is
+dot_fits b is = byte_fits (λ c. eqb c 46) b refl refl refl refl refl refl is
 
 bar_fits : (b : ℕ) → is_bar b ≡ true → fits b ≡ true
-bar_fits b is = byte_fits is_bar b refl refl refl refl refl is
+bar_fits b is = byte_fits is_bar b refl refl refl refl refl refl is
 
 parts_fit : (text : List ℕ) → list_all is_part (parts_of text) ≡ true → list_all fits text ≡ true
 unfolding parts_of
@@ -175,15 +184,22 @@ flat_from : (text : List ℕ) → list_all fits text ≡ true → is_flat text �
 flat_from [] are = refl
 flat_from (b ∷ bs) are =
     let both : (fits b ≡ true) × (list_all fits bs ≡ true) = both_true _ _ are in
-    let here : (is_solid b ≡ true) × (is_parameter_byte b ≡ true) = both_true _ _ both.0 in
+    let here : (is_solid b ≡ true) × (is_parameter_byte b ≡ true) = both_true _ _ (both_true _ _ both.0).0 in
     rw (here.1) (flat_from bs both.1)
 
 plain_from : (text : List ℕ) → list_all fits text ≡ true → is_plain text ≡ true
 plain_from [] are = refl
 plain_from (b ∷ bs) are =
     let both : (fits b ≡ true) × (list_all fits bs ≡ true) = both_true _ _ are in
-    let here : (is_solid b ≡ true) × (is_parameter_byte b ≡ true) = both_true _ _ both.0 in
+    let here : (is_solid b ≡ true) × (is_parameter_byte b ≡ true) = both_true _ _ (both_true _ _ both.0).0 in
     rw (here.0) (plain_from bs both.1)
+
+in_line_from : (text : List ℕ) → list_all fits text ≡ true → list_any is_line_feed text ≡ false
+in_line_from [] are = refl
+in_line_from (b ∷ bs) are =
+    let both : (fits b ≡ true) × (list_all fits bs ≡ true) = both_true _ _ are in
+    let here : is_line_feed b ≡ false = false_of_not _ (both_true _ _ both.0).1 in
+    rw here (in_line_from bs both.1)
 
 calm_from : (text : List ℕ) → list_all fits text ≡ true → IsClosed text
 calm_from text are = calm_closed text (flat_is_calm text (flat_from text are))
@@ -220,4 +236,26 @@ map_inner (b ∷ bs) spelled =
     let both = both_true _ _ e in
     round_inner b bs (take (length bs - 1) bs) (eqb-true _ _ both.0) (last_is bs (eqb-true _ _ both.1)) (rw e at spelled))
     (λ (e : (eqb b 40 && ends_in 41 bs) ≡ false). bare_inner b bs (rw e at spelled))
+    (cases_Bool (eqb b 40 && ends_in 41 bs))
+
+-- a map stands in one line
+round_in_line : (b : ℕ) (bs inside : List ℕ) → b ≡ 40 → bs ≡ inside ++ 41 ∷ []
+    → list_all is_string (slice_split is_bar inside) ≡ true → list_any is_line_feed (b ∷ bs) ≡ false
+round_in_line b bs inside left right are =
+    let good : list_all fits inside ≡ true = split_all inside (each_fits is_string _ string_fits are) in
+    let none : list_any is_line_feed (inside ++ 41 ∷ []) ≡ false =
+    list_any-append is_line_feed inside (41 ∷ []) ∙ rw (in_line_from inside good) refl in
+    rw (left, right) none
+
+pub map_in_line : (text : List ℕ) → is_map text ≡ true → list_any is_line_feed text ≡ false
+unfolding is_map strings_of is_string
+map_in_line [] spelled = absurd cc
+map_in_line (b ∷ bs) spelled =
+    ⊎_elim
+    (λ (e : (eqb b 40 && ends_in 41 bs) ≡ true).
+    let both = both_true _ _ e in
+    round_in_line b bs (take (length bs - 1) bs) (eqb-true _ _ both.0) (last_is bs (eqb-true _ _ both.1)) (rw e at spelled))
+    (λ (e : (eqb b 40 && ends_in 41 bs) ≡ false).
+    let one : list_all is_string ((b ∷ bs) ∷ []) ≡ true = rw e at spelled in
+    in_line_from (b ∷ bs) (string_fits (b ∷ bs) (both_true _ _ one).0))
     (cases_Bool (eqb b 40 && ends_in 41 bs))

@@ -5,6 +5,7 @@ use Rattle.std.specs.Str.{bytes_eq}
 use Rattle.mg_bytes.specs.Bytes.{comma}
 use Rattle.digit_map.specs.declared.fault.MapFault.{MapFault}
 use Rattle.digit_map.specs.Reading.{map_of}
+use Rattle.digit_map.specs.Spelling.{is_map}
 use Rattle.event_syntax.specs.declared.request.Action.{Action}
 use Rattle.event_syntax.specs.declared.request.Action.TheVariants.{Notify, Accumulate, Dial, Ignore}
 use Rattle.event_syntax.specs.declared.request.EmbeddedEvent.{EmbeddedEvent}
@@ -101,6 +102,20 @@ requested_entry_text entry =
 -- the value: entries with commas between them
 unfoldable pub requested_text : List RequestedEvent → List ℕ
 requested_text list = listed (map requested_entry_text list)
+
+-- What is written is one word where each map that is embedded is spelled as one
+
+abbrev pub is_spelled_map : Option (List ℕ) → Bool
+is_spelled_map None = true
+is_spelled_map (Some text) = is_map text
+
+abbrev pub has_spelled_map : Response → Bool
+has_spelled_map (Plain action) = true
+has_spelled_map (Embed request) = is_spelled_map request.map
+has_spelled_map (AccumulateAndEmbed request) = is_spelled_map request.map
+
+abbrev pub all_maps_are_spelled : List RequestedEvent → Bool
+all_maps_are_spelled list = list_all (λ entry. has_spelled_map entry.response) list
 
 -- What can be written so that it is read again: the events take what is done, and what is embedded holds something
 

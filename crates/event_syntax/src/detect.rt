@@ -1,5 +1,8 @@
 //! The events to look for while a notification isn't answered: the value of T (RFC 3435, 2.3.3).
-ghost use Rattle.std.specs.Prelude.{◌≡◌, ◌≤◌, length, true, IfOk};
+ghost use Rattle.std.specs.Prelude.{◌≡◌, ◌≤◌, length, true, false, IfOk};
+ghost use Rattle.std.specs.List.{list_any};
+ghost use Rattle.mg_bytes.specs.Blanks.{is_blank};
+ghost use Rattle.mg_bytes.specs.Lines.{is_line_feed};
 ghost use Rattle.mg_bytes.specs.CodeFault.{AnswersAs, answer_of};
 ghost use Rattle.event_cuts.specs.Cuts.{entries};
 ghost use Rattle.event_cuts.specs.Faults.{each};
@@ -76,9 +79,13 @@ pub fn read_detect(value: &[u8]) -> Result<DetectedEvents, CodeFault>
 }
 
 /// The written form of T (RFC 3435, 2.3.3): the entries with commas between them, each with its package, letters of D as
-/// one or in brackets without spans, and nothing blank. An error is for want of memory only.
+/// one or in brackets without spans, and nothing blank. It is one word, or nothing where there are no entries. An error is
+/// for want of memory only.
+#[tactic(auto, using(crate::proofs::WordLemmas::detected_no_blanks, crate::proofs::WordLemmas::detected_one_line))]
 pub fn write_detect(alloc: Global, list: &[Events]) -> Result<Text, OutOfMemory>
-    ensures { IfOk result (λ text. text ≡ detected_text list.now) }
+    ensures value { IfOk result (λ text. text ≡ detected_text list.now) }
+    ensures no_blanks { IfOk result (λ text. list_any is_blank text ≡ false) }
+    ensures one_line { IfOk result (λ text. list_any is_line_feed text ≡ false) }
 {
     let mut out = Vec::new(alloc);
     for (place, events) in list.iter().enumerate() {

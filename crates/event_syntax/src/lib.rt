@@ -25,7 +25,7 @@ pub use crate::request::{
     Action, EmbeddedEvent, EmbeddedEvents, EmbeddedRequest, Embedding, RequestedEvent,
     RequestedEvents, Response,
 };
-pub use crate::request_writing::write_events;
+pub use crate::request_writing::{write_embedded_events, write_events};
 pub use crate::requested::read_events;
 pub use event_values::{
     Handling, Notifying, Observed, Quarantined, Setting, SignalRequest, SignalRequests,

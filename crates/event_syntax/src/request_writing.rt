@@ -1,9 +1,12 @@
 //! How R is written.
-ghost use Rattle.std.specs.Prelude.{◌≡◌, ◌&&◌, ◌++◌, ◌∷◌, [], map, if◌then◌else◌, IfOk, OnOk};
+ghost use Rattle.std.specs.Prelude.{◌≡◌, ◌&&◌, ◌++◌, ◌∷◌, [], true, false, map, if◌then◌else◌, IfOk, OnOk};
+ghost use Rattle.std.specs.List.{list_any};
+ghost use Rattle.mg_bytes.specs.Blanks.{is_blank};
+ghost use Rattle.mg_bytes.specs.Lines.{is_line_feed};
 ghost use Rattle.mg_bytes.specs.Bytes.{comma};
 ghost use Rattle.event_syntax.specs.Requested.{action_text, keep_text, listed, embedded_event_text, events_part, signals_part};
 ghost use Rattle.event_syntax.specs.Requested.{map_part, parts_text, embedded_text, actions_text, requested_entry_text};
-ghost use Rattle.event_syntax.specs.Requested.{requested_text};
+ghost use Rattle.event_syntax.specs.Requested.{requested_text, is_spelled_map, has_spelled_map, all_maps_are_spelled};
 
 use crate::events::put_events;
 use crate::request::{Action, EmbeddedEvent, EmbeddedRequest, RequestedEvent, Response};
@@ -175,11 +178,50 @@ fn put_requested(
     Ok(())
 }
 
-/// The written form of R (RFC 3435, 2.3.3): the entries with commas between them, each with its package and with what
-/// is done in parentheses, and without blanks. A stands before E, and K comes last; E has its parts in the order R, S
-/// and D, without those that are empty. An error is for want of memory only.
+/// The written form of the R of an embedded request (RFC 3435, 2.3.3): the entries with commas between them, each with its
+/// package and with what is done in parentheses, and without blanks. It is one word, or nothing where there are no entries.
+/// An error is for want of memory only.
+#[tactic(auto, using(crate::proofs::WordLemmas::embedded_no_blanks, crate::proofs::WordLemmas::embedded_one_line))]
+pub fn write_embedded_events(alloc: Global, events: &[EmbeddedEvent]) -> Result<Text, OutOfMemory>
+    ensures value { IfOk result (λ text. text ≡ listed (map embedded_event_text events.now)) }
+    ensures no_blanks { IfOk result (λ text. list_any is_blank text ≡ false) }
+    ensures one_line { IfOk result (λ text. list_any is_line_feed text ≡ false) }
+{
+    let mut out = Vec::new(alloc);
+    put_embedded_events(&mut out, events)?;
+    Ok(Text::of(out))
+}
+
+// A map has its spelling by its type.
+fn is_spelled(map: &Option<MapText>)
+    ensures { is_spelled_map map.now ≡ true }
+{
+    if let Some(text) = map {
+        let _text = text.as_bytes();
+    }
+}
+
+fn has_spelled_map(response: &Response)
+    ensures { has_spelled_map response.now ≡ true }
+{
+    match response {
+        Response::Plain(_) => {}
+        Response::Embed(embedding) => is_spelled(&embedding.request().map),
+        Response::AccumulateAndEmbed(embedding) => is_spelled(&embedding.request().map),
+    }
+}
+
+// What the types of its parts say of a list.
+fn all_maps_are_spelled(list: &[RequestedEvent])
+    ensures { all_maps_are_spelled list.now ≡ true }
+{
+    for entry in list {
+        has_spelled_map(&entry.response);
+    }
+}
+
 #[tactic(auto, unfolding(crate::specs::Requested::requested_text))]
-pub fn write_events(alloc: Global, list: &[RequestedEvent]) -> Result<Text, OutOfMemory>
+fn events_text(alloc: Global, list: &[RequestedEvent]) -> Result<Text, OutOfMemory>
     ensures { IfOk result (λ text. text ≡ requested_text list.now) }
 {
     let mut out = Vec::new(alloc);
@@ -188,4 +230,19 @@ pub fn write_events(alloc: Global, list: &[RequestedEvent]) -> Result<Text, OutO
         put_requested(alloc, &mut out, entry)?;
     }
     Ok(Text::of(out))
+}
+
+/// The written form of R (RFC 3435, 2.3.3): the entries with commas between them, each with its package and with what
+/// is done in parentheses, and without blanks. A stands before E, and K comes last; E has its parts in the order R, S
+/// and D, without those that are empty. It is one word, or nothing where there are no entries. An error is for want of
+/// memory only.
+#[tactic(auto, using(crate::proofs::WordLemmas::requested_no_blanks, crate::proofs::WordLemmas::requested_one_line))]
+pub fn write_events(alloc: Global, list: &[RequestedEvent]) -> Result<Text, OutOfMemory>
+    ensures value { IfOk result (λ text. text ≡ requested_text list.now) }
+    ensures no_blanks { IfOk result (λ text. list_any is_blank text ≡ false) }
+    ensures one_line { IfOk result (λ text. list_any is_line_feed text ≡ false) }
+{
+    // That it is one word stands on what these types say.
+    all_maps_are_spelled(list);
+    events_text(alloc, list)
 }

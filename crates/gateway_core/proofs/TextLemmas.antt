@@ -13,7 +13,7 @@ use Rattle.mgcp_text.specs.declared.message.Message.{Message}
 use Rattle.mgcp_text.specs.declared.message.Message.TheVariants as messages
 use Rattle.mgcp_text.specs.declared.message.Param.{Param}
 use Rattle.mgcp_text.specs.declared.message.Verb.{Verb}
-use Rattle.command_forms.specs.Order.{form_in}
+use Rattle.command_forms.specs.Order.{form_while_in}
 use Rattle.plain_machine.specs.Commanding.{done_by, commanded}
 use Rattle.std.proofs.lemmas.Bool.Decides.{nat_tests}
 use Rattle.std.proofs.lemmas.List.{map-append}
@@ -24,7 +24,7 @@ use Rattle.mgcp_text.specs.Reading.{read_text}
 use Rattle.plain_machine.specs.declared.setup.Setup.{Setup}
 use Rattle.plain_machine.specs.declared.output.OutDatagram.{OutDatagram}
 use Rattle.plain_machine.specs.Message.{datagram_of, datagrams_of}
-use Rattle.plain_machine.specs.Machine.{Machine, Effect, told}
+use Rattle.plain_machine.specs.Machine.{Machine, Effect, told, serves}
 use Rattle.plain_machine.specs.Done.{Done, only_answer}
 use Rattle.piggyback.specs.Parts.{parts_of}
 use Rattle.plain_machine.specs.Arriving.{texts_of}
@@ -68,7 +68,7 @@ first_done was is source t were mid are is_new branch told went =
 
 pub command_done : (setup : Setup) (result : Result (Unit {0}) AllocError) (was is : State) (were mid are : List OutDatagram) (source : SocketAddrV4) (said : Message) (verb : Verb) (id : ℕ) (name : List ℕ) (params : List Param) (body : List ℕ) (is_new : Bool)
     → said ≡ messages.Command verb id name params body → is_new ≡ true → OnTrue is_new ((look_of most_firsts was.history.kept id was.clock ≡ new) × (mid ≡ were))
-    → ((line : Option ℕ) → Does result (executed (machine_in was) source (transaction id line (spans_of (k_of (params_in said))) (done_by (form_in said (k_of (params_in said)) setup.names) setup was.floor.endpoints was.clock id))) was is mid are)
+    → ((line : Option ℕ) → Does result (executed (machine_in was) source (transaction id line (spans_of (k_of (params_in said))) (done_by (form_while_in (serves was.floor.endpoints) said (k_of (params_in said)) setup.names) setup was.floor.endpoints was.clock id))) was is mid are)
     → Does result (handled setup (machine_in was) source (message said)) was is were are
 unfolding handled
 command_done setup result was is were mid are source said verb id name params body is_new same branch told done =
@@ -76,7 +76,7 @@ command_done setup result was is were mid are source said verb id name params bo
     subst (λ (m : Message). Does result (handled_as (transaction_of setup (machine_in was) (message m)) setup (machine_in was) source (message m)) was is were are) (sym same)
     (subst (λ (looked : Looked). Does result (transacted_by looked (machine_in was) source (asked setup was verb id name params body)) was is were are) (sym both.0)
     (subst (λ (out : List OutDatagram). Does result (executed (machine_in was) source (asked setup was verb id name params body)) was is out are) both.1
-    (subst (λ (m : Message). Does result (executed (machine_in was) source (transaction id (line_of_name setup name) (spans_of (k_of (params_in m))) (done_by (form_in m (k_of (params_in m)) setup.names) setup was.floor.endpoints was.clock id))) was is mid are) same (done (line_of_name setup name))))) where
+    (subst (λ (m : Message). Does result (executed (machine_in was) source (transaction id (line_of_name setup name) (spans_of (k_of (params_in m))) (done_by (form_while_in (serves was.floor.endpoints) m (k_of (params_in m)) setup.names) setup was.floor.endpoints was.clock id))) was is mid are) same (done (line_of_name setup name))))) where
       asked : Setup → State → Verb → ℕ → List ℕ → List Param → List ℕ → Transaction
       asked setup was verb id name params body = transaction id (line_of_name setup name) (spans_of (k_of params)) (commanded setup was.floor.endpoints was.clock id (record { verb = verb; name = name; params = params; body = body }) (k_of params))
 

@@ -10,8 +10,9 @@ ghost use Rattle.piggyback.specs.Parts.{parts_of};
 ghost use Rattle.plain_machine.specs.Arriving.{largest_datagram, texts_of};
 ghost use Rattle.std.specs.Result.{result_err};
 ghost use Rattle.plain_machine.specs.Refusing.{ends};
-ghost use Rattle.command_forms.specs.Order.{form_in};
+ghost use Rattle.command_forms.specs.Order.{form_while_in};
 ghost use Rattle.mgcp_text.specs.declared.message.Message.TheVariants.{Command};
+ghost use Rattle.plain_machine.specs.Machine.{serves};
 ghost use Rattle.plain_machine.specs.Done.{only_answer};
 ghost use Rattle.plain_machine.specs.Commanding.{done_by};
 ghost use Rattle.gateway_stations.specs.Telling.{MayTell};
@@ -145,7 +146,8 @@ fn execute(
     requires { MayTell context.setup.now state.old.clock }
     ensures { (line : _) → Does result (executed (machine_in state.old) origin.source
         (transaction origin.id line (spans_of (k_of (params_in said.now)))
-        (done_by (form_in said.now (k_of (params_in said.now)) context.entry.setup.now.names) context.entry.setup.now
+        (done_by (form_while_in (serves state.old.floor.endpoints) said.now (k_of (params_in said.now))
+        context.entry.setup.now.names) context.entry.setup.now
         state.old.floor.endpoints state.old.clock origin.id))) state.old state.new out.old.items out.new.items }
 {
     let mut sent = Vec::new(context.alloc);

@@ -3,15 +3,19 @@ ghost use Rattle.std.specs.Prelude.{◌≡◌, true, IfOk};
 ghost use Rattle.std.specs.List.{list_all};
 ghost use Rattle.mgcp_text.specs.Writing.{is_writable_param};
 ghost use Rattle.endpoint_names.specs.Table.{is_domain};
-ghost use Rattle.command_forms.specs.Order.{form_in};
+ghost use Rattle.mg_bytes.specs.CodeFault.{AnswersAs};
+ghost use Rattle.audits.specs.Fitting.{fitting};
+ghost use Rattle.command_forms.specs.Order.{form_while_in};
 ghost use Rattle.plain_machine.specs.Requesting.{deed_done, line_with_place, done_there, done_for};
-ghost use Rattle.plain_machine.specs.Commanding.{audited, fitting, line_request, line_deed, done_by};
+ghost use Rattle.plain_machine.specs.Machine.{serves, station_at};
+ghost use Rattle.plain_machine.specs.Reporting.{line_report, names_of};
+ghost use Rattle.plain_machine.specs.Commanding.{reported, audited, answer_by, line_request, line_deed, done_by};
 ghost use Rattle.gateway_stations.specs.Telling.{MayTell};
 ghost use Rattle.gateway_floor.specs.Tells.{Tells};
 
-use crate::answering::LARGEST_DATAGRAM;
-use crate::reporting::{name_alone, names_of, report_of};
-use command_forms::{Asks, Audit, Deed, RequestForm, Target, form};
+use crate::reporting::{name_alone, names_of};
+use audits::{Endpoint, connection_report, endpoint_report, fitting};
+use command_forms::{Asks, Audit, Deed, RequestForm, Target, form_while};
 use event_requests::Request as EventRequest;
 use gateway_floor::{Floor, deed_on_all, line_with_place, news_of, refused_by};
 use gateway_stations::{Context, answer_with};
@@ -21,40 +25,79 @@ use mgcp_text::{Answer, Bytes, KValue, Message, Params, TransactionId};
 use plain_machine::{LineDeed, OutDatagram};
 use std::alloc::AllocError;
 
-// The answer to an audit: the items that are asked for of one line, or the names of all lines.
-#[tactic(auto, unfolding(plain_machine::specs::Commanding::audited, mgcp_text::specs::Writing::is_writable_body))]
+// What is asked for of one line, or of one of its connections.
+fn line_report(
+    context: Context<'_>,
+    floor: &Floor,
+    line: u16,
+    id: TransactionId,
+    audit: &Audit<'_>,
+) -> Result<Answer, CodeFault>
+    ensures { AnswersAs (line_report (station_at floor.now.endpoints line) id audit.now) result }
+{
+    let Some(station) = floor.station(line) else {
+        return Err(CodeFault::Code(ReturnCode::UnknownEndpoint.number()));
+    };
+    let endpoint = Endpoint {
+        line: &station.line,
+        entity: &station.post.entity,
+        encoding: station.encoding,
+        connections: &station.connections,
+    };
+    let items = audit.items.as_slice();
+    match &audit.connection {
+        None => endpoint_report(context.alloc, id, endpoint, items),
+        Some(connection) => connection_report(context.alloc, id, endpoint, connection, items),
+    }
+}
+
+// The names of all lines.
+#[tactic(auto, unfolding(mgcp_text::specs::Writing::is_writable_body))]
+fn all_reported(context: Context<'_>, floor: &Floor, id: TransactionId) -> Result<Answer, CodeFault>
+    requires { is_domain context.setup.now.names.domain ≡ true }
+    ensures { AnswersAs (fitting id (reported (names_of context.entry.setup.now floor.now.endpoints))) result }
+{
+    let names = names_of(context, floor)?;
+    let report = Answer::with(ReturnCode::Executed.number(), names, Bytes::of(b""));
+    fitting(context.alloc, id, report)
+}
+
+// What an audit reports: the items that are asked for of one line, or the names of all lines.
+#[tactic(auto, unfolding(plain_machine::specs::Commanding::audited))]
 fn audited(
     context: Context<'_>,
     floor: &Floor,
+    id: TransactionId,
+    target: Target,
+    audit: &Audit<'_>,
+) -> Result<Answer, CodeFault>
+    requires { is_domain context.setup.now.names.domain ≡ true }
+    ensures { AnswersAs (audited context.entry.setup.now floor.now.endpoints id target audit.now) result }
+{
+    match target {
+        Target::One(line) => line_report(context, floor, line, id, audit),
+        Target::All => all_reported(context, floor, id),
+        Target::Any => Err(CodeFault::Code(ReturnCode::WildcardTooComplicated.number())),
+    }
+}
+
+// The answer to an audit: a report, or the code for which there is none.
+fn answer_to_audit(
+    context: Context<'_>,
+    floor: &Floor,
+    id: TransactionId,
     target: Target,
     audit: &Audit<'_>,
 ) -> Result<Answer, OutOfMemory>
     requires { is_domain context.setup.now.names.domain ≡ true }
-    ensures { IfOk result (λ answer. answer ≡ audited context.entry.setup.now floor.now.endpoints target audit.now) }
+    ensures { IfOk result (λ answer. answer
+        ≡ answer_by (audited context.entry.setup.now floor.now.endpoints id target audit.now)) }
 {
-    let report = match target {
-        Target::One(number) => match floor.station(number) {
-            Some(station) => report_of(context.alloc, &station.line, audit.items.as_slice())?,
-            None => return Ok(Answer::plain(context.alloc, ReturnCode::UnknownEndpoint.number())),
-        },
-        Target::All => names_of(context, floor)?,
-        Target::Any => return Ok(Answer::plain(
-            context.alloc,
-            ReturnCode::WildcardTooComplicated.number(),
-        )),
-    };
-    Ok(Answer::with(ReturnCode::Executed.number(), report, Bytes::of(b"")))
-}
-
-// An answer that would be longer than a datagram may be gives way to 533 (RFC 3435, 2.4).
-fn fitting(context: Context<'_>, id: TransactionId, wanted: Answer) -> Result<Answer, OutOfMemory>
-    ensures { IfOk result (λ answer. answer ≡ fitting id wanted) }
-{
-    let text = wanted.text(context.alloc, id)?;
-    if text.as_bytes().len() > LARGEST_DATAGRAM {
-        return Ok(Answer::plain(context.alloc, ReturnCode::ResponseTooLarge.number()));
+    match audited(context, floor, id, target, audit) {
+        Err(CodeFault::OutOfMemory) => Err(AllocError),
+        Err(CodeFault::Code(code)) => Ok(Answer::plain(context.alloc, code)),
+        Ok(report) => Ok(report),
     }
-    Ok(wanted)
 }
 
 // A deed on the lines that it is for: on all of them, or on none. Its answer has these further parameters.
@@ -173,19 +216,21 @@ pub(crate) fn commanded(
 ) -> Result<Answer, OutOfMemory>
     requires { MayTell context.setup.now moment }
     ensures answer { IfOk result (λ answer. answer ≡ (done_by
-        (form_in said.now confirms.now context.entry.setup.now.names) context.entry.setup.now floor.old.endpoints
+        (form_while_in (serves floor.old.endpoints) said.now confirms.now context.entry.setup.now.names) context.entry.setup.now floor.old.endpoints
         moment id).answer) }
-    ensures told { Tells result (done_by (form_in said.now confirms.now context.entry.setup.now.names)
+    ensures told { Tells result (done_by (form_while_in (serves floor.old.endpoints) said.now confirms.now context.entry.setup.now.names)
         context.entry.setup.now floor.old.endpoints moment id).told floor.old floor.new sent.old.items sent.new.items }
 {
-    match form(context.alloc, said, confirms, &context.setup.names) {
+    match form_while(
+        context.alloc,
+        floor.serves(),
+        said,
+        confirms,
+        &context.setup.names,
+    ) {
         Err(CodeFault::OutOfMemory) => Err(AllocError),
         Err(CodeFault::Code(code)) => Ok(Answer::plain(context.alloc, code)),
-        Ok(Asks::Reports(target, audit)) => fitting(
-            context,
-            id,
-            audited(context, floor, target, &audit)?,
-        ),
+        Ok(Asks::Reports(target, audit)) => answer_to_audit(context, floor, id, target, &audit),
         Ok(Asks::Does(target, deed)) => {
             let deed = line_deed(context, deed)?;
             done_for(context, floor, moment, target, &deed, sent)

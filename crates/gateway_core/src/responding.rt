@@ -1,17 +1,18 @@
-//! What a response does to a command of the gateway's own (RFC 3435, 3.5 and 4.4.1).
+//! What a response does to a command of the gateway's own (RFC 3435, 3.5, 4.4.1, 4.4.6 and 4.4.7).
 ghost use Rattle.std.specs.Prelude.{◌≡◌, ◌++◌, OnOk, IfOk};
 ghost use Rattle.mgcp_text.specs.Message.{params_in};
 ghost use Rattle.plain_machine.specs.Message.{datagrams_of};
-ghost use Rattle.plain_machine.specs.Responding.{is_empty_k, asks_for_acknowledgement, acknowledged, heard_from};
+ghost use Rattle.plain_machine.specs.Responding.{is_empty_k, asks_for_acknowledgement, acknowledged, entity_in, heard_from};
 ghost use Rattle.gateway_stations.specs.Telling.{MayTell};
 ghost use Rattle.gateway_floor.specs.Tells.{Tells};
 
 use crate::sending::Origin;
+use endpoint_names::{Entity, read_entity};
 use gateway_floor::{Floor, respond_to_its_id};
-use gateway_stations::{Context, Response, send};
+use gateway_stations::{Context, send};
 use mg_bytes::{OutOfMemory, ReturnCode};
-use mgcp_text::{Answer, KValue, Message, read_k};
-use plain_machine::OutDatagram;
+use mgcp_text::{Answer, KValue, Message, param_at, read_k};
+use plain_machine::{OutDatagram, Response};
 
 fn is_empty_k(value: &KValue) -> bool
     ensures { result ≡ is_empty_k value.now }
@@ -58,6 +59,14 @@ fn acknowledge(
     send(out, origin.source, moment, text)
 }
 
+// Whom the first N of a response names, where that can be read (RFC 3435, 3.2.2: NotifiedEntity).
+fn entity_in(context: Context<'_>, said: &Message<'_>) -> Option<Entity>
+    ensures { result ≡ entity_in context.entry.setup.now (params_in said.now) }
+{
+    let param = param_at(b"N", said.params())?;
+    read_entity(param.value.as_slice(), &context.setup.names.table)
+}
+
 /// A response: its acknowledgement goes out before anything else that it causes.
 pub(crate) fn respond(
     context: Context<'_>,
@@ -75,8 +84,9 @@ pub(crate) fn respond(
     let response = Response {
         id: origin.id,
         code,
+        entity: entity_in(context, said),
     };
     acknowledge(context, moment, origin, code, said, out)?;
-    respond_to_its_id(context, floor, moment, response, out)?;
+    respond_to_its_id(context, floor, moment, &response, out)?;
     Ok(())
 }

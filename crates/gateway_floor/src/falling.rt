@@ -1,4 +1,5 @@
-//! What falls due first of all, and what happens then, each at its own moment (RFC 3435, 2.1.5, 2.1.7 and 3.5.3).
+//! What falls due first of all, and what happens then, each at its own moment (RFC 3435, 2.1.5, 2.1.7,
+//! 3.5.3 and 4.4.6).
 ghost use Rattle.std.specs.Prelude.{◌≡◌, ◌<◌, ◌≤◌, ◌^◌, length};
 ghost use Rattle.plain_machine.specs.Machine.{on_line, on_own};
 ghost use Rattle.plain_machine.specs.Falling.{first_due, due_by, is_due, happened_on, own_happened, happened, pass};
@@ -7,9 +8,7 @@ ghost use Rattle.gateway_floor.specs.Saving.{manned};
 ghost use Rattle.gateway_floor.specs.Tells.{Tells};
 
 use crate::floor::Floor;
-use gateway_stations::{
-    Context, Occasion, command_item, due_on, earlier, happened_on, own_happened,
-};
+use gateway_stations::{Context, Occasion, due_on, earlier, happened_on, own_happened, post_due};
 use mg_bytes::OutOfMemory;
 use plain_machine::{Due, DueItem, OutDatagram, Own, Station};
 
@@ -19,7 +18,7 @@ pub(crate) fn first_due(own: &Own, stations: &[Station]) -> Option<DueItem>
     requires { length stations.now ≤ 16 }
     ensures { result ≡ first_due (manned stations.now own.now) }
 {
-    let mut first = command_item(0, &own.post);
+    let mut first = post_due(0, &own.post);
     for (place, station) in stations.iter().enumerate() {
         first = earlier(first, due_on(place as u16 + 1, station));
     }
@@ -76,8 +75,8 @@ fn happen_itself(
     due: Due,
     out: &mut Vec<OutDatagram>,
 ) -> Result<(), OutOfMemory>
-    requires { moment < 2 ^ 62 }
-    ensures { Tells result (on_own floor.old.endpoints (own_happened due moment))
+    requires { MayTell context.setup.now moment }
+    ensures { Tells result (on_own floor.old.endpoints (own_happened due context.entry.setup.now moment))
         floor.old floor.new out.old.items out.new.items }
 {
     let becomes = own_happened(context, moment, floor.own(), due, out)?;

@@ -7,6 +7,7 @@ ghost use Rattle.mg_line.specs.Line.{LineState};
 ghost use Rattle.plain_machine.specs.Notifying.{silent};
 ghost use Rattle.plain_machine.specs.Acting.{acted_on};
 ghost use Rattle.plain_machine.specs.Falling.{due_on, first_due};
+ghost use Rattle.gateway_stations.specs.Telling.{HasId};
 ghost use Rattle.gateway_floor.specs.Saving.{manned, undone};
 
 use crate::falling::first_due;
@@ -17,13 +18,43 @@ use std::alloc::{AllocError, Global};
 use std::marker::Model;
 use std::mem;
 
+/// What the gateway keeps for itself; its next command has an id, since 0 is none.
+#[derive(Drop)]
+struct Kept {
+    own: Own,
+}
+
+impl Model for Kept {
+    ghost use Rattle.plain_machine.specs.declared.own.Own.{Own};
+    ghost use Rattle.gateway_stations.specs.Telling.{HasId};
+
+    ghost Value = { Own };
+
+    ghost view = { λ k. k.own };
+
+    ghost invariant = { λ k. HasId 0 k.own.post.number };
+
+    ghost inverse = { λ own. record { own = own } };
+}
+
+impl Kept {
+    ghost use Rattle.gateway_stations.specs.Telling.{HasId};
+
+    fn own(&self) -> &Own
+        ensures value { result.now ≡ self.now }
+        ensures id { HasId 0 result.now.post.number }
+    {
+        &self.own
+    }
+}
+
 /// What there was before an event changed it.
 #[derive(Drop)]
 enum Saved {
     /// The station at this place.
     OfLine { place: usize, station: Station },
     /// What the gateway keeps for itself.
-    OfGateway(Own),
+    OfGateway(Kept),
 }
 
 /// The stations of a gateway, at most 16, and what it keeps for itself. A contract sees them as they are, and as the
@@ -34,7 +65,7 @@ enum Saved {
 pub struct Floor {
     alloc: Global,
     stations: Vec<Station>,
-    own: Own,
+    own: Kept,
     saved: Vec<Saved>,
     // What falls due first of all.
     first: Option<DueItem>,
@@ -58,7 +89,7 @@ impl Model for Floor {
 
 impl Floor {
     ghost use Rattle.std.specs.Prelude.{[], true, OnOk, OnErr, OnSome, option_copied};
-    ghost use Rattle.plain_machine.specs.Machine.{told, station_at, with_station, with_own};
+    ghost use Rattle.plain_machine.specs.Machine.{told, serves, station_at, with_station, with_own};
     ghost use Rattle.plain_machine.specs.Acting.{acted};
     ghost use Rattle.plain_machine.specs.Refusing.{is_unheeded};
     ghost use Rattle.gateway_floor.specs.FloorState.{settled_at};
@@ -67,14 +98,15 @@ impl Floor {
     /// A floor with these stations, and with this of the gateway itself.
     #[tactic(auto, unfolding(crate::specs::Saving::restored))]
     pub fn of(alloc: Global, stations: Vec<Station>, own: Own) -> Self
-        requires { length stations.items ≤ 16 }
+        requires few { length stations.items ≤ 16 }
+        requires id { HasId 0 own.post.number }
         ensures { result ≡ settled_at (manned stations.items own) }
     {
         let first = first_due(&own, &stations);
         Floor {
             alloc,
             stations,
-            own,
+            own: Kept { own },
             saved: Vec::new(alloc),
             first,
         }
@@ -89,9 +121,17 @@ impl Floor {
 
     /// What the gateway keeps for itself.
     pub fn own(&self) -> &Own
-        ensures { result.now ≡ self.now.endpoints.own }
+        ensures value { result.now ≡ self.now.endpoints.own }
+        ensures id { HasId 0 result.now.post.number }
     {
-        &self.own
+        self.own.own()
+    }
+
+    /// Whether the gateway serves: its announcement was answered (RFC 3435, 4.4.6).
+    pub fn serves(&self) -> bool
+        ensures { result ≡ serves self.now.endpoints }
+    {
+        self.own.own().post.restart.serving()
     }
 
     /// The stations, of which the first is that of line 1.
@@ -129,12 +169,12 @@ impl Floor {
         };
         match self.saved.push(saved) {
             Ok(()) => {
-                self.first = first_due(&self.own, &self.stations);
+                self.first = first_due(self.own.own(), &self.stations);
                 Ok(())
             }
             Err(refused) => {
                 put_back(&mut self.stations, &mut self.own, refused.value);
-                self.first = first_due(&self.own, &self.stations);
+                self.first = first_due(self.own.own(), &self.stations);
                 Err(AllocError)
             }
         }
@@ -142,18 +182,19 @@ impl Floor {
 
     /// What the gateway keeps for itself becomes this. After an error the floor is as it was.
     pub fn put_own(&mut self, own: Own) -> Result<(), OutOfMemory>
+        requires { HasId 0 own.post.number }
         ensures ok { OnOk result (self.new ≡ record self.old { endpoints = with_own self.old.endpoints own }) }
         ensures err { OnErr result (self.new ≡ self.old) }
     {
-        let was = mem::replace(&mut self.own, own);
+        let was = mem::replace(&mut self.own, Kept { own });
         match self.saved.push(Saved::OfGateway(was)) {
             Ok(()) => {
-                self.first = first_due(&self.own, &self.stations);
+                self.first = first_due(self.own.own(), &self.stations);
                 Ok(())
             }
             Err(refused) => {
                 put_back(&mut self.stations, &mut self.own, refused.value);
-                self.first = first_due(&self.own, &self.stations);
+                self.first = first_due(self.own.own(), &self.stations);
                 Err(AllocError)
             }
         }
@@ -174,7 +215,7 @@ impl Floor {
         while let Some(saved) = self.saved.pop() {
             put_back(&mut self.stations, &mut self.own, saved);
         }
-        self.first = first_due(&self.own, &self.stations);
+        self.first = first_due(self.own.own(), &self.stations);
     }
 
     /// An act at the telephone of a line that doesn't heed it. It takes no memory, and isn't saved.
@@ -186,7 +227,7 @@ impl Floor {
             acted setup self.old.endpoints line moment act ≡ told self.new.endpoints [] }
     {
         pass_over_on(&mut self.stations[usize::from(line) - 1], act);
-        self.first = first_after(self.first, &self.own, &self.stations, act);
+        self.first = first_after(self.first, self.own.own(), &self.stations, act);
     }
 }
 
@@ -224,7 +265,7 @@ fn exchanged(stations: &mut Vec<Station>, place: usize, station: Station) -> Sta
 }
 
 // Puts back what was saved last.
-fn put_back(stations: &mut Vec<Station>, own: &mut Own, saved: Saved)
+fn put_back(stations: &mut Vec<Station>, own: &mut Kept, saved: Saved)
     ensures { manned stations.new.items own.new ≡ undone saved (manned stations.old.items own.old) }
 {
     match saved {

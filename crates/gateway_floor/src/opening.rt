@@ -3,12 +3,14 @@ ghost use Rattle.std.specs.Prelude.{◌≡◌, ◌≤◌, ◌<◌, ◌+◌, ◌^
 ghost use Rattle.std.specs.List.{AllByRecursion, range_with_len};
 ghost use Rattle.plain_machine.specs.Setup.{table_from, are_lines, is_wait, is_media_base, is_address, setup_of, IsSetUp};
 ghost use Rattle.plain_machine.specs.Machine.{port_of, opening_post, opening_station, opening_own};
+ghost use Rattle.gateway_stations.specs.Telling.{HasId};
 
 use connections::{Connections, Encoding};
 use endpoint_names::{Names, Table, is_domain, read_entity};
 use mg_bytes::OutOfMemory;
 use mg_line::Line;
 use plain_machine::{CommandNumber, Config, ConfigFault, NamedAddress, Own, Post, Setup, Station};
+use restart::Restart;
 use std::alloc::Global;
 use std::net::Ipv4Addr;
 
@@ -101,13 +103,14 @@ pub fn judged(config: Config) -> Result<Setup, ConfigFault>
 }
 
 // A post under which nothing was sent; its first command has this number.
-fn opening_post(setup: &Setup, number: CommandNumber) -> Post
-    ensures { result ≡ opening_post setup.now number }
+fn opening_post(setup: &Setup, number: CommandNumber, restart: Restart) -> Post
+    ensures { result ≡ opening_post setup.now number restart }
 {
     Post {
         entity: setup.agent,
         number,
         pending: None,
+        restart,
     }
 }
 
@@ -131,7 +134,7 @@ fn opening_station(alloc: Global, setup: &Setup, line: u16) -> Result<Station, O
 {
     Ok(Station {
         line: Line::new(alloc)?,
-        post: opening_post(setup, CommandNumber::first()),
+        post: opening_post(setup, CommandNumber::first(), Restart::Serving),
         encoding: Encoding::Mu,
         connections: Connections::new(setup.media_address, port_of(setup, line)),
     })
@@ -150,11 +153,14 @@ pub fn opening_stations(alloc: Global, setup: &Setup) -> Result<Vec<Station>, Ou
     Ok(stations)
 }
 
-/// What the gateway keeps for itself at the opening: it reports to the configured agent, and has nothing in flight.
+/// What the gateway keeps for itself at the opening: it reports to the configured agent, has nothing in flight, and waits to
+/// announce itself.
 pub fn opening_own(setup: &Setup) -> Own
-    ensures { result ≡ opening_own setup.now }
+    ensures value { result ≡ opening_own setup.now }
+    ensures id { HasId 0 result.post.number }
 {
+    let restart = Restart::begin(0, setup.restart_wait);
     Own {
-        post: opening_post(setup, CommandNumber::first_own()),
+        post: opening_post(setup, CommandNumber::first_own(), restart),
     }
 }

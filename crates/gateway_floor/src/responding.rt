@@ -1,14 +1,20 @@
-//! What a response does to the line of its id, or to the gateway itself (RFC 3435, 3.5 and 4.4.1).
-ghost use Rattle.std.specs.Prelude.{◌<◌, ◌^◌, []};
+//! What a response does to the line of its id, or to the gateway itself and then to all lines (RFC 3435, 3.5, 4.4.1, 4.4.6
+//! and 4.4.7).
+ghost use Rattle.std.specs.Prelude.{[]};
 ghost use Rattle.plain_machine.specs.Machine.{on_line, on_own};
-ghost use Rattle.plain_machine.specs.Responding.{responded_on, own_responded, responded};
+ghost use Rattle.plain_machine.specs.Responding.{responded_on, own_responded, redirected_on, opened_on};
+ghost use Rattle.plain_machine.specs.Responding.{on_all, lines_told, own_heard, responded};
 ghost use Rattle.gateway_stations.specs.Telling.{MayTell};
 ghost use Rattle.gateway_floor.specs.Tells.{Tells};
 
 use crate::floor::Floor;
-use gateway_stations::{Context, Occasion, Response, own_responded, responded_on};
+use endpoint_names::Entity;
+use gateway_stations::{
+    Context, Occasion, heard_on, opened_on, own_responded, redirected_on, responded_on,
+};
 use mg_bytes::OutOfMemory;
-use plain_machine::{OutDatagram, line_of_id};
+use plain_machine::{OutDatagram, Response, line_of_id};
+use restart::Heard;
 
 // What a response does to this line.
 #[tactic(auto, unfolding(plain_machine::specs::Machine::on_line))]
@@ -16,12 +22,12 @@ fn respond_on_line(
     context: Context<'_>,
     floor: &mut Floor,
     occasion: Occasion,
-    response: Response,
+    response: &Response,
     out: &mut Vec<OutDatagram>,
 ) -> Result<(), OutOfMemory>
     requires { MayTell context.setup.now occasion.moment }
-    ensures { Tells result (on_line floor.old.endpoints occasion.line (λ station. responded_on context.entry.setup.now
-        occasion.line occasion.moment station response.code response.id))
+    ensures { Tells result (on_line floor.old.endpoints occasion.line
+        (responded_on context.entry.setup.now occasion.line occasion.moment response.now))
         floor.old floor.new out.old.items out.new.items }
 {
     let Some(station) = floor.station(occasion.line) else {
@@ -33,40 +39,143 @@ fn respond_on_line(
     Ok(())
 }
 
-// What a response does to the gateway itself: it sends nothing.
-#[tactic(auto, unfolding(plain_machine::specs::Responding::own_responded))]
-fn respond_itself(floor: &mut Floor, moment: u64, response: Response) -> Result<(), OutOfMemory>
-    requires { moment < 2 ^ 62 }
-    ensures { Tells result (on_own floor.old.endpoints (own_responded moment response.code response.id))
-        floor.old floor.new [] [] }
+// What a response does to what the gateway keeps for itself.
+fn respond_to_own(
+    context: Context<'_>,
+    floor: &mut Floor,
+    moment: u64,
+    response: &Response,
+    out: &mut Vec<OutDatagram>,
+) -> Result<(), OutOfMemory>
+    requires { MayTell context.setup.now moment }
+    ensures { Tells result (on_own floor.old.endpoints (own_responded context.entry.setup.now moment response.now))
+        floor.old floor.new out.old.items out.new.items }
 {
-    if let Some(becomes) = own_responded(moment, floor.own(), response)? {
-        floor.put_own(becomes)?;
+    let becomes = own_responded(context, moment, floor.own(), response, out)?;
+    floor.put_own(becomes)?;
+    Ok(())
+}
+
+// This line notifies another agent from now on.
+#[tactic(auto, unfolding(plain_machine::specs::Machine::on_line))]
+fn redirect_line(floor: &mut Floor, line: u16, agent: Entity) -> Result<(), OutOfMemory>
+    ensures { Tells result (on_line floor.old.endpoints line (redirected_on agent line)) floor.old floor.new [] [] }
+{
+    let Some(station) = floor.station(line) else {
+        return Ok(());
+    };
+    let becomes = redirected_on(station, agent)?;
+    floor.put(line, becomes)?;
+    Ok(())
+}
+
+// And so does each line.
+fn redirect_all(floor: &mut Floor, agent: &Entity) -> Result<(), OutOfMemory>
+    ensures { Tells result (on_all floor.old.endpoints (redirected_on agent.now)) floor.old floor.new [] [] }
+{
+    for place in 0..floor.stations().len() {
+        redirect_line(floor, place as u16 + 1, *agent)?;
     }
     Ok(())
 }
 
-/// What a response does at this moment (in ms) to the line of its id, or to the gateway itself. After an error, which is
-/// for want of memory, what the event found can still be had.
+// The gateway serves this line from now on.
+#[tactic(auto, unfolding(plain_machine::specs::Machine::on_line))]
+fn open_line(
+    context: Context<'_>,
+    floor: &mut Floor,
+    occasion: Occasion,
+    agent: Option<Entity>,
+    out: &mut Vec<OutDatagram>,
+) -> Result<(), OutOfMemory>
+    requires { MayTell context.setup.now occasion.moment }
+    ensures { Tells result (on_line floor.old.endpoints occasion.line
+        (opened_on agent context.entry.setup.now occasion.moment occasion.line))
+        floor.old floor.new out.old.items out.new.items }
+{
+    let Some(station) = floor.station(occasion.line) else {
+        return Ok(());
+    };
+    let becomes = opened_on(context, occasion, station, agent, out)?;
+    floor.put(occasion.line, becomes)?;
+    Ok(())
+}
+
+// And so it does each line, in the order of their numbers.
+fn open_all(
+    context: Context<'_>,
+    floor: &mut Floor,
+    moment: u64,
+    agent: &Option<Entity>,
+    out: &mut Vec<OutDatagram>,
+) -> Result<(), OutOfMemory>
+    requires { MayTell context.setup.now moment }
+    ensures { Tells result (on_all floor.old.endpoints (opened_on agent.now context.entry.setup.now moment))
+        floor.old floor.new out.old.items out.new.items }
+{
+    for place in 0..floor.stations().len() {
+        let line = place as u16 + 1;
+        open_line(context, floor, Occasion { line, moment }, *agent, out)?;
+    }
+    Ok(())
+}
+
+// What comes to all lines where this is heard by the gateway itself.
+fn tell_lines(
+    context: Context<'_>,
+    floor: &mut Floor,
+    moment: u64,
+    heard: Heard,
+    out: &mut Vec<OutDatagram>,
+) -> Result<(), OutOfMemory>
+    requires { MayTell context.setup.now moment }
+    ensures { Tells result (lines_told heard context.entry.setup.now moment floor.old.endpoints)
+        floor.old floor.new out.old.items out.new.items }
+{
+    match heard {
+        Heard::Nothing => Ok(()),
+        Heard::PutOff => Ok(()),
+        Heard::Redirected(agent) => redirect_all(floor, &agent),
+        Heard::Answered(agent) => open_all(context, floor, moment, &agent, out),
+    }
+}
+
+// What a response does to the gateway itself, and then to its lines.
+fn respond_itself(
+    context: Context<'_>,
+    floor: &mut Floor,
+    moment: u64,
+    response: &Response,
+    out: &mut Vec<OutDatagram>,
+) -> Result<(), OutOfMemory>
+    requires { MayTell context.setup.now moment }
+    ensures { Tells result (own_heard context.entry.setup.now floor.old.endpoints moment response.now)
+        floor.old floor.new out.old.items out.new.items }
+{
+    let heard = heard_on(&floor.own().post, response);
+    respond_to_own(context, floor, moment, response, out)?;
+    tell_lines(context, floor, moment, heard, out)?;
+    Ok(())
+}
+
+/// What a response does at this moment (in ms) to the line of its id, or to the gateway itself and then to all lines.
+/// After an error, which is for want of memory, what the event found can still be had.
 pub fn respond_to_its_id(
     context: Context<'_>,
     floor: &mut Floor,
     moment: u64,
-    response: Response,
+    response: &Response,
     out: &mut Vec<OutDatagram>,
 ) -> Result<(), OutOfMemory>
     requires { MayTell context.setup.now moment }
-    ensures { Tells result (responded context.entry.setup.now floor.old.endpoints moment response.code response.id)
+    ensures { Tells result (responded context.entry.setup.now floor.old.endpoints moment response.now)
         floor.old floor.new out.old.items out.new.items }
 {
-    let occasion = Occasion {
-        line: line_of_id(response.id),
-        moment,
-    };
-    if occasion.line == 0 {
-        respond_itself(floor, moment, response)?;
+    let line = line_of_id(response.id);
+    if line == 0 {
+        respond_itself(context, floor, moment, response, out)?;
     } else {
-        respond_on_line(context, floor, occasion, response, out)?;
+        respond_on_line(context, floor, Occasion { line, moment }, response, out)?;
     }
     Ok(())
 }

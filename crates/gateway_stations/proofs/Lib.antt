@@ -1,2 +1,4 @@
 pub mod TellLemmas
 pub mod NewsLemmas
+pub mod ResponseLemmas
+pub mod OwnLemmas

@@ -1,7 +1,8 @@
--- When a line may write, and which lines there are.
+-- When a line may write, which lines there are, and which commands have an id.
 use Rattle.std.specs.Prelude.{◌≡◌, ◌<◌, ◌≤◌, ◌^◌, ℕ, true}
 use Rattle.endpoint_names.specs.Table.{is_domain}
 use Rattle.plain_machine.specs.declared.setup.Setup.{Setup}
+use Rattle.plain_machine.specs.Posting.{id_on}
 
 -- a gateway may write, and it is this moment
 pub record MayTell (setup : Setup) (moment : ℕ) : Type 0 where
@@ -11,4 +12,9 @@ pub record MayTell (setup : Setup) (moment : ℕ) : Type 0 where
 -- the number of a line that a gateway may have
 pub record IsLine (line : ℕ) : Type 0 where
   pub some : 1 ≤ line
+  pub few : line ≤ 16
+
+-- the command with this number has an id, be it a line's or that of the gateway itself, which is line 0: 0 is none
+pub record HasId (line number : ℕ) : Type 0 where
+  pub some : 1 ≤ id_on line number
   pub few : line ≤ 16

@@ -6,7 +6,8 @@ ghost use Rattle.gateway_stations.specs.Telling.{MayTell, IsLine};
 ghost use Rattle.gateway_stations.specs.Turns.{HasTurn};
 
 use crate::context::Context;
-use crate::notifying::{Occasion, tell};
+use crate::notifying::tell;
+use crate::posting::Occasion;
 use crate::station::with_line;
 use mg_bytes::OutOfMemory;
 use mg_line::Act;

@@ -1,14 +1,18 @@
-//! What falls due on a station, and of the gateway itself: of a line the end of timer T and the ends of signals, and the
-//! repeats of the command in flight, each at its own moment (RFC 3435, 2.1.5, 2.1.7 and 3.5.3).
-ghost use Rattle.std.specs.Prelude.{◌≡◌, ◌<◌, ◌^◌, option_map, IfOk};
+//! What falls due on a station, and of the gateway itself: of a line the end of timer T and the ends of signals; and of
+//! both the repeats of the command in flight, and the announcement, each at its own moment (RFC 3435, 2.1.5, 2.1.7, 3.5.3
+//! and 4.4.6).
+ghost use Rattle.std.specs.Prelude.{◌≡◌, option_map, IfOk};
 ghost use Rattle.mg_line.specs.Falling.{due_of};
-ghost use Rattle.plain_machine.specs.Falling.{line_item, command_item, due_on, earlier, happened_on, own_happened};
-ghost use Rattle.gateway_stations.specs.Telling.{MayTell, IsLine};
+ghost use Rattle.restart.specs.Restarting.{due_of as announced_at};
+ghost use Rattle.plain_machine.specs.Falling.{line_item, command_item, announcement_item, post_due, due_on, earlier};
+ghost use Rattle.plain_machine.specs.Falling.{happened_on, own_happened};
+ghost use Rattle.gateway_stations.specs.Telling.{MayTell, IsLine, HasId};
 ghost use Rattle.gateway_stations.specs.Turns.{HasTurn, OwnHasTurn};
 
+use crate::announcing::announced_on;
 use crate::context::Context;
-use crate::notifying::{Occasion, tell};
-use crate::posting::{copy_of, resent_on};
+use crate::notifying::tell;
+use crate::posting::{Occasion, copy_of, resent_on};
 use crate::station::{with_line, with_post};
 use mg_bytes::OutOfMemory;
 use plain_machine::{Due, DueItem, OutDatagram, Own, Post, Station};
@@ -25,8 +29,8 @@ fn line_item(line: u16, station: &Station) -> Option<DueItem>
     })
 }
 
-/// When the command in flight under a post is due: that of a line, or of the gateway itself, which is line 0.
-pub fn command_item(line: u16, post: &Post) -> Option<DueItem>
+// When the command in flight under a post is due.
+fn command_item(line: u16, post: &Post) -> Option<DueItem>
     ensures { result ≡ option_map (command_item line) post.now.pending }
 {
     match &post.pending {
@@ -39,12 +43,32 @@ pub fn command_item(line: u16, post: &Post) -> Option<DueItem>
     }
 }
 
+// When the announcement under a post is due, where it waits.
+fn announcement_item(line: u16, post: &Post) -> Option<DueItem>
+    ensures { result ≡ option_map (announcement_item line) (announced_at post.now.restart) }
+{
+    let moment = post.restart.due()?;
+    Some(DueItem {
+        moment,
+        line,
+        due: Due::Announce,
+    })
+}
+
+/// What falls due first of a post: that of a line, or of the gateway itself, which is line 0. It takes no memory.
+#[tactic(auto, unfolding(plain_machine::specs::Falling::post_due))]
+pub fn post_due(line: u16, post: &Post) -> Option<DueItem>
+    ensures { result ≡ post_due line post.now }
+{
+    earlier(command_item(line, post), announcement_item(line, post))
+}
+
 /// What falls due first on the station of this line.
 #[tactic(auto, unfolding(plain_machine::specs::Falling::due_on))]
 pub fn due_on(line: u16, station: &Station) -> Option<DueItem>
     ensures { result ≡ due_on (line, station.now) }
 {
-    earlier(line_item(line, station), command_item(line, &station.post))
+    earlier(line_item(line, station), post_due(line, &station.post))
 }
 
 /// The earlier of two, the first where both are as early.
@@ -94,6 +118,10 @@ pub fn happened_on(
             let post = resent_on(context, occasion, &station.post, out)?;
             with_post(station, post)
         }
+        Due::Announce => {
+            let post = announced_on(context, occasion, &station.post, out)?;
+            with_post(station, post)
+        }
     }
 }
 
@@ -107,14 +135,16 @@ pub fn own_happened(
     due: Due,
     out: &mut Vec<OutDatagram>,
 ) -> Result<Own, OutOfMemory>
-    requires { moment < 2 ^ 62 }
-    ensures { IfOk result (λ becomes. OwnHasTurn (own_happened due moment own.now)
+    requires id { HasId 0 own.now.post.number }
+    requires may { MayTell context.setup.now moment }
+    ensures { IfOk result (λ becomes. OwnHasTurn (own_happened due context.entry.setup.now moment own.now)
         becomes out.old.items out.new.items) }
 {
     let occasion = Occasion { line: 0, moment };
     let post = match due {
         Due::OfLine(_) => copy_of(&own.post)?,
         Due::Resend => resent_on(context, occasion, &own.post, out)?,
+        Due::Announce => announced_on(context, occasion, &own.post, out)?,
     };
     Ok(Own { post })
 }

@@ -5,6 +5,7 @@
 #![tactic(auto)]
 
 mod acting;
+mod announcing;
 mod connecting;
 mod context;
 mod falling;
@@ -16,11 +17,11 @@ mod sending;
 mod station;
 
 pub use crate::acting::acted_on;
+pub use crate::announcing::heard_on;
 pub use crate::connecting::{News, answer_with, news_on};
 pub use crate::context::Context;
-pub use crate::falling::{command_item, due_on, earlier, happened_on, own_happened};
-pub use crate::notifying::Occasion;
-pub use crate::posting::Response;
+pub use crate::falling::{due_on, earlier, happened_on, own_happened, post_due};
+pub use crate::posting::Occasion;
 pub use crate::requesting::{deed_on, has_place, refusal_by};
-pub use crate::responding::{own_responded, responded_on};
+pub use crate::responding::{opened_on, own_responded, redirected_on, responded_on};
 pub use crate::sending::send;

@@ -1,10 +1,10 @@
 //! A line tells what it has to tell: a notification goes out, and is in flight from then on (RFC 3435, 2.3.4 and 3.5).
-ghost use Rattle.std.specs.Prelude.{◌≡◌, ◌∷◌, [], true, false, codes, IfOk};
+ghost use Rattle.std.specs.Prelude.{◌≡◌, ◌∷◌, [], true, false, codes, IsTrue, IfOk};
 ghost use Rattle.std.specs.List.{list_all, list_any};
 ghost use Rattle.mg_bytes.specs.Blanks.{is_blank};
 ghost use Rattle.mg_bytes.specs.Lines.{is_line_feed};
 ghost use Rattle.mgcp_text.specs.Parameter.{is_code};
-ghost use Rattle.mgcp_text.specs.Writing.{is_writable_param, written};
+ghost use Rattle.mgcp_text.specs.Writing.{is_writable_param, is_writable};
 ghost use Rattle.endpoint_names.specs.Table.{is_domain};
 ghost use Rattle.event_values.specs.Observed.{observed_text};
 ghost use Rattle.plain_machine.specs.Posting.{id_on, with_command};
@@ -13,21 +13,13 @@ ghost use Rattle.gateway_stations.specs.Telling.{MayTell, IsLine};
 ghost use Rattle.gateway_stations.specs.Turns.{HasTurn, PostHasTurn};
 
 use crate::context::Context;
-use crate::sending::send;
+use crate::posting::{Occasion, begin};
 use endpoint_names::{Pattern, write_name};
 use event_values::write_observed;
-use mg_bytes::{OutOfMemory, Text};
+use mg_bytes::OutOfMemory;
 use mg_line::Notice;
-use mgcp_text::{Bytes, Message, Param, Params, TransactionId, Verb, write_message};
-use outbound::Pending;
+use mgcp_text::{Bytes, Message, Param, Params, TransactionId, Verb};
 use plain_machine::{OutDatagram, Post, Station};
-
-/// Which line it is, and what time (in ms). The gateway itself is line 0.
-#[derive(Clone, Copy)]
-pub struct Occasion {
-    pub line: u16,
-    pub moment: u64,
-}
 
 // A parameter whose value is one word.
 fn word_param<'v>(code: &'static [u8], value: Bytes<'v>) -> Param<'v>
@@ -56,30 +48,31 @@ fn notice_params<'n>(context: Context<'_>, notice: &'n Notice) -> Result<Params<
     Ok(params)
 }
 
-// The text of the notification of a line under this id.
+// The notification of a line under this id.
 #[tactic(auto, unfolding(plain_machine::specs::Notifying::notification))]
-fn notification(
+fn notification<'n>(
     context: Context<'_>,
     line: u16,
     id: TransactionId,
-    notice: &Notice,
-) -> Result<Text, OutOfMemory>
+    notice: &'n Notice,
+) -> Result<Message<'n>, OutOfMemory>
     requires domain { is_domain context.setup.now.names.domain ≡ true }
-    ensures { IfOk result (λ text. text ≡ written (notification context.entry.setup.now line id notice.now)) }
+    ensures value { IfOk result (λ said. said ≡ notification context.entry.setup.now line id notice.now) }
+    ensures writable { IfOk result (λ said. IsTrue (is_writable said)) }
 {
     let domain = context.setup.names.domain.as_bytes();
-    let said = Message::Command {
+    let name = write_name(context.alloc, Pattern::One(line), domain)?;
+    Ok(Message::Command {
         verb: Verb::Ntfy,
         id,
-        name: Bytes::owned(write_name(context.alloc, Pattern::One(line), domain)?),
+        name: Bytes::owned(name),
         params: notice_params(context, notice)?,
         body: Bytes::of(b""),
-    };
-    write_message(context.alloc, &said)
+    })
 }
 
-// A notification begins under a line's post: it is in flight, and goes out.
-fn begin(
+// A notification begins under a line's post.
+fn notified(
     context: Context<'_>,
     occasion: Occasion,
     post: &Post,
@@ -93,15 +86,8 @@ fn begin(
         becomes out.old.items out.new.items) }
 {
     let id = post.number.id_on(occasion.line);
-    let to = post.entity.address;
-    let text = notification(context, occasion.line, id, notice)?;
-    let pending = Pending::begin(context.alloc, id, to, text.as_bytes(), occasion.moment)?;
-    send(out, to, occasion.moment, text)?;
-    Ok(Post {
-        entity: post.entity,
-        number: post.number.after_on(occasion.line),
-        pending: Some(pending),
-    })
+    let said = notification(context, occasion.line, id, notice)?;
+    begin(context, occasion, post, &said, out)
 }
 
 /// A station tells what its line has to tell: its notification begins, and goes out behind what there is.
@@ -120,7 +106,7 @@ pub(crate) fn tell(
     match notice {
         None => Ok(station),
         Some(notice) => {
-            let post = begin(context, occasion, &station.post, &notice, out)?;
+            let post = notified(context, occasion, &station.post, &notice, out)?;
             Ok(Station {
                 line: station.line,
                 post,

@@ -8,12 +8,12 @@ ghost use Rattle.gateway_stations.specs.Turns.{HasTurn};
 
 use crate::connecting::{connected_on, connections_left, encoding_with};
 use crate::context::Context;
-use crate::notifying::{Occasion, tell};
-use crate::posting::copy_of;
+use crate::notifying::tell;
+use crate::posting::{Occasion, with_entity};
 use connections::Connection;
 use mg_bytes::OutOfMemory;
 use mg_line::{Line, LineStep};
-use plain_machine::{LineDeed, OutDatagram, Post, Station};
+use plain_machine::{LineDeed, OutDatagram, Station};
 
 /// The code with which a line refuses a deed, by its connections first.
 pub fn refusal_by(deed: &LineDeed, station: &Station) -> Option<u16>
@@ -28,17 +28,6 @@ pub fn refusal_by(deed: &LineDeed, station: &Station) -> Option<u16>
     }
 }
 
-// The post of a station after a deed: the notified entity that is given is its own from now on.
-fn with_entity(deed: &LineDeed, station: &Station) -> Result<Post, OutOfMemory>
-    ensures { IfOk result (λ post. post ≡ (with_entity deed.now.entity station.now).post) }
-{
-    let mut post = copy_of(&station.post)?;
-    if let Some(entity) = &deed.entity {
-        post.entity = *entity;
-    }
-    Ok(post)
-}
-
 // A station with this line and, after a deed, its entity, its encoding and its connections.
 fn with_deed(deed: &LineDeed, station: &Station, line: Line) -> Result<Station, OutOfMemory>
     ensures { IfOk result (λ becomes. becomes ≡ record (with_connections deed.now (with_entity deed.now.entity station.now)) {
@@ -47,7 +36,7 @@ fn with_deed(deed: &LineDeed, station: &Station, line: Line) -> Result<Station, 
 {
     Ok(Station {
         line,
-        post: with_entity(deed, station)?,
+        post: with_entity(deed.entity, &station.post)?,
         encoding: encoding_with(deed, station),
         connections: connections_left(deed, station),
     })

@@ -6,3 +6,8 @@ pub mod AnswerLaws
 pub mod EntryLaws
 pub mod PurgeLaws
 pub mod Computing
+pub mod SpotLaws
+pub mod SpotRecalls
+pub mod CountLaws
+pub mod MarkLaws
+pub mod IndexLaws

@@ -1,5 +1,5 @@
 -- The answer that is told of a repeat is kept.
-use Rattle.std.proofs.Common.{◌≡◌, ℕ, ◌<◌, suc, Bool, true, false, ◌==◌, ◌&&◌, if◌then◌else◌, List, [], ◌∷◌, length, Option, Some, None, refl, sym, ap, ◌∙◌, arith}
+use Rattle.std.proofs.Common.{◌≡◌, ℕ, suc, Bool, true, false, ◌==◌, ◌&&◌, if◌then◌else◌, List, [], ◌∷◌, length, Option, Some, None, refl, ap, ◌∙◌, arith}
 use Rattle.std.specs.Prelude.{option_map, Any, nat_lt}
 use Rattle.std.specs.Option.{option_or}
 use Rattle.std.proofs.lemmas.Option.{none-some}
@@ -8,7 +8,7 @@ use Rattle.history.specs.declared.entry.Entry.{Entry}
 use Rattle.history.specs.declared.entry.Entry.TheVariants.{First, Confirmation}
 use Rattle.history.specs.Memory.{is_young}
 use Rattle.history.specs.Kept.{firsts_in, young_firsts}
-use Rattle.history.specs.Looking.{repeated, Found, latest, Recalled, recalled_from, recalled, Told, new, repeat, confirmed, full, told_by, look_of}
+use Rattle.history.specs.Looking.{repeated, Found, latest, recalled_from, Told, new, repeat, confirmed, full, told_by, look_of}
 
 abbrev IsKept : List ℕ → List Entry → Type 0
 IsKept answer entries = Any (λ (first : KeptFirst). first.answer ≡ answer) (firsts_in entries)

@@ -1,5 +1,5 @@
 -- What a purge leaves, and what `undo` goes back to.
-use Rattle.std.proofs.Common.{◌≡◌, ℕ, ◌-◌, ◌<◌, ◌≤◌, suc, Bool, true, false, cond, List, [], ◌∷◌, refl, arith}
+use Rattle.std.proofs.Common.{◌≡◌, ℕ, ◌-◌, ◌<◌, ◌≤◌, suc, Bool, true, false, cond, List, [], ◌∷◌, refl, ap, ◌∙◌, arith}
 use Rattle.std.specs.Prelude.{All, AllPairs, fold}
 use Rattle.std.proofs.lemmas.Bool.{ltb-true}
 use Rattle.std.proofs.lemmas.List.Elements.{All-nil, All-cons, All-weaker}
@@ -9,15 +9,16 @@ use Rattle.history.specs.declared.entry.Entry.TheVariants.{First, Confirmation}
 use Rattle.history.specs.Memory.{memory_time, most_firsts, is_young}
 use Rattle.history.specs.Kept.{HistoryState, kept_with, from_young, firsts_in}
 use Rattle.history.specs.Looking.{look_of}
+use Rattle.history.specs.Recalling.{TellsAlike}
 use Rattle.history.proofs.RecallLaws.{recalls_itself, recalls_purged, recalls_look}
 
-abbrev in_order : KeptFirst → KeptFirst → Type 0
+abbrev pub in_order : KeptFirst → KeptFirst → Type 0
 in_order first later = first.moment ≤ later.moment
 
-pairs_tail : (first : KeptFirst) (firsts : List KeptFirst) → AllPairs in_order (first ∷ firsts) → AllPairs in_order firsts
+pub pairs_tail : (first : KeptFirst) (firsts : List KeptFirst) → AllPairs in_order (first ∷ firsts) → AllPairs in_order firsts
 pairs_tail first firsts pairs = λ i j d lt within. pairs (suc i) (suc j) d (omega arith) (omega arith)
 
-pairs_head : (first : KeptFirst) (firsts : List KeptFirst) → AllPairs in_order (first ∷ firsts) → All (in_order first) firsts
+pub pairs_head : (first : KeptFirst) (firsts : List KeptFirst) → AllPairs in_order (first ∷ firsts) → All (in_order first) firsts
 pairs_head first firsts pairs = λ k d within. pairs 0 (suc k) d (omega arith) (omega arith)
 
 pub purge_leaves_young : (now : ℕ) (entries : List Entry) → AllPairs (λ (first later : KeptFirst). first.moment ≤ later.moment) (firsts_in entries)
@@ -37,6 +38,10 @@ purge_leaves_young now (First first ∷ entries) pairs = by_age (is_young now fi
 pub purge_tells : (entries : List Entry) (id now later : ℕ) → now ≤ later → look_of most_firsts (from_young now entries) id later ≡ look_of most_firsts entries id later
 purge_tells entries id now later le =
     recalls_look (from_young now entries) entries now id later (recalls_purged entries entries 0 now (recalls_itself entries) (omega arith)) le
+
+pub purged_tells : (kept before : List Entry) (now : ℕ) → kept ≡ from_young now before → TellsAlike kept before now
+purged_tells kept before now is = λ id later le.
+    ap (λ (entries : List Entry). look_of most_firsts entries id later) is ∙ purge_tells before id now later le
 
 -- nothing that is kept settles anything
 pub still_settled : (more : List Entry) (history : HistoryState) → (fold kept_with history more).settled ≡ history.settled

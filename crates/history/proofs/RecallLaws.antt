@@ -13,6 +13,7 @@ use Rattle.history.specs.declared.entry.Entry.TheVariants.{First, Confirmation}
 use Rattle.history.specs.Memory.{most_firsts, is_young}
 use Rattle.history.specs.Kept.{is_young_first, young_firsts, from_young}
 use Rattle.history.specs.Looking.{Found, latest, repeated, confirms, Recalled, recalled_from, recalled, told_by, look_of}
+use Rattle.history.specs.Spots.{also}
 use Rattle.history.specs.Recalling.{Recalls}
 
 pub or_none : {A : Type 0} (o : Option A) → option_or o None ≡ o
@@ -37,14 +38,11 @@ recalled-cons entry es id now = both (latest es id now) (repeated entry id now) 
 
 -- One more at the end
 
-abbrev also : Bool → Recalled → Recalled
-also named r = record { answer = r.answer; confirmed = r.confirmed || named }
-
 abbrev with_entry : Entry → ℕ → ℕ → Option Recalled → Option Recalled
 with_entry entry id now before =
     option_or (option_map (recalled_here id false) (repeated entry id now)) (option_map (also (list_any (confirms id) (entry ∷ []))) before)
 
-one_more : (id : ℕ) (here : Option Recalled) (before : Option Recalled) (first : Option KeptFirst) (named confirmed : Bool)
+pub one_more : (id : ℕ) (here : Option Recalled) (before : Option Recalled) (first : Option KeptFirst) (named confirmed : Bool)
     → option_or (option_or here (option_map (also named) before)) (option_map (λ (f : KeptFirst). record { answer = f.answer; confirmed = confirmed || named }) first)
     ≡ option_or here (option_map (also named) (option_or before (option_map (λ (f : KeptFirst). record { answer = f.answer; confirmed = confirmed }) first)))
 one_more id (Some r) before first named confirmed = refl

@@ -1,5 +1,5 @@
 -- What a history keeps: firsts and confirmations in the order in which they came.
-use Rattle.std.specs.Prelude.{ℕ, if◌then◌else◌, Bool, false, List, [], ◌∷◌, ◌++◌, filter, flat_map}
+use Rattle.std.specs.Prelude.{ℕ, ◌≤◌, if◌then◌else◌, Bool, false, List, [], ◌∷◌, ◌++◌, filter, flat_map, AllPairs}
 use Rattle.history.specs.declared.entry.First.{First as KeptFirst}
 use Rattle.history.specs.declared.entry.Entry.{Entry}
 use Rattle.history.specs.declared.entry.Entry.TheVariants.{First, Confirmation}
@@ -48,3 +48,7 @@ abbrev pub firsts_in : List Entry → List KeptFirst
 firsts_in [] = []
 firsts_in (First first ∷ entries) = first ∷ firsts_in entries
 firsts_in (Confirmation spans ∷ entries) = firsts_in entries
+
+-- they came in the order of their moments
+abbrev pub AreInOrder : List KeptFirst → Type 0
+AreInOrder firsts = AllPairs (λ (first later : KeptFirst). first.moment ≤ later.moment) firsts

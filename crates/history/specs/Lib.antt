@@ -7,3 +7,4 @@ pub mod Kept
 pub mod Looking
 pub mod Recalling
 pub mod Example
+pub mod Spots

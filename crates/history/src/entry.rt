@@ -1,9 +1,10 @@
 //! What a history keeps, and how it is read.
-ghost use Rattle.std.specs.Prelude.{◌≡◌, option_map, length};
+ghost use Rattle.std.specs.Prelude.{◌≡◌, option_map, length, filter};
 ghost use Rattle.std.specs.List.{list_any};
 ghost use Rattle.history.specs.Memory.{is_young};
 ghost use Rattle.history.specs.Kept.{is_young_first, young_firsts};
 ghost use Rattle.history.specs.Looking.{repeated, confirms};
+ghost use Rattle.history.specs.Spots.{is_first};
 
 use crate::span::{IdSpan, is_named};
 use mg_bytes::{Sequence, Text};
@@ -49,6 +50,19 @@ pub(crate) fn count_young(entries: &[Entry], now: u64) -> usize
         .iter()
         .filter(|entry| is_young_first(entry, now))
         .count()
+}
+
+fn is_first(entry: &Entry) -> bool
+    ensures { result ≡ is_first entry.now }
+{
+    matches!(entry, Entry::First(_))
+}
+
+/// How many firsts there are.
+pub(crate) fn count_firsts(entries: &[Entry]) -> usize
+    ensures { result ≡ length (filter is_first entries.now) }
+{
+    entries.iter().filter(|entry| is_first(entry)).count()
 }
 
 /// The first that the entry is, where a copy with this id repeats it.

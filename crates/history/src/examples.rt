@@ -2,11 +2,11 @@
 //! it breaks.
 #![tactic(auto, unfolding(crate::proofs::Computing::on_examples))]
 
-ghost use Rattle.std.specs.Prelude.{◌≡◌, ◌++◌, [], ◌∷◌};
+ghost use Rattle.std.specs.Prelude.{◌≡◌, ◌++◌, [], ◌∷◌, length};
 ghost use Rattle.history.specs.Memory.{memory_time, most_firsts};
 ghost use Rattle.history.specs.Firsts.{a_first, a_repeat, lost, firsts_of};
 ghost use Rattle.history.specs.Answers.{answers_of};
-ghost use Rattle.history.specs.Kept.{settled_at, kept_with, from_young, entries_of};
+ghost use Rattle.history.specs.Kept.{settled_at, kept_with, from_young, entries_of, firsts_in};
 ghost use Rattle.history.specs.Looking.{new, repeat, confirmed, full, look_of};
 ghost use Rattle.history.specs.Example.{to, comes, comes_with, gets, silence, answers, kind_after};
 ghost use Rattle.history.specs.Example.{kept, confirmed_ids, told};
@@ -141,6 +141,15 @@ pub fn a_purge_drops_the_old_front()
     ensures rest { from_young 30000 (kept 7 0 1 ∷ confirmed_ids 7 7 ∷ kept 8 1 2 ∷ confirmed_ids 8 8 ∷ [])
         ≡ kept 8 1 2 ∷ confirmed_ids 8 8 ∷ [] }
     ensures front { from_young 0 (confirmed_ids 7 7 ∷ kept 8 0 2 ∷ []) ≡ kept 8 0 2 ∷ [] }
+{}
+
+/// What a purge leaves is counted: the firsts, confirmed or not, and no confirmation.
+pub fn what_a_purge_leaves_is_counted()
+    ensures all { length (firsts_in (from_young 29999 (kept 7 0 1 ∷ confirmed_ids 7 7 ∷ kept 8 1 2 ∷ kept 9 1 3 ∷ []))) ≡ 3 }
+    ensures young { length (firsts_in (from_young 30000 (kept 7 0 1 ∷ confirmed_ids 7 7 ∷ kept 8 1 2 ∷ kept 9 1 3 ∷ []))) ≡ 2 }
+    ensures none { length (firsts_in (from_young 30001 (kept 7 0 1 ∷ confirmed_ids 7 7 ∷ kept 8 1 2 ∷ kept 9 1 3 ∷ []))) ≡ 0 }
+    ensures order { firsts_in (kept 8 1 2 ∷ confirmed_ids 8 8 ∷ kept 7 0 1 ∷ [])
+        ≡ record { id = 8; moment = 1; answer = 2 ∷ [] } ∷ record { id = 7; moment = 0; answer = 1 ∷ [] } ∷ [] }
 {}
 
 /// What is kept after a purge isn't settled, so that `undo` takes it back.

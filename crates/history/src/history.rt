@@ -1,20 +1,23 @@
 //! The transactions that an end remembers.
-ghost use Rattle.std.specs.Prelude.{◌≡◌, ◌≤◌, [], length, drop, position, option_map, OnOk, OnErr};
+ghost use Rattle.std.specs.Prelude.{◌≡◌, ◌≤◌, ℕ, nat_lt, List, [], length, drop, position, Some, option_map, OnOk, OnErr};
+ghost use Rattle.history.specs.declared.entry.Entry.{Entry as KeptEntry};
 ghost use Rattle.history.specs.declared.entry.Entry.TheVariants.{Confirmation};
 ghost use Rattle.history.specs.Memory.{most_firsts};
-ghost use Rattle.history.specs.Kept.{settled_at, first_entry, kept_with, is_young_first, from_young};
-ghost use Rattle.history.specs.Looking.{latest, told_in, look_of};
+ghost use Rattle.history.specs.Kept.{settled_at, first_entry, kept_with, firsts_in, AreInOrder};
+ghost use Rattle.history.specs.Kept.{is_young_first, young_firsts, from_young};
+ghost use Rattle.history.specs.Looking.{told_in, recalled, look_of};
+ghost use Rattle.history.specs.Spots.{recalled_in};
 ghost use Rattle.history.specs.Recalling.{TellsArrival, TellsAlike};
 
-use crate::entry::{Entry, First, are_confirming, count_young, is_young_first, repeated};
+use crate::entry::{Entry, First, count_firsts, is_young_first};
 use crate::look::Look;
+use crate::recall::{Recollection, has_room, recall_kept};
 use crate::span::IdSpan;
+use crate::spots::{Spots, cut, settle};
+use indexmap::IndexMap;
 use mg_bytes::{OutOfMemory, Sequence, Text};
 use std::alloc::Global;
 use std::marker::Model;
-
-// So many firsts are young at a time (this gateway's profile).
-const MOST_FIRSTS: usize = 4096;
 
 /// The transactions that an end remembers (RFC 3435, 3.5.1). A contract sees the firsts and confirmations that are kept,
 /// in the order in which they came, and those of them that `undo` leaves.
@@ -23,8 +26,16 @@ const MOST_FIRSTS: usize = 4096;
 /// executes the command, and calls `first` with its answer. Nothing else is kept.
 #[derive(Drop)]
 pub struct History {
+    // What is kept, behind what is gone and not cut off yet.
     entries: Vec<Entry>,
+    gone: usize,
+    // How many entries were there after the last purge. These are in the index.
     settled: usize,
+    spots: Spots,
+    // How many of those kept are firsts.
+    firsts: usize,
+    // The latest moment so far, unless the clock went back.
+    reached: Option<u64>,
 }
 
 impl Model for History {
@@ -32,11 +43,16 @@ impl Model for History {
 
     ghost Value = { HistoryState };
 
-    ghost use Rattle.std.specs.Prelude.{◌≤◌, length, take};
+    ghost use Rattle.std.specs.Prelude.{length, take, drop};
 
-    ghost view = { λ h. record { kept = h.entries.items; settled = take h.settled h.entries.items } };
+    ghost view = { λ h. record {
+      kept = drop h.gone h.entries.items;
+      settled = drop h.gone (take h.settled h.entries.items);
+    } };
 
-    ghost invariant = { λ h. h.settled ≤ length h.entries.items };
+    ghost use Rattle.history.specs.Spots.{IsIndexed};
+
+    ghost invariant = { λ h. IsIndexed h.entries.items h.gone h.settled h.spots h.firsts h.reached };
 }
 
 impl History {
@@ -46,15 +62,22 @@ impl History {
     {
         History {
             entries: Vec::new(alloc),
+            gone: 0,
             settled: 0,
+            spots: IndexMap::new(alloc),
+            firsts: 0,
+            reached: Some(0),
         }
     }
 
-    /// What is kept, in the order in which it came (RFC 3435, 3.5.1).
-    pub fn entries(&self) -> &[Entry]
-        ensures { result.now ≡ self.now.kept }
+    /// How many firsts are kept (RFC 3435, 3.5.1).
+    pub fn len(&self) -> usize
+        ensures firsts { result ≡ length (firsts_in self.now.kept) }
+        // After a purge these are the young ones, where the firsts came in the order of their moments.
+        ensures young { (now : ℕ) (before : List KeptEntry) → AreInOrder (firsts_in before) →
+            self.now.kept ≡ from_young now before → result ≡ length (young_firsts now before) }
     {
-        &self.entries
+        self.firsts
     }
 
     /// What a command is that arrives now with this id: a copy is sought first, so a repeat is never lost (RFC 3435,
@@ -64,7 +87,34 @@ impl History {
         // Where they recall all that arrived, this is what the command is of it.
         ensures arrived { TellsArrival (told_in result) self.now.kept id now }
     {
-        tell(&self.entries, id, now)
+        self.tell(id, now)
+    }
+
+    #[tactic(auto, unfolding(crate::specs::Looking::look_of))]
+    fn tell(&self, id: u32, now: u64) -> Look<'_>
+        ensures { told_in result ≡ look_of most_firsts self.now.kept id now }
+    {
+        match self.recall(id, now) {
+            Some(recollection) if recollection.confirmed => Look::Confirmed,
+            Some(recollection) => Look::Repeat(recollection.answer),
+            None if self.has_room(now) => Look::New,
+            None => Look::Full,
+        }
+    }
+
+    // What is recalled of this id.
+    fn recall(&self, id: u32, now: u64) -> Option<Recollection<'_>>
+        ensures { option_map recalled_in result ≡ recalled self.now.kept id now }
+    {
+        recall_kept(&self.entries, self.gone, self.settled, &self.spots, id, now)
+    }
+
+    // Whether fewer firsts are young than there may be.
+    fn has_room(&self, now: u64) -> bool
+        ensures { result ≡ nat_lt (length (young_firsts now self.now.kept)) most_firsts }
+    {
+        let in_order = self.reached.is_some();
+        has_room(&self.entries[self.gone..], self.firsts, in_order, now)
     }
 
     /// Keeps a transaction that was executed (RFC 3435, 3.5.1). After an error the history is as it was.
@@ -72,8 +122,11 @@ impl History {
         ensures ok { OnOk result (self.new ≡ kept_with self.old (first_entry id moment answer)) }
         ensures err { OnErr result (self.new ≡ self.old) }
     {
+        self.spots.reserve(self.entries.len() - self.settled + 1)?;
         self.entries
             .push(Entry::First(First { id, moment, answer }))?;
+        self.firsts += 1;
+        self.reached = later(self.reached, moment);
         Ok(())
     }
 
@@ -83,6 +136,7 @@ impl History {
         ensures ok { OnOk result (self.new ≡ kept_with self.old (Confirmation spans)) }
         ensures err { OnErr result (self.new ≡ self.old) }
     {
+        self.spots.reserve(self.entries.len() - self.settled + 1)?;
         self.entries.push(Entry::Confirmation(spans))?;
         Ok(())
     }
@@ -94,8 +148,41 @@ impl History {
         // From now on the same is told of every command.
         ensures told { TellsAlike self.new.kept self.old.kept now }
     {
-        drop_old(&mut self.entries, now);
+        self.settle();
+        self.pass_old(now);
+        self.cut_off();
+    }
+
+    // Takes into the index what isn't in it yet. There is room for that.
+    fn settle(&mut self)
+        ensures { self.new ≡ settled_at self.old.kept }
+    {
+        settle(&mut self.spots, &self.entries, self.settled);
         self.settled = self.entries.len();
+    }
+
+    // Passes what came before the first young one, where all is settled.
+    fn pass_old(&mut self, now: u64)
+        requires { self.old.settled ≡ self.old.kept }
+        ensures { self.new ≡ settled_at (from_young now self.old.kept) }
+    {
+        let kept = &self.entries[self.gone..];
+        let old = count_old(kept, now);
+        self.firsts -= count_firsts(&kept[..old]);
+        self.gone += old;
+    }
+
+    // Cuts off what is gone, once it is more than the rest: so each entry is moved less than once for one that came.
+    fn cut_off(&mut self)
+        ensures { self.new ≡ self.old }
+    {
+        if self.gone <= self.entries.len() - self.gone {
+            return;
+        }
+        cut(&mut self.spots, self.gone);
+        drop_front(&mut self.entries, self.gone);
+        self.settled -= self.gone;
+        self.gone = 0;
     }
 
     /// Takes back each `first` and `confirm` since the last purge, or since `new` where there was none, so that they never
@@ -103,34 +190,20 @@ impl History {
     pub fn undo(&mut self)
         ensures { self.new ≡ settled_at self.old.settled }
     {
+        self.firsts -= count_firsts(&self.entries[self.settled..]);
         self.entries.truncate(self.settled);
     }
 }
 
-// What entries tell of a command.
-#[tactic(auto, unfolding(crate::specs::Looking::look_of))]
-fn tell(entries: &[Entry], id: u32, now: u64) -> Look<'_>
-    ensures { told_in result ≡ look_of most_firsts entries.now id now }
+// The latest moment so far, where they rise.
+fn later(reached: Option<u64>, moment: u64) -> Option<u64>
+    ensures { (now : ℕ) → result ≡ Some now →
+        (now ≡ moment) × (latest : ℕ) × (reached ≡ Some latest) × (latest ≤ moment) }
 {
-    match latest(entries, id, now) {
-        Some((_, after)) if are_confirming(after, id) => Look::Confirmed,
-        Some((first, _)) => Look::Repeat(&first.answer),
-        None if count_young(entries, now) < MOST_FIRSTS => Look::New,
-        None => Look::Full,
+    match reached {
+        Some(latest) if latest <= moment => Some(moment),
+        _ => None,
     }
-}
-
-// The first that a copy with this id repeats, and the entries after it.
-fn latest(entries: &[Entry], id: u32, now: u64) -> Option<(&First, &[Entry])>
-    ensures { option_map (λ found. record { first = found.0.now; after = found.1.now }) result
-        ≡ latest entries.now id now }
-{
-    for place in (0..entries.len()).rev() {
-        if let Some(first) = repeated(&entries[place], id, now) {
-            return Some((first, &entries[place + 1..]));
-        }
-    }
-    None
 }
 
 // The place of the first young one.
@@ -151,10 +224,10 @@ fn count_old(entries: &[Entry], now: u64) -> usize
     }
 }
 
-// Drops what came before the first young one.
-fn drop_old(entries: &mut Vec<Entry>, now: u64)
-    ensures { entries.new.items ≡ from_young now entries.old.items }
+// So many in front are dropped.
+fn drop_front(entries: &mut Vec<Entry>, count: usize)
+    requires { count ≤ length entries.old.items }
+    ensures { entries.new.items ≡ drop count entries.old.items }
 {
-    let old = count_old(entries, now);
-    entries.drain(..old);
+    entries.drain(..count);
 }

@@ -9,7 +9,7 @@ ghost use Rattle.history.specs.Arrival.{Arrival};
 ghost use Rattle.history.specs.Firsts.{Copied, a_first, a_repeat, lost, young_of, kind_of, firsts_of};
 ghost use Rattle.history.specs.Firsts.{IsNoCopy, IsLatestCopy};
 ghost use Rattle.history.specs.Answers.{IsConfirmed, IsRepeat, IsSilenced, answer_to, answers_from, answers_of};
-ghost use Rattle.history.specs.Kept.{first_entry, settled_at, kept_with, from_young, firsts_in};
+ghost use Rattle.history.specs.Kept.{first_entry, settled_at, kept_with, from_young, firsts_in, AreInOrder};
 ghost use Rattle.history.specs.Looking.{repeat, look_of, told_as};
 ghost use Rattle.history.specs.Recalling.{Recalls, Remembers};
 
@@ -129,7 +129,7 @@ pub fn what_is_told_again_is_kept()
 /// Where the firsts came in the order of their moments, a purge leaves the young ones alone.
 pub fn a_purge_leaves_young_firsts()
     ensures { (now : ℕ) (entries : List Entry) →
-        AllPairs (λ (first later : KeptFirst). first.moment ≤ later.moment) (firsts_in entries) →
+        AreInOrder (firsts_in entries) →
         All (λ (first : KeptFirst). now - first.moment < memory_time) (firsts_in (from_young now entries)) }
 {}
 

@@ -11,7 +11,9 @@ pub mod examples;
 mod history;
 pub mod laws;
 mod look;
+mod recall;
 mod span;
+mod spots;
 
 pub use crate::entry::{Entry, First};
 pub use crate::history::History;

@@ -22,9 +22,9 @@ use Rattle.plain_machine.specs.Happening.{effect}
 use Rattle.plain_machine.specs.Lists.{sent_from, sent_of}
 use Rattle.plain_machine.specs.Machine.{Endpoints, Machine, told, opening}
 use Rattle.plain_machine.specs.Message.{Sent}
-use Rattle.plain_machine.specs.Responding.{is_empty_k, asks_for_acknowledgement, acknowledged, responded, heard_from}
+use Rattle.plain_machine.specs.Responding.{response_with, is_empty_k, asks_for_acknowledgement, acknowledged, responded, heard_from}
 use Rattle.plain_machine.proofs.EffectLaws.{handled_now, effect_now}
-use Rattle.plain_machine.proofs.TurnLemmas.{acted_goes, responded_goes, pass_goes, command_goes}
+use Rattle.plain_machine.proofs.TurnLemmas.{response_read, acted_goes, responded_goes, pass_goes, command_goes}
 use Rattle.machine_laws.specs.Owning.{is_acknowledgement, acknowledging, acknowledged_as, acknowledgements_to}
 use Rattle.machine_laws.proofs.SendLemmas.{Any, AnyOwn, holds_any, NoAck, none_turns, none_own_turns}
 
@@ -32,18 +32,18 @@ use Rattle.machine_laws.proofs.SendLemmas.{Any, AnyOwn, holds_any, NoAck, none_t
 
 heard_by : (setup : Setup) (endpoints : Endpoints) (moment code id : ℕ) (source : SocketAddrV4) (params : List Param) (asks : Bool) → asks_for_acknowledgement code params ≡ asks
     → heard_from setup endpoints moment source code id params
-    ≡ told (responded setup endpoints moment code id).endpoints
-    ((if asks then acknowledging moment source id ∷ [] else []) ++ (responded setup endpoints moment code id).sent)
+    ≡ told (responded setup endpoints moment (response_with setup id code params)).endpoints
+    ((if asks then acknowledging moment source id ∷ [] else []) ++ (responded setup endpoints moment (response_with setup id code params)).sent)
 heard_by setup endpoints moment code id source params asks is =
-    ap (λ (b : Bool). told (responded setup endpoints moment code id).endpoints
-    ((if b then acknowledging moment source id ∷ [] else []) ++ (responded setup endpoints moment code id).sent)) is
+    ap (λ (b : Bool). told (responded setup endpoints moment (response_with setup id code params)).endpoints
+    ((if b then acknowledging moment source id ∷ [] else []) ++ (responded setup endpoints moment (response_with setup id code params)).sent)) is
 
 abbrev tested : Bool → Bool → Bool → Bool
 tested low high empty = low && high && empty
 
 pub asked_for : (setup : Setup) (endpoints : Endpoints) (moment code id : ℕ) (source : SocketAddrV4) (params : List Param) → 200 ≤ code → code ≤ 999 → k_of params ≡ Items []
     → heard_from setup endpoints moment source code id params
-    ≡ told (responded setup endpoints moment code id).endpoints (acknowledging moment source id ∷ (responded setup endpoints moment code id).sent)
+    ≡ told (responded setup endpoints moment (response_with setup id code params)).endpoints (acknowledging moment source id ∷ (responded setup endpoints moment (response_with setup id code params)).sent)
 asked_for setup endpoints moment code id source params low high empty =
     heard_by setup endpoints moment code id source params true
     (ap (λ (b : Bool). tested b (nat_le code 999) (is_empty_k (k_of params))) (le-leb 200 code low)
@@ -69,22 +69,25 @@ k_fails (Items []) other = absurd (other refl)
 k_fails (Items (range ∷ ranges)) other = refl
 
 pub provisional : (setup : Setup) (endpoints : Endpoints) (moment code id : ℕ) (source : SocketAddrV4) (params : List Param) → code < 200
-    → heard_from setup endpoints moment source code id params ≡ responded setup endpoints moment code id
+    → heard_from setup endpoints moment source code id params ≡ responded setup endpoints moment (response_with setup id code params)
 provisional setup endpoints moment code id source params low =
     heard_by setup endpoints moment code id source params false (low_fails (nat_le 200 code) (nat_le code 999) (is_empty_k (k_of params)) (lt-leb 200 code low))
 
 pub no_code : (setup : Setup) (endpoints : Endpoints) (moment code id : ℕ) (source : SocketAddrV4) (params : List Param) → 999 < code
-    → heard_from setup endpoints moment source code id params ≡ responded setup endpoints moment code id
+    → heard_from setup endpoints moment source code id params ≡ responded setup endpoints moment (response_with setup id code params)
 no_code setup endpoints moment code id source params high =
     heard_by setup endpoints moment code id source params false (high_fails (nat_le 200 code) (nat_le code 999) (is_empty_k (k_of params)) (lt-leb code 999 high))
 
 pub not_asked : (setup : Setup) (endpoints : Endpoints) (moment code id : ℕ) (source : SocketAddrV4) (params : List Param) → k_of params ≢ Items []
-    → heard_from setup endpoints moment source code id params ≡ responded setup endpoints moment code id
+    → heard_from setup endpoints moment source code id params ≡ responded setup endpoints moment (response_with setup id code params)
 not_asked setup endpoints moment code id source params other =
     heard_by setup endpoints moment code id source params false (empty_fails (nat_le 200 code) (nat_le code 999) (is_empty_k (k_of params)) (k_fails (k_of params) other))
 
-pub responded_none : (setup : Setup) (endpoints : Endpoints) (moment code id : ℕ) → All NoAck (responded setup endpoints moment code id).sent
-responded_none setup endpoints moment code id = (responded_goes setup Any AnyOwn NoAck (none_turns setup) none_own_turns endpoints moment code id (holds_any endpoints)).sent
+pub responded_none : (setup : Setup) (endpoints : Endpoints) (moment code id : ℕ) (params : List Param)
+    → All NoAck (responded setup endpoints moment (response_with setup id code params)).sent
+responded_none setup endpoints moment code id params =
+    (responded_goes setup Any AnyOwn NoAck (none_turns setup) (none_own_turns setup) endpoints moment (response_with setup id code params) (response_read setup id code params)
+    (holds_any endpoints)).sent
 
 -- All events
 
@@ -120,11 +123,11 @@ handled_acks setup m source (bad_body id) = transacted_none (look_of most_firsts
 handled_acks setup m source (message (messages.Command verb id name params body)) =
     let command : Command = record { verb = verb; name = name; params = params; body = body } in
     transacted_none (look_of most_firsts m.history id m.now) m source (command_with setup m id command (k_of params))
-    (command_goes setup Any AnyOwn NoAck (none_turns setup) none_own_turns command (k_of params) m.endpoints m.now id (holds_any m.endpoints)).sent
+    (command_goes setup Any AnyOwn NoAck (none_turns setup) (none_own_turns setup) command (k_of params) m.endpoints m.now id (holds_any m.endpoints)).sent
 handled_acks setup m source (message (messages.Response code id params body)) =
-    acks-append (acknowledged m.now source code id params) (responded setup m.endpoints m.now code id).sent
+    acks-append (acknowledged m.now source code id params) (responded setup m.endpoints m.now (response_with setup id code params)).sent
     ∙ ap (λ (x : List Sent). acks (acknowledged m.now source code id params) ++ x)
-    (no_acks (responded setup m.endpoints m.now code id).sent (responded_none setup m.endpoints m.now code id))
+    (no_acks (responded setup m.endpoints m.now (response_with setup id code params)).sent (responded_none setup m.endpoints m.now code id params))
     ∙ append-nil (acks (acknowledged m.now source code id params))
     ∙ acks_acknowledged m.now source code id params
 
@@ -143,9 +146,9 @@ event_acks : (setup : Setup) (m : Machine) (event : GatewayEvent) → acks (effe
 unfolding effect
 event_acks setup m (datagram source bytes) = texts_acks setup m source (texts_of bytes)
 event_acks setup m (phone line act) =
-    no_acks _ (acted_goes setup Any AnyOwn NoAck (none_turns setup) none_own_turns m.endpoints line m.now act (holds_any m.endpoints)).sent
+    no_acks _ (acted_goes setup Any AnyOwn NoAck (none_turns setup) (none_own_turns setup) m.endpoints line m.now act (holds_any m.endpoints)).sent
 event_acks setup m (tick moment) =
-    no_acks _ (pass_goes setup Any AnyOwn NoAck (none_turns setup) none_own_turns m.endpoints moment (holds_any m.endpoints)).sent
+    no_acks _ (pass_goes setup Any AnyOwn NoAck (none_turns setup) (none_own_turns setup) m.endpoints moment (holds_any m.endpoints)).sent
 
 events_acks : (setup : Setup) (m : Machine) (events : List GatewayEvent) → acks (sent_from setup m events) ≡ flat_map acknowledgements_to (arrivals_from m.now events)
 unfolding sent_from arrivals_from

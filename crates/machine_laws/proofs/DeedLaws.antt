@@ -11,7 +11,7 @@ use Rattle.mgcp_text.specs.declared.confirmation.KValue.{KValue}
 use Rattle.mgcp_text.specs.declared.message.Param.{Param}
 use Rattle.command_forms.specs.Command.{Command}
 use Rattle.command_forms.specs.Meaning.{is_for}
-use Rattle.command_forms.specs.Order.{form_of}
+use Rattle.command_forms.specs.Order.{form_while}
 use Rattle.command_forms.specs.declared.forms.Asks.{Asks}
 use Rattle.command_forms.specs.declared.forms.Asks.TheVariants.{Reports, Does}
 use Rattle.command_forms.specs.declared.forms.Audit.{Audit}
@@ -26,7 +26,7 @@ use Rattle.plain_machine.specs.declared.station.Station.{Station}
 use Rattle.plain_machine.specs.Connecting.{Shown, nothing_shown, done_code, connected}
 use Rattle.plain_machine.specs.Commanding.{line_deed, done_by, commanded}
 use Rattle.plain_machine.specs.Done.{Done, only_answer}
-use Rattle.plain_machine.specs.Machine.{Endpoints, told, station_at, numbered}
+use Rattle.plain_machine.specs.Machine.{serves, Endpoints, told, station_at, numbered}
 use Rattle.plain_machine.specs.Reporting.{name_of_line}
 use Rattle.plain_machine.specs.Requesting.{refusal_on, refused_by, lines_meant, encoding_with, deed_on, deed_on_all, shown_by, shown_on, shown_of, answer_with, unless_refused, deed_done, line_with_place, done_there, done_for}
 use Rattle.machine_laws.specs.Refusals.{refusal_at, IsRefused, NoneRefuses}
@@ -238,7 +238,7 @@ own_alone setup endpoints lines more deed moment = by_refusal (refused_by endpoi
 -- A command
 
 pub deed_of_command : (setup : Setup) (endpoints : Endpoints) (moment id : ℕ) (command : Command) (confirms : KValue) (lines : Target) (deed : Deed)
-    → form_of command confirms setup.names ≡ Ok (Does lines deed)
+    → form_while (serves endpoints) command confirms setup.names ≡ Ok (Does lines deed)
     → commanded setup endpoints moment id command confirms ≡ done_for setup endpoints lines (line_deed deed) moment
 deed_of_command setup endpoints moment id command confirms lines deed is = ap (λ (x : Result Asks ℕ). done_by x setup endpoints moment id) is
 
@@ -261,9 +261,9 @@ pub deed_on_no_line : (setup : Setup) (endpoints : Endpoints) (deed : LineDeed) 
 deed_on_no_line setup endpoints deed moment is = ap (λ (found : Option ℕ). done_there found setup endpoints deed moment) is
 
 pub audit_stays : (setup : Setup) (endpoints : Endpoints) (moment id : ℕ) (command : Command) (confirms : KValue) (lines : Target) (audit : Audit)
-    → form_of command confirms setup.names ≡ Ok (Reports lines audit) → (commanded setup endpoints moment id command confirms).told ≡ told endpoints []
+    → form_while (serves endpoints) command confirms setup.names ≡ Ok (Reports lines audit) → (commanded setup endpoints moment id command confirms).told ≡ told endpoints []
 audit_stays setup endpoints moment id command confirms lines audit is = ap (λ (x : Result Asks ℕ). (done_by x setup endpoints moment id).told) is
 
-pub fault_stays : (setup : Setup) (endpoints : Endpoints) (moment id code : ℕ) (command : Command) (confirms : KValue) → form_of command confirms setup.names ≡ Err code
+pub fault_stays : (setup : Setup) (endpoints : Endpoints) (moment id code : ℕ) (command : Command) (confirms : KValue) → form_while (serves endpoints) command confirms setup.names ≡ Err code
     → commanded setup endpoints moment id command confirms ≡ only_answer endpoints (plain_code code)
 fault_stays setup endpoints moment id code command confirms is = ap (λ (x : Result Asks ℕ). done_by x setup endpoints moment id) is

@@ -6,6 +6,5 @@ pub mod SendLemmas
 pub mod AcknowledgementLaws
 pub mod OrderLaws
 pub mod TextLaws
-pub mod StateLemmas
 pub mod WaitLaws
 pub mod Computing

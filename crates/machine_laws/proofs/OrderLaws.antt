@@ -8,7 +8,7 @@ use Rattle.mgcp_text.specs.declared.confirmation.KValue.{KValue}
 use Rattle.mgcp_text.specs.declared.message.Param.{Param}
 use Rattle.command_forms.specs.Command.{Command}
 use Rattle.command_forms.specs.Meaning.{is_for}
-use Rattle.command_forms.specs.Order.{form_of}
+use Rattle.command_forms.specs.Order.{form_while}
 use Rattle.command_forms.specs.declared.forms.Asks.{Asks}
 use Rattle.command_forms.specs.declared.forms.Asks.TheVariants.{Reports, Does}
 use Rattle.command_forms.specs.declared.forms.Target.{Target}
@@ -18,7 +18,7 @@ use Rattle.plain_machine.specs.declared.setup.Setup.{Setup}
 use Rattle.plain_machine.specs.declared.station.Station.{Station}
 use Rattle.plain_machine.specs.Answering.{Transaction, reply, response_to, command_with, executed}
 use Rattle.plain_machine.specs.Commanding.{line_deed, done_by, commanded}
-use Rattle.plain_machine.specs.Machine.{Endpoints, Machine}
+use Rattle.plain_machine.specs.Machine.{serves, Endpoints, Machine}
 use Rattle.plain_machine.specs.Message.{answer, own_of, Sent}
 use Rattle.plain_machine.specs.Notifying.{Turn}
 use Rattle.plain_machine.specs.Reporting.{name_of_line}
@@ -106,8 +106,8 @@ done_in_order (Ok (Does target deed)) setup endpoints moment id = for_in_order s
 pub command_own : (setup : Setup) (endpoints : Endpoints) (moment id : ℕ) (command : Command) (confirms : KValue)
     → All IsOfALine (commanded setup endpoints moment id command confirms).told.sent
 command_own setup endpoints moment id command confirms k d within =
-    let from = (done_in_order (form_of command confirms setup.names) setup endpoints moment id).from k d within in (from.0, from.2)
+    let from = (done_in_order (form_while (serves endpoints) command confirms setup.names) setup endpoints moment id).from k d within in (from.0, from.2)
 
 pub command_order : (setup : Setup) (endpoints : Endpoints) (moment id : ℕ) (command : Command) (confirms : KValue)
     → AllPairs IsOfALesserLine (commanded setup endpoints moment id command confirms).told.sent
-command_order setup endpoints moment id command confirms = (done_in_order (form_of command confirms setup.names) setup endpoints moment id).pairs
+command_order setup endpoints moment id command confirms = (done_in_order (form_while (serves endpoints) command confirms setup.names) setup endpoints moment id).pairs

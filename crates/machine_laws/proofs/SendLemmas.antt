@@ -1,5 +1,5 @@
 -- No turn of a line acknowledges anything, and a deed has a line send one command of its own at most.
-use Rattle.std.proofs.Common.{◌≡◌, ℕ, ◌+◌, Bool, true, false, List, [], ◌∷◌, Option, Some, None, refl}
+use Rattle.std.proofs.Common.{◌≡◌, ℕ, ◌+◌, Bool, true, false, List, [], ◌∷◌, Option, Some, None, inr, refl}
 use Rattle.std.specs.Prelude.{All}
 use Rattle.std.proofs.lemmas.List.Elements.{All-nil, All-cons}
 use Rattle.outbound.specs.declared.repeat.Repeat.{Repeat}
@@ -10,31 +10,40 @@ use Rattle.mg_line.specs.Falling.{fired}
 use Rattle.mg_line.specs.Acting.{phoned}
 use Rattle.mg_line.specs.Answering.{answered}
 use Rattle.plain_machine.specs.declared.due_item.Due.{Due}
-use Rattle.plain_machine.specs.declared.due_item.Due.TheVariants.{OfLine, Resend}
+use Rattle.plain_machine.specs.declared.due_item.Due.TheVariants.{OfLine, Resend, Announce}
 use Rattle.plain_machine.specs.declared.line_deed.LineDeed.{LineDeed}
 use Rattle.plain_machine.specs.declared.own.Own.{Own}
 use Rattle.plain_machine.specs.declared.post.Post.{Post}
 use Rattle.plain_machine.specs.declared.setup.Setup.{Setup}
 use Rattle.plain_machine.specs.declared.station.Station.{Station}
 use Rattle.plain_machine.specs.Message.{own_of, Sent}
-use Rattle.plain_machine.specs.Notifying.{with_notice, noted}
+use Rattle.endpoint_names.specs.declared.entity.Entity.{Entity}
+use Rattle.restart.specs.declared.restart.Restart.{Restart}
+use Rattle.restart.specs.declared.restart.Restart.TheVariants.{Waiting, Announced, Serving}
+use Rattle.restart.specs.declared.heard.Heard.{Heard}
+use Rattle.restart.specs.declared.heard.Heard.TheVariants.{Nothing, PutOff, Redirected, Answered}
+use Rattle.mg_line.specs.Opening.{opened}
+use Rattle.plain_machine.specs.declared.response.Response.{Response}
+use Rattle.plain_machine.specs.Announcing.{announced, announced_by, announced_on, heard_on, replied}
+use Rattle.plain_machine.specs.Notifying.{posted, with_notice, noted}
 use Rattle.plain_machine.specs.Falling.{happened_on, own_happened}
-use Rattle.plain_machine.specs.Machine.{Endpoints}
-use Rattle.plain_machine.specs.Posting.{repeated_as, resent_by, resent_on, reply_on}
+use Rattle.plain_machine.specs.Machine.{Endpoints, own_posted}
+use Rattle.plain_machine.specs.Posting.{repeated_as, resent_by, resent_on}
 use Rattle.plain_machine.specs.Commanding.{line_deed}
 use Rattle.plain_machine.specs.Requesting.{with_entity, with_connections, asked_if, deed_on}
-use Rattle.plain_machine.specs.Responding.{answered_if, responded_on, own_responded}
-use Rattle.plain_machine.proofs.TurnLemmas.{OnAll, Turns, OwnTurns, Holds}
+use Rattle.plain_machine.specs.Responding.{responded_as, responded_on, own_responded, redirected_on, opened_on}
+use Rattle.plain_machine.proofs.AllLemmas.{OnAll}
+use Rattle.plain_machine.proofs.TurnLemmas.{Turns, OwnTurns, Holds}
 use Rattle.machine_laws.specs.Owning.{is_acknowledgement}
 
 -- any station
-abbrev pub Any : ℕ → Station → Type 0
-Any line station = Unit {0}
+abbrev pub Any : Bool → ℕ → Station → Type 0
+Any serving line station = Unit {0}
 
 abbrev pub AnyOwn : Own → Type 0
 AnyOwn own = Unit {0}
 
-on_any : (n : ℕ) (stations : List Station) → OnAll Any n stations
+on_any : (n : ℕ) (stations : List Station) → OnAll (Any true) n stations
 on_any n [] = tt
 on_any n (station ∷ stations) = (tt, on_any (n + 1) stations)
 
@@ -56,50 +65,79 @@ deed_none : (setup : Setup) (deed : LineDeed) (moment line : ℕ) (station : Sta
 unfolding deed_on
 deed_none setup deed moment line station = noted_none setup line moment (with_connections deed (with_entity deed.entity station)) (asked_if deed.request station.line moment)
 
-responded_none : (setup : Setup) (line moment code id : ℕ) (station : Station) → All NoAck (responded_on setup line moment station code id).sent
-unfolding responded_on
-responded_none setup line moment code id station =
-    by_answer (reply_on moment station.post code id).is_answered (record station { post = (reply_on moment station.post code id).post }) where
-      by_answer : (b : Bool) (becomes : Station) → All NoAck (answered_if b setup line moment becomes).sent
-      by_answer false becomes = All-nil NoAck
-      by_answer true becomes = noted_none setup line moment becomes (answered becomes.line moment)
+responded_none : (setup : Setup) (line moment : ℕ) (response : Response) (station : Station) → All NoAck (responded_on setup line moment response station).sent
+unfolding responded_on replied announced
+responded_none setup line moment response station = by_heard (heard_on station.post response) where
+  by_heard : (heard : Heard) → All NoAck (responded_as heard setup line moment response station).sent
+  by_heard Nothing = All-nil NoAck
+  by_heard PutOff = All-nil NoAck
+  by_heard (Redirected agent) = All-cons NoAck _ [] refl (All-nil NoAck)
+  by_heard (Answered agent) =
+      let becomes : Station = (posted station (replied (Answered agent) setup line moment response station.post)).station in
+      noted_none setup line moment becomes (answered becomes.line moment)
 
-resent_none : (line moment : ℕ) (post : Post) → All NoAck (resent_on line moment post).sent
-resent_none line moment post = by_pending post.pending where
-  by_repeat : (flight : InFlight) (repeat : Repeat) → All NoAck (repeated_as repeat line moment post flight).sent
+resent_none : (setup : Setup) (line moment : ℕ) (post : Post) → All NoAck (resent_on setup line moment post).sent
+resent_none setup line moment post = by_pending post.pending where
+  by_repeat : (flight : InFlight) (repeat : Repeat) → All NoAck (repeated_as repeat setup line moment post flight).sent
   by_repeat flight SentAgain = All-cons NoAck _ [] refl (All-nil NoAck)
   by_repeat flight GivenUp = All-nil NoAck
 
-  by_pending : (pending : Option InFlight) → All NoAck (resent_by pending line moment post).sent
+  by_pending : (pending : Option InFlight) → All NoAck (resent_by pending setup line moment post).sent
   by_pending None = All-nil NoAck
   by_pending (Some flight) = by_repeat flight (repeat_of flight moment)
+
+announced_none : (setup : Setup) (line moment : ℕ) (post : Post) → All NoAck (announced_on setup line moment post).sent
+unfolding announced
+announced_none setup line moment post = by_restart post.restart where
+  by_restart : (restart : Restart) → All NoAck (announced_by restart setup line moment post).sent
+  by_restart (Waiting until) = All-cons NoAck _ [] refl (All-nil NoAck)
+  by_restart Announced = All-nil NoAck
+  by_restart Serving = All-nil NoAck
 
 happened_none : (due : Due) (setup : Setup) (line moment : ℕ) (station : Station) → All NoAck (happened_on due setup line moment station).sent
 unfolding happened_on
 happened_none (OfLine due) setup line moment station = noted_none setup line moment station (fired station.line due moment)
-happened_none Resend setup line moment station = resent_none line moment station.post
+happened_none Resend setup line moment station = resent_none setup line moment station.post
+happened_none Announce setup line moment station = announced_none setup line moment station.post
 
-own_happened_none : (due : Due) (moment : ℕ) (own : Own) → All NoAck (own_happened due moment own).sent
+own_happened_none : (due : Due) (setup : Setup) (moment : ℕ) (own : Own) → All NoAck (own_happened due setup moment own).sent
 unfolding own_happened
-own_happened_none (OfLine due) moment own = All-nil NoAck
-own_happened_none Resend moment own = resent_none 0 moment own.post
+own_happened_none (OfLine due) setup moment own = All-nil NoAck
+own_happened_none Resend setup moment own = resent_none setup 0 moment own.post
+own_happened_none Announce setup moment own = announced_none setup 0 moment own.post
 
-own_responded_none : (moment code id : ℕ) (own : Own) → All NoAck (own_responded moment code id own).sent
-unfolding own_responded
-own_responded_none moment code id own = All-nil NoAck
+own_responded_none : (setup : Setup) (moment : ℕ) (response : Response) (own : Own) → All NoAck (own_responded setup moment response own).sent
+unfolding own_responded replied announced
+own_responded_none setup moment response own = by_heard (heard_on own.post response) where
+  by_heard : (heard : Heard) → All NoAck (own_posted own (replied heard setup 0 moment response own.post)).sent
+  by_heard Nothing = All-nil NoAck
+  by_heard PutOff = All-nil NoAck
+  by_heard (Redirected agent) = All-cons NoAck _ [] refl (All-nil NoAck)
+  by_heard (Answered agent) = All-nil NoAck
 
-pub none_own_turns : OwnTurns AnyOwn NoAck
-none_own_turns = record {
-  response = λ moment code id own any. (tt, own_responded_none moment code id own);
-  happening = λ due moment own any. (tt, own_happened_none due moment own);
+redirected_none : (agent : Entity) (line : ℕ) (station : Station) → All NoAck (redirected_on agent line station).sent
+unfolding redirected_on
+redirected_none agent line station = All-nil NoAck
+
+opened_none : (agent : Option Entity) (setup : Setup) (moment line : ℕ) (station : Station) → All NoAck (opened_on agent setup moment line station).sent
+unfolding opened_on
+opened_none agent setup moment line station = noted_none setup line moment (with_entity agent station) (opened station.line moment)
+
+pub none_own_turns : (setup : Setup) → OwnTurns setup Any AnyOwn NoAck
+none_own_turns setup = record {
+  free = λ own any. inr (λ serving other line station is. tt);
+  response = λ moment response own read any. (tt, own_responded_none setup moment response own);
+  happening = λ due moment own any. (tt, own_happened_none due setup moment own);
 }
 
 pub none_turns : (setup : Setup) → Turns setup Any NoAck
 none_turns setup = record {
-  act = λ line moment act station any. (tt, noted_none setup line moment station (phoned station.line act moment));
+  act = λ serving line moment act station any. (tt, noted_none setup line moment station (phoned station.line act moment));
   deed = λ command confirms target deed is line moment station any. (tt, deed_none setup (line_deed deed) moment line station);
-  response = λ line moment code id station any. (tt, responded_none setup line moment code id station);
-  happening = λ due line moment station any. (tt, happened_none due setup line moment station);
+  response = λ serving line moment response station read any. (tt, responded_none setup line moment response station);
+  happening = λ serving due line moment station any. (tt, happened_none due setup line moment station);
+  redirecting = λ agent line station read any. (tt, redirected_none agent line station);
+  opening = λ agent line moment station read any. (tt, opened_none agent setup moment line station);
 }
 
 -- What a line sends because of a deed

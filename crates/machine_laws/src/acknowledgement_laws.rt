@@ -10,7 +10,7 @@ ghost use Rattle.plain_machine.specs.Event.{GatewayEvent};
 ghost use Rattle.plain_machine.specs.Lists.{sent_of};
 ghost use Rattle.plain_machine.specs.Machine.{Endpoints, told};
 ghost use Rattle.plain_machine.specs.Message.{Sent};
-ghost use Rattle.plain_machine.specs.Responding.{heard_from, responded};
+ghost use Rattle.plain_machine.specs.Responding.{response_with, heard_from, responded};
 ghost use Rattle.machine_laws.specs.Owning.{is_acknowledgement, acknowledging, acknowledgements_to};
 
 /// A final response, from 200 to 999, whose first K is there and empty is acknowledged: once, to where it came from,
@@ -19,10 +19,10 @@ pub fn a_final_response_with_an_empty_k_is_acknowledged()
     ensures asked { (setup : Setup) (endpoints : Endpoints) (moment code id : ℕ) (source : SocketAddrV4)
         (params : List Param) → 200 ≤ code → code ≤ 999 → k_of params ≡ Items [] →
         heard_from setup endpoints moment source code id params
-        ≡ told (responded setup endpoints moment code id).endpoints
-        (acknowledging moment source id ∷ (responded setup endpoints moment code id).sent) }
-    ensures once { (setup : Setup) (endpoints : Endpoints) (moment code id : ℕ) →
-        All (λ (sent : Sent). is_acknowledgement sent.said ≡ false) (responded setup endpoints moment code id).sent }
+        ≡ told (responded setup endpoints moment (response_with setup id code params)).endpoints
+        (acknowledging moment source id ∷ (responded setup endpoints moment (response_with setup id code params)).sent) }
+    ensures once { (setup : Setup) (endpoints : Endpoints) (moment code id : ℕ) (params : List Param) →
+        All (λ (sent : Sent). is_acknowledgement sent.said ≡ false) (responded setup endpoints moment (response_with setup id code params)).sent }
 {}
 
 /// No other response is acknowledged: a provisional one, one whose code is greater than 999, and one whose first K is
@@ -30,13 +30,13 @@ pub fn a_final_response_with_an_empty_k_is_acknowledged()
 pub fn no_other_response_is_acknowledged()
     ensures provisional { (setup : Setup) (endpoints : Endpoints) (moment code id : ℕ) (source : SocketAddrV4)
         (params : List Param) → code < 200 →
-        heard_from setup endpoints moment source code id params ≡ responded setup endpoints moment code id }
+        heard_from setup endpoints moment source code id params ≡ responded setup endpoints moment (response_with setup id code params) }
     ensures no_code { (setup : Setup) (endpoints : Endpoints) (moment code id : ℕ) (source : SocketAddrV4)
         (params : List Param) → 999 < code →
-        heard_from setup endpoints moment source code id params ≡ responded setup endpoints moment code id }
+        heard_from setup endpoints moment source code id params ≡ responded setup endpoints moment (response_with setup id code params) }
     ensures not_asked { (setup : Setup) (endpoints : Endpoints) (moment code id : ℕ) (source : SocketAddrV4)
         (params : List Param) → k_of params ≢ Items [] →
-        heard_from setup endpoints moment source code id params ≡ responded setup endpoints moment code id }
+        heard_from setup endpoints moment source code id params ≡ responded setup endpoints moment (response_with setup id code params) }
 {}
 
 /// The acknowledgements that are sent are those which the responses that arrived ask for, in their order, each to where

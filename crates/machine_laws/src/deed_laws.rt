@@ -6,7 +6,7 @@ ghost use Rattle.mgcp_text.specs.declared.confirmation.KValue.{KValue};
 ghost use Rattle.mgcp_text.specs.declared.message.Param.{Param};
 ghost use Rattle.command_forms.specs.Command.{Command};
 ghost use Rattle.command_forms.specs.Meaning.{is_for};
-ghost use Rattle.command_forms.specs.Order.{form_of};
+ghost use Rattle.command_forms.specs.Order.{form_while};
 ghost use Rattle.command_forms.specs.declared.forms.Asks.TheVariants.{Reports, Does};
 ghost use Rattle.command_forms.specs.declared.forms.Audit.{Audit};
 ghost use Rattle.command_forms.specs.declared.forms.ConnectionDeed.TheVariants.{Keep};
@@ -18,16 +18,16 @@ ghost use Rattle.plain_machine.specs.declared.setup.Setup.{Setup};
 ghost use Rattle.plain_machine.specs.declared.station.Station.{Station};
 ghost use Rattle.plain_machine.specs.Commanding.{line_deed, commanded};
 ghost use Rattle.plain_machine.specs.Done.{only_answer};
-ghost use Rattle.plain_machine.specs.Machine.{Endpoints, told, station_at, numbered};
+ghost use Rattle.plain_machine.specs.Machine.{serves, Endpoints, told, station_at, numbered};
 ghost use Rattle.plain_machine.specs.Reporting.{name_of_line};
 ghost use Rattle.plain_machine.specs.Requesting.{deed_on, shown_of, answer_with, deed_done, line_with_place, done_for};
 ghost use Rattle.machine_laws.specs.Refusals.{IsRefused, NoneRefuses};
 
-/// A command that asks for a deed does what the deed does, on the lines that it is for: on one line, on all lines, or
+/// A command that asks for a deed, of a gateway that serves, does what the deed does, on the lines that it is for: on one line, on all lines, or
 /// on the least that has a place for one more connection, which the answer names; where none has, that is 410.
 pub fn a_command_does_its_deed()
     ensures deed { (setup : Setup) (endpoints : Endpoints) (moment id : ℕ) (command : Command) (confirms : KValue)
-        (lines : Target) (deed : Deed) → form_of command confirms setup.names ≡ Ok (Does lines deed) →
+        (lines : Target) (deed : Deed) → form_while (serves endpoints) command confirms setup.names ≡ Ok (Does lines deed) →
         commanded setup endpoints moment id command confirms ≡ done_for setup endpoints lines (line_deed deed) moment }
     ensures one { (setup : Setup) (endpoints : Endpoints) (deed : LineDeed) (moment line : ℕ) →
         done_for setup endpoints (One line) deed moment ≡ deed_done setup endpoints (One line) [] deed moment }
@@ -93,9 +93,9 @@ pub fn a_deed_on_one_line_changes_that_line_alone()
 /// An audit changes nothing and has nothing sent, nor does a command that has a fault.
 pub fn an_audit_changes_nothing()
     ensures audit { (setup : Setup) (endpoints : Endpoints) (moment id : ℕ) (command : Command) (confirms : KValue)
-        (lines : Target) (audit : Audit) → form_of command confirms setup.names ≡ Ok (Reports lines audit) →
+        (lines : Target) (audit : Audit) → form_while (serves endpoints) command confirms setup.names ≡ Ok (Reports lines audit) →
         (commanded setup endpoints moment id command confirms).told ≡ told endpoints [] }
     ensures fault { (setup : Setup) (endpoints : Endpoints) (moment id code : ℕ) (command : Command)
-        (confirms : KValue) → form_of command confirms setup.names ≡ Err code →
+        (confirms : KValue) → form_while (serves endpoints) command confirms setup.names ≡ Err code →
         commanded setup endpoints moment id command confirms ≡ only_answer endpoints (plain_code code) }
 {}

@@ -16,24 +16,24 @@ ghost use Rattle.plain_machine.specs.Falling.{happened, pass};
 ghost use Rattle.plain_machine.specs.Flights.{IsSame, Carries};
 ghost use Rattle.plain_machine.specs.Lists.{plain};
 ghost use Rattle.plain_machine.specs.Machine.{Machine, Endpoints, station_at, opening};
-ghost use Rattle.machine_laws.specs.Waiting.{in_flight, AreInOrder};
+ghost use Rattle.machine_laws.specs.Waiting.{in_flight, KeepOrder};
 
-/// While its command is in flight a line waits for the answer, and what the gateway itself has in flight is under an id
-/// of its own: after every list of events, and, where it is so, after each act, each text and each thing that falls
-/// due.
+/// While its command is in flight a line waits for the answer, what is in flight agrees with where announcements are, and
+/// all ids are those of who sent the command: after every list of events, and, where it is so, after each act, each text
+/// and each thing that falls due.
 pub fn lines_wait_at_each_thing_that_happens()
-    ensures opening { (setup : Setup) → AreInOrder (opening setup).endpoints }
-    ensures events { (setup : Setup) (events : List GatewayEvent) → AreInOrder (plain setup events).endpoints }
-    ensures act { (setup : Setup) (endpoints : Endpoints) (line moment : ℕ) (act : Act) → AreInOrder endpoints →
-        AreInOrder (acted setup endpoints line moment act).endpoints }
-    ensures due { (setup : Setup) (endpoints : Endpoints) (item : DueItem) → AreInOrder endpoints →
-        AreInOrder (happened setup endpoints item).endpoints }
-    ensures pass { (setup : Setup) (endpoints : Endpoints) (moment : ℕ) → AreInOrder endpoints →
-        AreInOrder (pass setup endpoints moment).endpoints }
-    ensures text { (setup : Setup) (m : Machine) (source : SocketAddrV4) (outcome : Outcome) → AreInOrder m.endpoints →
-        AreInOrder (handled setup m source outcome).machine.endpoints }
+    ensures opening { (setup : Setup) → KeepOrder (opening setup).endpoints }
+    ensures events { (setup : Setup) (events : List GatewayEvent) → KeepOrder (plain setup events).endpoints }
+    ensures act { (setup : Setup) (endpoints : Endpoints) (line moment : ℕ) (act : Act) → KeepOrder endpoints →
+        KeepOrder (acted setup endpoints line moment act).endpoints }
+    ensures due { (setup : Setup) (endpoints : Endpoints) (item : DueItem) → KeepOrder endpoints →
+        KeepOrder (happened setup endpoints item).endpoints }
+    ensures pass { (setup : Setup) (endpoints : Endpoints) (moment : ℕ) → KeepOrder endpoints →
+        KeepOrder (pass setup endpoints moment).endpoints }
+    ensures text { (setup : Setup) (m : Machine) (source : SocketAddrV4) (outcome : Outcome) → KeepOrder m.endpoints →
+        KeepOrder (handled setup m source outcome).machine.endpoints }
     ensures texts { (setup : Setup) (m : Machine) (source : SocketAddrV4) (texts : List (List ℕ)) →
-        AreInOrder m.endpoints → AreInOrder (took_all setup m source texts).machine.endpoints }
+        KeepOrder m.endpoints → KeepOrder (took_all setup m source texts).machine.endpoints }
 {}
 
 /// What falls due on a line whose command is in flight begins no other: the end of a signal or of timer T sends nothing
@@ -42,7 +42,7 @@ pub fn lines_wait_at_each_thing_that_happens()
 /// due as that of line 0, the same holds.
 pub fn what_falls_due_begins_nothing_while_a_command_is_in_flight()
     ensures line { (setup : Setup) (endpoints : Endpoints) (item : DueItem) (due : LineDue) (station : Station)
-        (message : InFlight) → AreInOrder endpoints → item.due ≡ OfLine due →
+        (message : InFlight) → KeepOrder endpoints → item.due ≡ OfLine due →
         station_at endpoints item.line ≡ Some station → in_flight station ≡ Some message →
         ((happened setup endpoints item).sent ≡ [])
         × IfSome (station_at (happened setup endpoints item).endpoints item.line)

@@ -132,6 +132,13 @@ impl Pending {
         self.hear(id, code, moment)
     }
 
+    /// What a response with this id and return code is to it (RFC 3435, 2.4 and 3.5.6): the id alone joins them.
+    pub fn reply(&self, id: TransactionId, code: u16) -> Reply
+        ensures { result ≡ reply_of self.now id code }
+    {
+        reply_of(self.id, id, code)
+    }
+
     #[tactic(auto, unfolding(crate::specs::Flight::repeated))]
     fn send_again(&mut self, moment: u64) -> Repeat
         requires { moment < 2 ^ 62 }

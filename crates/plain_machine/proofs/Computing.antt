@@ -10,19 +10,21 @@ use Rattle.outbound.proofs.Computing.{on_examples as flight_examples}
 use Rattle.plain_machine.specs.Setup.{table_from, setup_of}
 use Rattle.plain_machine.specs.Arriving.{texts_of, arrivals_from}
 use Rattle.plain_machine.specs.Packing.{packed_after}
-use Rattle.plain_machine.specs.Reporting.{with_items, names_of}
+use Rattle.audits.proofs.Computing.{on_examples as audit_examples}
+use Rattle.plain_machine.specs.Announcing.{announcement, announced, replied}
+use Rattle.plain_machine.specs.Reporting.{names_of}
 use Rattle.plain_machine.specs.Notifying.{notification, noted}
 use Rattle.plain_machine.specs.Connecting.{connected}
 use Rattle.plain_machine.specs.Requesting.{refused_by, deed_on, shown_of, line_with_place}
 use Rattle.plain_machine.specs.Commanding.{audited}
 use Rattle.plain_machine.specs.Machine.{on_line, on_lines}
-use Rattle.plain_machine.specs.Falling.{due_on, first_due, due_by, happened_on, own_happened, passed, pass}
-use Rattle.plain_machine.specs.Responding.{responded_on, own_responded}
+use Rattle.plain_machine.specs.Falling.{post_due, due_on, first_due, due_by, happened_on, own_happened, passed, pass}
+use Rattle.plain_machine.specs.Responding.{responded_on, own_responded, redirected_on, opened_on}
 use Rattle.plain_machine.specs.Answering.{executed, handled, took_all}
 use Rattle.plain_machine.specs.Happening.{effect}
 use Rattle.plain_machine.specs.Refusing.{refusal_of}
 use Rattle.plain_machine.specs.Lists.{machine_after, sent_from, outputs_from, are_taken}
 
 unfoldable pub on_examples : ⊤
-unfolding text_examples name_examples history_examples part_examples form_examples line_examples flight_examples table_from setup_of packed_after texts_of arrivals_from with_items names_of notification noted connected refused_by deed_on shown_of line_with_place audited on_line on_lines due_on first_due due_by happened_on own_happened passed pass responded_on own_responded executed handled took_all effect refusal_of machine_after sent_from outputs_from are_taken
+unfolding text_examples name_examples history_examples part_examples form_examples line_examples flight_examples table_from setup_of packed_after texts_of arrivals_from audit_examples announcement announced replied names_of notification noted connected refused_by deed_on shown_of line_with_place audited on_line on_lines post_due due_on first_due due_by happened_on own_happened passed pass responded_on own_responded redirected_on opened_on executed handled took_all effect refusal_of machine_after sent_from outputs_from are_taken
 on_examples = tt

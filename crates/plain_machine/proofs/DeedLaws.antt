@@ -29,13 +29,13 @@ use Rattle.command_forms.specs.declared.forms.Target.{Target}
 use Rattle.command_forms.specs.declared.forms.Target.TheVariants.{One, All, Any}
 use Rattle.command_forms.specs.Command.{Command}
 use Rattle.command_forms.specs.Meaning.{is_for}
-use Rattle.command_forms.specs.Order.{form_of}
+use Rattle.command_forms.specs.Order.{form_while}
 use Rattle.mg_line.specs.Requesting.{refusal_of}
 use Rattle.plain_machine.specs.declared.line_deed.LineDeed.{LineDeed}
 use Rattle.plain_machine.specs.declared.setup.Setup.{Setup}
 use Rattle.plain_machine.specs.declared.station.Station.{Station}
 use Rattle.plain_machine.specs.Notifying.{Turn}
-use Rattle.plain_machine.specs.Machine.{Endpoints, Machine, Told, told, station_at, with_turn, on_line, on_lines}
+use Rattle.plain_machine.specs.Machine.{Endpoints, Machine, Told, told, serves, station_at, with_turn, on_line, on_lines}
 use Rattle.plain_machine.specs.Answering.{Transaction, executed, refusing, command_with, transaction_of, transacted_by, handled_as, handled}
 use Rattle.plain_machine.specs.Done.{Done, only_answer}
 use Rattle.plain_machine.specs.Connecting.{deleted_shown, showing_what, done_code, connected}
@@ -85,7 +85,7 @@ asks_stays (Ok (Does target deed)) setup endpoints moment id = target_stays setu
 pub refused_stays : (setup : Setup) (endpoints : Endpoints) (moment id : ℕ) (command : Command) (confirms : KValue)
     → (commanded setup endpoints moment id command confirms).answer.code ≢ 200 → (commanded setup endpoints moment id command confirms).answer.code ≢ 250
     → (commanded setup endpoints moment id command confirms).told ≡ told endpoints []
-refused_stays setup endpoints moment id command confirms = asks_stays (form_of command confirms setup.names) setup endpoints moment id
+refused_stays setup endpoints moment id command confirms = asks_stays (form_while (serves endpoints) command confirms setup.names) setup endpoints moment id
 
 -- of a text that is a command, whatever was read of it
 abbrev StaysIn : Machine → Transaction → Type 0

@@ -14,14 +14,18 @@ use Rattle.plain_machine.specs.declared.setup.Setup.{Setup}
 use Rattle.plain_machine.specs.declared.station.Station.{Station}
 use Rattle.plain_machine.specs.Event.{GatewayEvent, datagram, phone, tick}
 use Rattle.plain_machine.specs.Notifying.{Turn, silent}
-use Rattle.plain_machine.specs.Machine.{Endpoints, Machine, Effect, OwnTurn, told, station_at, with_turn, turned_at, on_line, on_own, on_either, on_lines}
+use Rattle.plain_machine.specs.Machine.{Endpoints, Machine, Effect, OwnTurn, told, serves, station_at, with_turn, turned_at, on_line, on_own, on_either, on_lines}
 use Rattle.plain_machine.specs.Arriving.{texts_of, clock_after}
 use Rattle.history.specs.Memory.{most_firsts}
 use Rattle.history.specs.Looking.{Told as Looked, new, repeat, confirmed, full, look_of}
 use Rattle.plain_machine.specs.Acting.{acted_on}
 use Rattle.plain_machine.specs.Falling.{due_by, happened_on, own_happened, happened, go_on, passed, room, pass}
 use Rattle.plain_machine.specs.Posting.{line_of_id}
-use Rattle.plain_machine.specs.Responding.{responded_on, own_responded}
+use Rattle.plain_machine.specs.Announcing.{heard_on}
+use Rattle.plain_machine.specs.Responding.{response_with, responded_on, own_responded, redirected_on, opened_on, lines_told, own_heard, responded}
+use Rattle.restart.specs.declared.heard.Heard.{Heard}
+use Rattle.restart.specs.declared.heard.Heard.TheVariants.{Nothing, PutOff, Redirected, Answered}
+use Rattle.plain_machine.specs.declared.response.Response.{Response}
 use Rattle.plain_machine.specs.declared.due_item.DueItem.{DueItem}
 use Rattle.plain_machine.specs.Done.{Done}
 use Rattle.plain_machine.specs.declared.line_deed.LineDeed.{LineDeed}
@@ -31,7 +35,7 @@ use Rattle.command_forms.specs.declared.forms.Asks.{Asks}
 use Rattle.command_forms.specs.declared.forms.Asks.TheVariants.{Reports, Does}
 use Rattle.command_forms.specs.declared.forms.Target.{Target}
 use Rattle.command_forms.specs.declared.forms.Target.TheVariants.{One, All, Any}
-use Rattle.command_forms.specs.Order.{form_of}
+use Rattle.command_forms.specs.Order.{form_while}
 use Rattle.plain_machine.specs.Answering.{Transaction, executed, transacted_by, handled, took_all}
 use Rattle.plain_machine.specs.Happening.{effect}
 
@@ -58,6 +62,20 @@ several_lines : (lines : List ℕ) (endpoints : Endpoints) (turn : ℕ → Stati
 unfolding on_lines
 several_lines [] endpoints turn = refl
 several_lines (line ∷ lines) endpoints turn = several_lines lines (on_line endpoints line (turn line)).endpoints turn ∙ turned_lines endpoints line (turn line)
+
+-- what comes to the gateway itself, and then to its lines
+told_lines : (heard : Heard) (setup : Setup) (moment : ℕ) (endpoints : Endpoints) → lines_in (lines_told heard setup moment endpoints).endpoints ≡ lines_in endpoints
+told_lines Nothing setup moment endpoints = refl
+told_lines PutOff setup moment endpoints = refl
+told_lines (Redirected agent) setup moment endpoints = several_lines (lines_meant endpoints All) endpoints (redirected_on agent)
+told_lines (Answered agent) setup moment endpoints = several_lines (lines_meant endpoints All) endpoints (opened_on agent setup moment)
+
+responded_lines : (setup : Setup) (endpoints : Endpoints) (moment : ℕ) (response : Response) → lines_in (responded setup endpoints moment response).endpoints ≡ lines_in endpoints
+responded_lines setup endpoints moment response = by_test (line_of_id response.id == 0) where
+  by_test : (b : Bool) → lines_in (if b then own_heard setup endpoints moment response
+      else on_line endpoints (line_of_id response.id) (responded_on setup (line_of_id response.id) moment response)).endpoints ≡ lines_in endpoints
+  by_test true = told_lines (heard_on endpoints.own.post response) setup moment (on_own endpoints (own_responded setup moment response)).endpoints
+  by_test false = turned_lines endpoints (line_of_id response.id) (responded_on setup (line_of_id response.id) moment response)
 
 -- what is done at texts
 record Keeps (m : Machine) (done : Effect) : Type 0 where
@@ -101,8 +119,8 @@ handled_keeps setup m source no_header = record { lines = refl; now = refl }
 handled_keeps setup m source (bad_version id) = transacted_keeps (look_of most_firsts m.history id m.now) m source _ refl
 handled_keeps setup m source (bad_body id) = transacted_keeps (look_of most_firsts m.history id m.now) m source _ refl
 handled_keeps setup m source (message (messages.Command verb id name params body)) =
-    transacted_keeps (look_of most_firsts m.history id m.now) m source _ (done_lines (form_of (record { verb = verb; name = name; params = params; body = body }) (k_of params) setup.names) setup m.endpoints m.now id)
-handled_keeps setup m source (message (messages.Response code id params body)) = record { lines = either_lines m.endpoints (line_of_id id) (own_responded m.now code id) (λ station. responded_on setup (line_of_id id) m.now station code id); now = refl }
+    transacted_keeps (look_of most_firsts m.history id m.now) m source _ (done_lines (form_while (serves m.endpoints) (record { verb = verb; name = name; params = params; body = body }) (k_of params) setup.names) setup m.endpoints m.now id)
+handled_keeps setup m source (message (messages.Response code id params body)) = record { lines = responded_lines setup m.endpoints m.now (response_with setup id code params); now = refl }
 
 pub handled_now : (setup : Setup) (m : Machine) (source : SocketAddrV4) (outcome : Outcome) → (handled setup m source outcome).machine.now ≡ m.now
 handled_now setup m source outcome = (handled_keeps setup m source outcome).now
@@ -124,7 +142,7 @@ took_lines setup m source texts = (took_keeps setup m source texts).lines
 -- what falls due changes a station, and adds none
 pub happened_lines : (setup : Setup) (endpoints : Endpoints) (item : DueItem) → lines_in (happened setup endpoints item).endpoints ≡ lines_in endpoints
 happened_lines setup endpoints item =
-    either_lines endpoints item.line (own_happened item.due item.moment) (happened_on item.due setup item.line item.moment)
+    either_lines endpoints item.line (own_happened item.due setup item.moment) (happened_on item.due setup item.line item.moment)
 
 passed_lines : (n : ℕ) (setup : Setup) (endpoints : Endpoints) (moment : ℕ) → lines_in (passed n setup endpoints moment).endpoints ≡ lines_in endpoints
 unfolding passed

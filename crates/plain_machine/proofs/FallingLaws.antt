@@ -13,38 +13,38 @@ use Rattle.plain_machine.specs.declared.station.Station.{Station}
 use Rattle.plain_machine.specs.Machine.{Endpoints, Told, told, with_turn, with_own, on_own, afterwards}
 use Rattle.plain_machine.specs.Falling.{due_on, own_due, first_due, due_by, happened_on, own_happened, happened, go_on, passed, room, pass}
 use Rattle.plain_machine.proofs.EffectLaws.{happened_lines, other_station, either_own, either_line, on_this}
-use Rattle.plain_machine.proofs.FirstLemmas.{IsDueOn, first_on, own_line, by_moment, station_is, station_line, earliest_own, earliest_on}
-use Rattle.plain_machine.proofs.LeftLemmas.{Happens, has_by, first_happens, first_on_it, none_before, due_count, eleven_at_most, happens_less, own_count, one_at_most, own_first_happens, own_first_on, own_happens_less}
+use Rattle.plain_machine.proofs.FirstLemmas.{IsDueOn, first_on, post_line, by_moment, station_is, station_line, earliest_own, earliest_on}
+use Rattle.plain_machine.proofs.LeftLemmas.{post_has, Happens, has_by, first_happens, none_before, due_count, twelve_at_most, happens_less, own_first_happens, own_none_before, own_count, two_at_most, own_happens_less}
 
 -- How much is due up to a moment
 
 abbrev total : ℕ → Endpoints → ℕ
 total moment endpoints = sum_by (due_count moment) endpoints.stations + own_count moment endpoints.own
 
-sum_most : (moment : ℕ) (stations : List Station) → sum_by (due_count moment) stations ≤ 11 * length stations
+sum_most : (moment : ℕ) (stations : List Station) → sum_by (due_count moment) stations ≤ 12 * length stations
 sum_most moment [] = omega arith
 sum_most moment (station ∷ stations) =
-    omega (arith, sum_by-cons (due_count moment) station stations, eleven_at_most moment station, sum_most moment stations)
+    omega (arith, sum_by-cons (due_count moment) station stations, twelve_at_most moment station, sum_most moment stations)
 
 abbrev per_moment : Endpoints → ℕ
-per_moment endpoints = 11 * length endpoints.stations + 1
+per_moment endpoints = 12 * length endpoints.stations + 2
 
 total_most : (moment : ℕ) (endpoints : Endpoints) → total moment endpoints ≤ per_moment endpoints
-total_most moment endpoints = omega (arith, sum_most moment endpoints.stations, one_at_most moment endpoints.own)
+total_most moment endpoints = omega (arith, sum_most moment endpoints.stations, two_at_most moment endpoints.own)
 
 -- What happens on one line, or of the gateway itself
 
 happened_is : (setup : Setup) (endpoints : Endpoints) (item : DueItem) (is : IsDueOn 1 endpoints.stations item)
     → happened setup endpoints item ≡ with_turn endpoints item.line (happened_on item.due setup item.line item.moment is.station)
 happened_is setup endpoints item is =
-    either_line endpoints item.line (own_happened item.due item.moment) (happened_on item.due setup item.line item.moment) (station_line endpoints item is)
+    either_line endpoints item.line (own_happened item.due setup item.moment) (happened_on item.due setup item.line item.moment) (station_line endpoints item is)
     ∙ on_this endpoints item.line is.station (happened_on item.due setup item.line item.moment) (station_is endpoints item is)
 
 own_happened_is : (setup : Setup) (endpoints : Endpoints) (item : DueItem) → own_due endpoints.own ≡ Some item
-    → happened setup endpoints item ≡ on_own endpoints (own_happened item.due item.moment)
+    → happened setup endpoints item ≡ on_own endpoints (own_happened item.due setup item.moment)
 own_happened_is setup endpoints item is =
-    either_own endpoints item.line (own_happened item.due item.moment) (happened_on item.due setup item.line item.moment)
-    (ap (λ (line : ℕ). line == 0) (own_line endpoints.own item is))
+    either_own endpoints item.line (own_happened item.due setup item.moment) (happened_on item.due setup item.line item.moment)
+    (ap (λ (line : ℕ). line == 0) (post_line 0 endpoints.own.post item is))
 
 less_sum : (moment : ℕ) (stations : List Station) (place : ℕ) (was is : Station) → slice_get stations place ≡ Some was → due_count moment is < due_count moment was
     → sum_by (due_count moment) (slice_set stations place is) < sum_by (due_count moment) stations
@@ -67,7 +67,7 @@ less_to_come setup endpoints item first = by_case (first_on endpoints item first
   by_case : (own_due endpoints.own ≡ Some item) ⊎ IsDueOn 1 endpoints.stations item → total item.moment (happened setup endpoints item).endpoints < total item.moment endpoints
   by_case (inl is) =
       rw (own_happened_is setup endpoints item is)
-      (second_less _ _ _ (own_happens_less item.moment endpoints.own _ (own_first_happens endpoints.own item is)))
+      (second_less _ _ _ (own_happens_less item.moment item.due endpoints.own _ (own_first_happens setup endpoints.own item is)))
   by_case (inr is) =
       let place : item.line - 1 ≡ is.place = omega (arith, is.line) in
       rw (happened_is setup endpoints item is, place)
@@ -89,12 +89,16 @@ get_set_same stations place was is station at found =
 own_not_earlier : (setup : Setup) (endpoints : Endpoints) (item next : DueItem) → first_due endpoints ≡ Some item → own_due endpoints.own ≡ Some item
     → first_due (happened setup endpoints item).endpoints ≡ Some next → item.moment ≤ next.moment
 own_not_earlier setup endpoints item next first is after =
-    by_case (first_on (with_own endpoints (own_happened item.due item.moment endpoints.own).own) next
+    by_case (first_on (with_own endpoints (own_happened item.due setup item.moment endpoints.own).own) next
     (subst (λ (t : Told). first_due t.endpoints ≡ Some next) (own_happened_is setup endpoints item is) after)) where
-      by_case : (own_due (own_happened item.due item.moment endpoints.own).own ≡ Some next) ⊎ IsDueOn 1 endpoints.stations next → item.moment ≤ next.moment
+      by_each : (post_has next.moment endpoints.own.post next.due ≡ true) ⊎ (item.moment < next.moment) → item.moment ≤ next.moment
+      by_each (inl before) = own_none_before endpoints.own item next.due next.moment is before
+      by_each (inr later) = omega (arith, later)
+
+      by_case : (own_due (own_happened item.due setup item.moment endpoints.own).own ≡ Some next) ⊎ IsDueOn 1 endpoints.stations next → item.moment ≤ next.moment
       by_case (inl own) =
-          let later = (own_first_happens endpoints.own item is).later next.moment (own_first_on (own_happened item.due item.moment endpoints.own).own next own) in
-          omega (arith, later)
+          by_each ((own_first_happens setup endpoints.own item is).each next.due next.moment
+          (own_first_happens setup (own_happened item.due setup item.moment endpoints.own).own next own).on)
       by_case (inr on) =
           earliest_on endpoints item next on.place on.station first on.at (subst (λ (l : ℕ). due_on (l, on.station) ≡ Some next) on.line on.due)
 
@@ -110,7 +114,7 @@ line_not_earlier setup endpoints item next first is later =
     let at : slice_get (slice_set endpoints.stations is.place now) later.place ≡ Some later.station =
     subst (λ (xs : List Station). slice_get xs later.place ≡ Some later.station) stations later.at in
     by_place is.place is.station now later.place later.station is.at is.due h at (subst (λ (l : ℕ). due_on (l, later.station) ≡ Some next) later.line later.due)
-    (first_on_it next.line later.station next later.due) (later.place == is.place) refl where
+    (first_happens setup next.line later.station next later.due).on (later.place == is.place) refl where
       by_each : (was : Station) → due_on (item.line, was) ≡ Some item → (has_by next.moment was next.due ≡ true) ⊎ (item.moment < next.moment) → item.moment ≤ next.moment
       by_each was due (inl before) = none_before item.line was item next.due next.moment due before
       by_each was due (inr later) = omega (arith, later)
@@ -190,7 +194,7 @@ pub left_falls : (setup : Setup) (endpoints : Endpoints) (moment : ℕ) (item : 
 left_falls setup endpoints moment item due =
     let after = (happened setup endpoints item).endpoints in
     let first = (by_moment endpoints moment item due).0 in
-    rw (left_some endpoints moment item due) (by_next after (due_by after moment) refl first (ap (λ (n : ℕ). 11 * n + 1) (happened_lines setup endpoints item))
+    rw (left_some endpoints moment item due) (by_next after (due_by after moment) refl first (ap (λ (n : ℕ). 12 * n + 2) (happened_lines setup endpoints item))
     (some_due setup endpoints item first) (less_to_come setup endpoints item first)
     (λ next is. not_earlier setup endpoints item next first (by_moment after moment next is).0)) where
       by_order : (after : Endpoints) (next : DueItem) → next.moment ≤ moment → per_moment after ≡ per_moment endpoints → 0 < total item.moment endpoints

@@ -21,9 +21,12 @@ use Rattle.command_forms.specs.declared.forms.ConnectionDeed.{ConnectionDeed}
 use Rattle.command_forms.specs.declared.forms.ConnectionDeed.TheVariants.{Keep, Create}
 use Rattle.command_forms.specs.declared.forms.Target.{Target}
 use Rattle.command_forms.specs.declared.forms.Target.TheVariants.{One, All, Any}
+use Rattle.restart.specs.declared.heard.Heard.{Heard}
+use Rattle.restart.specs.declared.heard.Heard.TheVariants.{Nothing, PutOff, Redirected, Answered}
 use Rattle.plain_machine.specs.declared.due_item.DueItem.{DueItem}
 use Rattle.plain_machine.specs.declared.line_deed.LineDeed.{LineDeed}
 use Rattle.plain_machine.specs.declared.own.Own.{Own}
+use Rattle.plain_machine.specs.declared.response.Response.{Response}
 use Rattle.plain_machine.specs.declared.setup.Setup.{Setup}
 use Rattle.plain_machine.specs.declared.station.Station.{Station}
 use Rattle.plain_machine.specs.Acting.{acted_on, acted}
@@ -36,13 +39,14 @@ use Rattle.plain_machine.specs.Falling.{due_by, happened_on, own_happened, happe
 use Rattle.plain_machine.specs.Happening.{effect}
 use Rattle.plain_machine.specs.Machine.{Endpoints, Machine, OwnTurn, Told, station_at, on_line, on_lines, on_own, on_either}
 use Rattle.plain_machine.specs.Notifying.{Turn}
+use Rattle.plain_machine.specs.Announcing.{heard_on}
 use Rattle.plain_machine.specs.Posting.{line_of_id}
 use Rattle.plain_machine.specs.Requesting.{encoding_with, connected_on, refusal_by, refused_by, lines_meant, deed_on, shown_by, unless_refused, deed_done, line_with_place, done_there, done_for}
-use Rattle.plain_machine.specs.Responding.{responded_on, own_responded, responded}
+use Rattle.plain_machine.specs.Responding.{responded_on, own_responded, redirected_on, opened_on, lines_told, own_heard, responded}
 use Rattle.plain_machine.proofs.EffectLaws.{turned_lines, happened_lines, handled_lines, took_lines, pass_lines, effect_lines, on_nothing}
 use Rattle.plain_machine.proofs.FlightLaws.{line_stays}
 use Rattle.plain_machine.proofs.TurnLemmas.{Turns, Holds, of_line, acted_goes, happened_goes, pass_goes, handled_on_all, took_on_all, event_on_all}
-use Rattle.plain_machine.proofs.StandingLemmas.{happenings, deed_connections, noted_same, happened_same, responded_same, AnySent, AnyOwn, OfConnections, Keeps, connection_turns, any_own_turns}
+use Rattle.plain_machine.proofs.StandingLemmas.{happenings, deed_connections, noted_same, happened_same, responded_same, redirected_same, opened_same, AnySent, AnyOwn, OfConnections, Keeps, connection_turns, any_own_turns}
 use Rattle.plain_machine.proofs.NumberLaws.{one_more, one_station, all_from, at_next}
 use Rattle.plain_machine.proofs.DeedLaws.{turned_here}
 
@@ -81,14 +85,26 @@ pub act_leaves : (setup : Setup) (endpoints : Endpoints) (line moment other : �
 act_leaves setup endpoints line moment other act =
     on_line_same endpoints line other (acted_on setup line moment act) (λ station. noted_same setup line moment station (phoned station.line act moment))
 
-pub response_leaves : (setup : Setup) (endpoints : Endpoints) (moment code id other : ℕ) → standing_at (responded setup endpoints moment code id).endpoints other ≡ standing_at endpoints other
-response_leaves setup endpoints moment code id other =
-    either_same endpoints (line_of_id id) other (own_responded moment code id) (λ station. responded_on setup (line_of_id id) moment station code id)
-    (λ station. responded_same setup (line_of_id id) moment code id station)
+told_leaves : (heard : Heard) (setup : Setup) (moment : ℕ) (endpoints : Endpoints) (other : ℕ) → standing_at (lines_told heard setup moment endpoints).endpoints other ≡ standing_at endpoints other
+told_leaves Nothing setup moment endpoints other = refl
+told_leaves PutOff setup moment endpoints other = refl
+told_leaves (Redirected agent) setup moment endpoints other =
+    several_same (lines_meant endpoints All) endpoints other (redirected_on agent) (λ line station. redirected_same agent line station)
+told_leaves (Answered agent) setup moment endpoints other =
+    several_same (lines_meant endpoints All) endpoints other (opened_on agent setup moment) (λ line station. opened_same setup agent line moment station)
+
+pub response_leaves : (setup : Setup) (endpoints : Endpoints) (moment : ℕ) (response : Response) (other : ℕ)
+    → standing_at (responded setup endpoints moment response).endpoints other ≡ standing_at endpoints other
+response_leaves setup endpoints moment response other = by_test (line_of_id response.id == 0) where
+  by_test : (b : Bool) → standing_at (if b then own_heard setup endpoints moment response
+      else on_line endpoints (line_of_id response.id) (responded_on setup (line_of_id response.id) moment response)).endpoints other ≡ standing_at endpoints other
+  by_test true = told_leaves (heard_on endpoints.own.post response) setup moment (on_own endpoints (own_responded setup moment response)).endpoints other
+  by_test false = on_line_same endpoints (line_of_id response.id) other (responded_on setup (line_of_id response.id) moment response)
+      (λ station. responded_same setup (line_of_id response.id) moment response station)
 
 pub due_leaves : (setup : Setup) (endpoints : Endpoints) (item : DueItem) (other : ℕ) → standing_at (happened setup endpoints item).endpoints other ≡ standing_at endpoints other
 due_leaves setup endpoints item other =
-    either_same endpoints item.line other (own_happened item.due item.moment) (happened_on item.due setup item.line item.moment)
+    either_same endpoints item.line other (own_happened item.due setup item.moment) (happened_on item.due setup item.line item.moment)
     (λ station. happened_same setup item.due item.line item.moment station)
 
 passed_leaves : (n : ℕ) (setup : Setup) (endpoints : Endpoints) (moment other : ℕ) → standing_at (passed n setup endpoints moment).endpoints other ≡ standing_at endpoints other
@@ -179,7 +195,7 @@ le_refl n = omega arith
 
 begins_last : (were : Endpoints) → Holds (OfConnections (NoLess were)) AnyOwn were
 begins_last were = record {
-  stations = all_from (OfConnections (NoLess were)) 1 were.stations
+  stations = all_from (OfConnections (NoLess were) false) 1 were.stations
       (λ place station at was before.
       let same : was ≡ station = one_station (station_at were (1 + place)) was station before (at_next were place ∙ at) in
       subst (λ (s : Station). was.connections.last ≤ s.connections.last) same (le_refl was.connections.last));
@@ -214,38 +230,38 @@ numbers_go_on were are as_many holds line was at = by_station (station_at were l
       let same : station.connections ≡ was = cc in (
         here.0.connections,
         ap connections_in here.1,
-        subst (λ (s : Standing). s.last ≤ here.0.connections.last) same (of_line (OfConnections (NoLess were)) are line here.0 holds.stations here.1 station before),
+        subst (λ (s : Standing). s.last ≤ here.0.connections.last) same (of_line (OfConnections (NoLess were) false) are line here.0 holds.stations here.1 station before),
       )
 
 pub act_goes_on : (setup : Setup) (endpoints : Endpoints) (line moment : ℕ) (act : Act) → NumbersGoOn endpoints (acted setup endpoints line moment act).endpoints
 act_goes_on setup endpoints line moment act =
     numbers_go_on endpoints (acted setup endpoints line moment act).endpoints (turned_lines endpoints line (acted_on setup line moment act))
-    (acted_goes setup _ AnyOwn AnySent (last_turns setup endpoints) any_own_turns endpoints line moment act (begins_last endpoints)).holds
+    (acted_goes setup _ AnyOwn AnySent (last_turns setup endpoints) (any_own_turns setup _) endpoints line moment act (begins_last endpoints)).holds
 
 pub due_goes_on : (setup : Setup) (endpoints : Endpoints) (item : DueItem) → NumbersGoOn endpoints (happened setup endpoints item).endpoints
 due_goes_on setup endpoints item =
     numbers_go_on endpoints (happened setup endpoints item).endpoints (happened_lines setup endpoints item)
-    (happened_goes setup _ AnyOwn AnySent (last_turns setup endpoints) any_own_turns endpoints item (begins_last endpoints)).holds
+    (happened_goes setup _ AnyOwn AnySent (last_turns setup endpoints) (any_own_turns setup _) endpoints item (begins_last endpoints)).holds
 
 pub pass_goes_on : (setup : Setup) (endpoints : Endpoints) (moment : ℕ) → NumbersGoOn endpoints (pass setup endpoints moment).endpoints
 pass_goes_on setup endpoints moment =
     numbers_go_on endpoints (pass setup endpoints moment).endpoints (pass_lines setup endpoints moment)
-    (pass_goes setup _ AnyOwn AnySent (last_turns setup endpoints) any_own_turns endpoints moment (begins_last endpoints)).holds
+    (pass_goes setup _ AnyOwn AnySent (last_turns setup endpoints) (any_own_turns setup _) endpoints moment (begins_last endpoints)).holds
 
 pub text_goes_on : (setup : Setup) (m : Machine) (source : SocketAddrV4) (outcome : Outcome) → NumbersGoOn m.endpoints (handled setup m source outcome).machine.endpoints
 text_goes_on setup m source outcome =
     numbers_go_on m.endpoints (handled setup m source outcome).machine.endpoints (handled_lines setup m source outcome)
-    (handled_on_all setup _ AnyOwn AnySent (last_turns setup m.endpoints) any_own_turns m source outcome (begins_last m.endpoints))
+    (handled_on_all setup _ AnyOwn AnySent (last_turns setup m.endpoints) (any_own_turns setup _) m source outcome (begins_last m.endpoints))
 
 pub texts_go_on : (setup : Setup) (m : Machine) (source : SocketAddrV4) (texts : List (List ℕ)) → NumbersGoOn m.endpoints (took_all setup m source texts).machine.endpoints
 texts_go_on setup m source texts =
     numbers_go_on m.endpoints (took_all setup m source texts).machine.endpoints (took_lines setup m source texts)
-    (took_on_all setup _ AnyOwn AnySent (last_turns setup m.endpoints) any_own_turns m source texts (begins_last m.endpoints))
+    (took_on_all setup _ AnyOwn AnySent (last_turns setup m.endpoints) (any_own_turns setup _) m source texts (begins_last m.endpoints))
 
 pub event_goes_on : (setup : Setup) (m : Machine) (event : GatewayEvent) → NumbersGoOn m.endpoints (effect setup m event).machine.endpoints
 event_goes_on setup m event =
     numbers_go_on m.endpoints (effect setup m event).machine.endpoints (effect_lines setup m event)
-    (event_on_all setup _ AnyOwn AnySent (last_turns setup m.endpoints) any_own_turns m event (begins_last m.endpoints))
+    (event_on_all setup _ AnyOwn AnySent (last_turns setup m.endpoints) (any_own_turns setup _) m event (begins_last m.endpoints))
 
 -- and what doesn't go on so
 

@@ -1,10 +1,8 @@
 -- Every message that is sent ends in a line end, has no dot line, and is no longer than a datagram may be.
-use Rattle.std.proofs.Common.{◌≡◌, ℕ, ◌+◌, ◌<◌, ◌≤◌, ◌^◌, Bool, true, false, ◌||◌, ◌==◌, if◌then◌else◌, List, [], ◌∷◌, ◌++◌, length, map, codes, Option, Some, None, Result, Ok, Err, inl, inr, refl, sym, ap, ◌∙◌, arith, lit<, ⊎_elim}
-use Rattle.std.specs.Prelude.{◌⊎◌, All, Any, IfSome, flat_map, nat_le}
+use Rattle.std.proofs.Common.{◌≡◌, ℕ, ◌+◌, ◌<◌, ◌≤◌, ◌^◌, Bool, true, false, ◌||◌, ◌==◌, if◌then◌else◌, List, [], ◌∷◌, ◌++◌, length, map, codes, Option, Some, None, Result, Ok, Err, refl, sym, ap, ◌∙◌, arith, lit<, ⊎_elim}
+use Rattle.std.specs.Prelude.{All, Any, IfSome, flat_map}
 use Rattle.std.specs.Fmt.{decimal}
 use Rattle.std.specs.List.{list_all, slice_index_or}
-use Rattle.std.specs.Str.{str_to_ascii_lowercase}
-use Rattle.std.proofs.lemmas.Bool.{leb-true}
 use Rattle.std.proofs.lemmas.Bool.Decides.{nat_tests}
 use Rattle.std.proofs.lemmas.Fmt.{length-decimal-le}
 use Rattle.std.proofs.lemmas.Grind.{flat_map-append}
@@ -12,11 +10,8 @@ use Rattle.std.specs.Cmp.Derive.{both_true}
 use Rattle.std.proofs.lemmas.List.{length-append, map-append}
 use Rattle.std.proofs.lemmas.List.Folds.{list_all-append}
 use Rattle.std.proofs.lemmas.List.Elements.{All-nil, All-cons, All-head, All-tail, All-append}
-use Rattle.std.proofs.lemmas.Slice.Eq.{bytes_eq-Decides}
 use Rattle.std.specs.declared.net.socket_addr.SocketAddrV4.{SocketAddrV4}
 use Rattle.mg_bytes.specs.Bytes.{space}
-use Rattle.mg_bytes.specs.Blanks.{trimmed, trimmed_end}
-use Rattle.mg_bytes.specs.Case.{same_but_case}
 use Rattle.mg_bytes.specs.Items.{items_of}
 use Rattle.mgcp_text.specs.declared.confirmation.KValue.{KValue}
 use Rattle.mgcp_text.specs.declared.message.Param.{Param}
@@ -38,26 +33,28 @@ use Rattle.history.specs.Looking.{Told as Looked, new, repeat, confirmed, full, 
 use Rattle.history.proofs.LookLaws.{repeat_kept}
 use Rattle.command_forms.specs.declared.forms.Target.{Target}
 use Rattle.command_forms.specs.declared.forms.Target.TheVariants.{One, All as AllLines, Any as AnyLine}
-use Rattle.mg_packages.specs.declared.hook.Hook.{Hook}
-use Rattle.mg_packages.specs.declared.hook.Hook.TheVariants.{OnHook, OffHook}
-use Rattle.mg_line.specs.Line.{LineState}
 use Rattle.plain_machine.specs.declared.setup.Setup.{Setup}
 use Rattle.plain_machine.specs.declared.station.Station.{Station}
 use Rattle.plain_machine.specs.declared.output.OutDatagram.{OutDatagram}
 use Rattle.plain_machine.specs.Event.{GatewayEvent, datagram, phone, tick}
 use Rattle.plain_machine.specs.Message.{Sent, of_none, answer as answers, again, acknowledgement, datagram_of, datagrams_of}
-use Rattle.plain_machine.specs.Machine.{Endpoints, Machine, Effect, opening, station_at, numbered}
+use Rattle.plain_machine.specs.Machine.{serves, Endpoints, Machine, Effect, opening, station_at, numbered}
 use Rattle.plain_machine.specs.Arriving.{largest_datagram, texts_of}
 use Rattle.plain_machine.specs.Packing.{messages_in, put_out}
-use Rattle.plain_machine.specs.Reporting.{hook_event, with_item, with_items, name_of_line, name_param, names_of}
+use Rattle.audits.specs.Fitting.{fitting}
+use Rattle.audits.specs.EndpointReport.{endpoint_report}
+use Rattle.audits.specs.ConnectionReport.{connection_report}
+use Rattle.audits.specs.Showing.{IsShowable, CanBeWritten}
+use Rattle.audits.proofs.ShowLaws.{fitting_same, fitting_short, fitting_code, line_written, line_code, connection_written, connection_code}
+use Rattle.plain_machine.specs.Reporting.{audited_endpoint, report_by, line_report, name_of_line, name_param, names_of}
 use Rattle.command_forms.specs.declared.forms.Asks.{Asks}
 use Rattle.command_forms.specs.declared.forms.Asks.TheVariants.{Reports, Does}
 use Rattle.command_forms.specs.declared.forms.Audit.{Audit}
 use Rattle.command_forms.specs.Command.{Command}
-use Rattle.command_forms.specs.Order.{form_of}
+use Rattle.command_forms.specs.Order.{form_while}
+use Rattle.command_forms.proofs.RestartLemmas.{while_code}
 use Rattle.endpoint_names.specs.declared.names.Names.{Names}
 use Rattle.command_forms.specs.Codes.{name_codes, param_codes, has_code}
-use Rattle.command_forms.proofs.CodeLemmas.{form_code as forms_code}
 use Rattle.plain_machine.specs.Setup.{IsSetUp}
 use Rattle.plain_machine.specs.Done.{Done}
 use Rattle.command_forms.specs.declared.forms.ConnectionDeed.{ConnectionDeed}
@@ -67,18 +64,19 @@ use Rattle.endpoint_names.specs.Name.{name_text}
 use Rattle.plain_machine.specs.declared.line_deed.LineDeed.{LineDeed}
 use Rattle.plain_machine.specs.Connecting.{Shown, done_code}
 use Rattle.plain_machine.specs.Requesting.{encoding_with, refused_by, shown_on, shown_of, answer_with, unless_refused, deed_done, line_with_place, done_there, done_for}
-use Rattle.plain_machine.specs.Commanding.{reported, line_audited, audited, fitting, line_deed, done_by, commanded}
+use Rattle.plain_machine.specs.Commanding.{reported, audited, answer_by, line_deed, done_by, commanded}
 use Rattle.plain_machine.proofs.CommandLaws.{Goes, IsOut, Sound, OwnSound, sound_turns, sound_own_turns, opening_is_sound}
-use Rattle.plain_machine.proofs.TurnLemmas.{Holds, of_line, acted_goes, responded_goes, pass_goes, command_goes, handled_on_all, event_on_all}
+use Rattle.plain_machine.proofs.TurnLemmas.{Always, Holds, response_read, of_line, acted_goes, responded_goes, pass_goes, command_goes, handled_on_all, event_on_all}
 use Rattle.plain_machine.proofs.EffectLaws.{effect_lines, handled_lines}
 use Rattle.plain_machine.proofs.ListLaws.{lines_of_opening}
 use Rattle.plain_machine.proofs.CodeLemmas.{IsCode, refusal_code}
 use Rattle.plain_machine.proofs.NameLemmas.{line_writable, names_writable}
 use Rattle.plain_machine.proofs.NotificationLemmas.{param_short, name_short}
 use Rattle.plain_machine.proofs.StandingLemmas.{OfConnections, AnyOwn, AnySent, HasLine, keeps_places, connection_turns, any_own_turns, opening_has_places}
+use Rattle.plain_machine.proofs.ShowingLemmas.{Shows, showing_turns, showing_own_turns, opening_shows, line_shows}
 use Rattle.plain_machine.proofs.ShownLemmas.{IsShown, nothing_is, connected_is, line_inside}
 use Rattle.plain_machine.specs.Answering.{Transaction, response_to, answer_text, reply, executed, transacted_by, refusing, handled, took_all}
-use Rattle.plain_machine.specs.Responding.{asks_for_acknowledgement, acknowledged}
+use Rattle.plain_machine.specs.Responding.{response_with, asks_for_acknowledgement, acknowledged}
 use Rattle.plain_machine.specs.Happening.{effect}
 use Rattle.plain_machine.specs.Lists.{outputs_from, sent_from}
 use Rattle.plain_machine.proofs.PackingLaws.{IsMessage, IsWithin, packed_messages, packed_within}
@@ -123,11 +121,13 @@ code_short code id small =
 code_goes : (code id : ℕ) → IsId id → IsCode code → Goes (written (response_of id (plain_code code)))
 code_goes code id has small = short_goes id (plain_code code) has (code_is code small) (code_short code id has.1)
 
-fitting_goes : (id : ℕ) (answer : Answer) → IsId id → IsAnswer answer → Goes (written (response_of id (fitting id answer)))
-fitting_goes id answer has is = by_length (nat_le (length (written (response_of id answer))) largest_datagram) refl where
-  by_length : (b : Bool) → nat_le (length (written (response_of id answer))) largest_datagram ≡ b → Goes (written (response_of id (if b then answer else plain_code 533)))
-  by_length true short = short_goes id answer has is (leb-true _ _ short)
-  by_length false long = code_goes 533 id has (omega arith)
+-- a report that can be written, or a code
+report_goes : (id : ℕ) (report : Result Answer ℕ) → IsId id → ((answer : Answer) → report ≡ Ok answer → CanBeWritten id answer) → ((code : ℕ) → report ≡ Err code → IsCode code)
+    → Goes (written (response_of id (answer_by report)))
+report_goes id (Ok answer) has fine small =
+    let is = fine answer refl in
+    short_goes id answer has (record { three_digits = is.three_digits; each = is.each; whole = is.whole }) is.short
+report_goes id (Err code) has fine small = code_goes code id has (small code refl)
 
 -- An acknowledgement
 
@@ -138,52 +138,6 @@ acknowledgement_out moment source code id params has = by_test (asks_for_acknowl
   by_test true =
       All-cons IsOut _ [] (code_goes 0 id has (omega arith)) (All-nil IsOut)
   by_test false = All-nil IsOut
-
--- A report
-
-abbrev hook_item : LineState → Param
-hook_item line = record { code = codes "ES"; value = hook_event line.hook }
-
-abbrev IsReport : LineState → List Param → Type 0
-IsReport line report = (report ≡ []) ⊎ (report ≡ hook_item line ∷ [])
-
-same_turned : (a b : List ℕ) → same_but_case a b ≡ true → same_but_case b a ≡ true
-same_turned a b same =
-    let lower : str_to_ascii_lowercase a ≡ str_to_ascii_lowercase b = (bytes_eq-Decides (str_to_ascii_lowercase a) (str_to_ascii_lowercase b)).0 same in
-    (bytes_eq-Decides (str_to_ascii_lowercase b) (str_to_ascii_lowercase a)).1 (sym lower)
-
-first_item : (line : LineState) (item : List ℕ) → IsReport line (with_item line [] item)
-first_item line item = by_test (same_but_case item (codes "ES")) where
-  by_test : (b : Bool) → IsReport line (if b then hook_item line ∷ [] else [])
-  by_test true = inr refl
-  by_test false = inl refl
-
-next_item : (line : LineState) (item : List ℕ) → IsReport line (with_item line (hook_item line ∷ []) item)
-next_item line item = by_old (same_but_case (codes "ES") item) refl where
-  by_new : (b : Bool) → same_but_case (codes "ES") item ≡ false → same_but_case item (codes "ES") ≡ b → IsReport line (with_item line (hook_item line ∷ []) item)
-  by_new true other same = absurd (let turned = same_turned item (codes "ES") same in cc)
-  by_new false other none = rw (other, none) (inr refl)
-
-  by_old : (b : Bool) → same_but_case (codes "ES") item ≡ b → IsReport line (with_item line (hook_item line ∷ []) item)
-  by_old true same = rw same (inr refl)
-  by_old false other = by_new (same_but_case item (codes "ES")) other refl
-
-items_report : (line : LineState) (report : List Param) (items : List (List ℕ)) → IsReport line report → IsReport line (with_items line report items)
-unfolding with_items
-items_report line report [] is = is
-items_report line report (item ∷ items) is = items_report line (with_item line report item) items (by_report is) where
-  by_report : IsReport line report → IsReport line (with_item line report item)
-  by_report (inl none) = rw none (first_item line item)
-  by_report (inr one) = rw one (next_item line item)
-
-item_is : (hook : Hook) → IsAnswer (reported ((record { code = codes "ES"; value = hook_event hook }) ∷ []))
-unfolding is_writable_body trimmed trimmed_end
-item_is OnHook = record { three_digits = omega arith; each = refl; whole = refl }
-item_is OffHook = record { three_digits = omega arith; each = refl; whole = refl }
-
-report_is : (line : LineState) (report : List Param) → IsReport line report → IsAnswer (reported report)
-report_is line report (inl none) = rw none (code_is 200 (omega arith))
-report_is line report (inr one) = rw one (item_is line.hook)
 
 -- What a command is answered
 
@@ -202,21 +156,54 @@ HasLines setup endpoints = Holds (OfConnections (HasLine setup)) AnyOwn endpoint
 record Fits (setup : Setup) (m : Machine) : Type 0 where
   set_up : IsSetUp setup
   lines : length m.endpoints.stations ≡ setup.names.lines
-  holds : Holds Sound OwnSound m.endpoints
+  holds : Holds (Always Sound) OwnSound m.endpoints
   places : HasLines setup m.endpoints
+  shows : Holds (Always Shows) AnyOwn m.endpoints
 
-audit_is : (setup : Setup) (endpoints : Endpoints) (target : Target) (audit : Audit) → IsSetUp setup → length endpoints.stations ≡ setup.names.lines → IsAnswer (audited setup endpoints target audit)
+-- An audit
+
+-- of one line, or of one connection
+line_answered : (setup : Setup) (m : Machine) (id line : ℕ) (audit : Audit) → Fits setup m → IsId id → Goes (written (response_of id (answer_by (line_report (station_at m.endpoints line) id audit))))
+line_answered setup m id line audit fits has = by_station (station_at m.endpoints line) refl where
+  by_connection : (station : Station) (connection : Option (List ℕ)) → IsShowable (audited_endpoint station)
+      → Goes (written (response_of id (answer_by (report_by connection id (audited_endpoint station) (items_of audit.items)))))
+  by_connection station None is =
+      report_goes id (endpoint_report id (audited_endpoint station) (items_of audit.items)) has
+      (λ answer e. line_written id (audited_endpoint station) (items_of audit.items) answer is e) (λ code e. line_code id (audited_endpoint station) (items_of audit.items) code e)
+  by_connection station (Some connection) is =
+      report_goes id (connection_report id (audited_endpoint station) connection (items_of audit.items)) has
+      (λ answer e. connection_written id (audited_endpoint station) connection (items_of audit.items) answer is e)
+      (λ code e. connection_code id (audited_endpoint station) connection (items_of audit.items) code e)
+
+  by_station : (found : Option Station) → station_at m.endpoints line ≡ found → Goes (written (response_of id (answer_by (line_report found id audit))))
+  by_station None at = code_goes 500 id has (omega arith)
+  by_station (Some station) at =
+      by_connection station audit.connection (line_shows setup line station fits.set_up (of_line (Always Sound true) m.endpoints line station fits.holds.stations at)
+      (of_line (OfConnections (HasLine setup) true) m.endpoints line station fits.places.stations at) (of_line (Always Shows true) m.endpoints line station fits.shows.stations at))
+
+-- of all lines
+names_answered : (id : ℕ) (names : List Param) → IsId id → list_all is_writable_param names ≡ true → Goes (written (response_of id (answer_by (fitting id (reported names)))))
+names_answered id names has each =
+    let wanted : Answer = reported names in
+    report_goes id (fitting id wanted) has
+    (λ answer e. let same : answer ≡ wanted = fitting_same id wanted answer e in
+    record {
+      three_digits = rw same (omega arith);
+      each = rw same each;
+      whole = rw same is_no_body;
+      short = fitting_short id wanted answer e;
+    })
+    (λ code e. fitting_code id wanted code e)
+
+audit_answered : (setup : Setup) (m : Machine) (id : ℕ) (target : Target) (audit : Audit) → Fits setup m → IsId id
+    → Goes (written (response_of id (answer_by (audited setup m.endpoints id target audit))))
 unfolding audited names_of
-audit_is setup endpoints (One line) audit set_up lines = by_station (station_at endpoints line) where
-  by_station : (found : Option Station) → IsAnswer (line_audited found audit.items)
-  by_station None = code_is 500 (omega arith)
-  by_station (Some station) = report_is station.line _ (items_report station.line [] (items_of audit.items) (inl refl))
-audit_is setup endpoints AllLines audit set_up lines =
-    let few : length endpoints.stations < 2 ^ 16 = omega (arith, lines, set_up.lines) in
-    names_are setup endpoints (names_writable setup endpoints.stations set_up.domain few) where
-      names_are : (setup : Setup) (endpoints : Endpoints) → list_all is_writable_param (map (name_param setup) (numbered endpoints)) ≡ true → IsAnswer (reported (map (name_param setup) (numbered endpoints)))
-      names_are setup endpoints each = record { three_digits = omega arith; each = each; whole = is_no_body }
-audit_is setup endpoints AnyLine audit set_up lines = code_is 503 (omega arith)
+audit_answered setup m id (One line) audit fits has = line_answered setup m id line audit fits has
+audit_answered setup m id AllLines audit fits has =
+    let lines : setup.names.lines ≤ 16 = fits.set_up.lines in
+    let few : length m.endpoints.stations < 2 ^ 16 = omega (arith, fits.lines, lines) in
+    names_answered id (map (name_param setup) (numbered m.endpoints)) has (names_writable setup m.endpoints.stations fits.set_up.domain few)
+audit_answered setup m id AnyLine audit fits has = code_goes 503 id has (omega arith)
 
 -- What a deed is answered
 
@@ -267,7 +254,7 @@ shown_of_is setup endpoints (One line) deed set_up has = by_station (station_at 
   by_station : (found : Option Station) → station_at endpoints line ≡ found → IsShown (shown_on found deed)
   by_station None at = nothing_is
   by_station (Some station) at =
-      connected_is setup set_up line station.connections (of_line (OfConnections (HasLine setup)) endpoints line station has.stations at) deed.connections (encoding_with deed station)
+      connected_is setup set_up line station.connections (of_line (OfConnections (HasLine setup) true) endpoints line station has.stations at) deed.connections (encoding_with deed station)
 shown_of_is setup endpoints AllLines deed set_up has = nothing_is
 shown_of_is setup endpoints AnyLine deed set_up has = nothing_is
 
@@ -298,13 +285,12 @@ target_answered setup endpoints AnyLine deed moment id set_up lines places has =
       deed_answered setup endpoints (One line) (name_of_line setup line ∷ []) deed moment id set_up places has
       (name_more setup line set_up (omega (arith, last, lines, set_up.lines)))
 
-form_answered : (asks : Result Asks ℕ) (setup : Setup) (endpoints : Endpoints) (moment id : ℕ) → IsSetUp setup → length endpoints.stations ≡ setup.names.lines → HasLines setup endpoints → IsId id
-    → ((code : ℕ) → asks ≡ Err code → IsCode code) → AnswerGoes id (done_by asks setup endpoints moment id)
-form_answered (Err code) setup endpoints moment id set_up lines places has small = code_goes code id has (small code refl)
-form_answered (Ok (Reports target audit)) setup endpoints moment id set_up lines places has small =
-    fitting_goes id (audited setup endpoints target audit) has (audit_is setup endpoints target audit set_up lines)
-form_answered (Ok (Does target deed)) setup endpoints moment id set_up lines places has small =
-    target_answered setup endpoints target (line_deed deed) moment id set_up lines places has
+form_answered : (asks : Result Asks ℕ) (setup : Setup) (m : Machine) (id : ℕ) → Fits setup m → IsId id
+    → ((code : ℕ) → asks ≡ Err code → IsCode code) → AnswerGoes id (done_by asks setup m.endpoints m.now id)
+form_answered (Err code) setup m id fits has small = code_goes code id has (small code refl)
+form_answered (Ok (Reports target audit)) setup m id fits has small = audit_answered setup m id target audit fits has
+form_answered (Ok (Does target deed)) setup m id fits has small =
+    target_answered setup m.endpoints target (line_deed deed) m.now id fits.set_up fits.lines fits.places has
 
 small_name : (code : ℕ) → has_code name_codes code ≡ true → IsCode code
 small_name code has = grind (arith, nat_tests)
@@ -312,12 +298,14 @@ small_name code has = grind (arith, nat_tests)
 small_param : (code : ℕ) → has_code param_codes code ≡ true → IsCode code
 small_param code has = grind (arith, nat_tests)
 
-form_code : (command : Command) (confirms : KValue) (names : Names) (code : ℕ) → form_of command confirms names ≡ Err code → IsCode code
-form_code command confirms names code is = ⊎_elim (small_name code) (small_param code) (forms_code command confirms names code is)
+form_code : (serving : Bool) (command : Command) (confirms : KValue) (names : Names) (code : ℕ) → form_while serving command confirms names ≡ Err code → IsCode code
+form_code serving command confirms names code is =
+    ⊎_elim (λ known. ⊎_elim (small_name code) (small_param code) known) (λ (same : code ≡ 405). omega (arith, same)) (while_code serving command confirms names code is)
 
 command_answered : (setup : Setup) (m : Machine) (id : ℕ) (command : Command) (confirms : KValue) → Fits setup m → IsId id → AnswerGoes id (commanded setup m.endpoints m.now id command confirms)
 command_answered setup m id command confirms fits has =
-    form_answered (form_of command confirms setup.names) setup m.endpoints m.now id fits.set_up fits.lines fits.places has (λ code is. form_code command confirms setup.names code is)
+    form_answered (form_while (serves m.endpoints) command confirms setup.names) setup m id fits has
+    (λ code is. form_code (serves m.endpoints) command confirms setup.names code is)
 
 -- What is kept and sent
 
@@ -366,19 +354,21 @@ handled_goes setup m source (bad_body id) fits all has =
 handled_goes setup m source (message (messages.Command verb id name params body)) fits all has =
     let command : Command = record { verb = verb; name = name; params = params; body = body } in
     transacted_goes _ m source _ all (command_answered setup m id command (k_of params) fits has)
-    (command_goes setup Sound OwnSound IsOut (sound_turns setup fits.set_up) sound_own_turns command (k_of params) m.endpoints m.now id fits.holds).sent refl
+    (command_goes setup (Always Sound) OwnSound IsOut (sound_turns setup fits.set_up) (sound_own_turns setup fits.set_up) command (k_of params) m.endpoints m.now id fits.holds).sent refl
 handled_goes setup m source (message (messages.Response code id params body)) fits all has = record {
   kept = all;
   sent = All-append IsOut (acknowledged m.now source code id params) _ (acknowledgement_out m.now source code id params has)
-      (responded_goes setup Sound OwnSound IsOut (sound_turns setup fits.set_up) sound_own_turns m.endpoints m.now code id fits.holds).sent;
+      (responded_goes setup (Always Sound) OwnSound IsOut (sound_turns setup fits.set_up) (sound_own_turns setup fits.set_up) m.endpoints m.now (response_with setup id code params)
+      (response_read setup id code params) fits.holds).sent;
 }
 
 handled_fits : (setup : Setup) (m : Machine) (source : SocketAddrV4) (outcome : Outcome) → Fits setup m → Fits setup (handled setup m source outcome).machine
 handled_fits setup m source outcome fits = record {
   set_up = fits.set_up;
   lines = handled_lines setup m source outcome ∙ fits.lines;
-  holds = handled_on_all setup Sound OwnSound IsOut (sound_turns setup fits.set_up) sound_own_turns m source outcome fits.holds;
-  places = handled_on_all setup (OfConnections (HasLine setup)) AnyOwn AnySent (connection_turns setup (HasLine setup) (keeps_places setup)) any_own_turns m source outcome fits.places;
+  holds = handled_on_all setup (Always Sound) OwnSound IsOut (sound_turns setup fits.set_up) (sound_own_turns setup fits.set_up) m source outcome fits.holds;
+  places = handled_on_all setup (OfConnections (HasLine setup)) AnyOwn AnySent (connection_turns setup (HasLine setup) (keeps_places setup)) (any_own_turns setup (HasLine setup)) m source outcome fits.places;
+  shows = handled_on_all setup (Always Shows) AnyOwn AnySent (showing_turns setup) (showing_own_turns setup) m source outcome fits.shows;
 }
 
 texts_go : (setup : Setup) (m : Machine) (source : SocketAddrV4) (texts : List (List ℕ)) → Fits setup m → AreKept m.history → GoesOut (took_all setup m source texts)
@@ -393,16 +383,17 @@ event_goes : (setup : Setup) (m : Machine) (event : GatewayEvent) → Fits setup
 unfolding effect
 event_goes setup m (datagram source bytes) fits all = texts_go setup m source (texts_of bytes) fits all
 event_goes setup m (phone line act) fits all =
-    record { kept = all; sent = (acted_goes setup Sound OwnSound IsOut (sound_turns setup fits.set_up) sound_own_turns m.endpoints line m.now act fits.holds).sent }
+    record { kept = all; sent = (acted_goes setup (Always Sound) OwnSound IsOut (sound_turns setup fits.set_up) (sound_own_turns setup fits.set_up) m.endpoints line m.now act fits.holds).sent }
 event_goes setup m (tick moment) fits all =
-    record { kept = all; sent = (pass_goes setup Sound OwnSound IsOut (sound_turns setup fits.set_up) sound_own_turns m.endpoints moment fits.holds).sent }
+    record { kept = all; sent = (pass_goes setup (Always Sound) OwnSound IsOut (sound_turns setup fits.set_up) (sound_own_turns setup fits.set_up) m.endpoints moment fits.holds).sent }
 
 event_fits : (setup : Setup) (m : Machine) (event : GatewayEvent) → Fits setup m → Fits setup (effect setup m event).machine
 event_fits setup m event fits = record {
   set_up = fits.set_up;
   lines = effect_lines setup m event ∙ fits.lines;
-  holds = event_on_all setup Sound OwnSound IsOut (sound_turns setup fits.set_up) sound_own_turns m event fits.holds;
-  places = event_on_all setup (OfConnections (HasLine setup)) AnyOwn AnySent (connection_turns setup (HasLine setup) (keeps_places setup)) any_own_turns m event fits.places;
+  holds = event_on_all setup (Always Sound) OwnSound IsOut (sound_turns setup fits.set_up) (sound_own_turns setup fits.set_up) m event fits.holds;
+  places = event_on_all setup (OfConnections (HasLine setup)) AnyOwn AnySent (connection_turns setup (HasLine setup) (keeps_places setup)) (any_own_turns setup (HasLine setup)) m event fits.places;
+  shows = event_on_all setup (Always Shows) AnyOwn AnySent (showing_turns setup) (showing_own_turns setup) m event fits.shows;
 }
 
 -- What goes out
@@ -436,7 +427,7 @@ pub nothing_kept : (setup : Setup) → AreKept (opening setup).history
 nothing_kept setup = All-nil (λ (first : KeptFirst). Goes first.answer)
 
 opening_fits : (setup : Setup) → IsSetUp setup → Fits setup (opening setup)
-opening_fits setup set_up = record { set_up = set_up; lines = lines_of_opening setup; holds = opening_is_sound setup set_up; places = opening_has_places setup }
+opening_fits setup set_up = record { set_up = set_up; lines = lines_of_opening setup; holds = opening_is_sound setup set_up; places = opening_has_places setup; shows = opening_shows setup set_up }
 
 pub sent_as_messages : (setup : Setup) (events : List GatewayEvent) → IsSetUp setup
     → flat_map messages_in (outputs_from setup (opening setup) events) ≡ datagrams_of (sent_from setup (opening setup) events)

@@ -23,11 +23,12 @@ use Rattle.connections.proofs.LifeLaws.{never_past}
 use Rattle.plain_machine.specs.declared.setup.Setup.{Setup}
 use Rattle.plain_machine.specs.declared.station.Station.{Station}
 use Rattle.plain_machine.specs.Event.{GatewayEvent}
-use Rattle.plain_machine.specs.Machine.{Endpoints, Machine, port_of, opening, station_at}
+use Rattle.plain_machine.specs.Machine.{Endpoints, Machine, serves, port_of, opening, station_at}
 use Rattle.plain_machine.specs.Lists.{machine_after, plain, connections_of}
 use Rattle.plain_machine.specs.Calls.{connection_at, port_at, Stands}
 use Rattle.plain_machine.proofs.ListLaws.{machine_on}
-use Rattle.plain_machine.proofs.TurnLemmas.{OnAll, Holds, of_line, events_on_all}
+use Rattle.plain_machine.proofs.AllLemmas.{OnAll}
+use Rattle.plain_machine.proofs.TurnLemmas.{Holds, of_line, events_on_all}
 use Rattle.plain_machine.proofs.StandingLemmas.{OfConnections, AnyOwn, AnySent, Keeps, connection_turns, any_own_turns, connections_always, HasLine, line_has_places}
 
 -- what holds of the connections of each line from the opening on
@@ -35,8 +36,8 @@ pub always : (setup : Setup) (C : ℕ → Standing → Type 0) → Keeps C
     → ((line : ℕ) → 1 ≤ line → line ≤ setup.names.lines → C line (no_connections setup.media_address (port_of setup line)))
     → (events : List GatewayEvent) (line : ℕ) (station : Station) → station_at (plain setup events).endpoints line ≡ Some station → C line station.connections
 always setup C keeps opens events line station at =
-    of_line (OfConnections C) (plain setup events).endpoints line station
-    (events_on_all setup (OfConnections C) AnyOwn AnySent (connection_turns setup C keeps) any_own_turns (opening setup) events (connections_always setup C keeps opens)).stations at
+    of_line (OfConnections C (serves (plain setup events).endpoints)) (plain setup events).endpoints line station
+    (events_on_all setup (OfConnections C) AnyOwn AnySent (connection_turns setup C keeps) (any_own_turns setup C) (opening setup) events (connections_always setup C keeps opens)).stations at
 
 -- Places
 
@@ -402,7 +403,7 @@ keeps_grown m line standing happening grown was at = later_on was.connections st
 
 begins_grown : (m : Machine) → Holds (OfConnections (λ line standing. (was : Station) → station_at m.endpoints line ≡ Some was → Later was.connections standing)) AnyOwn m.endpoints
 begins_grown m = record {
-  stations = all_from (OfConnections (λ line standing. (was : Station) → station_at m.endpoints line ≡ Some was → Later was.connections standing)) 1 m.endpoints.stations
+  stations = all_from (OfConnections (λ line standing. (was : Station) → station_at m.endpoints line ≡ Some was → Later was.connections standing) false) 1 m.endpoints.stations
       (λ place station at was before.
       let same : was ≡ station = one_station (station_at m.endpoints (1 + place)) was station before (at_next m.endpoints place ∙ at) in
       subst (λ (s : Station). Later was.connections s.connections) same (later_same was.connections));
@@ -412,8 +413,8 @@ begins_grown m = record {
 grown : (setup : Setup) (m : Machine) (events : List GatewayEvent) (line : ℕ) (was is : Station) → station_at m.endpoints line ≡ Some was
     → station_at (machine_after setup m events).endpoints line ≡ Some is → Later was.connections is.connections
 grown setup m events line was is before at =
-    of_line (OfConnections (λ line standing. (was : Station) → station_at m.endpoints line ≡ Some was → Later was.connections standing)) (machine_after setup m events).endpoints line is
-    (events_on_all setup _ AnyOwn AnySent (connection_turns setup _ (keeps_grown m)) any_own_turns m events (begins_grown m)).stations at was before
+    of_line (OfConnections (λ line standing. (was : Station) → station_at m.endpoints line ≡ Some was → Later was.connections standing) false) (machine_after setup m events).endpoints line is
+    (events_on_all setup _ AnyOwn AnySent (connection_turns setup _ (keeps_grown m)) (any_own_turns setup _) m events (begins_grown m)).stations at was before
 
 -- a line that stands later stood before
 back : (setup : Setup) (m : Machine) (events : List GatewayEvent) (line : ℕ) (is : Station) → station_at (machine_after setup m events).endpoints line ≡ Some is
@@ -421,8 +422,8 @@ back : (setup : Setup) (m : Machine) (events : List GatewayEvent) (line : ℕ) (
 back setup m events line is at =
     of_line (λ line station. (was : Station) × (station_at m.endpoints line ≡ Some was)) (machine_after setup m events).endpoints line is
     (events_on_all setup (OfConnections (λ line standing. (was : Station) × (station_at m.endpoints line ≡ Some was))) AnyOwn AnySent
-    (connection_turns setup (λ line standing. (was : Station) × (station_at m.endpoints line ≡ Some was)) (λ line standing happening was. was)) any_own_turns m events (record {
-      stations = all_from (OfConnections (λ line standing. (was : Station) × (station_at m.endpoints line ≡ Some was))) 1 m.endpoints.stations
+    (connection_turns setup (λ line standing. (was : Station) × (station_at m.endpoints line ≡ Some was)) (λ line standing happening was. was)) (any_own_turns setup _) m events (record {
+      stations = all_from (OfConnections (λ line standing. (was : Station) × (station_at m.endpoints line ≡ Some was)) false) 1 m.endpoints.stations
           (λ place station at. (station, at_next m.endpoints place ∙ at));
       own = tt;
     })).stations at

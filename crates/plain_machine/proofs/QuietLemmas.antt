@@ -4,6 +4,7 @@ use Rattle.std.specs.Prelude.{IfSome, ◌==◌, if◌then◌else◌}
 use Rattle.std.proofs.lemmas.List.{map-append}
 use Rattle.std.proofs.lemmas.List.Elements.{filter-append}
 use Rattle.std.specs.declared.net.socket_addr.SocketAddrV4.{SocketAddrV4}
+use Rattle.endpoint_names.specs.declared.entity.Entity.{Entity}
 use Rattle.mgcp_text.specs.declared.message.Message.TheVariants as messages
 use Rattle.mgcp_text.specs.declared.message.Param.{Param}
 use Rattle.mgcp_text.specs.Confirmation.{k_of}
@@ -12,7 +13,7 @@ use Rattle.command_forms.specs.declared.forms.Asks.{Asks}
 use Rattle.command_forms.specs.declared.forms.Asks.TheVariants.{Reports, Does}
 use Rattle.command_forms.specs.declared.forms.Target.{Target}
 use Rattle.command_forms.specs.declared.forms.Target.TheVariants.{One, All, Any}
-use Rattle.command_forms.specs.Order.{form_of}
+use Rattle.command_forms.specs.Order.{form_while}
 use Rattle.outbound.specs.declared.repeat.Repeat.{Repeat}
 use Rattle.outbound.specs.declared.repeat.Repeat.TheVariants.{Sent as SentAgain, GivenUp}
 use Rattle.outbound.specs.Flight.{InFlight, repeat_of}
@@ -21,25 +22,32 @@ use Rattle.mg_line.specs.Line.{LineDone, Notice}
 use Rattle.mg_line.specs.Falling.{fired}
 use Rattle.mg_line.specs.Acting.{phoned}
 use Rattle.mg_line.specs.Answering.{answered}
+use Rattle.mg_line.specs.Opening.{opened}
+use Rattle.restart.specs.declared.restart.Restart.{Restart}
+use Rattle.restart.specs.declared.restart.Restart.TheVariants.{Waiting, Announced, Serving}
+use Rattle.restart.specs.declared.heard.Heard.{Heard}
+use Rattle.restart.specs.declared.heard.Heard.TheVariants.{Nothing, PutOff, Redirected, Answered}
 use Rattle.plain_machine.specs.declared.due_item.Due.{Due}
-use Rattle.plain_machine.specs.declared.due_item.Due.TheVariants.{OfLine, Resend}
+use Rattle.plain_machine.specs.declared.due_item.Due.TheVariants.{OfLine, Resend, Announce}
 use Rattle.plain_machine.specs.declared.due_item.DueItem.{DueItem}
 use Rattle.plain_machine.specs.declared.line_deed.LineDeed.{LineDeed}
 use Rattle.plain_machine.specs.declared.own.Own.{Own}
 use Rattle.plain_machine.specs.declared.post.Post.{Post}
+use Rattle.plain_machine.specs.declared.response.Response.{Response}
 use Rattle.plain_machine.specs.declared.setup.Setup.{Setup}
 use Rattle.plain_machine.specs.declared.station.Station.{Station}
 use Rattle.plain_machine.specs.declared.output.OutDatagram.{OutDatagram}
 use Rattle.plain_machine.specs.Message.{Sent, is_answer, datagram_of, datagrams_of}
-use Rattle.plain_machine.specs.Posting.{line_of_id, repeated_as, resent_by, resent_on, reply_on}
-use Rattle.plain_machine.specs.Notifying.{Turn, with_notice, noted}
-use Rattle.plain_machine.specs.Machine.{Endpoints, Machine, OwnTurn, station_at, turned_at, on_line, on_own, on_either, on_lines}
+use Rattle.plain_machine.specs.Posting.{line_of_id, repeated_as, resent_by, resent_on}
+use Rattle.plain_machine.specs.Announcing.{announced, announced_by, announced_on, heard_on, replied}
+use Rattle.plain_machine.specs.Notifying.{Turn, posted, with_notice, noted}
+use Rattle.plain_machine.specs.Machine.{Endpoints, Machine, OwnTurn, serves, station_at, turned_at, own_posted, on_line, on_own, on_either, on_lines}
 use Rattle.plain_machine.specs.Acting.{acted_on, acted}
 use Rattle.plain_machine.specs.Falling.{due_by, happened_on, own_happened, happened, go_on, passed, room, pass}
 use Rattle.plain_machine.specs.Done.{Done}
 use Rattle.plain_machine.specs.Requesting.{refused_by, with_entity, with_connections, asked_if, deed_on, lines_meant, unless_refused, deed_done, line_with_place, done_there, done_for}
 use Rattle.plain_machine.specs.Commanding.{line_deed, done_by}
-use Rattle.plain_machine.specs.Responding.{asks_for_acknowledgement, acknowledged, answered_if, responded_on, own_responded, responded}
+use Rattle.plain_machine.specs.Responding.{asks_for_acknowledgement, acknowledged, response_with, responded_as, responded_on, own_responded, redirected_on, opened_on, lines_told, own_heard, responded}
 use Rattle.plain_machine.specs.Answering.{transaction_of, heard_as}
 
 -- the answers among what is sent, each in a datagram of its own
@@ -67,41 +75,67 @@ noted_quiet setup line moment station done = by_notice done.notice where
   by_notice None = refl
   by_notice (Some notice) = refl
 
-resent_quiet : (line moment : ℕ) (post : Post) → Quiet (resent_on line moment post).sent
-resent_quiet line moment post = by_pending post.pending where
-  by_repeat : (flight : InFlight) (repeat : Repeat) → Quiet (repeated_as repeat line moment post flight).sent
+resent_quiet : (setup : Setup) (line moment : ℕ) (post : Post) → Quiet (resent_on setup line moment post).sent
+resent_quiet setup line moment post = by_pending post.pending where
+  by_repeat : (flight : InFlight) (repeat : Repeat) → Quiet (repeated_as repeat setup line moment post flight).sent
   by_repeat flight SentAgain = refl
   by_repeat flight GivenUp = refl
 
-  by_pending : (pending : Option InFlight) → Quiet (resent_by pending line moment post).sent
+  by_pending : (pending : Option InFlight) → Quiet (resent_by pending setup line moment post).sent
   by_pending None = refl
   by_pending (Some flight) = by_repeat flight (repeat_of flight moment)
+
+announced_quiet : (setup : Setup) (line moment : ℕ) (post : Post) → Quiet (announced_on setup line moment post).sent
+unfolding announced
+announced_quiet setup line moment post = by_restart post.restart where
+  by_restart : (restart : Restart) → Quiet (announced_by restart setup line moment post).sent
+  by_restart (Waiting until) = refl
+  by_restart Announced = refl
+  by_restart Serving = refl
 
 happened_on_quiet : (due : Due) (setup : Setup) (line moment : ℕ) (station : Station) → Quiet (happened_on due setup line moment station).sent
 unfolding happened_on
 happened_on_quiet (OfLine due) setup line moment station = noted_quiet setup line moment station (fired station.line due moment)
-happened_on_quiet Resend setup line moment station = resent_quiet line moment station.post
+happened_on_quiet Resend setup line moment station = resent_quiet setup line moment station.post
+happened_on_quiet Announce setup line moment station = announced_quiet setup line moment station.post
 
-own_happened_quiet : (due : Due) (moment : ℕ) (own : Own) → Quiet (own_happened due moment own).sent
+own_happened_quiet : (due : Due) (setup : Setup) (moment : ℕ) (own : Own) → Quiet (own_happened due setup moment own).sent
 unfolding own_happened
-own_happened_quiet (OfLine due) moment own = refl
-own_happened_quiet Resend moment own = resent_quiet 0 moment own.post
+own_happened_quiet (OfLine due) setup moment own = refl
+own_happened_quiet Resend setup moment own = resent_quiet setup 0 moment own.post
+own_happened_quiet Announce setup moment own = announced_quiet setup 0 moment own.post
 
 deed_on_quiet : (setup : Setup) (deed : LineDeed) (moment line : ℕ) (station : Station) → Quiet (deed_on setup deed moment line station).sent
 unfolding deed_on
 deed_on_quiet setup deed moment line station = noted_quiet setup line moment (with_connections deed (with_entity deed.entity station)) (asked_if deed.request station.line moment)
 
-responded_on_quiet : (setup : Setup) (line moment : ℕ) (station : Station) (code id : ℕ) → Quiet (responded_on setup line moment station code id).sent
-unfolding responded_on
-responded_on_quiet setup line moment station code id =
-    by_answer (reply_on moment station.post code id).is_answered (record station { post = (reply_on moment station.post code id).post }) where
-      by_answer : (b : Bool) (becomes : Station) → Quiet (answered_if b setup line moment becomes).sent
-      by_answer false becomes = refl
-      by_answer true becomes = noted_quiet setup line moment becomes (answered becomes.line moment)
+responded_on_quiet : (setup : Setup) (line moment : ℕ) (response : Response) (station : Station) → Quiet (responded_on setup line moment response station).sent
+unfolding responded_on replied announced
+responded_on_quiet setup line moment response station = by_heard (heard_on station.post response) where
+  by_heard : (heard : Heard) → Quiet (responded_as heard setup line moment response station).sent
+  by_heard Nothing = refl
+  by_heard PutOff = refl
+  by_heard (Redirected agent) = refl
+  by_heard (Answered agent) =
+      let becomes = (posted station (replied (Answered agent) setup line moment response station.post)).station in
+      noted_quiet setup line moment becomes (answered becomes.line moment)
 
-own_responded_quiet : (moment code id : ℕ) (own : Own) → Quiet (own_responded moment code id own).sent
-unfolding own_responded
-own_responded_quiet moment code id own = refl
+own_responded_quiet : (setup : Setup) (moment : ℕ) (response : Response) (own : Own) → Quiet (own_responded setup moment response own).sent
+unfolding own_responded replied announced
+own_responded_quiet setup moment response own = by_heard (heard_on own.post response) where
+  by_heard : (heard : Heard) → Quiet (own_posted own (replied heard setup 0 moment response own.post)).sent
+  by_heard Nothing = refl
+  by_heard PutOff = refl
+  by_heard (Redirected agent) = refl
+  by_heard (Answered agent) = refl
+
+redirected_quiet : (agent : Entity) (line : ℕ) (station : Station) → Quiet (redirected_on agent line station).sent
+unfolding redirected_on
+redirected_quiet agent line station = refl
+
+opened_quiet : (agent : Option Entity) (setup : Setup) (moment line : ℕ) (station : Station) → Quiet (opened_on agent setup moment line station).sent
+unfolding opened_on
+opened_quiet agent setup moment line station = noted_quiet setup line moment (with_entity agent station) (opened station.line moment)
 
 -- An act, a response, and what falls due
 
@@ -130,10 +164,20 @@ pub acted_quiet : (setup : Setup) (endpoints : Endpoints) (number moment : ℕ) 
 acted_quiet setup endpoints number moment act =
     turned_quiet endpoints number (acted_on setup number moment act) (λ station. noted_quiet setup number moment station (phoned station.line act moment))
 
-pub responded_quiet : (setup : Setup) (endpoints : Endpoints) (moment code id : ℕ) → Quiet (responded setup endpoints moment code id).sent
-responded_quiet setup endpoints moment code id =
-    either_quiet endpoints (line_of_id id) (own_responded moment code id) (λ station. responded_on setup (line_of_id id) moment station code id)
-    (own_responded_quiet moment code id) (λ station. responded_on_quiet setup (line_of_id id) moment station code id)
+told_quiet : (heard : Heard) (setup : Setup) (moment : ℕ) (endpoints : Endpoints) → Quiet (lines_told heard setup moment endpoints).sent
+told_quiet Nothing setup moment endpoints = refl
+told_quiet PutOff setup moment endpoints = refl
+told_quiet (Redirected agent) setup moment endpoints = all_quiet (lines_meant endpoints All) endpoints (redirected_on agent) (redirected_quiet agent)
+told_quiet (Answered agent) setup moment endpoints = all_quiet (lines_meant endpoints All) endpoints (opened_on agent setup moment) (opened_quiet agent setup moment)
+
+pub responded_quiet : (setup : Setup) (endpoints : Endpoints) (moment : ℕ) (response : Response) → Quiet (responded setup endpoints moment response).sent
+responded_quiet setup endpoints moment response = by_test (line_of_id response.id == 0) where
+  by_test : (b : Bool) → Quiet (if b then own_heard setup endpoints moment response
+      else on_line endpoints (line_of_id response.id) (responded_on setup (line_of_id response.id) moment response)).sent
+  by_test true =
+      quiet_both (own_responded setup moment response endpoints.own).sent _ (own_responded_quiet setup moment response endpoints.own)
+      (told_quiet (heard_on endpoints.own.post response) setup moment (on_own endpoints (own_responded setup moment response)).endpoints)
+  by_test false = turned_quiet endpoints (line_of_id response.id) (responded_on setup (line_of_id response.id) moment response) (responded_on_quiet setup (line_of_id response.id) moment response)
 
 acknowledged_quiet : (moment : ℕ) (source : SocketAddrV4) (code id : ℕ) (params : List Param) → Quiet (acknowledged moment source code id params)
 acknowledged_quiet moment source code id params = by_test (asks_for_acknowledgement code params) refl where
@@ -147,13 +191,13 @@ heard_quiet (bad_version id) setup m source = refl
 heard_quiet (bad_body id) setup m source = refl
 heard_quiet (message (messages.Command verb id name params body)) setup m source = refl
 heard_quiet (message (messages.Response code id params body)) setup m source =
-    quiet_both (acknowledged m.now source code id params) (responded setup m.endpoints m.now code id).sent
-    (acknowledged_quiet m.now source code id params) (responded_quiet setup m.endpoints m.now code id)
+    quiet_both (acknowledged m.now source code id params) (responded setup m.endpoints m.now (response_with setup id code params)).sent
+    (acknowledged_quiet m.now source code id params) (responded_quiet setup m.endpoints m.now (response_with setup id code params))
 
 happened_quiet : (setup : Setup) (endpoints : Endpoints) (item : DueItem) → Quiet (happened setup endpoints item).sent
 happened_quiet setup endpoints item =
-    either_quiet endpoints item.line (own_happened item.due item.moment) (happened_on item.due setup item.line item.moment)
-    (own_happened_quiet item.due item.moment) (λ station. happened_on_quiet item.due setup item.line item.moment station)
+    either_quiet endpoints item.line (own_happened item.due setup item.moment) (happened_on item.due setup item.line item.moment)
+    (own_happened_quiet item.due setup item.moment) (λ station. happened_on_quiet item.due setup item.line item.moment station)
 
 passed_quiet : (n : ℕ) (setup : Setup) (endpoints : Endpoints) (moment : ℕ) → Quiet (passed n setup endpoints moment).sent
 unfolding passed
@@ -198,5 +242,5 @@ command_quiet setup m no_header = tt
 command_quiet setup m (bad_version id) = refl
 command_quiet setup m (bad_body id) = refl
 command_quiet setup m (message (messages.Command verb id name params body)) =
-    done_quiet (form_of (record { verb = verb; name = name; params = params; body = body }) (k_of params) setup.names) setup m.endpoints m.now id
+    done_quiet (form_while (serves m.endpoints) (record { verb = verb; name = name; params = params; body = body }) (k_of params) setup.names) setup m.endpoints m.now id
 command_quiet setup m (message (messages.Response code id params body)) = tt

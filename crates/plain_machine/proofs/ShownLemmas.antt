@@ -135,7 +135,7 @@ octets_fit (octet ∷ octets) all = both_true (le-leb octet 255 all.0) (octets_f
 pub address_fits : (address : Ipv4Addr) → length address.octets ≡ 4 → AllByRecursion (λ octet. octet ≤ 255) address.octets → is_address address ≡ true
 address_fits address four each = both_true (number_same (length address.octets) 4 four) (octets_fit address.octets each)
 
-address_is : (address : Ipv4Addr) → is_address address ≡ true → (length address.octets ≡ 4) × AllByRecursion (λ octet. octet ≤ 255) address.octets
+pub address_is : (address : Ipv4Addr) → is_address address ≡ true → (length address.octets ≡ 4) × AllByRecursion (λ octet. octet ≤ 255) address.octets
 address_is address is =
     let both = and_parts (length address.octets == 4) (list_all (λ octet. nat_le octet 255) address.octets) is in
     (same_number (length address.octets) 4 both.0, octets_small address.octets both.1)

@@ -1,6 +1,6 @@
 -- What becomes of the connections of a line: nothing but what creations, modifications and deletions do. So whatever these
 -- leave as it is stays, and each line has its four places and its ports.
-use Rattle.std.proofs.Common.{◌≡◌, ℕ, ◌+◌, ◌≤◌, Bool, true, false, nat_lt, List, [], ◌∷◌, length, get_or, map, Option, Some, None, Result, Ok, Err, refl, sym, ◌∙◌, subst, arith}
+use Rattle.std.proofs.Common.{◌≡◌, ℕ, ◌+◌, ◌≤◌, Bool, true, false, nat_lt, List, [], ◌∷◌, length, get_or, map, Option, Some, None, Result, Ok, Err, inr, refl, sym, ◌∙◌, subst, arith}
 use Rattle.std.specs.Prelude.{All, set}
 use Rattle.std.proofs.lemmas.List.{length-map, length-set}
 use Rattle.std.proofs.lemmas.List.Elements.{All-nil, All-cons}
@@ -20,22 +20,27 @@ use Rattle.mg_line.specs.Line.{LineDone, Notice}
 use Rattle.mg_line.specs.Falling.{fired}
 use Rattle.mg_line.specs.Acting.{phoned}
 use Rattle.mg_line.specs.Answering.{answered}
+use Rattle.mg_line.specs.Opening.{opened}
+use Rattle.restart.specs.declared.heard.Heard.{Heard}
+use Rattle.restart.specs.declared.heard.Heard.TheVariants.{Nothing, PutOff, Redirected, Answered}
+use Rattle.endpoint_names.specs.declared.entity.Entity.{Entity}
 use Rattle.plain_machine.specs.declared.due_item.Due.{Due}
-use Rattle.plain_machine.specs.declared.due_item.Due.TheVariants.{OfLine, Resend}
+use Rattle.plain_machine.specs.declared.due_item.Due.TheVariants.{OfLine, Resend, Announce}
 use Rattle.plain_machine.specs.declared.line_deed.LineDeed.{LineDeed}
 use Rattle.plain_machine.specs.declared.own.Own.{Own}
+use Rattle.plain_machine.specs.declared.response.Response.{Response}
 use Rattle.plain_machine.specs.declared.setup.Setup.{Setup}
 use Rattle.plain_machine.specs.declared.station.Station.{Station}
 use Rattle.plain_machine.specs.Event.{GatewayEvent}
 use Rattle.plain_machine.specs.Message.{Sent}
-use Rattle.plain_machine.specs.Posting.{reply_on}
-use Rattle.plain_machine.specs.Notifying.{with_notice, noted}
-use Rattle.plain_machine.specs.Machine.{port_of, opening_station, opening, station_at}
+use Rattle.plain_machine.specs.Announcing.{heard_on, replied}
+use Rattle.plain_machine.specs.Notifying.{posted, with_notice, noted}
+use Rattle.plain_machine.specs.Machine.{serves, port_of, opening_station, opening, station_at}
 use Rattle.plain_machine.specs.Connecting.{Shown, showing, showing_what, created_shown, modified_shown, deleted_shown, connected}
 use Rattle.plain_machine.specs.Requesting.{with_entity, with_connections, encoding_with, asked_if, deed_on}
 use Rattle.plain_machine.specs.Commanding.{line_deed}
 use Rattle.plain_machine.specs.Falling.{happened_on}
-use Rattle.plain_machine.specs.Responding.{answered_if, responded_on}
+use Rattle.plain_machine.specs.Responding.{responded_as, responded_on, redirected_on, opened_on}
 use Rattle.plain_machine.specs.Lists.{machine_after}
 use Rattle.plain_machine.proofs.TurnLemmas.{Turns, OwnTurns, Holds, on_made, of_line, events_on_all}
 
@@ -83,14 +88,26 @@ pub happened_same : (setup : Setup) (due : Due) (line moment : ℕ) (station : S
 unfolding happened_on
 happened_same setup (OfLine due) line moment station = noted_same setup line moment station (fired station.line due moment)
 happened_same setup Resend line moment station = refl
+happened_same setup Announce line moment station = refl
 
-pub responded_same : (setup : Setup) (line moment code id : ℕ) (station : Station) → (responded_on setup line moment station code id).station.connections ≡ station.connections
+pub responded_same : (setup : Setup) (line moment : ℕ) (response : Response) (station : Station) → (responded_on setup line moment response station).station.connections ≡ station.connections
 unfolding responded_on
-responded_same setup line moment code id station =
-    by_answer (reply_on moment station.post code id).is_answered (record station { post = (reply_on moment station.post code id).post }) where
-      by_answer : (b : Bool) (becomes : Station) → (answered_if b setup line moment becomes).station.connections ≡ becomes.connections
-      by_answer false becomes = refl
-      by_answer true becomes = noted_same setup line moment becomes (answered becomes.line moment)
+responded_same setup line moment response station = by_heard (heard_on station.post response) where
+  by_heard : (heard : Heard) → (responded_as heard setup line moment response station).station.connections ≡ station.connections
+  by_heard Nothing = refl
+  by_heard PutOff = refl
+  by_heard (Redirected agent) = refl
+  by_heard (Answered agent) =
+      let becomes = (posted station (replied (Answered agent) setup line moment response station.post)).station in
+      noted_same setup line moment becomes (answered becomes.line moment)
+
+pub redirected_same : (agent : Entity) (line : ℕ) (station : Station) → (redirected_on agent line station).station.connections ≡ station.connections
+unfolding redirected_on
+redirected_same agent line station = refl
+
+pub opened_same : (setup : Setup) (agent : Option Entity) (line moment : ℕ) (station : Station) → (opened_on agent setup moment line station).station.connections ≡ station.connections
+unfolding opened_on
+opened_same setup agent line moment station = noted_same setup line moment (with_entity agent station) (opened station.line moment)
 
 -- What they leave as it is
 
@@ -105,8 +122,8 @@ all_sent [] = All-nil AnySent
 all_sent (one ∷ sent) = All-cons AnySent one sent tt (all_sent sent)
 
 -- of the connections of a line
-abbrev pub OfConnections : (ℕ → Standing → Type 0) → ℕ → Station → Type 0
-OfConnections C line station = C line station.connections
+abbrev pub OfConnections : (ℕ → Standing → Type 0) → Bool → ℕ → Station → Type 0
+OfConnections C serving line station = C line station.connections
 
 abbrev pub Keeps : (ℕ → Standing → Type 0) → Type 0
 Keeps C = (line : ℕ) (standing : Standing) (happening : Happening) → C line standing → C line (after_one standing happening)
@@ -118,19 +135,22 @@ kept_after C keeps line standing (happening ∷ more) holds = kept_after C keeps
 
 pub connection_turns : (setup : Setup) (C : ℕ → Standing → Type 0) → Keeps C → Turns setup (OfConnections C) AnySent
 connection_turns setup C keeps = record {
-  act = λ line moment act station holds. (subst (C line) (sym (noted_same setup line moment station (phoned station.line act moment))) holds, all_sent _);
+  act = λ serving line moment act station holds. (subst (C line) (sym (noted_same setup line moment station (phoned station.line act moment))) holds, all_sent _);
   deed = λ command confirms target deed is line moment station holds. (
     subst (C line) (sym (deed_connections setup (line_deed deed) moment line station))
         (kept_after C keeps line station.connections (happenings deed.connections (encoding_with (line_deed deed) station)) holds),
     all_sent _,
   );
-  response = λ line moment code id station holds. (subst (C line) (sym (responded_same setup line moment code id station)) holds, all_sent _);
-  happening = λ due line moment station holds. (subst (C line) (sym (happened_same setup due line moment station)) holds, all_sent _);
+  response = λ serving line moment response station read holds. (subst (C line) (sym (responded_same setup line moment response station)) holds, all_sent _);
+  happening = λ serving due line moment station holds. (subst (C line) (sym (happened_same setup due line moment station)) holds, all_sent _);
+  redirecting = λ agent line station read holds. (subst (C line) (sym (redirected_same agent line station)) holds, all_sent _);
+  opening = λ agent line moment station read holds. (subst (C line) (sym (opened_same setup agent line moment station)) holds, all_sent _);
 }
 
-pub any_own_turns : OwnTurns AnyOwn AnySent
-any_own_turns = record {
-  response = λ moment code id own holds. (tt, all_sent _);
+pub any_own_turns : (setup : Setup) (C : ℕ → Standing → Type 0) → OwnTurns setup (OfConnections C) AnyOwn AnySent
+any_own_turns setup C = record {
+  free = λ own holds. inr (λ serving other line station is. is);
+  response = λ moment response own read holds. (tt, all_sent _);
   happening = λ due moment own holds. (tt, all_sent _);
 }
 
@@ -139,7 +159,7 @@ pub connections_always : (setup : Setup) (C : ℕ → Standing → Type 0) → K
     → ((line : ℕ) → 1 ≤ line → line ≤ setup.names.lines → C line (no_connections setup.media_address (port_of setup line)))
     → Holds (OfConnections C) AnyOwn (opening setup).endpoints
 connections_always setup C keeps opens = record {
-  stations = on_made (OfConnections C) (opening_station setup) 1 setup.names.lines (λ line low high. opens line low (omega (arith, high)));
+  stations = on_made (OfConnections C false) (opening_station setup) 1 setup.names.lines (λ line low high. opens line low (omega (arith, high)));
   own = tt;
 }
 
@@ -213,6 +233,6 @@ opening_has_places setup = connections_always setup (HasLine setup) (keeps_place
 pub line_has_places : (setup : Setup) (events : List GatewayEvent) (line : ℕ) (station : Station)
     → station_at (machine_after setup (opening setup) events).endpoints line ≡ Some station → HasLine setup line station.connections
 line_has_places setup events line station at =
-    of_line (OfConnections (HasLine setup)) (machine_after setup (opening setup) events).endpoints line station
-    (events_on_all setup (OfConnections (HasLine setup)) AnyOwn AnySent (connection_turns setup (HasLine setup) (keeps_places setup)) any_own_turns
+    of_line (OfConnections (HasLine setup) (serves (machine_after setup (opening setup) events).endpoints)) (machine_after setup (opening setup) events).endpoints line station
+    (events_on_all setup (OfConnections (HasLine setup)) AnyOwn AnySent (connection_turns setup (HasLine setup) (keeps_places setup)) (any_own_turns setup (HasLine setup))
     (opening setup) events (opening_has_places setup)).stations at

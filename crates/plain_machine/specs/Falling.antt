@@ -1,16 +1,19 @@
--- What falls due: on a line the end of timer T and the ends of signals, and the repeats of its command that is in flight,
--- or of that of the gateway itself, each at its own moment (RFC 3435, 2.1.5, 2.1.7 and 3.5.3).
+-- What falls due: on a line the end of timer T and the ends of signals; and of it and of the gateway itself the repeats of
+-- the command that is in flight, and the announcement, each at its own moment (RFC 3435, 2.1.5, 2.1.7, 3.5.3 and 4.4.6).
 use Rattle.std.specs.Prelude.{ℕ, ◌+◌, ◌*◌, ◌==◌, zero, suc, nat_le, if◌then◌else◌, Bool, [], length, fold, Option, Some, None, is_some, option_map, option_and_then}
 use Rattle.mg_line.specs.declared.due.Due.{Due as LineDue}
 use Rattle.mg_line.specs.Falling.{due_of, fired}
 use Rattle.outbound.specs.Flight.{InFlight}
+use Rattle.restart.specs.Restarting.{due_of as announced_at}
 use Rattle.plain_machine.specs.declared.due_item.Due.{Due}
-use Rattle.plain_machine.specs.declared.due_item.Due.TheVariants.{OfLine, Resend}
+use Rattle.plain_machine.specs.declared.due_item.Due.TheVariants.{OfLine, Resend, Announce}
 use Rattle.plain_machine.specs.declared.due_item.DueItem.{DueItem}
 use Rattle.plain_machine.specs.declared.own.Own.{Own}
+use Rattle.plain_machine.specs.declared.post.Post.{Post}
 use Rattle.plain_machine.specs.declared.setup.Setup.{Setup}
 use Rattle.plain_machine.specs.declared.station.Station.{Station}
 use Rattle.plain_machine.specs.Posting.{unsent, resent_on}
+use Rattle.plain_machine.specs.Announcing.{announced_on}
 use Rattle.plain_machine.specs.Notifying.{Turn, posted, noted}
 use Rattle.plain_machine.specs.Machine.{Endpoints, OwnTurn, Told, told, station_at, own_posted, on_either, afterwards, numbered}
 
@@ -22,20 +25,27 @@ line_item line first = record { moment = first.0; line = line; due = OfLine firs
 abbrev pub command_item : ℕ → InFlight → DueItem
 command_item line message = record { moment = message.due; line = line; due = Resend }
 
+abbrev pub announcement_item : ℕ → ℕ → DueItem
+announcement_item line moment = record { moment = moment; line = line; due = Announce }
+
 -- the earlier of two, the first where both are as early
 abbrev pub earlier : Option DueItem → Option DueItem → Option DueItem
 earlier None other = other
 earlier (Some first) None = Some first
 earlier (Some first) (Some other) = if nat_le first.moment other.moment then Some first else Some other
 
--- what falls due first on a line: of several at one moment, its command comes last (this gateway's profile)
+-- what falls due first of a post: its command, and then its announcement
+unfoldable pub post_due : ℕ → Post → Option DueItem
+post_due line post =
+    earlier (option_map (command_item line) post.pending) (option_map (announcement_item line) (announced_at post.restart))
+
+-- what falls due first on a line: of several at one moment, that of its post comes last (this gateway's profile)
 unfoldable pub due_on : ℕ × Station → Option DueItem
-due_on one =
-    earlier (option_map (line_item one.0) (due_of one.1.line)) (option_map (command_item one.0) one.1.post.pending)
+due_on one = earlier (option_map (line_item one.0) (due_of one.1.line)) (post_due one.0 one.1.post)
 
 -- what falls due of the gateway itself
 abbrev pub own_due : Own → Option DueItem
-own_due own = option_map (command_item 0) own.post.pending
+own_due own = post_due 0 own.post
 
 -- the same of the line with this number, if there is one, or of the gateway itself, which is line 0
 abbrev pub due_at : Endpoints → ℕ → Option DueItem
@@ -61,20 +71,22 @@ is_due endpoints moment = is_some (due_by endpoints moment)
 
 -- What then happens
 
--- what falls due on a station, at this moment: where its command is given up, the line waits on
+-- what falls due on a station, at this moment: where its command is given up, or an announcement begins, the line waits on
 unfoldable pub happened_on : Due → Setup → ℕ → ℕ → Station → Turn
 happened_on (OfLine due) setup line moment station = noted setup line moment station (fired station.line due moment)
-happened_on Resend setup line moment station = posted station (resent_on line moment station.post)
+happened_on Resend setup line moment station = posted station (resent_on setup line moment station.post)
+happened_on Announce setup line moment station = posted station (announced_on setup line moment station.post)
 
 -- what falls due of the gateway itself, at this moment: of what falls due of lines there is nothing
-unfoldable pub own_happened : Due → ℕ → Own → OwnTurn
-own_happened (OfLine due) moment own = own_posted own (unsent own.post)
-own_happened Resend moment own = own_posted own (resent_on 0 moment own.post)
+unfoldable pub own_happened : Due → Setup → ℕ → Own → OwnTurn
+own_happened (OfLine due) setup moment own = own_posted own (unsent own.post)
+own_happened Resend setup moment own = own_posted own (resent_on setup 0 moment own.post)
+own_happened Announce setup moment own = own_posted own (announced_on setup 0 moment own.post)
 
 -- what falls due happens at its own moment
 abbrev pub happened : Setup → Endpoints → DueItem → Told
 happened setup endpoints item =
-    on_either endpoints item.line (own_happened item.due item.moment) (happened_on item.due setup item.line item.moment)
+    on_either endpoints item.line (own_happened item.due setup item.moment) (happened_on item.due setup item.line item.moment)
 
 abbrev pub go_on : Option DueItem → Setup → Endpoints → (Endpoints → Told) → Told
 go_on None setup endpoints next = told endpoints []
@@ -85,11 +97,11 @@ unfoldable pub passed : ℕ → Setup → Endpoints → ℕ → Told
 passed zero setup endpoints moment = told endpoints []
 passed (suc n) setup endpoints moment = go_on (due_by endpoints moment) setup endpoints (λ next. passed n setup next moment)
 
--- more things can't happen up to this moment: what starts at a moment falls due later, so that at one moment each of 11
--- things happens at most once on a line, its 9 signals, timer T and the command in flight, and besides the command of the
--- gateway itself
+-- more things can't happen up to this moment: what starts at a moment falls due later, so that at one moment each of 12
+-- things happens at most once on a line, its 9 signals, timer T, the command in flight and the announcement, and besides
+-- the last two of the gateway itself
 abbrev pub room : Endpoints → ℕ → ℕ
-room endpoints moment = (moment + 1) * (11 * length endpoints.stations + 1)
+room endpoints moment = (moment + 1) * (12 * length endpoints.stations + 2)
 
 -- What is due up to this moment happens: while there is something, the first happens at its own moment. The law
 -- `what_is_due_happens_in_its_order` says so without a number.

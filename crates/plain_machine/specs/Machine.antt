@@ -1,16 +1,19 @@
 -- The plain machine: its clock, its endpoints, and the transactions that there ever were.
-use Rattle.std.specs.Prelude.{ℕ, ◌+◌, ◌-◌, ◌*◌, ◌==◌, if◌then◌else◌, List, [], ◌∷◌, ◌++◌, map, Option, Some, None, slice_get, slice_set}
+use Rattle.std.specs.Prelude.{ℕ, Bool, ◌+◌, ◌-◌, ◌*◌, ◌==◌, if◌then◌else◌, List, [], ◌∷◌, ◌++◌, map, Option, Some, None, slice_get, slice_set}
 use Rattle.std.specs.List.{enumerate_from, range_with_len}
 use Rattle.connections.specs.declared.codec.Encoding.TheVariants.{Mu}
 use Rattle.connections.specs.Standing.{no_connections}
 use Rattle.mg_line.specs.Line.{opening_line}
+use Rattle.restart.specs.declared.restart.Restart.{Restart}
+use Rattle.restart.specs.declared.restart.Restart.TheVariants.{Serving}
+use Rattle.restart.specs.Restarting.{begun, is_serving}
 use Rattle.plain_machine.specs.declared.setup.Setup.{Setup}
 use Rattle.plain_machine.specs.declared.own.Own.{Own}
 use Rattle.plain_machine.specs.declared.post.Post.{Post}
 use Rattle.plain_machine.specs.declared.station.Station.{Station}
 use Rattle.history.specs.declared.entry.Entry.{Entry}
 use Rattle.plain_machine.specs.Message.{Sent}
-use Rattle.plain_machine.specs.Posting.{PostTurn}
+use Rattle.plain_machine.specs.Posting.{PostTurn, wait_of}
 use Rattle.plain_machine.specs.Notifying.{Turn}
 
 -- all that changes but the clock: the stations, of which the first is line 1, and what the gateway keeps for itself
@@ -45,25 +48,26 @@ abbrev pub told_in : Machine → Told → Effect
 told_in m change = record { machine = record m { endpoints = change.endpoints }; sent = change.sent }
 
 -- it reports to the configured agent, and sent nothing; its first command has this number
-abbrev pub opening_post : Setup → ℕ → Post
-opening_post setup number = record { entity = setup.agent; number = number; pending = None }
+abbrev pub opening_post : Setup → ℕ → Restart → Post
+opening_post setup number restart = record { entity = setup.agent; number = number; pending = None; restart = restart }
 
 -- the first port of a line: each line has four places for connections, of two ports each (this gateway's profile)
 abbrev pub port_of : Setup → ℕ → ℕ
 port_of setup line = setup.media_base + 8 * (line - 1)
 
--- every line is as a line opens, with the encoding mu and without connections, and its numbers begin with 0
+-- every line is as a line opens, with the encoding mu and without connections; its numbers begin with 0, and it has nothing
+-- to announce
 abbrev pub opening_station : Setup → ℕ → Station
 opening_station setup line = record {
   line = opening_line;
-  post = opening_post setup 0;
+  post = opening_post setup 0 Serving;
   encoding = Mu;
   connections = no_connections setup.media_address (port_of setup line);
 }
 
--- the numbers of the gateway itself begin with 1
+-- the numbers of the gateway itself begin with 1, and it waits to announce itself (RFC 3435, 4.4.6)
 abbrev pub opening_own : Setup → Own
-opening_own setup = record { post = opening_post setup 1 }
+opening_own setup = record { post = opening_post setup 1 (begun 0 (wait_of setup 0)) }
 
 abbrev pub opening_endpoints : Setup → Endpoints
 opening_endpoints setup = record {
@@ -73,6 +77,10 @@ opening_endpoints setup = record {
 
 abbrev pub opening : Setup → Machine
 opening setup = record { now = 0; endpoints = opening_endpoints setup; history = [] }
+
+-- the gateway serves once its announcement is answered (RFC 3435, 4.4.6)
+abbrev pub serves : Endpoints → Bool
+serves endpoints = is_serving endpoints.own.post.restart
 
 -- the station of the line with this number, if there is one: the numbers begin with 1
 abbrev pub station_at : Endpoints → ℕ → Option Station

@@ -1,15 +1,14 @@
--- What is sent under a post: a command begins, is sent again or given up, and is answered (RFC 3435, 3.2.1.2, 3.5 and
--- 4.3). It is one rule for each line and for the gateway itself, which is line 0.
-use Rattle.std.specs.Prelude.{ℕ, ◌+◌, ◌*◌, ◌/◌, ◌==◌, true, false, if◌then◌else◌, List, [], ◌∷◌, Option, Some, None}
+-- What is sent under a post: a command begins, and is sent again or given up (RFC 3435, 3.2.1.2, 3.5 and 4.3). It is one
+-- rule for each line and for the gateway itself, which is line 0.
+use Rattle.std.specs.Prelude.{ℕ, ◌+◌, ◌*◌, ◌/◌, ◌==◌, if◌then◌else◌, List, [], ◌∷◌, Option, Some, None}
 use Rattle.mgcp_text.specs.declared.message.Message.{Message}
 use Rattle.mgcp_text.specs.Writing.{written}
 use Rattle.outbound.specs.declared.repeat.Repeat.{Repeat}
 use Rattle.outbound.specs.declared.repeat.Repeat.TheVariants.{Sent as SentAgain, GivenUp}
-use Rattle.outbound.specs.declared.reply.Reply.{Reply}
-use Rattle.outbound.specs.declared.reply.Reply.TheVariants.{Answered, Provisional, Stranger}
-use Rattle.outbound.specs.Flight.{InFlight, begun, repeat_of, repeated, reply_of, heard}
+use Rattle.outbound.specs.Flight.{InFlight, begun as sent_first, repeat_of, repeated}
+use Rattle.restart.specs.Restarting.{begun}
 use Rattle.plain_machine.specs.declared.post.Post.{Post}
-use Rattle.plain_machine.specs.declared.post.PostReply.{PostReply}
+use Rattle.plain_machine.specs.declared.setup.Setup.{Setup}
 use Rattle.plain_machine.specs.Message.{own_of, command, resent, Sent}
 
 -- Ids: so many numbers there are for the commands of one line, and it takes them in turn (this gateway's profile)
@@ -47,42 +46,32 @@ abbrev pub with_command : ℕ → ℕ → Post → Message → PostTurn
 with_command line moment post said = record {
   post = record post {
     number = number_after line post.number;
-    pending = Some (begun (id_on line post.number) post.entity.address (written said) moment);
+    pending = Some (sent_first (id_on line post.number) post.entity.address (written said) moment);
   };
   sent = (record { to = post.entity.address; moment = moment; owner = own_of line; said = command said }) ∷ [];
 }
 
 -- The command in flight falls due
 
+-- how long the gateway itself waits before it announces itself, and how long a line does (RFC 3435, 4.4.6 and 4.4.7)
+abbrev pub wait_of : Setup → ℕ → ℕ
+wait_of setup line = if line == 0 then setup.restart_wait else setup.disconnected_wait
+
+-- where a command was given up nothing is in flight, and an announcement waits (RFC 3435, 4.3)
+abbrev pub given_up : Setup → ℕ → ℕ → Post → Post
+given_up setup line moment post = record post { pending = None; restart = begun moment (wait_of setup line) }
+
 -- it is sent again, to where it went first, or given up (RFC 3435, 4.3)
-abbrev pub repeated_as : Repeat → ℕ → ℕ → Post → InFlight → PostTurn
-repeated_as SentAgain line moment post message = record {
+abbrev pub repeated_as : Repeat → Setup → ℕ → ℕ → Post → InFlight → PostTurn
+repeated_as SentAgain setup line moment post message = record {
   post = record post { pending = Some (repeated message moment) };
   sent = (record { to = message.to; moment = moment; owner = own_of line; said = resent message.text }) ∷ [];
 }
-repeated_as GivenUp line moment post message = unsent (record post { pending = None })
+repeated_as GivenUp setup line moment post message = unsent (given_up setup line moment post)
 
-abbrev pub resent_by : Option InFlight → ℕ → ℕ → Post → PostTurn
-resent_by None line moment post = unsent post
-resent_by (Some message) line moment post = repeated_as (repeat_of message moment) line moment post message
+abbrev pub resent_by : Option InFlight → Setup → ℕ → ℕ → Post → PostTurn
+resent_by None setup line moment post = unsent post
+resent_by (Some message) setup line moment post = repeated_as (repeat_of message moment) setup line moment post message
 
-abbrev pub resent_on : ℕ → ℕ → Post → PostTurn
-resent_on line moment post = resent_by post.pending line moment post
-
--- A response comes
-
-abbrev pub unanswered : Post → PostReply
-unanswered post = record { post = post; is_answered = false }
-
--- a final response ends the flight, and is the answer; a provisional one puts off what is due
-abbrev pub replied : Reply → Post → InFlight → PostReply
-replied Answered post heard = record { post = record post { pending = None }; is_answered = true }
-replied Provisional post heard = unanswered (record post { pending = Some heard })
-replied Stranger post heard = unanswered post
-
-abbrev pub replied_to : Option InFlight → ℕ → Post → ℕ → ℕ → PostReply
-replied_to None moment post code id = unanswered post
-replied_to (Some message) moment post code id = replied (reply_of message id code) post (heard message id code moment)
-
-abbrev pub reply_on : ℕ → Post → ℕ → ℕ → PostReply
-reply_on moment post code id = replied_to post.pending moment post code id
+abbrev pub resent_on : Setup → ℕ → ℕ → Post → PostTurn
+resent_on setup line moment post = resent_by post.pending setup line moment post

@@ -1,19 +1,30 @@
--- What a response does to a command of the gateway's own, which its id joins it to (RFC 3435, 3.2.1.2, 3.5 and 4.4.1).
-use Rattle.std.specs.Prelude.{ℕ, ◌&&◌, nat_le, Bool, true, false, if◌then◌else◌, List, [], ◌∷◌, ◌++◌}
+-- What a response does to a command of the gateway's own, which its id joins it to (RFC 3435, 3.2.1.2, 3.5, 4.4.1, 4.4.6
+-- and 4.4.7).
+use Rattle.std.specs.Prelude.{ℕ, ◌&&◌, ◌==◌, nat_le, codes, if◌then◌else◌, Bool, true, false, List, [], ◌∷◌, ◌++◌, Option, Some, option_and_then}
 use Rattle.std.specs.declared.net.socket_addr.SocketAddrV4.{SocketAddrV4}
+use Rattle.endpoint_names.specs.declared.entity.Entity.{Entity}
+use Rattle.endpoint_names.specs.Entity.{entity_of}
 use Rattle.mgcp_text.specs.declared.message.Message.TheVariants as messages
 use Rattle.mgcp_text.specs.declared.message.Param.{Param}
+use Rattle.mgcp_text.specs.Message.{param_at}
 use Rattle.mgcp_text.specs.declared.confirmation.KValue.{KValue}
 use Rattle.mgcp_text.specs.declared.confirmation.KValue.TheVariants.{Absent, Unreadable, Items}
 use Rattle.mgcp_text.specs.Confirmation.{k_of}
+use Rattle.command_forms.specs.declared.forms.Target.TheVariants.{All}
 use Rattle.mg_line.specs.Answering.{answered}
+use Rattle.mg_line.specs.Opening.{opened}
+use Rattle.restart.specs.declared.heard.Heard.{Heard}
+use Rattle.restart.specs.declared.heard.Heard.TheVariants.{Nothing, PutOff, Redirected, Answered}
 use Rattle.plain_machine.specs.declared.own.Own.{Own}
+use Rattle.plain_machine.specs.declared.response.Response.{Response}
 use Rattle.plain_machine.specs.declared.setup.Setup.{Setup}
 use Rattle.plain_machine.specs.declared.station.Station.{Station}
 use Rattle.plain_machine.specs.Message.{of_none, acknowledgement, Sent}
-use Rattle.plain_machine.specs.Posting.{line_of_id, unsent, reply_on}
-use Rattle.plain_machine.specs.Notifying.{Turn, silent, noted}
-use Rattle.plain_machine.specs.Machine.{Endpoints, OwnTurn, Told, told, own_posted, on_either}
+use Rattle.plain_machine.specs.Posting.{line_of_id}
+use Rattle.plain_machine.specs.Notifying.{Turn, silent, posted, noted}
+use Rattle.plain_machine.specs.Announcing.{heard_on, replied}
+use Rattle.plain_machine.specs.Machine.{Endpoints, OwnTurn, Told, told, own_posted, on_own, on_line, on_lines, afterwards}
+use Rattle.plain_machine.specs.Requesting.{with_entity, lines_meant}
 
 -- The acknowledgement
 
@@ -34,31 +45,76 @@ acknowledged moment source code id params =
     then (record { to = source; moment = moment; owner = of_none; said = acknowledgement (messages.Response 0 id [] []) }) ∷ []
     else []
 
--- The line, or the gateway itself
+-- What it says
 
--- where its command is answered, that is the answer to the line's notification
-abbrev pub answered_if : Bool → Setup → ℕ → ℕ → Station → Turn
-answered_if false setup line moment station = silent station
-answered_if true setup line moment station = noted setup line moment station (answered station.line moment)
+-- whom its first N names, if that can be read (RFC 3435, 3.2.2: NotifiedEntity)
+abbrev pub entity_in : Setup → List Param → Option Entity
+entity_in setup params = option_and_then (λ param. entity_of setup.names.table param.value) (param_at (codes "N") params)
 
--- what a response does on a station
-unfoldable pub responded_on : Setup → ℕ → ℕ → Station → ℕ → ℕ → Turn
-responded_on setup line moment station code id =
-    answered_if (reply_on moment station.post code id).is_answered setup line moment
-    (record station { post = (reply_on moment station.post code id).post })
+abbrev pub response_with : Setup → ℕ → ℕ → List Param → Response
+response_with setup id code params = record { id = id; code = code; entity = entity_in setup params }
 
--- what it does to the gateway itself: an answer ends the flight, and no more
-unfoldable pub own_responded : ℕ → ℕ → ℕ → Own → OwnTurn
-own_responded moment code id own = own_posted own (unsent (reply_on moment own.post code id).post)
+-- What it does on a line
 
--- what a response does to the line of its id
-abbrev pub responded : Setup → Endpoints → ℕ → ℕ → ℕ → Told
-responded setup endpoints moment code id =
-    on_either endpoints (line_of_id id) (own_responded moment code id)
-    (λ station. responded_on setup (line_of_id id) moment station code id)
+-- the answer lets the line go on, after its post: it notifies whom the answer names
+abbrev pub goes_on_with : Turn → Setup → ℕ → ℕ → Turn
+goes_on_with first setup line moment = noted setup line moment first.station (answered first.station.line moment)
+
+abbrev pub responded_as : Heard → Setup → ℕ → ℕ → Response → Station → Turn
+responded_as Nothing setup line moment response station = silent station
+responded_as PutOff setup line moment response station =
+    posted station (replied PutOff setup line moment response station.post)
+responded_as (Redirected agent) setup line moment response station =
+    posted station (replied (Redirected agent) setup line moment response station.post)
+responded_as (Answered agent) setup line moment response station =
+    goes_on_with (posted station (replied (Answered agent) setup line moment response station.post)) setup line moment
+
+unfoldable pub responded_on : Setup → ℕ → ℕ → Response → Station → Turn
+responded_on setup line moment response station =
+    responded_as (heard_on station.post response) setup line moment response station
+
+-- What it does to the gateway itself, and then to all lines
+
+unfoldable pub own_responded : Setup → ℕ → Response → Own → OwnTurn
+own_responded setup moment response own =
+    own_posted own (replied (heard_on own.post response) setup 0 moment response own.post)
+
+-- the lines too have another notified entity
+unfoldable pub redirected_on : Entity → ℕ → Station → Turn
+redirected_on agent line station = silent (with_entity (Some agent) station)
+
+-- the gateway serves from now on: a line notifies whom the answer names, and its quarantined events occur (RFC 3435, 4.4.1)
+unfoldable pub opened_on : Option Entity → Setup → ℕ → ℕ → Station → Turn
+opened_on agent setup moment line station =
+    noted setup line moment (with_entity agent station) (opened station.line moment)
+
+-- on each line, in the order of their numbers
+abbrev pub on_all : Endpoints → (ℕ → Station → Turn) → Told
+on_all endpoints turn = on_lines (lines_meant endpoints All) endpoints turn
+
+abbrev pub lines_told : Heard → Setup → ℕ → Endpoints → Told
+lines_told Nothing setup moment endpoints = told endpoints []
+lines_told PutOff setup moment endpoints = told endpoints []
+lines_told (Redirected agent) setup moment endpoints = on_all endpoints (redirected_on agent)
+lines_told (Answered agent) setup moment endpoints = on_all endpoints (opened_on agent setup moment)
+
+-- the gateway's own post first
+abbrev pub own_heard : Setup → Endpoints → ℕ → Response → Told
+own_heard setup endpoints moment response =
+    afterwards (on_own endpoints (own_responded setup moment response))
+    (λ next. lines_told (heard_on endpoints.own.post response) setup moment next)
+
+-- A response comes
+
+-- what it does to the line of its id; id 0 to 9,999,999 are the gateway's own
+abbrev pub responded : Setup → Endpoints → ℕ → Response → Told
+responded setup endpoints moment response =
+    if line_of_id response.id == 0 then own_heard setup endpoints moment response
+    else on_line endpoints (line_of_id response.id) (responded_on setup (line_of_id response.id) moment response)
 
 -- a response from this address: its acknowledgement goes out before anything else that it causes
 abbrev pub heard_from : Setup → Endpoints → ℕ → SocketAddrV4 → ℕ → ℕ → List Param → Told
 heard_from setup endpoints moment source code id params =
-    told (responded setup endpoints moment code id).endpoints
-    (acknowledged moment source code id params ++ (responded setup endpoints moment code id).sent)
+    told (responded setup endpoints moment (response_with setup id code params)).endpoints
+    (acknowledged moment source code id params
+    ++ (responded setup endpoints moment (response_with setup id code params)).sent)

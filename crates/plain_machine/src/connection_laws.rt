@@ -24,6 +24,7 @@ ghost use Rattle.command_forms.specs.Meaning.{is_for};
 ghost use Rattle.command_forms.specs.Order.{form_of};
 ghost use Rattle.plain_machine.specs.declared.due_item.DueItem.{DueItem};
 ghost use Rattle.plain_machine.specs.declared.line_deed.LineDeed.{LineDeed};
+ghost use Rattle.plain_machine.specs.declared.response.Response.{Response};
 ghost use Rattle.plain_machine.specs.declared.setup.Setup.{Setup};
 ghost use Rattle.plain_machine.specs.declared.station.Station.{Station};
 ghost use Rattle.plain_machine.specs.Acting.{acted};
@@ -60,8 +61,8 @@ pub fn a_line_has_at_most_four_connections()
 pub fn nothing_else_changes_connections()
     ensures act { (setup : Setup) (endpoints : Endpoints) (line moment other : ℕ) (act : Act) →
         standing_at (acted setup endpoints line moment act).endpoints other ≡ standing_at endpoints other }
-    ensures response { (setup : Setup) (endpoints : Endpoints) (moment code id other : ℕ) →
-        standing_at (responded setup endpoints moment code id).endpoints other ≡ standing_at endpoints other }
+    ensures response { (setup : Setup) (endpoints : Endpoints) (moment : ℕ) (response : Response) (other : ℕ) →
+        standing_at (responded setup endpoints moment response).endpoints other ≡ standing_at endpoints other }
     ensures due { (setup : Setup) (endpoints : Endpoints) (item : DueItem) (other : ℕ) →
         standing_at (happened setup endpoints item).endpoints other ≡ standing_at endpoints other }
     ensures pass { (setup : Setup) (endpoints : Endpoints) (moment other : ℕ) →

@@ -3,6 +3,7 @@
 use crate::command_number::CommandNumber;
 use endpoint_names::Entity;
 use outbound::Pending;
+use restart::Restart;
 
 /// What a line, or the gateway itself, sends its commands under.
 #[derive(Drop)]
@@ -13,11 +14,6 @@ pub struct Post {
     pub number: CommandNumber,
     /// Its command that is in flight: sent, and neither answered nor given up (RFC 3435, 3.5).
     pub pending: Option<Pending>,
-}
-
-/// What becomes of a post at a response, and whether its command in flight is answered (RFC 3435, 3.5).
-#[derive(Drop)]
-pub struct PostReply {
-    pub post: Post,
-    pub is_answered: bool,
+    /// Where its announcement is: whether it waits, is in flight, or was answered (RFC 3435, 4.4.6 and 4.4.7).
+    pub restart: Restart,
 }

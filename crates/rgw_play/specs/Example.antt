@@ -10,7 +10,7 @@ use Rattle.connections.specs.declared.connection.Connection.{Connection}
 use Rattle.connections.specs.declared.mode.Mode.{Mode}
 use Rattle.plain_machine.specs.declared.config.Config.{Config}
 use Rattle.plain_machine.specs.declared.output.OutDatagram.{OutDatagram}
-use Rattle.plain_machine.specs.Example.{configuration, example, first_connection}
+use Rattle.plain_machine.specs.Example.{configuration, example, ready, first_connection}
 use Rattle.plain_machine.specs.Event.{GatewayEvent, datagram}
 use Rattle.rgw_play.specs.declared.step.Step.{Step}
 use Rattle.rgw_play.specs.declared.step.ScriptLine.{ScriptLine}
@@ -58,9 +58,9 @@ abbrev pub creates : ℕ → List ℕ → List ℕ → GatewayEvent
 creates id name mode = datagram agent
     (codes "CRCX " ++ decimal id ++ codes " " ++ name ++ codes "@rgw.example.net MGCP 1.0\r\nC: 1A\r\nM: " ++ mode ++ codes "\r\n")
 
--- what is printed of a line after these events
+-- what is printed of a line after these events, which begin where the gateway is ready
 abbrev pub told_after : List GatewayEvent → ℕ → List ℕ
-told_after events line = printed (line_shown example events line)
+told_after events line = printed (line_shown example (ready ++ events) line)
 
 -- what goes out to the agent at the opening
 abbrev pub to_agent : ℕ → List ℕ → OutDatagram

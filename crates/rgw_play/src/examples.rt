@@ -254,13 +254,16 @@ pub fn moves_show_what_they_do()
     ensures audit { output_of
         (give (datagram agent (codes "AUEP 1200 aaln/1@rgw.example.net MGCP 1.0\r\n")) ∷ [])
         ≡ codes "> 0 127.0.0.1:2727\n200 1200 OK\n--\n" }
-    ensures later { output_of (pass 700 ∷ give (datagram agent (codes "AUEP 12\r\n")) ∷ [])
-        ≡ codes "> 700 127.0.0.1:2727\n510 12\n--\n" }
+    ensures later { output_of (pass 1 ∷ give (datagram agent (codes "AUEP 12\r\n")) ∷ [])
+        ≡ codes "> 1 127.0.0.1:2727\nRSIP 1 *@rgw.example.net MGCP 1.0\nRM: restart\n--\n> 1 127.0.0.1:2727\n510 12\n--\n" }
     ensures refused { output_of
         (pass 1001 ∷ give (phone 1 acts.OnHook) ∷ give (phone 17 acts.OffHook) ∷ [])
         ≡ codes "! 2 TickTooFar\n! 5 PhoneState\n! 4 NoSuchLine\n" }
-    ensures shown { output_of (give (phone 1 acts.OffHook) ∷ ask 1 ∷ ask 16 ∷ [])
-        ≡ codes "> 0 127.0.0.1:2727\nNTFY 10000000 aaln/1@rgw.example.net MGCP 1.0\nX: 0\nO: L/hd\n--\nline 1 off signals - connections - lost 0\nline 16 on signals - connections - lost 0\n" }
+    ensures waiting { output_of (give (phone 1 acts.OffHook) ∷ ask 1 ∷ [])
+        ≡ codes "line 1 off signals - connections - lost 0\n" }
+    ensures shown { output_of
+        (pass 1 ∷ give (datagram agent (codes "200 1 OK\r\n")) ∷ give (phone 1 acts.OffHook) ∷ ask 1 ∷ ask 16 ∷ [])
+        ≡ codes "> 1 127.0.0.1:2727\nRSIP 1 *@rgw.example.net MGCP 1.0\nRM: restart\n--\n> 1 127.0.0.1:2727\nNTFY 10000000 aaln/1@rgw.example.net MGCP 1.0\nX: 0\nO: L/hd\n--\nline 1 off signals - connections - lost 0\nline 16 on signals - connections - lost 0\n" }
     ensures connected { told_after
         (creates 1 (codes "aaln/2") (codes "recvonly") ∷ creates 2 (codes "aaln/2") (codes "inactive") ∷ []) 2
         ≡ codes "line 2 on signals - connections 1:recvonly,2:inactive lost 0\n" }

@@ -4,9 +4,10 @@
 //! - `7 at 30999 again` what a command with this id is that arrives then: `new`, `again` where it gets the answer of the
 //!   first, `silence` where that is confirmed, `full`; `1-4095 at 30999 again` where each is that;
 //! - `confirm 1-7,9` what a K names is confirmed; `purge 31000`, `undo`;
-//! - `holds 3` so many entries are kept: firsts and confirmations;
-//! - `run 1-4999 every 100 holding 600` commands that come one by one, id times 100 ms, each with a K that names all so far:
-//!   no more entries are ever kept.
+//! - `holds 3` so many firsts are kept;
+//! - `run 1-20000 every 10 holding 3000` commands that come one by one, at their ids times 10 ms: each is new, and after a
+//!   purge no more firsts are ever kept; `run 1-4999 every 100 confirming holding 300` the same, each with a K that names all
+//!   so far.
 use history::{History, IdSpan, Look};
 use mg_bytes::{OutOfMemory, Sequence, Text, decimal};
 use std::alloc::Global;
@@ -33,12 +34,33 @@ fn ids_at(text: &str) -> Option<(IdSpan, u64)> {
     Some((ids_of(ids)?, decimal(moment.as_bytes())?))
 }
 
-// `1-4999 every 100 holding 600`.
-fn run_of(text: &str) -> Option<(IdSpan, u64, usize)> {
+/// Commands that come one by one.
+#[derive(Drop)]
+struct Run {
+    ids: IdSpan,
+    /// How many ms lie between two of them.
+    wait: u64,
+    /// Whether each confirms all so far.
+    confirming: bool,
+    /// So many firsts are kept at most.
+    most: usize,
+}
+
+// `1-20000 every 10 holding 3000` or `1-4999 every 100 confirming holding 300`.
+fn run_of(text: &str) -> Option<Run> {
     let (ids, rest) = text.split_once(" every ")?;
-    let (wait, most) = rest.split_once(" holding ")?;
-    let most = most.parse::<usize>().ok()?;
-    Some((ids_of(ids)?, decimal(wait.as_bytes())?, most))
+    let (how, most) = rest.split_once(" holding ")?;
+    let (wait, confirming) = match how.split_once(' ') {
+        Some((wait, "confirming")) => (wait, true),
+        Some(_) => return None,
+        None => (how, false),
+    };
+    Some(Run {
+        ids: ids_of(ids)?,
+        wait: decimal(wait.as_bytes())?,
+        confirming,
+        most: most.parse::<usize>().ok()?,
+    })
 }
 
 fn told(history: &History, id: u32, now: u64) -> &'static str {
@@ -93,18 +115,32 @@ impl HistoryTale {
         Ok(None)
     }
 
+    // One command of a run: it is new, and is kept.
+    fn turn(&mut self, alloc: Global, run: &Run, id: u32) -> io::Result<Option<String>> {
+        let now = u64::from(id).saturating_mul(run.wait);
+        self.history.purge(now);
+        let held = self.history.len();
+        if held > run.most {
+            return Ok(Some(format!(in alloc; "{held} at {now}")?));
+        }
+        let given = told(&self.history, id, now);
+        if given != "new" {
+            return Ok(Some(format!(in alloc; "{given} for {id}")?));
+        }
+        if run.confirming {
+            again!(self.confirm_all(alloc, run.ids.first, id))?;
+        }
+        again!(self.keep(alloc, id, now))?;
+        Ok(None)
+    }
+
     fn run(&mut self, alloc: Global, rest: &str) -> io::Result<Option<String>> {
-        let Some((ids, wait, most)) = run_of(rest) else {
+        let Some(run) = run_of(rest) else {
             return no_such_row(alloc);
         };
-        for id in ids.first..=ids.last {
-            let now = u64::from(id).saturating_mul(wait);
-            self.history.purge(now);
-            again!(self.confirm_all(alloc, ids.first, id))?;
-            again!(self.keep(alloc, id, now))?;
-            let held = self.history.entries().len();
-            if held > most {
-                return Ok(Some(format!(in alloc; "{held} at {now}")?));
+        for id in run.ids.first..=run.ids.last {
+            if let Some(unlike) = self.turn(alloc, &run, id)? {
+                return Ok(Some(unlike));
             }
         }
         Ok(None)
@@ -158,7 +194,7 @@ impl Tale for HistoryTale {
                 Ok(None)
             }
             "holds" => {
-                let held = format!(in alloc; "{}", self.history.entries().len())?;
+                let held = format!(in alloc; "{}", self.history.len())?;
                 unless_said(alloc, held.as_str(), rest)
             }
             _ => no_such_row(alloc),

@@ -1,8 +1,9 @@
-//! Turns of a line, a row each:
+//! Turns of a line, a row each. It begins as a line of a gateway that serves.
 //!
 //! - `1000 asks  X: A1  R: L/hd(A)` a request, which the line doesn't refuse; `1000 asks  S: L/dl  402` one that it does;
 //! - `1000 off`, `on`, `flash` or a key: an act that the hook state allows; `1000 idles off` one that the line doesn't heed;
 //! - `1000 answered` its notification is answered; `5000 falls T` timer T ends, `17000 falls L/dl` a signal;
+//! - `opening` the line as it opens; `1000 opened` the gateway serves from now on;
 //! - `is  hook off  lost 0` what can be read of the line; `keep` and `back`: the line as it was once;
 //! - `takes off  yes` its hook state allows the act; `heeds 5  no` it does nothing at it;
 //! - `requested L/hd  yes`, `keeps D/5  yes` and the other questions of a request: of the one that it follows.
@@ -77,6 +78,9 @@ fn turned(alloc: Global, line: &Line, moment: u64, words: &str, row: &str) -> Gi
     if words == "answered" {
         return Ok(line.answered(moment)?);
     }
+    if words == "opened" {
+        return Ok(line.opened(moment)?);
+    }
     if let Some(word) = words.strip_prefix("idles ") {
         return passed(line, act_of(word).ok_or(NO_TURN)?);
     }
@@ -110,6 +114,13 @@ fn wanted(row: &str) -> &str {
         Some((_, last)) if last.parse::<u32>().is_ok() => last,
         _ => "",
     }
+}
+
+// A line of a gateway that serves.
+fn ready(alloc: Global) -> io::Result<Line> {
+    let opening = Line::new(alloc)?;
+    let step = opening.opened(0)?;
+    Ok(step.line)
 }
 
 /// A line, and as it was kept.
@@ -164,14 +175,18 @@ impl LineTale {
 impl Tale for LineTale {
     fn begin(alloc: Global) -> io::Result<LineTale> {
         Ok(LineTale {
-            line: Line::new(alloc)?,
-            kept: Line::new(alloc)?,
+            line: ready(alloc)?,
+            kept: ready(alloc)?,
         })
     }
 
     fn unlike(&mut self, alloc: Global, row: &str) -> io::Result<Option<String>> {
         if let Some(fields) = row.strip_prefix("is  ") {
             return self.unlike_is(alloc, fields);
+        }
+        if row == "opening" {
+            self.line = Line::new(alloc)?;
+            return Ok(None);
         }
         if row == "keep" {
             self.kept = self.line.try_copy()?;

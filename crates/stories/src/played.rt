@@ -1,5 +1,6 @@
 //! A story as it is played.
 use crate::written::Story;
+use mg_bytes::split_once;
 use rgw_cli::{Ending, asked, perform};
 use std::alloc::Global;
 use std::io::{self, Write};
@@ -98,7 +99,28 @@ fn put_ending(alloc: Global, out: &mut Vec<u8>, ending: Ending) -> io::Result<()
     }
 }
 
-/// What the story prints, with what the program says of an input that can't be played.
+// Whether these lines begin an announcement of the gateway's, its first at 1 ms, whatever its address and its domain.
+fn is_announcement(place: &[u8], header: &[u8]) -> bool {
+    place.starts_with(b"> 1 ") && header.starts_with(b"RSIP 1 *@") && header.ends_with(b" MGCP 1.0")
+}
+
+// What stands behind the announcement that is answered up to Ready; nothing where the first datagram isn't that.
+fn behind_announcement(printed: &[u8]) -> Option<&[u8]> {
+    let (place, rest) = split_once(printed, b'\n')?;
+    let (header, rest) = split_once(rest, b'\n')?;
+    if is_announcement(place, header) {
+        return rest.strip_prefix(b"RM: restart\n--\n");
+    }
+    None
+}
+
+// What is printed from Ready on. Where the announcement isn't as it should be all is.
+fn since_ready(printed: &[u8]) -> &[u8] {
+    behind_announcement(printed).unwrap_or(printed)
+}
+
+/// What the story prints, without the announcement up to Ready, and with what the program says of an input that can't be
+/// played.
 pub fn printed_by(alloc: Global, story: &Story) -> io::Result<Vec<u8>> {
     let input = input_of(alloc, story)?;
     let mut reader = input.as_bytes();
@@ -107,5 +129,8 @@ pub fn printed_by(alloc: Global, story: &Story) -> io::Result<Vec<u8>> {
     let task = asked(alloc, Ok(words));
     let ending = perform(alloc, task, &mut reader, &mut printed);
     put_ending(alloc, &mut printed, ending)?;
-    Ok(printed)
+    if story.is_at_opening {
+        return Ok(printed);
+    }
+    Ok(Vec::from_slice(alloc, since_ready(&printed))?)
 }

@@ -45,12 +45,13 @@ fn a_run_stops_at_a_refusal(rt: HostRuntime) -> Result<(), Fail> {
     };
     let events = [
         from_agent(b"AUEP 30 aaln/1@rgw.example.net MGCP 1.0\r\nF: ES\r\n"),
+        Event::Tick { moment: 1 },
         Event::Phone {
             line: 1,
             act: Act::OffHook,
         },
     ];
-    // The answer to the audit, and what the line tells.
+    // The answer to the audit, and the gateway's announcement.
     let Ok(outputs) = gateway.run(&events) else {
         return Err("outputs".into());
     };
@@ -58,7 +59,7 @@ fn a_run_stops_at_a_refusal(rt: HostRuntime) -> Result<(), Fail> {
     let Err(stopped) = gateway.run(&events) else {
         return Err("a stop".into());
     };
-    assert!(rt; stopped.place == 1 && stopped.refusal == Refusal::PhoneState);
+    assert!(rt; stopped.place == 2 && stopped.refusal == Refusal::PhoneState);
     // A repeat gets the answer of its first, and it's the only output.
     let Some(answer) = stopped.outputs.as_slice().last() else {
         return Err("an answer".into());

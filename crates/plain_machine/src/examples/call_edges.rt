@@ -2,9 +2,8 @@
 //! come with a request, as theorems.
 #![tactic(auto, unfolding(crate::proofs::Computing::on_examples))]
 
-ghost use Rattle.std.specs.Prelude.{◌≡◌, codes, [], ◌∷◌, ◌++◌, map, replicate, option_map, None, Some};
+ghost use Rattle.std.specs.Prelude.{◌≡◌, codes, [], ◌∷◌, ◌++◌, map, replicate, option_map, None, Some, Err};
 ghost use Rattle.command_forms.specs.declared.forms.Target.TheVariants.{Any};
-ghost use Rattle.mgcp_text.specs.Answer.{plain_code};
 ghost use Rattle.mg_line.specs.declared.phone.Act.TheVariants.{OffHook, OnHook};
 ghost use Rattle.mg_packages.specs.declared.signal.Signal.TheVariants as signal;
 ghost use Rattle.plain_machine.specs.Event.{phone};
@@ -14,8 +13,8 @@ ghost use Rattle.plain_machine.specs.Commanding.{audited};
 ghost use Rattle.plain_machine.specs.Machine.{opening, opening_endpoints, opening_station, port_of};
 ghost use Rattle.plain_machine.specs.Calls.{connection_at, port_at, standing_at, NumbersGoOn, Stands};
 ghost use Rattle.plain_machine.specs.Lists.{machine_after, outputs_from, connections_of, signals_of};
-ghost use Rattle.plain_machine.specs.Example.{example, one_line, two_lines, other_host, elsewhere, to_agent_at, response, rqnt};
-ghost use Rattle.plain_machine.specs.Example.{ntfy, lifted, lifted_on_2, crcx, mdcx, dlcx, epcf, opened_at_1000, one_sends};
+ghost use Rattle.plain_machine.specs.Example.{example, one_line, two_lines, other_host, elsewhere, to_agent_at, response, rqnt, ready_station, ready_endpoints};
+ghost use Rattle.plain_machine.specs.Example.{ntfy, lifted, lifted_on_2, crcx, mdcx, dlcx, epcf, ready_machine, one_sends};
 ghost use Rattle.plain_machine.specs.Example.{numbers_then, local_text, created_text, says, first_connection};
 ghost use Rattle.plain_machine.specs.Example.{numbered_to, second_called, both_send, both_then, frees_all, deletes_again, on_and_on};
 
@@ -39,8 +38,8 @@ pub fn an_identifier_is_a_number_in_hexadecimal()
 pub fn streams_are_received_where_it_is_configured()
     ensures lowest { port_of (record example { media_base = 1024 }) 1 ≡ 1024 }
     ensures last_line { port_of example 16 ≡ 3120 }
-    ensures station { (opening_station elsewhere 16).connections ≡ no_connections other_host 64120 }
-    ensures answer { outputs_from elsewhere (opened_at_1000 elsewhere) (crcx 1 (codes "aaln/16") [] ∷ [])
+    ensures station { (ready_station elsewhere 16).connections ≡ no_connections other_host 64120 }
+    ensures answer { outputs_from elsewhere (ready_machine elsewhere) (crcx 1 (codes "aaln/16") [] ∷ [])
         ≡ to_agent_at 1000
         (codes "200 1 OK\r\nI: 1\r\n\r\nv=0\r\no=- 1 1 IN IP4 127.0.0.2\r\ns=-\r\nc=IN IP4 127.0.0.2\r\n"
         ++ codes "t=0 0\r\nm=audio 64120 RTP/AVP 0 8\r\na=ptime:20\r\n") ∷ [] }
@@ -67,7 +66,7 @@ pub fn last_numbers_are_compared()
     ensures none { standing_at second_called.endpoints 3 ≡ None }
     ensures same { NumbersGoOn second_called.endpoints second_called.endpoints }
     ensures less { NumbersGoOn (numbered_to 2).endpoints (numbered_to 1).endpoints → ⊥ }
-    ensures lost { NumbersGoOn (opening two_lines).endpoints (opening one_line).endpoints → ⊥ }
+    ensures lost { NumbersGoOn (ready_machine two_lines).endpoints (ready_machine one_line).endpoints → ⊥ }
 {}
 
 /// A command that requests nothing leaves what the line was asked for: its request stays, and what it did not ask for
@@ -92,7 +91,7 @@ pub fn a_refused_request_undoes_the_command()
     ensures creation { one_sends (phone 1 OffHook ∷ crcx 1 (codes "aaln/1") (codes "X: 1\r\nS: L/rg\r\n")
         ∷ crcx 2 (codes "aaln/1") [] ∷ [])
         ≡ to_agent_at 1000 lifted ∷ says (codes "401 1") ∷ created_text 2 1 3000 (codes "0 8") ∷ [] }
-    ensures change { connections_of (machine_after one_line (opened_at_1000 one_line) (crcx 1 (codes "aaln/1") []
+    ensures change { connections_of (machine_after one_line (ready_machine one_line) (crcx 1 (codes "aaln/1") []
         ∷ mdcx 2 (codes "C: 1a\r\nI: 1\r\nM: inactive\r\nL: p:30\r\nX: 1\r\nS: L/dl\r\n") ∷ [])) 1
         ≡ Some (Some first_connection ∷ replicate 3 None) }
 {}
@@ -119,5 +118,5 @@ pub fn a_deletion_is_done_once()
 
 /// An audit of any one line isn't served; no command comes this far.
 pub fn any_one_line_is_not_audited()
-    ensures { audited example (opening_endpoints example) Any (record { items = [] }) ≡ plain_code 503 }
+    ensures { audited example (ready_endpoints example) 9 Any (record { connection = None; items = [] }) ≡ Err 503 }
 {}

@@ -8,8 +8,8 @@ ghost use Rattle.mg_packages.specs.declared.signal.Signal.TheVariants as signal;
 ghost use Rattle.plain_machine.specs.Machine.{opening, opening_station, station_at};
 ghost use Rattle.plain_machine.specs.Requesting.{line_with_place};
 ghost use Rattle.plain_machine.specs.Lists.{machine_after, outputs_from, connections_of, signals_of};
-ghost use Rattle.plain_machine.specs.Example.{example, one_line, two_lines, other_entity, rqnt, until, stations, to_agent_at};
-ghost use Rattle.plain_machine.specs.Example.{crcx, mdcx, dlcx, epcf, opened_at_1000, two_send, one_sends, numbers_then};
+ghost use Rattle.plain_machine.specs.Example.{example, one_line, two_lines, other_entity, rqnt, until, stations, to_agent_at, ready_station};
+ghost use Rattle.plain_machine.specs.Example.{crcx, mdcx, dlcx, epcf, ready_machine, two_send, one_sends, numbers_then};
 ghost use Rattle.plain_machine.specs.Example.{local_text, created_text, says, offering_8, holding, first_connection, full_lines};
 
 /// A connection has an identifier and a local description; where the command names any one line, the answer names it. A
@@ -39,9 +39,9 @@ pub fn connections_are_created()
 
 /// Any one line is the least that has a place; no other is asked where that one refuses.
 pub fn any_one_line_is_the_least_with_a_place()
-    ensures first { line_with_place (stations (opening_station example 1 ∷ opening_station example 2 ∷ [])) ≡ Some 1 }
+    ensures first { line_with_place (stations (ready_station example 1 ∷ ready_station example 2 ∷ [])) ≡ Some 1 }
     ensures last_place { line_with_place (stations (holding (replicate 3 (Some first_connection) ++ None ∷ []) ∷ [])) ≡ Some 1 }
-    ensures second { line_with_place (stations (holding (replicate 4 (Some first_connection)) ∷ opening_station example 2 ∷ [])) ≡ Some 2 }
+    ensures second { line_with_place (stations (holding (replicate 4 (Some first_connection)) ∷ ready_station example 2 ∷ [])) ≡ Some 2 }
     ensures none { line_with_place (stations (holding (replicate 4 (Some first_connection)) ∷ [])) ≡ None }
     ensures refuses { two_send (rqnt 1 (codes "aaln/1") (codes "X: 1\r\n") ∷ crcx 2 (codes "$") (codes "X: 1\r\nS: L/dl\r\n") ∷ [])
         ≡ says (codes "200 1 OK") ∷ says (codes "402 2") ∷ [] }
@@ -103,35 +103,35 @@ pub fn an_encoding_is_given()
         ∷ mdcx 3 (codes "C: 1a\r\nI: 1\r\n") ∷ [])
         ≡ created_text 1 1 3000 (codes "0 8") ∷ says (codes "200 2 OK")
         ∷ to_agent_at 1000 (codes "200 3 OK\r\n" ++ local_text 1 2 3000 (codes "8 0")) ∷ [] }
-    ensures connection { connections_of (machine_after one_line (opened_at_1000 one_line) (crcx 1 (codes "aaln/1") [] ∷ epcf 2 (codes "aaln/1") (codes "B: e:A\r\n") ∷ [])) 1
+    ensures connection { connections_of (machine_after one_line (ready_machine one_line) (crcx 1 (codes "aaln/1") [] ∷ epcf 2 (codes "aaln/1") (codes "B: e:A\r\n") ∷ [])) 1
         ≡ Some (Some first_connection ∷ replicate 3 None) }
-    ensures opening { option_map (λ station. station.encoding) (station_at (opening one_line).endpoints 1) ≡ Some Mu }
-    ensures then { option_map (λ station. station.encoding) (station_at (machine_after one_line (opening one_line) (rqnt 1 (codes "aaln/1") (codes "X: 1\r\nB: e:a\r\n") ∷ [])).endpoints 1)
+    ensures opening { option_map (λ station. station.encoding) (station_at (ready_machine one_line).endpoints 1) ≡ Some Mu }
+    ensures then { option_map (λ station. station.encoding) (station_at (machine_after one_line (ready_machine one_line) (rqnt 1 (codes "aaln/1") (codes "X: 1\r\nB: e:a\r\n") ∷ [])).endpoints 1)
         ≡ Some A }
 {}
 
 /// A command may have a request and an entity beside: connections refuse first, then the request, and then nothing is done.
 pub fn a_request_comes_with_connections()
-    ensures done { signals_of (machine_after one_line (opened_at_1000 one_line) (crcx 1 (codes "aaln/1") (codes "X: 1\r\nS: L/rg\r\n") ∷ [])) 1
+    ensures done { signals_of (machine_after one_line (ready_machine one_line) (crcx 1 (codes "aaln/1") (codes "X: 1\r\nS: L/rg\r\n") ∷ [])) 1
         ≡ Some (until signal.Ringing 181000 ∷ []) }
     ensures answer { one_sends (crcx 1 (codes "aaln/1") (codes "X: 1\r\nS: L/rg\r\n") ∷ []) ≡ created_text 1 1 3000 (codes "0 8") ∷ [] }
     ensures refused { one_sends (crcx 1 (codes "aaln/1") (codes "X: 1\r\nR: D/5(D)\r\n") ∷ []) ≡ says (codes "519 1") ∷ [] }
-    ensures undone { connections_of (machine_after one_line (opened_at_1000 one_line) (crcx 1 (codes "aaln/1") (codes "B: e:A\r\nX: 1\r\nR: D/5(D)\r\n") ∷ [])) 1
+    ensures undone { connections_of (machine_after one_line (ready_machine one_line) (crcx 1 (codes "aaln/1") (codes "B: e:A\r\nX: 1\r\nR: D/5(D)\r\n") ∷ [])) 1
         ≡ Some (replicate 4 None) }
-    ensures encoding { option_map (λ station. station.encoding) (station_at (machine_after one_line (opening one_line)
+    ensures encoding { option_map (λ station. station.encoding) (station_at (machine_after one_line (ready_machine one_line)
         (crcx 1 (codes "aaln/1") (codes "B: e:A\r\nX: 1\r\nR: D/5(D)\r\n") ∷ [])).endpoints 1) ≡ Some Mu }
     ensures first { one_sends (mdcx 1 (codes "C: 2\r\nI: 1\r\nX: 1\r\nS: L/dl\r\n") ∷ []) ≡ says (codes "516 1") ∷ [] }
     ensures deletion { one_sends (dlcx 1 (codes "aaln/1") (codes "X: 1\r\nS: L/dl\r\n") ∷ []) ≡ says (codes "402 1") ∷ [] }
-    ensures entity { option_map (λ station. station.post.entity) (station_at (machine_after one_line (opening one_line)
+    ensures entity { option_map (λ station. station.post.entity) (station_at (machine_after one_line (ready_machine one_line)
         (crcx 1 (codes "aaln/1") (codes "N: ca2@[127.0.0.2]:2728\r\n") ∷ [])).endpoints 1) ≡ Some other_entity }
 {}
 
 /// What the places of a line hold, where there is such a line.
 pub fn connections_are_seen()
-    ensures opening { connections_of (opening two_lines) 2 ≡ Some (replicate 4 None) }
-    ensures none { connections_of (opening two_lines) 3 ≡ None }
-    ensures first { connections_of (machine_after two_lines (opened_at_1000 two_lines) (crcx 1 (codes "aaln/2") [] ∷ [])) 2
+    ensures opening { connections_of (ready_machine two_lines) 2 ≡ Some (replicate 4 None) }
+    ensures none { connections_of (ready_machine two_lines) 3 ≡ None }
+    ensures first { connections_of (machine_after two_lines (ready_machine two_lines) (crcx 1 (codes "aaln/2") [] ∷ [])) 2
         ≡ Some (Some first_connection ∷ replicate 3 None) }
-    ensures other { connections_of (machine_after two_lines (opened_at_1000 two_lines) (crcx 1 (codes "aaln/2") [] ∷ [])) 1
+    ensures other { connections_of (machine_after two_lines (ready_machine two_lines) (crcx 1 (codes "aaln/2") [] ∷ [])) 1
         ≡ Some (replicate 4 None) }
 {}

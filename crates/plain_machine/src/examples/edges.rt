@@ -2,7 +2,7 @@
 //! don't fit, what finds no room, and how much may fall due at one moment.
 #![tactic(auto, unfolding(crate::proofs::Computing::on_examples))]
 
-ghost use Rattle.std.specs.Prelude.{◌≡◌, ◌++◌, codes, [], ◌∷◌, replicate, true, false, None, Some, Ok};
+ghost use Rattle.std.specs.Prelude.{◌≡◌, ◌++◌, codes, [], ◌∷◌, replicate, true, false, None, Some, Ok, Err};
 ghost use Rattle.mgcp_text.specs.Answer.{plain_code};
 ghost use Rattle.command_forms.specs.declared.forms.Asks.TheVariants.{Reports};
 ghost use Rattle.connections.specs.declared.deletion.Deletion.TheVariants as deletions;
@@ -16,12 +16,13 @@ ghost use Rattle.plain_machine.specs.Machine.{opening, opening_endpoints, with_o
 ghost use Rattle.plain_machine.specs.Done.{only_answer};
 ghost use Rattle.plain_machine.specs.Connecting.{counts_param, nothing_shown};
 ghost use Rattle.plain_machine.specs.Requesting.{shown_of};
-ghost use Rattle.plain_machine.specs.Commanding.{audited, done_by};
+ghost use Rattle.plain_machine.specs.Commanding.{audited, reported, done_by};
+ghost use Rattle.plain_machine.specs.Reporting.{names_of};
 ghost use Rattle.plain_machine.specs.Falling.{due_by, pass};
 ghost use Rattle.plain_machine.specs.Responding.{asks_for_acknowledgement};
 ghost use Rattle.plain_machine.specs.Answering.{transaction, transacted_by};
 ghost use Rattle.plain_machine.specs.Lists.{outputs_of};
-ghost use Rattle.plain_machine.specs.Example.{example, agent, audit, from_agent, one_answer, to_agent_at, rqnt, sends, ntfy, lifted_on_2, response, stations, announcing, busiest, wide};
+ghost use Rattle.plain_machine.specs.Example.{example, agent, audit, from_agent, one_answer, to_agent_at, rqnt, sends, ntfy, lifted_on_2, response, stations, busiest, wide, ready_endpoints, machine_at, busiest_own};
 ghost use Rattle.plain_machine.specs.Example.{requesting_nothing, holding, first_connection};
 
 /// The answer to a line's command lets that line go on, under its own ids, whichever it is.
@@ -42,16 +43,16 @@ pub fn three_digits_ask_for_an_acknowledgement()
 
 /// An audit of a line that there isn't is 500; one whose answer doesn't fit is 533.
 pub fn some_audits_have_no_report()
-    ensures no_line { audited example (opening_endpoints example) (One 17) (record { items = [] }) ≡ plain_code 500 }
-    ensures unfit { done_by (Ok (Reports All (record { items = [] }))) (wide 250 16) (opening_endpoints (wide 250 16)) 0 9
+    ensures no_line { audited example (ready_endpoints example) 9 (One 17) (record { connection = None; items = [] }) ≡ Err 500 }
+    ensures unfit { done_by (Ok (Reports All (record { connection = None; items = [] }))) (wide 250 16) (opening_endpoints (wide 250 16)) 0 9
         ≡ only_answer (opening_endpoints (wide 250 16)) (plain_code 533) }
 {}
 
 /// What finds no room in the history is lost: nothing is done, and nothing is said.
 pub fn what_finds_no_room_is_lost()
-    ensures { transacted_by full (opening example) agent
-        (transaction 1306 (Some 1) [] (only_answer (opening_endpoints example) (plain_code 200)))
-        ≡ idle (opening example) }
+    ensures { transacted_by full (machine_at 0) agent
+        (transaction 1306 (Some 1) [] (only_answer (ready_endpoints example) (plain_code 200)))
+        ≡ idle (machine_at 0) }
 {}
 
 /// Each item of K confirms.
@@ -64,12 +65,12 @@ pub fn each_item_of_k_confirms()
         ++ one_answer (codes "200 1305 OK\r\n") }
 {}
 
-/// At one moment 11 things may be due on each line, and one of the gateway itself: all of them happen.
+/// At one moment 12 things may be due on each line, and two of the gateway itself: all of them happen.
 pub fn all_that_is_due_at_one_moment_happens()
-    ensures one_line { due_by (pass example (with_own (stations (busiest ∷ [])) (announcing (Some 0))) 0).endpoints 0
+    ensures one_line { due_by (pass example (with_own (stations (busiest ∷ [])) busiest_own) 0).endpoints 0
         ≡ None }
     ensures two_lines { due_by
-        (pass example (with_own (stations (busiest ∷ busiest ∷ [])) (announcing (Some 0))) 0).endpoints 0 ≡ None }
+        (pass example (with_own (stations (busiest ∷ busiest ∷ [])) busiest_own) 0).endpoints 0 ≡ None }
 {}
 
 /// Of all lines that refuse a request the least gives the code, be it the first of them or not.
@@ -82,9 +83,9 @@ pub fn the_least_line_that_refuses_gives_the_code()
 
 /// The id of a response counts in its length: 3,997 bytes with one digit are 4,005 with nine.
 pub fn an_id_counts_in_the_length()
-    ensures short { let report : Audit = record { items = [] } in
+    ensures short { let report : Audit = record { connection = None; items = [] } in
         done_by (Ok (Reports All report)) (wide 320 12) (opening_endpoints (wide 320 12)) 0 9
-        ≡ only_answer (opening_endpoints (wide 320 12)) (audited (wide 320 12) (opening_endpoints (wide 320 12)) All report) }
+        ≡ only_answer (opening_endpoints (wide 320 12)) (reported (names_of (wide 320 12) (opening_endpoints (wide 320 12)))) }
     ensures long { outputs_of (wide 320 12) (from_agent (codes "AUEP 999999999 *@" ++ replicate 320 97 ++ codes " MGCP 1.0\r\n") ∷ [])
         ≡ one_answer (codes "533 999999999\r\n") }
 {}

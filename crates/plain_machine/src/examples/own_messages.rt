@@ -2,37 +2,20 @@
 #![tactic(auto, unfolding(crate::proofs::Computing::on_examples))]
 
 ghost use Rattle.std.specs.Prelude.{◌≡◌, ◌++◌, codes, [], ◌∷◌, option_map, true, false, None, Some};
-ghost use Rattle.mgcp_text.specs.declared.message.Message.TheVariants as messages;
-ghost use Rattle.mgcp_text.specs.declared.message.Verb.TheVariants as verbs;
 ghost use Rattle.mg_line.specs.declared.due.Due.TheVariants as ends;
-ghost use Rattle.mg_line.specs.declared.phone.Act.TheVariants as acts;
-ghost use Rattle.plain_machine.specs.Event.{phone, tick};
-ghost use Rattle.plain_machine.specs.Message.{command, resent};
-ghost use Rattle.plain_machine.specs.Posting.{with_command};
-ghost use Rattle.plain_machine.specs.Machine.{opening_post, opening_endpoints, opening, told};
+ghost use Rattle.restart.specs.declared.restart.Restart.TheVariants.{Waiting, Announced};
+ghost use Rattle.plain_machine.specs.Event.{tick};
+ghost use Rattle.plain_machine.specs.Message.{resent};
+ghost use Rattle.plain_machine.specs.Machine.{opening_endpoints, told};
 ghost use Rattle.plain_machine.specs.Falling.{due_at, first_due, due_by, happened, pass};
 ghost use Rattle.plain_machine.specs.Refusing.{takes_none};
 ghost use Rattle.plain_machine.specs.Lists.{sent_from};
-ghost use Rattle.plain_machine.specs.Example.{example, agent, from_agent, from_other, to_agent_at, to_other_at, lifted, response, machine_at, machine_then, own_at, line_end, command_due, ending, announced, announcing, stations_announcing, announcing_machine, announcing_sends, announcing_then, own_then};
+ghost use Rattle.plain_machine.specs.Example.{example, agent, from_agent, from_other, to_agent_at, to_other_at, lifted, response, machine_at, machine_then, own_at, line_end, command_due, ending, announced, announcing, stations_announcing, announcing_machine, announcing_sends, announcing_then, own_then, ready_endpoints};
 
-/// At the opening the gateway itself reports to the configured agent, and has nothing in flight; its first id is 1.
-pub fn the_gateway_itself_opens_with_nothing_in_flight()
-    ensures own { (opening example).endpoints.own
-        ≡ record { post = record { entity = example.agent; number = 1; pending = None } } }
-    ensures nothing_due { due_at (opening_endpoints example) 0 ≡ None }
-    ensures begins { with_command 0 1000 (opening_post example 1)
-        (messages.Command verbs.Rsip 1 (codes "*@rgw.example.net")
-        ((record { code = codes "RM"; value = codes "restart" }) ∷ []) [])
-        ≡ record {
-          post = (announcing (Some 1500)).post;
-          sent = own_at 0 1000 (command (messages.Command verbs.Rsip 1 (codes "*@rgw.example.net")
-              ((record { code = codes "RM"; value = codes "restart" }) ∷ []) [])) ∷ [];
-        } }
-{}
-
-/// It is repeated at its moments, and given up, as a line's command is; the lines stay.
+/// It is repeated at its moments, and given up, as a line's command is; the lines stay. It waits anew then, and goes out
+/// under the next id.
 pub fn an_own_message_is_repeated_and_given_up()
-    ensures sends { announcing_sends (tick 60000 ∷ [])
+    ensures sends { announcing_sends (tick 24500 ∷ [])
         ≡ to_agent_at 1500 announced ∷ to_agent_at 2500 announced ∷ to_agent_at 4500 announced
         ∷ to_agent_at 8500 announced ∷ to_agent_at 12500 announced ∷ to_agent_at 16500 announced
         ∷ to_agent_at 20500 announced ∷ [] }
@@ -43,15 +26,18 @@ pub fn an_own_message_is_repeated_and_given_up()
       entity = example.agent;
       number = 2;
       pending = Some (record { id = 1; to = agent; text = announced; first = 1000; repeats = 1; due = 2500 });
+      restart = Announced;
     } }
-    ensures lines { (announcing_then (tick 1500 ∷ [])).endpoints.stations ≡ announcing_machine.endpoints.stations }
+    ensures lines { (announcing_then (tick 1500 ∷ [])).endpoints.stations ≡ (opening_endpoints example).stations }
     ensures still_in_flight { option_map (λ message. message.due) (own_then (tick 24499 ∷ [])).post.pending
         ≡ Some 24500 }
-    ensures given_up { own_then (tick 24500 ∷ []) ≡ announcing None }
-    ensures nothing_after { announcing_sends (tick 24499 ∷ tick 24500 ∷ tick 60000 ∷ [])
+    ensures given_up { own_then (tick 24500 ∷ [])
+        ≡ record { post = record (announcing None).post { restart = Waiting 24501 } } }
+    ensures renewed { announcing_sends (tick 24499 ∷ tick 24500 ∷ tick 24501 ∷ [])
         ≡ to_agent_at 1500 announced ∷ to_agent_at 2500 announced ∷ to_agent_at 4500 announced
         ∷ to_agent_at 8500 announced ∷ to_agent_at 12500 announced ∷ to_agent_at 16500 announced
-        ∷ to_agent_at 20500 announced ∷ [] }
+        ∷ to_agent_at 20500 announced
+        ∷ to_agent_at 24501 (codes "RSIP 2 *@rgw.example.net MGCP 1.0\r\nRM: restart\r\n") ∷ [] }
     ensures without_lines { (pass example (stations_announcing []) 5000).sent ≡ own_at 0 5000 (resent announced) ∷ [] }
     ensures memory { takes_none announcing_machine (tick 1500) ≡ false }
     ensures no_memory { takes_none announcing_machine (tick 1499) ≡ true }
@@ -71,18 +57,17 @@ pub fn an_own_message_goes_before_lines()
     ensures not_yet { due_by (stations_announcing []) 4999 ≡ None }
     ensures on_line_0 { due_at (stations_announcing (ending None [] (Some 4000) ∷ [])) 0 ≡ Some (command_due 5000 0) }
     ensures on_line_1 { due_at (stations_announcing (ending None [] (Some 4000) ∷ [])) 1 ≡ Some (command_due 4000 1) }
-    ensures goes_first { announcing_sends (phone 1 acts.OffHook ∷ tick 1500 ∷ [])
-        ≡ to_agent_at 1000 lifted ∷ to_agent_at 1500 (announced ++ codes ".\r\n" ++ lifted) ∷ [] }
-    ensures in_its_place { announcing_sends (tick 1100 ∷ phone 1 acts.OffHook ∷ tick 2600 ∷ [])
-        ≡ to_agent_at 1100 lifted ∷ to_agent_at 1500 announced ∷ to_agent_at 1600 lifted ∷ to_agent_at 2500 announced
-        ∷ to_agent_at 2600 lifted ∷ [] }
+    ensures goes_first { (pass example (stations_announcing (ending None [] (Some 5000) ∷ [])) 5000).sent
+        ≡ own_at 0 5000 (resent announced) ∷ own_at 1 5000 (resent lifted) ∷ [] }
+    ensures in_its_place { (pass example (stations_announcing (ending None [] (Some 4900) ∷ [])) 5000).sent
+        ≡ own_at 1 4900 (resent lifted) ∷ own_at 0 5000 (resent announced) ∷ [] }
     ensures no_timer { happened example (stations_announcing []) (line_end 5000 0 ends.DigitTimer)
         ≡ told (stations_announcing []) [] }
-    ensures idle { happened example (opening_endpoints example) (command_due 5000 0)
-        ≡ told (opening_endpoints example) [] }
+    ensures idle { happened example (ready_endpoints example) (command_due 5000 0)
+        ≡ told (ready_endpoints example) [] }
 {}
 
-/// It is answered by its id and by no other, whoever responds; nothing is repeated after that, and the lines stay.
+/// It is answered by its id and by no other, whoever responds; nothing is repeated after that.
 pub fn an_own_message_is_answered_by_its_id()
     ensures flight { own_then (response 200 1 ∷ []) ≡ announcing None }
     ensures error { own_then (response 400 1 ∷ []) ≡ announcing None }
@@ -94,12 +79,9 @@ pub fn an_own_message_is_answered_by_its_id()
     ensures greatest_id { announcing_then (response 200 9999999 ∷ []) ≡ announcing_machine }
     ensures code_99 { announcing_then (from_agent (codes "099 1\r\n") ∷ []) ≡ announcing_machine }
     ensures of_a_line { announcing_then (response 200 10000000 ∷ []) ≡ announcing_machine }
-    ensures of_a_line_in_flight { own_then (phone 1 acts.OffHook ∷ response 200 10000000 ∷ [])
-        ≡ announcing (Some 1500) }
-    ensures lines { (announcing_then (phone 1 acts.OffHook ∷ response 200 1 ∷ [])).endpoints.stations
-        ≡ (announcing_then (phone 1 acts.OffHook ∷ [])).endpoints.stations }
     ensures nothing_in_flight { machine_then (response 200 1 ∷ []) ≡ machine_at 1000 }
-    ensures given_up { announcing_then (tick 24500 ∷ response 200 1 ∷ []) ≡ announcing_then (tick 24500 ∷ []) }
+    ensures given_up { own_then (tick 24500 ∷ response 200 1 ∷ [])
+        ≡ record { post = record (announcing None).post { restart = Waiting 24501 } } }
     ensures acknowledged { announcing_sends (tick 1200 ∷ from_other (codes "200 1 OK\r\nK:\r\n") ∷ [])
         ≡ to_other_at 1200 (codes "000 1\r\n") ∷ [] }
 {}
@@ -111,6 +93,6 @@ pub fn an_own_message_is_put_off()
     ensures repeats { announcing_sends (tick 1200 ∷ response 100 1 ∷ tick 6199 ∷ tick 7200 ∷ [])
         ≡ to_agent_at 6200 announced ∷ to_agent_at 7200 announced ∷ [] }
     ensures then_answered { announcing_sends (response 100 1 ∷ response 200 1 ∷ tick 60000 ∷ []) ≡ [] }
-    ensures lines { (announcing_then (phone 1 acts.OffHook ∷ tick 1200 ∷ response 100 1 ∷ [])).endpoints.stations
-        ≡ (announcing_then (phone 1 acts.OffHook ∷ tick 1200 ∷ [])).endpoints.stations }
+    ensures lines { (announcing_then (tick 1200 ∷ response 100 1 ∷ [])).endpoints.stations
+        ≡ (opening_endpoints example).stations }
 {}

@@ -1,6 +1,7 @@
 use Rattle.std.proofs.Common.{ap, ◌∙◌}
 use Rattle.event_syntax.specs.Detect.{detected_text}
 use Rattle.event_syntax.specs.Events.{events_text}
+use Rattle.event_syntax.proofs.WordLemmas.{detected_no_blanks, detected_one_line}
 use Rattle.event_cuts.proofs.WriteLemmas.{first_listed, next_listed}
 use Rattle.event_syntax.proofs.detect.write_detect.Goals as goal
 use Rattle.event_syntax.proofs.detect.write_detect.Goals.{then-place-gt0+in_ok-push, else-place-gt0}
@@ -20,3 +21,9 @@ loop-place-preserved c =
           first_listed events_text c.args.list.now c.loop-place.place _ c.if-place-gt0.out.items _ c.loop-place-test.true w.if-place-gt0.false
           (ap (λ out. out.items) w.out-is ∙ c.loop-place.invariant) c.in_ok-put_events.ensures
     ]
+
+pub returns-clause-no_blanks : goal.returns-clause-no_blanks
+returns-clause-no_blanks c = rw (c.of.ensures, c.loop-place.invariant) (detected_no_blanks _)
+
+pub returns-clause-one_line : goal.returns-clause-one_line
+returns-clause-one_line c = rw (c.of.ensures, c.loop-place.invariant) (detected_one_line _)

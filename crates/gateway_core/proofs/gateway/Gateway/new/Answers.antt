@@ -7,11 +7,11 @@ use Rattle.gateway_core.proofs.gateway.Gateway.new.Goals as goal
 pub opening_stations-requires : goal.opening_stations-requires
 opening_stations-requires c = setup_is _ _ (sym c.in_ok-setup.ensures)
 
-pub of-requires : goal.of-requires
-of-requires c = opening_few _ _ _ (sym c.in_ok-setup.ensures) c.in_ok-stations.ensures
+pub of-requires-clause-few : goal.of-requires-clause-few
+of-requires-clause-few c = opening_few _ _ _ (sym c.in_ok-setup.ensures) c.in_ok-stations.ensures
 
 pub returns : goal.returns
-returns c = rw (← c.in_ok-setup.ensures) (refl, stands_for_nothing _ (setup_is _ _ (sym c.in_ok-setup.ensures)) (rw (c.of.ensures, c.in_ok-stations.ensures, c.opening_own.ensures, c.new.ensures) refl))
+returns c = rw (← c.in_ok-setup.ensures) (refl, stands_for_nothing _ (setup_is _ _ (sym c.in_ok-setup.ensures)) (rw (c.of.ensures, c.in_ok-stations.ensures, c.opening_own.ensures.value, c.new.ensures) refl))
 
 pub invariant_of-result : goal.invariant_of-result
 invariant_of-result c = opening_sound _ _ _ (sym c.in_ok-setup.ensures) (rw c.of.ensures c.in_ok-stations.ensures) refl

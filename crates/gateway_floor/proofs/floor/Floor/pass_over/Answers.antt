@@ -12,7 +12,7 @@ pass_over_on-requires c = unheeded_there c.self.inside.stations.items c.self.ins
 pub first_after-self-inside-requires-clause-stays : goal.first_after-self-inside-requires-clause-stays
 first_after-self-inside-requires-clause-stays c =
     let is : c.deref.result.now ≡ slice_set c.self.inside.stations.items (c.from.result - 1) c.pass_over_on.new.station = search rules in
-    rw is (first_stays _ _ c.args.act c.self.inside.stations.items c.self.inside.own c.index_mut.result.now _ c.index_mut.ensures.value c.pass_over_on.ensures.due c.self.invariant.1)
+    rw (is, c.own.ensures.value) (first_stays _ _ c.args.act c.self.inside.stations.items c.self.inside.own c.index_mut.result.now _ c.index_mut.ensures.value c.pass_over_on.ensures.due c.self.invariant.1)
 
 pub returns : goal.returns
 returns c = λ setup moment. rw (← c.self.view_is)

@@ -1,13 +1,10 @@
-use Rattle.std.proofs.Common.{List, ap, ◌∙◌}
-use Rattle.history.specs.declared.entry.Entry.{Entry}
-use Rattle.history.specs.Memory.{most_firsts}
-use Rattle.history.specs.Kept.{HistoryState}
-use Rattle.history.specs.Looking.{look_of}
-use Rattle.history.proofs.PurgeLaws.{purge_tells}
+use Rattle.std.proofs.Common.{ap, ◌∙◌}
+use Rattle.history.specs.Kept.{HistoryState, from_young}
+use Rattle.history.proofs.PurgeLaws.{purged_tells}
 use Rattle.history.proofs.history.History.purge.Goals as goal
 
 pub returns-clause-told : goal.returns-clause-told
-returns-clause-told c = λ id later le.
-    ap (λ (entries : List Entry). look_of most_firsts entries id later) c.drop_old.ensures
-    ∙ purge_tells c.self.inside.entries.items id c.args.now later le
-    ∙ ap (λ (history : HistoryState). look_of most_firsts history.kept id later) c.self.view_is
+returns-clause-told c =
+    purged_tells c.cut_off.new.self.kept c.args.self.now.kept c.args.now
+    (ap (λ (history : HistoryState). history.kept) (c.cut_off.ensures ∙ c.pass_old.ensures)
+    ∙ ap (λ (history : HistoryState). from_young c.args.now history.kept) c.settle.ensures)

@@ -1,0 +1,10 @@
+pub mod Endpoint
+pub mod Fitting
+pub mod Picking
+pub mod EndpointReport
+pub mod ConnectionReport
+pub mod Subject
+pub mod Writing
+pub mod Laws
+pub mod Showing
+pub mod Example

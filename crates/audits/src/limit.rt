@@ -1,0 +1,24 @@
+//! The limit of an answer.
+ghost use Rattle.std.specs.Prelude.{◌≡◌};
+ghost use Rattle.mg_bytes.specs.CodeFault.{AnswersAs};
+ghost use Rattle.audits.specs.Fitting.{fitting};
+
+use mg_bytes::{CodeFault, ReturnCode};
+use mgcp_text::{Answer, TransactionId};
+use std::alloc::Global;
+
+/// The longest response, in bytes (RFC 3435, 3.5.4).
+const LONGEST: usize = 4000;
+
+/// An answer under this id, as it is wanted; where its text would have more than 4,000 bytes, the return code 533
+/// (RFC 3435, 2.4 and 3.5.4).
+#[tactic(auto, unfolding(crate::specs::Fitting::fitting))]
+pub fn fitting(alloc: Global, id: TransactionId, wanted: Answer) -> Result<Answer, CodeFault>
+    ensures { AnswersAs (fitting id wanted) result }
+{
+    let text = wanted.text(alloc, id)?;
+    if text.as_bytes().len() > LONGEST {
+        return Err(CodeFault::of(ReturnCode::ResponseTooLarge));
+    }
+    Ok(wanted)
+}

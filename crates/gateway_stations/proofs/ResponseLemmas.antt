@@ -1,0 +1,58 @@
+-- What a response is to a station, by what it is to its command in flight.
+use Rattle.std.proofs.Common.{◌≡◌, ℕ, List, Option, ap, ◌∙◌, subst, append-nil}
+use Rattle.endpoint_names.specs.declared.entity.Entity.{Entity}
+use Rattle.mg_line.specs.Answering.{answered}
+use Rattle.restart.specs.declared.heard.Heard.{Heard}
+use Rattle.restart.specs.declared.heard.Heard.TheVariants.{PutOff, Redirected, Answered}
+use Rattle.plain_machine.specs.declared.output.OutDatagram.{OutDatagram}
+use Rattle.plain_machine.specs.declared.post.Post.{Post}
+use Rattle.plain_machine.specs.declared.response.Response.{Response}
+use Rattle.plain_machine.specs.declared.setup.Setup.{Setup}
+use Rattle.plain_machine.specs.declared.station.Station.{Station}
+use Rattle.plain_machine.specs.Posting.{PostTurn}
+use Rattle.plain_machine.specs.Announcing.{heard_on, replied}
+use Rattle.plain_machine.specs.Notifying.{posted, noted}
+use Rattle.plain_machine.specs.Responding.{responded_as, responded_on}
+use Rattle.gateway_stations.specs.Turns.{HasTurn, PostHasTurn}
+
+posted_turn : (station becomes : Station) (turn : PostTurn) (post : Post) (were are : List OutDatagram) → PostHasTurn turn post were are → becomes ≡ record station { post = post }
+    → HasTurn (posted station turn) becomes were are
+posted_turn station becomes turn post were are has same =
+    record { station = same ∙ ap (λ (p : Post). let s : Station = record station { post = p } in s) has.post; sent = has.sent }
+
+heard_so : (setup : Setup) (line moment : ℕ) (response : Response) (station becomes : Station) (heard : Heard) (were are : List OutDatagram) → heard ≡ heard_on station.post response
+    → HasTurn (responded_as heard setup line moment response station) becomes were are → HasTurn (responded_on setup line moment response station) becomes were are
+unfolding responded_on
+heard_so setup line moment response station becomes heard were are is has =
+    subst (λ (h : Heard). HasTurn (responded_as h setup line moment response station) becomes were are) is has
+
+pub is_put_off : (setup : Setup) (line moment : ℕ) (response : Response) (station becomes : Station) (post : Post) (were are : List OutDatagram) → PutOff ≡ heard_on station.post response
+    → PostHasTurn (replied PutOff setup line moment response station.post) post were are → becomes ≡ record station { post = post }
+    → HasTurn (responded_on setup line moment response station) becomes were are
+is_put_off setup line moment response station becomes post were are is has same =
+    heard_so setup line moment response station becomes PutOff were are is
+    (posted_turn station becomes (replied PutOff setup line moment response station.post) post were are has same)
+
+pub is_redirected : (setup : Setup) (line moment : ℕ) (response : Response) (station becomes : Station) (agent : Entity) (post : Post) (were are : List OutDatagram)
+    → Redirected agent ≡ heard_on station.post response → PostHasTurn (replied (Redirected agent) setup line moment response station.post) post were are
+    → becomes ≡ record station { post = post } → HasTurn (responded_on setup line moment response station) becomes were are
+is_redirected setup line moment response station becomes agent post were are is has same =
+    heard_so setup line moment response station becomes (Redirected agent) were are is
+    (posted_turn station becomes (replied (Redirected agent) setup line moment response station.post) post were are has same)
+
+-- the answer sends nothing by itself
+answer_silent : (agent : Option Entity) (setup : Setup) (line moment : ℕ) (response : Response) (station : Station) (post : Post) (were mid : List OutDatagram)
+    → PostHasTurn (replied (Answered agent) setup line moment response station.post) post were mid → mid ≡ were
+unfolding replied
+answer_silent agent setup line moment response station post were mid has = has.sent ∙ append-nil were
+
+pub is_answered : (setup : Setup) (line moment : ℕ) (response : Response) (station becomes : Station) (agent : Option Entity) (post : Post) (were mid are : List OutDatagram)
+    → Answered agent ≡ heard_on station.post response → PostHasTurn (replied (Answered agent) setup line moment response station.post) post were mid
+    → HasTurn (noted setup line moment (record station { post = post }) (answered station.line moment)) becomes mid are
+    → HasTurn (responded_on setup line moment response station) becomes were are
+is_answered setup line moment response station becomes agent post were mid are is has goes =
+    let first : Post = (replied (Answered agent) setup line moment response station.post).post in
+    let same : mid ≡ were = answer_silent agent setup line moment response station post were mid has in
+    heard_so setup line moment response station becomes (Answered agent) were are is
+    (subst (λ (p : Post). HasTurn (noted setup line moment (record station { post = p }) (answered station.line moment)) becomes were are) has.post
+    (subst (λ (x : List OutDatagram). HasTurn (noted setup line moment (record station { post = post }) (answered station.line moment)) becomes x are) same goes))

@@ -1,0 +1,13 @@
+use Rattle.std.proofs.Common.{◌≤◌, length, arith}
+use Rattle.history.proofs.IndexLaws.{firsts-le, one_first}
+use Rattle.history.proofs.history.History.first.Goals as goal
+
+pub overflow_add-self : goal.overflow_add-self
+overflow_add-self c =
+    let few : c.self.inside.firsts ≤ length c.self.inside.entries.items = firsts-le _ _ _ _ _ _ c.self.invariant in
+    omega (arith, few, c.self.inside.entries.small)
+
+pub invariant_of-self-2 : goal.invariant_of-self-2
+invariant_of-self-2 c =
+    rw c.in_ok-push.ensures.items (one_first _ _ _ _ _ _ c.self.invariant _ _ _ c.reserve.ensures.entries
+    (omega (arith, c.in_ok-reserve.ensures.ok, c.len.ensures)) c.later-self-inside.ensures)

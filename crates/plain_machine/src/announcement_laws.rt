@@ -1,0 +1,129 @@
+//! Laws of announcements (RFC 3435, 2.3.12, 4.4.6 and 4.4.7), for every setup and every list of events.
+ghost use Rattle.std.specs.Prelude.{ℕ, ◌≡◌, ◌≢◌, ◌+◌, ◌++◌, true, false, [], List, All, Option, None, Some, Result, Ok, Err};
+ghost use Rattle.endpoint_names.specs.declared.entity.Entity.{Entity};
+ghost use Rattle.mgcp_text.specs.declared.confirmation.KValue.{KValue};
+ghost use Rattle.mgcp_text.specs.Answer.{plain_code};
+ghost use Rattle.command_forms.specs.declared.verbs.Meant.{Meant};
+ghost use Rattle.command_forms.specs.declared.refused.Refused.{Refused};
+ghost use Rattle.command_forms.specs.Codes.{Audits};
+ghost use Rattle.command_forms.specs.Command.{Command};
+ghost use Rattle.command_forms.specs.Meaning.{meant};
+ghost use Rattle.command_forms.specs.Order.{form_of};
+ghost use Rattle.outbound.specs.declared.repeat.Repeat.TheVariants.{GivenUp};
+ghost use Rattle.outbound.specs.declared.reply.Reply.TheVariants as replies;
+ghost use Rattle.outbound.specs.Flight.{InFlight, repeat_of, reply_of};
+ghost use Rattle.restart.specs.declared.restart.Restart.TheVariants.{Waiting, Announced};
+ghost use Rattle.restart.specs.declared.heard.Heard.TheVariants.{Redirected, Answered};
+ghost use Rattle.restart.specs.Restarting.{is_serving};
+ghost use Rattle.mg_line.specs.declared.due.Due.{Due as LineDue};
+ghost use Rattle.mg_line.specs.declared.phone.Act.{Act};
+ghost use Rattle.plain_machine.specs.declared.due_item.Due.TheVariants.{OfLine, Resend, Announce};
+ghost use Rattle.plain_machine.specs.declared.due_item.DueItem.{DueItem};
+ghost use Rattle.plain_machine.specs.declared.line_deed.LineDeed.{LineDeed};
+ghost use Rattle.plain_machine.specs.declared.own.Own.{Own};
+ghost use Rattle.plain_machine.specs.declared.post.Post.{Post};
+ghost use Rattle.plain_machine.specs.declared.response.Response.{Response};
+ghost use Rattle.plain_machine.specs.declared.setup.Setup.{Setup};
+ghost use Rattle.plain_machine.specs.declared.station.Station.{Station};
+ghost use Rattle.plain_machine.specs.Event.{GatewayEvent};
+ghost use Rattle.plain_machine.specs.Message.{Sent};
+ghost use Rattle.plain_machine.specs.Posting.{id_on, line_of_id, unsent, with_command, wait_of, resent_on};
+ghost use Rattle.plain_machine.specs.Announcing.{announcement, announced_on, heard_on};
+ghost use Rattle.plain_machine.specs.Machine.{Endpoints, told, serves};
+ghost use Rattle.plain_machine.specs.Acting.{acted_on, acted};
+ghost use Rattle.plain_machine.specs.Requesting.{deed_on};
+ghost use Rattle.plain_machine.specs.Commanding.{done_by, commanded};
+ghost use Rattle.plain_machine.specs.Falling.{post_due, own_due, happened_on, happened};
+ghost use Rattle.plain_machine.specs.Responding.{responded_on, responded};
+ghost use Rattle.plain_machine.specs.Lists.{plain};
+ghost use Rattle.plain_machine.specs.Flights.{IsInOrder, OwnIsInOrder, AreInOrder, BeginsNothing};
+
+/// What is in flight of each line, and of the gateway itself, agrees with where its announcement is, whatever happened: while
+/// that waits nothing is, and while it is on its way it is what is in flight. Until the gateway serves its lines send nothing.
+pub fn what_is_in_flight_agrees_with_announcements()
+    ensures { (setup : Setup) (events : List GatewayEvent) → AreInOrder (plain setup events).endpoints }
+{}
+
+/// Until its announcement is answered a gateway does nothing at a command. It answers with the code of a fault of the verb or
+/// the name, or else 405, but an audit as ever; and from then on each command as it is, of which none has the code 405.
+pub fn until_it_serves_a_gateway_only_reports()
+    ensures nothing { (setup : Setup) (endpoints : Endpoints) (moment id : ℕ) (command : Command) (confirms : KValue) →
+        serves endpoints ≡ false →
+        (commanded setup endpoints moment id command confirms).told ≡ told endpoints [] }
+    ensures named { (setup : Setup) (endpoints : Endpoints) (moment id : ℕ) (command : Command) (confirms : KValue)
+        (refused : Refused) → meant command setup.names ≡ Err refused →
+        (commanded setup endpoints moment id command confirms).answer ≡ plain_code refused.code }
+    ensures refused { (setup : Setup) (endpoints : Endpoints) (moment id : ℕ) (command : Command) (confirms : KValue)
+        (found : Meant) → serves endpoints ≡ false → meant command setup.names ≡ Ok found →
+        (Audits command.verb → ⊥) → (commanded setup endpoints moment id command confirms).answer ≡ plain_code 405 }
+    ensures audits { (setup : Setup) (endpoints : Endpoints) (moment id : ℕ) (command : Command) (confirms : KValue) →
+        Audits command.verb → commanded setup endpoints moment id command confirms
+        ≡ done_by (form_of command confirms setup.names) setup endpoints moment id }
+    ensures served { (setup : Setup) (endpoints : Endpoints) (moment id : ℕ) (command : Command) (confirms : KValue) →
+        serves endpoints ≡ true → commanded setup endpoints moment id command confirms
+        ≡ done_by (form_of command confirms setup.names) setup endpoints moment id }
+    ensures none { (setup : Setup) (command : Command) (confirms : KValue) →
+        form_of command confirms setup.names ≡ Err 405 → ⊥ }
+{}
+
+/// A gateway that serves goes on to serve, whatever happens. No act, no command and nothing that falls due makes it serve, but
+/// the answer to its announcement alone; and 521 that names another agent isn't the answer.
+pub fn a_gateway_serves_once_its_announcement_is_answered()
+    ensures lasts { (setup : Setup) (before events : List GatewayEvent) → serves (plain setup before).endpoints ≡ true →
+        serves (plain setup (before ++ events)).endpoints ≡ true }
+    ensures act { (setup : Setup) (endpoints : Endpoints) (line moment : ℕ) (act : Act) →
+        serves (acted setup endpoints line moment act).endpoints ≡ serves endpoints }
+    ensures deed { (setup : Setup) (endpoints : Endpoints) (moment id : ℕ) (command : Command) (confirms : KValue) →
+        serves (commanded setup endpoints moment id command confirms).told.endpoints ≡ serves endpoints }
+    ensures due { (setup : Setup) (endpoints : Endpoints) (item : DueItem) → OwnIsInOrder endpoints.own →
+        serves (happened setup endpoints item).endpoints ≡ serves endpoints }
+    ensures answered { (setup : Setup) (endpoints : Endpoints) (moment : ℕ) (response : Response) (agent : Option Entity) →
+        line_of_id response.id ≡ 0 → heard_on endpoints.own.post response ≡ Answered agent →
+        serves (responded setup endpoints moment response).endpoints ≡ true }
+    ensures other { (setup : Setup) (endpoints : Endpoints) (moment : ℕ) (response : Response) →
+        serves endpoints ≡ false → ((agent : Option Entity) → heard_on endpoints.own.post response ≢ Answered agent) →
+        serves (responded setup endpoints moment response).endpoints ≡ false }
+    ensures redirected { (post : Post) (message : InFlight) (response : Response) (agent : Entity) →
+        post.restart ≡ Announced → post.pending ≡ Some message →
+        reply_of message response.id response.code ≡ replies.Answered → response.code ≡ 521 →
+        response.entity ≡ Some agent → heard_on post response ≡ Redirected agent }
+{}
+
+/// Until it is answered an announcement goes on, of the gateway itself, which is line 0, and of a line. Where one waits it
+/// falls due at its moment, and then it goes out under the next id. Where it was given up it waits anew. So something of the
+/// gateway itself falls due as long as it doesn't serve.
+pub fn an_announcement_goes_on_until_it_is_answered()
+    ensures due { (own : Own) → OwnIsInOrder own → is_serving own.post.restart ≡ false → own_due own ≢ None }
+    ensures waits { (line until : ℕ) (post : Post) → post.restart ≡ Waiting until → post.pending ≡ None →
+        post_due line post ≡ Some (record { moment = until; line = line; due = Announce }) }
+    ensures sent { (setup : Setup) (line moment until : ℕ) (post : Post) → post.restart ≡ Waiting until →
+        announced_on setup line moment post
+        ≡ with_command line moment (record post { restart = Announced }) (announcement setup line (id_on line post.number)) }
+    ensures given_up { (setup : Setup) (line moment : ℕ) (post : Post) (message : InFlight) →
+        post.pending ≡ Some message → repeat_of message moment ≡ GivenUp →
+        resent_on setup line moment post
+        ≡ unsent (record post { pending = None; restart = Waiting (moment + wait_of setup line) }) }
+{}
+
+/// A line whose command was given up begins nothing until its wait ends: no act, no deed, no response and nothing that falls
+/// due of the line makes it send. The giving up and the announcement leave the line, and what it quarantined, as it is. An
+/// agent that the answer to the announcement names is notified from then on.
+pub fn a_line_that_gave_up_waits_and_announces_itself()
+    ensures act { (setup : Setup) (line moment until : ℕ) (act : Act) (station : Station) → IsInOrder line station →
+        station.post.restart ≡ Waiting until → BeginsNothing station (acted_on setup line moment act station) }
+    ensures deed { (setup : Setup) (deed : LineDeed) (line moment until : ℕ) (station : Station) → IsInOrder line station →
+        station.post.restart ≡ Waiting until → BeginsNothing station (deed_on setup deed moment line station) }
+    ensures due { (setup : Setup) (due : LineDue) (line moment until : ℕ) (station : Station) → IsInOrder line station →
+        station.post.restart ≡ Waiting until → BeginsNothing station (happened_on (OfLine due) setup line moment station) }
+    ensures response { (setup : Setup) (line moment until : ℕ) (response : Response) (station : Station) →
+        IsInOrder line station → station.post.restart ≡ Waiting until →
+        BeginsNothing station (responded_on setup line moment response station) }
+    ensures kept { (setup : Setup) (line moment : ℕ) (station : Station) →
+        (happened_on Resend setup line moment station).station.line ≡ station.line }
+    ensures kept_too { (setup : Setup) (line moment : ℕ) (station : Station) →
+        (happened_on Announce setup line moment station).station.line ≡ station.line }
+    ensures named { (setup : Setup) (line moment : ℕ) (response : Response) (agent : Entity) (station : Station) →
+        heard_on station.post response ≡ Answered (Some agent) →
+        ((responded_on setup line moment response station).station.post.entity ≡ agent)
+        × All (λ (sent : Sent). sent.to ≡ agent.address) (responded_on setup line moment response station).sent }
+{}

@@ -1,0 +1,2 @@
+pub mod Restarting
+pub mod Example
