@@ -105,7 +105,7 @@ took_none g g' were are same sent keeps = record {
 }
 
 -- events, and then more
-took_on : (g h k : GatewayState) (es fs : List GatewayEvent) (were are then : List OutDatagram) → Took g es h were are → Took h fs k are then → Took g (es ++ fs) k were then
+pub took_on : (g h k : GatewayState) (es fs : List GatewayEvent) (were are then : List OutDatagram) → Took g es h were are → Took h fs k are then → Took g (es ++ fs) k were then
 took_on g h k es fs were are then a b = record {
   setup = b.setup ∙ a.setup;
   stands = λ before s. rw (← (append_assoc before es fs)) (b.stands (before ++ es) (a.stands before s));

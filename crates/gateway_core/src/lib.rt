@@ -13,11 +13,16 @@ mod packing;
 mod reporting;
 mod responding;
 mod sending;
+mod served;
+mod serving;
 mod state;
 mod stopped;
 mod ticking;
+mod wire;
 mod working;
 
 pub use crate::gateway::Gateway;
+pub use crate::served::Served;
 pub use crate::stopped::Stopped;
+pub use crate::wire::{DATAGRAM_ROOM, Input, Wire, WireFault};
 pub use plain_machine::{Config, ConfigFault, Event, NamedAddress, OutDatagram, Outputs, Refusal};

@@ -23,8 +23,9 @@ use Rattle.plain_machine.specs.Responding.{responded_on, own_responded, redirect
 use Rattle.plain_machine.specs.Answering.{executed, handled, took_all}
 use Rattle.plain_machine.specs.Happening.{effect}
 use Rattle.plain_machine.specs.Refusing.{refusal_of}
+use Rattle.plain_machine.specs.Transactions.{commands_in, commands_from}
 use Rattle.plain_machine.specs.Lists.{machine_after, sent_from, outputs_from, are_taken}
 
 unfoldable pub on_examples : ⊤
-unfolding text_examples name_examples history_examples part_examples form_examples line_examples flight_examples table_from setup_of packed_after texts_of arrivals_from audit_examples announcement announced replied names_of notification noted connected refused_by deed_on shown_of line_with_place audited on_line on_lines post_due due_on first_due due_by happened_on own_happened passed pass responded_on own_responded redirected_on opened_on executed handled took_all effect refusal_of machine_after sent_from outputs_from are_taken
+unfolding text_examples name_examples history_examples part_examples form_examples line_examples flight_examples table_from setup_of packed_after texts_of arrivals_from audit_examples announcement announced replied names_of notification noted connected refused_by deed_on shown_of line_with_place audited on_line on_lines post_due due_on first_due due_by happened_on own_happened passed pass responded_on own_responded redirected_on opened_on executed handled took_all effect refusal_of machine_after sent_from outputs_from are_taken commands_in commands_from
 on_examples = tt

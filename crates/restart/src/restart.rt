@@ -4,10 +4,8 @@ ghost use Rattle.restart.specs.Restarting.{begun, due_of, is_serving, heard_of, 
 
 use crate::heard::Heard;
 use endpoint_names::Entity;
+use mg_bytes::ReturnCode;
 use outbound::Reply;
-
-// The return code by which an answer redirects to another call agent (RFC 3435, 2.4).
-const REDIRECTED: u16 = 521;
 
 /// Where the announcement of the gateway or of a line is (RFC 3435, 2.3.12): a RestartInProgress says that it is here
 /// again.
@@ -84,7 +82,7 @@ fn announced(code: u16, entity: Option<Entity>) -> Heard
     match entity {
         None => Heard::Answered(None),
         Some(agent) => {
-            if code == REDIRECTED {
+            if code == ReturnCode::Redirected.number() {
                 Heard::Redirected(agent)
             } else {
                 Heard::Answered(Some(agent))

@@ -14,10 +14,12 @@ pub enum Ending {
     Usage,
     /// The input was not played, or not to its end.
     Fault(PlayFault),
+    /// A socket failed.
+    WireFault,
 }
 
 impl Ending {
-    /// The exit status: 0 played, 1 the input is refused, 2 other words, 3 memory or a stream.
+    /// The exit status: 0 played, 1 the input is refused, 2 other words, 3 memory, a stream or a socket.
     pub fn status(self) -> u8
         ensures { result ≡ status_of self }
     {
@@ -25,7 +27,8 @@ impl Ending {
             Ending::Played => 0,
             Ending::Fault(PlayFault::Config { .. } | PlayFault::Script { .. }) => 1,
             Ending::Usage => 2,
-            Ending::Fault(PlayFault::OutOfMemory | PlayFault::Read | PlayFault::Write) => 3,
+            Ending::Fault(PlayFault::OutOfMemory | PlayFault::Read | PlayFault::Write)
+            | Ending::WireFault => 3,
         }
     }
 }
@@ -50,6 +53,7 @@ impl fmt::Display for Ending {
             Ending::Fault(PlayFault::OutOfMemory) => writeln!(f, "out of memory"),
             Ending::Fault(PlayFault::Read) => writeln!(f, "read fault"),
             Ending::Fault(PlayFault::Write) => writeln!(f, "write fault"),
+            Ending::WireFault => writeln!(f, "wire fault"),
         }
     }
 }

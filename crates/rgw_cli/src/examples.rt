@@ -15,6 +15,7 @@ pub fn endings_have_their_status()
     ensures read { status_of (endings.Fault faults.Read) ≡ 3 }
     ensures write { status_of (endings.Fault faults.Write) ≡ 3 }
     ensures memory { status_of (endings.Fault faults.OutOfMemory) ≡ 3 }
+    ensures wire { status_of endings.WireFault ≡ 3 }
 {}
 
 /// Each ending but the good one is told in a line.
@@ -33,4 +34,5 @@ pub fn endings_have_their_lines()
     ensures read { error_text (endings.Fault faults.Read) ≡ codes "read fault\n" }
     ensures write { error_text (endings.Fault faults.Write) ≡ codes "write fault\n" }
     ensures memory { error_text (endings.Fault faults.OutOfMemory) ≡ codes "out of memory\n" }
+    ensures wire { error_text endings.WireFault ≡ codes "wire fault\n" }
 {}

@@ -32,12 +32,28 @@ pub fn simulate_plays_the_input()
         Ends (Ok tasks.Simulate) endings.Usage input before after → ⊥ }
 {}
 
-/// Other words end as such, and so does `loopback` so far.
+/// Where `loopback` ends well, its output is that of `simulate`; so are its faults, but for those of the sockets, which fail
+/// only where there is something to play.
+pub fn loopback_plays_the_input()
+    ensures output { (port : ℕ) (input before after : List ℕ) (scene : Scene) → judged input ≡ Ok scene →
+        Ends (Ok (tasks.Loopback port)) endings.Played (Some input) (Some before) (Some after) →
+        after ≡ before ++ flat_map printed (shown scene) }
+    ensures faults { (port : ℕ) (input before after : Option (List ℕ)) (fault : PlayFault) →
+        Ends (Ok (tasks.Loopback port)) (endings.Fault fault) input before after →
+        Ends (Ok tasks.Simulate) (endings.Fault fault) input before after }
+    ensures wire { (port : ℕ) (input : List ℕ) (before after : Option (List ℕ)) →
+        Ends (Ok (tasks.Loopback port)) endings.WireFault (Some input) before after →
+        IsOk (judged input) }
+    ensures words { (port : ℕ) (input before after : Option (List ℕ)) →
+        Ends (Ok (tasks.Loopback port)) endings.Usage input before after → ⊥ }
+{}
+
+/// Other words end as such. No socket fails where none is asked for.
 pub fn other_words_end_as_such()
     ensures words { (ending : Ending) (input before after : Option (List ℕ)) →
         Ends (Err word_faults.Usage) ending input before after → ending ≡ endings.Usage }
-    ensures loopback { (port : ℕ) (ending : Ending) (input before after : Option (List ℕ)) →
-        Ends (Ok (tasks.Loopback port)) ending input before after → ending ≡ endings.Usage }
+    ensures wire { (input before after : Option (List ℕ)) →
+        Ends (Ok tasks.Simulate) endings.WireFault input before after → ⊥ }
     ensures memory { (ending : Ending) (input before after : Option (List ℕ)) →
         Ends (Err word_faults.OutOfMemory) ending input before after →
         ending ≡ endings.Fault faults.OutOfMemory }

@@ -7,6 +7,6 @@ pub mod examples;
 pub mod laws;
 mod words;
 
-pub use crate::app::{asked, perform, run};
+pub use crate::app::{asked, loopback, perform, run, simulate};
 pub use crate::ending::Ending;
 pub use crate::words::{Task, WordFault, read_words};

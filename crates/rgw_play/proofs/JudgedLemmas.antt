@@ -8,7 +8,8 @@ use Rattle.rgw_play.specs.declared.played.PlayFault.TheVariants as play_fault
 use Rattle.rgw_play.specs.Input.{config_text, script_lines}
 use Rattle.rgw_play.specs.Configuration.{config_in}
 use Rattle.rgw_play.specs.Script.{steps_of}
-use Rattle.rgw_play.specs.Play.{Scene, judged, configured, PlaysInto, Explains}
+use Rattle.rgw_play.specs.declared.played.LinkFault.{LinkFault}
+use Rattle.rgw_play.specs.Play.{Scene, judged, configured, PlaysInto, Explains, ExplainsLink}
 
 too_long : (input : List ℕ) → nat_lt 1048576 (length input) ≡ true → judged input ≡ Err (play_fault.Script 0)
 unfolding judged
@@ -48,3 +49,7 @@ explains_whole (Some input) e text t h = subst (Explains e) (judged-take input t
 pub plays_whole : (o : Option (List ℕ)) (text : List ℕ) (m n : ℕ) (before after : Option (List ℕ)) → IfSome o (λ input. text ≡ take 1048577 input) → PlaysInto (judged text) m n before after → IfSome o (λ input. PlaysInto (judged input) m n before after)
 plays_whole None text m n before after t h = tt
 plays_whole (Some input) text m n before after t h = subst (λ (r : Result Scene PlayFault). PlaysInto r m n before after) (judged-take input text t) h
+
+pub explains_link_whole : {F : Type 0} (o : Option (List ℕ)) (e : LinkFault F) (text : List ℕ) → IfSome o (λ input. text ≡ take 1048577 input) → ExplainsLink e (judged text) → IfSome o (λ input. ExplainsLink e (judged input))
+explains_link_whole None e text t h = tt
+explains_link_whole (Some input) e text t h = subst (ExplainsLink e) (judged-take input text t) h

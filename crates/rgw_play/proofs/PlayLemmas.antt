@@ -1,7 +1,7 @@
 -- What the moves made so far have shown.
 use Rattle.std.proofs.Common.{◌≡◌, ℕ, ◌+◌, ◌<◌, ◌≤◌, ◌^◌, ◌/◌, ◌%◌, List, [], ◌∷◌, ◌++◌, length, take, get_or, None, Some, refl, sym, ap, subst, ◌∙◌, cond, arith, append_assoc, append-nil, zero-add, add-zero, add_assoc, count_by, ⊎_elim}
-use Rattle.std.specs.Prelude.{replicate, min, true, false, ◌&&◌, ◌==◌, nat_le, Result, Ok, Err, OnOk}
-use Rattle.std.specs.declared.alloc.AllocError.{AllocError}
+use Rattle.std.specs.Prelude.{replicate, min, true, false, ◌&&◌, ◌==◌, nat_le, Result, Ok, Err, OnOk, OnErr, IfOk}
+use Rattle.std.specs.Result.{result_err}
 use Rattle.std.specs.List.{flat_map}
 use Rattle.std.proofs.lemmas.List.{replicate-append-replicate, take_more}
 use Rattle.std.proofs.lemmas.List.Sums.{sum_by-append}
@@ -22,13 +22,13 @@ use Rattle.rgw_play.specs.declared.step.Step.{Step}
 use Rattle.rgw_play.specs.Status.{LineStatus, status_of}
 use Rattle.rgw_play.specs.Moves.{Move, give, pass, ask, moves_of_wait, moves_of, all_moves, Shown, sends, refuses, tells, Went, given, move_went, went, followed, printed, is_refused}
 use Rattle.rgw_play.specs.declared.player.Player.{Player}
-use Rattle.rgw_play.specs.Player.{Prints, Moved}
+use Rattle.rgw_play.specs.Player.{Prints, Moved, Finishes}
 
-pub on_ok : {P Q : Type 0} (r : Result (Unit {0}) AllocError) → (P → Q) → OnOk r P → OnOk r Q
+pub on_ok : {F P Q : Type 0} (r : Result (Unit {0}) F) → (P → Q) → OnOk r P → OnOk r Q
 on_ok (Ok done) f p = f p
 on_ok (Err fault) f p = tt
 
-pub on_ok_both : {P Q R : Type 0} (r : Result (Unit {0}) AllocError) → (P → Q → R) → OnOk r P → OnOk r Q → OnOk r R
+pub on_ok_both : {F P Q R : Type 0} (r : Result (Unit {0}) F) → (P → Q → R) → OnOk r P → OnOk r Q → OnOk r R
 on_ok_both (Ok done) f p q = f p q
 on_ok_both (Err fault) f p q = tt
 
@@ -153,6 +153,30 @@ refused_moved p q g event refusal kept took other ends prints =
     (λ before s. rw (ends_cause (plain setup before) event refusal other (ends before s))
     (subst (λ (h : GatewayState). Stands h before) (sym kept) (rw (append-nil before) at (took.stands before s))))
     (λ before s. rw (ends_cause (plain setup before) event refusal other (ends before s)) prints)
+
+-- what came of an event is printed
+
+prints_as : (p mid q : Player) (shown : List Shown) → mid.out.items ≡ p.out.items → mid.refused ≡ p.refused → Prints mid shown q → Prints p shown q
+prints_as p mid q shown text counted prints = record {
+  text = prints.text ∙ ap (λ (t : List ℕ). t ++ flat_map printed shown) text;
+  counted = prints.counted ∙ ap (λ (k : ℕ). k + count_by is_refused shown) counted;
+}
+
+finished : (p mid q : Player) (event : GatewayEvent) (given : Result (List OutDatagram) Refusal) → mid.out.items ≡ p.out.items → mid.refused ≡ p.refused
+    → IfOk given (λ outputs. Took p.gateway (event ∷ []) mid.gateway [] outputs) → OnErr given (Took p.gateway [] mid.gateway [] [])
+    → ((before : List GatewayEvent) → Stands p.gateway before → Ends (plain p.gateway.setup before) event (result_err given))
+    → Finishes given mid q → Moved p (give event ∷ []) q
+finished p mid q event (Ok outputs) text counted took none ends f =
+    taken_moved p q mid.gateway event outputs f.0 took ends (prints_as p mid q (sends outputs ∷ []) text counted f.1)
+finished p mid q event (Err refusal) text counted took none ends f =
+    refused_moved p q mid.gateway event refusal f.1 none f.0 ends (prints_as p mid q (refuses refusal ∷ []) text counted f.2)
+
+pub finished_moved : {F : Type 0} (r : Result (Unit {0}) F) (p mid q : Player) (event : GatewayEvent) (given : Result (List OutDatagram) Refusal) → mid.out.items ≡ p.out.items
+    → mid.refused ≡ p.refused → IfOk given (λ outputs. Took p.gateway (event ∷ []) mid.gateway [] outputs) → OnErr given (Took p.gateway [] mid.gateway [] [])
+    → ((before : List GatewayEvent) → Stands p.gateway before → Ends (plain p.gateway.setup before) event (result_err given))
+    → OnOk r (Finishes given mid q) → OnOk r (Moved p (give event ∷ []) q)
+finished_moved (Ok done) p mid q event given text counted took none ends f = finished p mid q event given text counted took none ends f
+finished_moved (Err fault) p mid q event given text counted took none ends f = tt
 
 -- Ticks
 

@@ -9,6 +9,8 @@ use Rattle.plain_machine.specs.declared.setup.Setup.{Setup}
 use Rattle.plain_machine.specs.Setup.{setup_of}
 use Rattle.rgw_play.specs.declared.played.PlayFault.{PlayFault}
 use Rattle.rgw_play.specs.declared.played.PlayFault.TheVariants as play_fault
+use Rattle.rgw_play.specs.declared.played.LinkFault.{LinkFault}
+use Rattle.rgw_play.specs.declared.played.LinkFault.TheVariants as link_fault
 use Rattle.rgw_play.specs.declared.step.Step.{Step}
 use Rattle.rgw_play.specs.Input.{config_text, script_lines}
 use Rattle.rgw_play.specs.Configuration.{config_in}
@@ -69,3 +71,8 @@ Explains play_fault.Read scene = ⊤
 Explains play_fault.Write scene = IsOk scene
 Explains (play_fault.Config number) scene = scene ≡ Err (play_fault.Config number)
 Explains (play_fault.Script line) scene = scene ≡ Err (play_fault.Script line)
+
+-- as without a network; and the network fails only where there is something to play
+abbrev pub ExplainsLink : {F : Type 0} → LinkFault F → Result Scene PlayFault → Type 0
+ExplainsLink (link_fault.Play fault) scene = Explains fault scene
+ExplainsLink (link_fault.Link fault) scene = IsOk scene

@@ -20,6 +20,30 @@ pub enum PlayFault {
     Script { line: u64 },
 }
 
+/// Why a step was not played to its end: the network may fail too.
+#[derive(Clone, Copy, Debug, PartialEq, Eq)]
+pub enum StepFault<F> {
+    /// Memory was refused.
+    OutOfMemory,
+    /// The network failed so.
+    Link(F),
+}
+
+impl<F> From<OutOfMemory> for StepFault<F> {
+    fn from(_e: OutOfMemory) -> StepFault<F> {
+        StepFault::OutOfMemory
+    }
+}
+
+/// Why an input was not played over a network, or not to its end.
+#[derive(Clone, Copy, Debug, PartialEq, Eq)]
+pub enum LinkFault<F> {
+    /// As without a network.
+    Play(PlayFault),
+    /// The network failed so.
+    Link(F),
+}
+
 /// What was played.
 #[derive(Clone, Copy, Debug, PartialEq, Eq)]
 pub struct Played {

@@ -1,14 +1,17 @@
 //! Plays steps at a gateway, and prints what they show.
 ghost use Rattle.std.specs.Prelude.{◌≡◌, ◌≤◌, ◌∷◌, [], length, OnOk, replicate};
-ghost use Rattle.plain_machine.specs.Event.{event_of};
+ghost use Rattle.plain_machine.specs.Event.{datagram, event_of};
 ghost use Rattle.rgw_play.specs.Moves.{give, pass, ask, sends, refuses, moves_of_wait, moves_of, all_moves};
 
+use crate::link::Link;
+use crate::played::StepFault;
 use crate::printing::{put_datagrams, put_line, put_refusal};
 use crate::status::status_of;
 use crate::step::Step;
 use gateway_core::{Event, Gateway, Outputs, Refusal};
 use mg_bytes::OutOfMemory;
-use std::alloc::{AllocError, Global};
+use std::alloc::Global;
+use std::net::SocketAddrV4;
 
 /// Plays steps at a gateway and prints what they show. After an error it isn't used again.
 #[derive(Drop)]
@@ -23,7 +26,7 @@ pub struct Player {
 }
 
 impl Player {
-    ghost use Rattle.rgw_play.specs.Player.{Prints, Moved};
+    ghost use Rattle.rgw_play.specs.Player.{Prints, Moved, Finishes};
 
     /// A player that has printed nothing yet.
     pub fn new(alloc: Global, gateway: Gateway) -> Player
@@ -39,12 +42,12 @@ impl Player {
         }
     }
 
-    // Prints what is sent.
-    fn send(&mut self, outputs: &Outputs) -> Result<(), OutOfMemory>
+    // Carries what is sent to the call agent, and prints it.
+    fn send<L: Link>(&mut self, link: &mut L, outputs: &Outputs) -> Result<(), StepFault<L::Fault>>
         ensures kept { OnOk result (self.new.gateway ≡ self.old.gateway) }
         ensures printed { OnOk result (Prints self.old (sends outputs.now ∷ []) self.new) }
     {
-        put_datagrams(self.alloc, &mut self.out, outputs.as_slice())?;
+        put_datagrams(self.alloc, link, &mut self.out, outputs.as_slice())?;
         Ok(())
     }
 
@@ -58,46 +61,75 @@ impl Player {
         Ok(())
     }
 
-    // Gives the gateway an event.
-    fn event(&mut self, event: Event<'_>) -> Result<(), OutOfMemory>
-        ensures { OnOk result (Moved self.old (give (event_of event.entry) ∷ []) self.new) }
+    // Carries what the gateway sends at an event to the call agent, and prints it; or prints why it refuses the event.
+    fn finish<L: Link>(
+        &mut self,
+        link: &mut L,
+        given: Result<Outputs, Refusal>,
+    ) -> Result<(), StepFault<L::Fault>>
+        ensures { OnOk result (Finishes given self.old self.new) }
     {
-        match self.gateway.step(event) {
-            Ok(outputs) => self.send(&outputs),
-            Err(refusal) => match refusal {
-                Refusal::OutOfMemory => Err(AllocError),
-                _ => self.refuse(refusal),
-            },
+        match given {
+            Ok(outputs) => self.send(link, &outputs),
+            Err(Refusal::OutOfMemory) => Err(StepFault::OutOfMemory),
+            Err(refusal) => Ok(self.refuse(refusal)?),
         }
     }
 
+    // Gives the gateway an event.
+    fn event<L: Link>(&mut self, link: &mut L, event: Event<'_>) -> Result<(), StepFault<L::Fault>>
+        ensures { OnOk result (Moved self.old (give (event_of event.entry) ∷ []) self.new) }
+    {
+        let given = self.gateway.step(event);
+        self.finish(link, given)
+    }
+
+    // Carries a datagram to the gateway, and gives it what arrives there.
+    fn datagram<L: Link>(
+        &mut self,
+        link: &mut L,
+        source: SocketAddrV4,
+        bytes: &[u8],
+    ) -> Result<(), StepFault<L::Fault>>
+        ensures { OnOk result (Moved self.old (give (datagram source bytes.now) ∷ []) self.new) }
+    {
+        let given = match link.to_gateway(bytes) {
+            Ok(arrived) => self.gateway.step(Event::Datagram {
+                source,
+                bytes: arrived,
+            }),
+            Err(fault) => return Err(StepFault::Link(fault)),
+        };
+        self.finish(link, given)
+    }
+
     // Gives the gateway a tick so many ms past now.
-    fn tick(&mut self, by: u64) -> Result<(), OutOfMemory>
+    fn tick<L: Link>(&mut self, link: &mut L, by: u64) -> Result<(), StepFault<L::Fault>>
         ensures { OnOk result (Moved self.old (pass by ∷ []) self.new) }
     {
         let moment = self.gateway.now().saturating_add(by);
-        self.event(Event::Tick { moment })
+        self.event(link, Event::Tick { moment })
     }
 
     // Gives the gateway so many ticks of a second.
-    fn seconds(&mut self, seconds: u64) -> Result<(), OutOfMemory>
+    fn seconds<L: Link>(&mut self, link: &mut L, seconds: u64) -> Result<(), StepFault<L::Fault>>
         ensures { OnOk result (Moved self.old (replicate seconds (pass 1000)) self.new) }
     {
         for _ in 0..seconds {
-            self.tick(1000)?;
+            self.tick(link, 1000)?;
         }
         Ok(())
     }
 
     // Gives the gateway ticks of a second, and one of the rest.
-    fn wait(&mut self, by: u64) -> Result<(), OutOfMemory>
+    fn wait<L: Link>(&mut self, link: &mut L, by: u64) -> Result<(), StepFault<L::Fault>>
         ensures { OnOk result (Moved self.old (moves_of_wait by) self.new) }
     {
-        self.seconds(by / 1000)?;
+        self.seconds(link, by / 1000)?;
         if by % 1000 == 0 {
             return Ok(());
         }
-        self.tick(by % 1000)
+        self.tick(link, by % 1000)
     }
 
     // Prints what a line is.
@@ -123,31 +155,31 @@ impl Player {
 
     // Plays a step.
     #[tactic(auto, unfolding(crate::specs::Moves::moves_of))]
-    fn step(&mut self, step: &Step) -> Result<(), OutOfMemory>
+    fn step<L: Link>(&mut self, link: &mut L, step: &Step) -> Result<(), StepFault<L::Fault>>
         ensures { OnOk result (Moved self.old (moves_of step.now) self.new) }
     {
         match step {
-            Step::Datagram { source, bytes } => self.event(Event::Datagram {
-                source: *source,
-                bytes: bytes.as_bytes(),
-            }),
-            Step::Phone { line, act } => self.event(Event::Phone {
-                line: *line,
-                act: *act,
-            }),
-            Step::Tick { by } => self.tick(*by),
-            Step::At { moment } => self.event(Event::Tick { moment: *moment }),
-            Step::Wait { by } => self.wait(*by),
-            Step::Show { line } => self.show(*line),
+            Step::Datagram { source, bytes } => self.datagram(link, *source, bytes.as_bytes()),
+            Step::Phone { line, act } => self.event(
+                link,
+                Event::Phone {
+                    line: *line,
+                    act: *act,
+                },
+            ),
+            Step::Tick { by } => self.tick(link, *by),
+            Step::At { moment } => self.event(link, Event::Tick { moment: *moment }),
+            Step::Wait { by } => self.wait(link, *by),
+            Step::Show { line } => Ok(self.show(*line)?),
         }
     }
 
-    /// Plays steps, one after the other.
-    pub fn play(&mut self, steps: &[Step]) -> Result<(), OutOfMemory>
+    /// Plays steps over a link, one after the other.
+    pub fn play<L: Link>(&mut self, link: &mut L, steps: &[Step]) -> Result<(), StepFault<L::Fault>>
         ensures { OnOk result (Moved self.old (all_moves steps.now) self.new) }
     {
         for step in steps {
-            self.step(step)?;
+            self.step(link, step)?;
         }
         Ok(())
     }

@@ -6,6 +6,8 @@ ghost use Rattle.rgw_play.specs.Printing.{printed_line, datagram_line, printed_d
 ghost use Rattle.rgw_play.specs.Printing.{hook_word, end_shown, signal_shown, connection_shown, listed, held_in};
 ghost use Rattle.rgw_play.specs.Printing.{line_head, signals_shown, connections_shown, lost_shown, shown_line};
 
+use crate::link::Link;
+use crate::played::StepFault;
 use crate::status::LineStatus;
 use connections::{Connection, mode_text, write_number};
 use gateway_core::{OutDatagram, Refusal};
@@ -35,30 +37,41 @@ fn put_lines(out: &mut Vec<u8>, bytes: &[u8]) -> Result<(), OutOfMemory>
     Ok(())
 }
 
+// Prints a datagram that goes out, of which these bytes arrived.
 #[tactic(auto, unfolding(crate::specs::Printing::printed_datagram))]
-fn put_datagram(alloc: Global, out: &mut Vec<u8>, datagram: &OutDatagram) -> Result<(), OutOfMemory>
+fn put_datagram(
+    alloc: Global,
+    out: &mut Vec<u8>,
+    datagram: &OutDatagram,
+    arrived: &[u8],
+) -> Result<(), OutOfMemory>
+    requires { arrived.now ≡ datagram.now.bytes }
     ensures ok { OnOk result (out.new.items ≡ out.old.items ++ printed_datagram datagram.now) }
     ensures grows { length out.old.items ≤ length out.new.items }
 {
     let line = datagram_line(alloc, datagram)?;
     out.extend_from_slice(line.as_bytes())?;
-    put_lines(out, datagram.bytes.as_bytes())?;
+    put_lines(out, arrived)?;
     out.extend_from_slice(b"--\n")?;
     Ok(())
 }
 
-/// Prints datagrams that go out, in their order.
-pub fn put_datagrams(
+/// Carries datagrams to the call agent in their order, and prints each as it arrives there.
+pub fn put_datagrams<L: Link>(
     alloc: Global,
+    link: &mut L,
     out: &mut Vec<u8>,
     datagrams: &[OutDatagram],
-) -> Result<(), OutOfMemory>
+) -> Result<(), StepFault<L::Fault>>
     ensures ok { OnOk result (out.new.items ≡ out.old.items
         ++ flat_map printed_datagram datagrams.now) }
     ensures grows { length out.old.items ≤ length out.new.items }
 {
     for datagram in datagrams {
-        put_datagram(alloc, out, datagram)?;
+        match link.to_agent(datagram.bytes.as_bytes()) {
+            Ok(arrived) => put_datagram(alloc, out, datagram, arrived)?,
+            Err(fault) => return Err(StepFault::Link(fault)),
+        }
     }
     Ok(())
 }

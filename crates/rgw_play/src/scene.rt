@@ -23,8 +23,8 @@ pub struct Scene {
     pub steps: Vec<Step>,
 }
 
-// The gateway of a configuration's text.
-fn gateway_of(alloc: Global, text: &[u8]) -> Result<Gateway, PlayFault>
+/// The gateway of a configuration's text.
+pub fn gateway_of(alloc: Global, text: &[u8]) -> Result<Gateway, PlayFault>
     ensures ok { IfOk result
         (λ gateway. (steps : Result (List Step) ℕ) →
         configured (config_in text.now) steps ≡ scene_of gateway.setup steps) }

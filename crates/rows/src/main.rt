@@ -25,6 +25,7 @@ use crate::requests::RequestTale;
 use crate::signal_sets::SignalTale;
 use crate::values::Values;
 use std::io;
+use std::net::Net;
 use std::process::ExitCode;
 use tales::{Count, Kinds, play, told};
 
@@ -32,7 +33,11 @@ use tales::{Count, Kinds, play, told};
 struct Rows;
 
 impl Kinds for Rows {
-    fn told<R: AllocGlobal + Print>(rt: &R, kind: &str, text: &str) -> io::Result<Option<Count>> {
+    fn told<R: AllocGlobal + Net + Print>(
+        rt: &R,
+        kind: &str,
+        text: &str,
+    ) -> io::Result<Option<Count>> {
         Ok(Some(match kind {
             "values" => told::<Values, R>(rt, text)?,
             "line" => told::<LineTale, R>(rt, text)?,

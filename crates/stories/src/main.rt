@@ -18,6 +18,7 @@ mod written;
 
 use crate::values::Values;
 use std::io;
+use std::net::Net;
 use std::process::ExitCode;
 use tales::{Count, Kinds, play};
 
@@ -25,7 +26,11 @@ use tales::{Count, Kinds, play};
 struct GatewayTales;
 
 impl Kinds for GatewayTales {
-    fn told<R: AllocGlobal + Print>(rt: &R, kind: &str, text: &str) -> io::Result<Option<Count>> {
+    fn told<R: AllocGlobal + Net + Print>(
+        rt: &R,
+        kind: &str,
+        text: &str,
+    ) -> io::Result<Option<Count>> {
         Ok(Some(match kind {
             "stories" => stories::told(rt, text)?,
             "values" => tales::told::<Values, R>(rt, text)?,

@@ -1,9 +1,10 @@
 //! A story as it is played.
 use crate::written::Story;
 use mg_bytes::split_once;
-use rgw_cli::{Ending, asked, perform};
+use rgw_cli::{Ending, asked, perform, simulate};
 use std::alloc::Global;
 use std::io::{self, Write};
+use std::net::Net;
 use tales::value_of;
 
 // The configuration that every story has but for its changes.
@@ -119,18 +120,38 @@ fn since_ready(printed: &[u8]) -> &[u8] {
     behind_announcement(printed).unwrap_or(printed)
 }
 
-/// What the story prints, without the announcement up to Ready, and with what the program says of an input that can't be
-/// played.
-pub fn printed_by(alloc: Global, story: &Story) -> io::Result<Vec<u8>> {
-    let input = input_of(alloc, story)?;
-    let mut reader = input.as_bytes();
-    let mut printed = Vec::new(alloc);
-    let words = words_of(alloc, story.words.as_str())?;
-    let task = asked(alloc, Ok(words));
-    let ending = perform(alloc, task, &mut reader, &mut printed);
+// What is printed of a story, without the announcement up to Ready, and with what the program says of an input that can't be
+// played.
+fn told_of(
+    alloc: Global,
+    story: &Story,
+    mut printed: Vec<u8>,
+    ending: Ending,
+) -> io::Result<Vec<u8>> {
     put_ending(alloc, &mut printed, ending)?;
     if story.is_at_opening {
         return Ok(printed);
     }
     Ok(Vec::from_slice(alloc, since_ready(&printed))?)
+}
+
+/// What `simulate` prints of a story.
+pub fn simulated(alloc: Global, story: &Story) -> io::Result<Vec<u8>> {
+    let input = input_of(alloc, story)?;
+    let mut reader = input.as_bytes();
+    let mut printed = Vec::new(alloc);
+    let ending = simulate(alloc, &mut reader, &mut printed);
+    told_of(alloc, story, printed, ending)
+}
+
+/// What the program with these words prints of a story.
+pub fn printed_by<R: AllocGlobal + Net>(rt: &R, story: &Story, words: &str) -> io::Result<Vec<u8>> {
+    let alloc = rt.alloc();
+    let input = input_of(alloc, story)?;
+    let mut reader = input.as_bytes();
+    let mut printed = Vec::new(alloc);
+    let words = words_of(alloc, words)?;
+    let task = asked(alloc, Ok(words));
+    let ending = perform(rt, task, &mut reader, &mut printed);
+    told_of(alloc, story, printed, ending)
 }

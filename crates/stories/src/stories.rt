@@ -8,31 +8,46 @@
 //!   begins at 0.
 //! - A line `set KEY ..` stands in place of the configuration's line of that key, and `set no KEY` takes it out; of
 //!   another key it stands at the configuration's end.
-//! - A line `words ..` stands in place of the command line's `simulate`; a line `# ..` is for the reader.
+//! - It is played twice: by the command line's `simulate`, and by its `loopback`, over two sockets. A line `words ..` stands
+//!   in place of both; a line `# ..` is for the reader.
 //! - Under a line `= piece NAME` stand lines that `do NAME | A | B` puts in, with A for `{1}` and B for `{2}`;
 //!   `each 1 88 NAME` puts them in for each number, which is `{n}`.
 //! - What the program says of an input that it can't play stands at the end, with its exit status.
 use crate::played::printed_by;
 use crate::titles::Pieces;
-use crate::written::read_story;
+use crate::written::{Story, read_story};
 use std::io;
+use std::net::Net;
 use tales::Count;
 
-// Whether the story's output is as it is told. What differs is printed.
-fn is_told<R: AllocGlobal + Print>(rt: &R, title: &str, text: &str) -> io::Result<bool> {
-    let story = read_story(rt.alloc(), text)?;
-    let printed = printed_by(rt.alloc(), &story)?;
+// Whether the program with these words prints what the story says. What differs is printed.
+fn is_told_by<R: AllocGlobal + Net + Print>(
+    rt: &R,
+    title: &str,
+    story: &Story,
+    words: &str,
+) -> io::Result<bool> {
+    let printed = printed_by(rt, story, words)?;
     if printed.as_slice() == story.printed.as_bytes() {
         return Ok(true);
     }
-    println!(rt; "= {title}\nprints this:")?;
+    println!(rt; "= {title}\n{words} prints this:")?;
     rt.print(String::from_utf8_lossy(rt.alloc(), &printed)?)?;
     println!(rt; "and not this:\n{}", story.printed)?;
     Ok(false)
 }
 
+// Whether the story's output is as it is told.
+fn is_told<R: AllocGlobal + Net + Print>(rt: &R, title: &str, text: &str) -> io::Result<bool> {
+    let story = read_story(rt.alloc(), text)?;
+    if !story.words.is_empty() {
+        return is_told_by(rt, title, &story, story.words.as_str());
+    }
+    Ok(is_told_by(rt, title, &story, "simulate")? && is_told_by(rt, title, &story, "loopback")?)
+}
+
 /// Tells the stories of a file.
-pub fn told<R: AllocGlobal + Print>(rt: &R, text: &str) -> io::Result<Count> {
+pub fn told<R: AllocGlobal + Net + Print>(rt: &R, text: &str) -> io::Result<Count> {
     let mut pieces = Pieces::new(rt.alloc());
     let mut count = Count::nothing();
     for block in text.split("\n= ").skip(1) {

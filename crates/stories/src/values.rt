@@ -7,7 +7,7 @@
 //! - `words  loopback --port 4000  loopback 4000` what words ask for.
 //!
 //! Where nothing is printed the answer is `ok`; more than a line is all that is printed, with `\n` for each line end.
-use crate::played::{printed_by, words_of};
+use crate::played::{simulated, words_of};
 use crate::written::{Story, read_story};
 use rgw_cli::{Task, WordFault, asked};
 use std::alloc::Global;
@@ -80,7 +80,7 @@ fn answer(alloc: Global, call: &str, fields: &str) -> io::Result<Option<String>>
     let Some(story) = story_of(alloc, call, fields)? else {
         return Ok(None);
     };
-    let printed = printed_by(alloc, &story)?;
+    let printed = simulated(alloc, &story)?;
     let text = String::from_utf8_lossy(alloc, &printed)?;
     Ok(Some(said(alloc, answer_in(text.as_str()).as_bytes())?))
 }

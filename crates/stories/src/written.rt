@@ -5,8 +5,8 @@ use tales::in_full;
 
 const AGENT: &str = "127.0.0.1:2727";
 
-/// Lines of the configuration, of the script, and of what is printed; the program's words, and whether the script begins
-/// at the opening and not at Ready.
+/// Lines of the configuration, of the script, and of what is printed; the program's words, if the story says any, and whether
+/// the script begins at the opening and not at Ready.
 #[derive(Drop)]
 pub struct Story {
     pub words: String,
@@ -30,13 +30,14 @@ fn put_line(out: &mut String, line: &str) -> io::Result<()> {
 }
 
 // The first words of a line that is printed, where it is no datagram.
-const PRINTED: [&str; 6] = [
+const PRINTED: [&str; 7] = [
     "! ",
     "line ",
     "config ",
     "script line ",
     "usage: ",
     "status ",
+    "wire fault",
 ];
 
 fn is_printed(line: &str) -> bool {
@@ -101,7 +102,7 @@ impl Story {
 pub fn read_story(alloc: Global, text: &str) -> io::Result<Story> {
     let whole = in_full(alloc, text)?;
     let mut story = Story {
-        words: "simulate".to_string(alloc)?,
+        words: String::new(alloc),
         is_at_opening: false,
         changes: String::new(alloc),
         script: String::new(alloc),

@@ -1,6 +1,7 @@
 //! The files that a program is called with, each of which says in its first line what it has.
 use crate::again;
 use crate::count::Count;
+use std::net::Net;
 use std::process::ExitCode;
 use std::rt::{Env, Files};
 use std::{env, fs, io};
@@ -8,11 +9,15 @@ use std::{env, fs, io};
 /// The kinds of tales that a program knows.
 pub trait Kinds {
     /// Tells a text of this kind; nothing where that is none of these kinds.
-    fn told<R: AllocGlobal + Print>(rt: &R, kind: &str, text: &str) -> io::Result<Option<Count>>;
+    fn told<R: AllocGlobal + Net + Print>(
+        rt: &R,
+        kind: &str,
+        text: &str,
+    ) -> io::Result<Option<Count>>;
 }
 
 // Tells a file by what its first line says that it has.
-fn told<K: Kinds, R: AllocGlobal + Print>(rt: &R, text: &str) -> io::Result<Count> {
+fn told<K: Kinds, R: AllocGlobal + Net + Print>(rt: &R, text: &str) -> io::Result<Count> {
     let (kind, rest) = text.split_once('\n').unwrap_or((text, ""));
     if let Some(count) = K::told(rt, kind, rest)? {
         return Ok(count);
@@ -22,7 +27,7 @@ fn told<K: Kinds, R: AllocGlobal + Print>(rt: &R, text: &str) -> io::Result<Coun
 }
 
 // Tells the files, and says of each how many cases it has.
-fn told_all<K: Kinds, R: AllocGlobal + Print + Files + Env>(rt: &R) -> io::Result<Count> {
+fn told_all<K: Kinds, R: AllocGlobal + Env + Files + Net + Print>(rt: &R) -> io::Result<Count> {
     let mut all = Count::nothing();
     for name in again!(env::args(rt))?.skip(1) {
         let text = again!(fs::read_to_string(rt, name.as_str()))?;
@@ -34,7 +39,7 @@ fn told_all<K: Kinds, R: AllocGlobal + Print + Files + Env>(rt: &R) -> io::Resul
 }
 
 /// Tells the files that the program's words name, and says at the end how many cases they have.
-pub fn play<K: Kinds, R: AllocGlobal + Print + Files + Env>(rt: &R) -> io::Result<ExitCode> {
+pub fn play<K: Kinds, R: AllocGlobal + Env + Files + Net + Print>(rt: &R) -> io::Result<ExitCode> {
     let Count { cases, wrong } = told_all::<K, R>(rt)?;
     if wrong > 0 {
         println!(rt; "{wrong} of {cases} cases aren't told as they happen")?;

@@ -1,5 +1,5 @@
 //! Worked examples of edges, as theorems: an answer to a line that isn't the first, what K confirms, answers that
-//! don't fit, what finds no room, and how much may fall due at one moment.
+//! don't fit, what finds no room, what shares a datagram, and how much may fall due at one moment.
 #![tactic(auto, unfolding(crate::proofs::Computing::on_examples))]
 
 ghost use Rattle.std.specs.Prelude.{◌≡◌, ◌++◌, codes, [], ◌∷◌, replicate, true, false, None, Some, Ok, Err};
@@ -12,6 +12,7 @@ ghost use Rattle.command_forms.specs.declared.forms.Audit.{Audit};
 ghost use Rattle.history.specs.Looking.{full};
 ghost use Rattle.mg_line.specs.declared.phone.Act.TheVariants as acts;
 ghost use Rattle.plain_machine.specs.Event.{phone};
+ghost use Rattle.plain_machine.specs.Packing.{packed, messages_in};
 ghost use Rattle.plain_machine.specs.Machine.{opening, opening_endpoints, with_own, idle};
 ghost use Rattle.plain_machine.specs.Done.{only_answer};
 ghost use Rattle.plain_machine.specs.Connecting.{counts_param, nothing_shown};
@@ -23,7 +24,7 @@ ghost use Rattle.plain_machine.specs.Responding.{asks_for_acknowledgement};
 ghost use Rattle.plain_machine.specs.Answering.{transaction, transacted_by};
 ghost use Rattle.plain_machine.specs.Lists.{outputs_of};
 ghost use Rattle.plain_machine.specs.Example.{example, agent, audit, from_agent, one_answer, to_agent_at, rqnt, sends, ntfy, lifted_on_2, response, stations, busiest, wide, ready_endpoints, machine_at, busiest_own};
-ghost use Rattle.plain_machine.specs.Example.{requesting_nothing, holding, first_connection};
+ghost use Rattle.plain_machine.specs.Example.{requesting_nothing, holding, first_connection, other_host, to_agent, to_other_at};
 
 /// The answer to a line's command lets that line go on, under its own ids, whichever it is.
 pub fn an_answer_is_for_its_line()
@@ -117,4 +118,26 @@ pub fn some_deeds_tell_of_no_connection()
     ensures no_line { let deleting = deeds.Delete (deletions.One (codes "1a") (codes "1")) in
         let line = holding (Some first_connection ∷ replicate 3 None) in
         shown_of (stations (line ∷ [])) (One 2) (record (requesting_nothing None) { connections = deleting }) ≡ nothing_shown }
+{}
+
+/// Successive messages share a datagram of 4,000 bytes at most, in their order, where both their address and their moment
+/// are the same.
+pub fn successive_messages_share_a_datagram()
+    ensures three { packed (to_agent_at 5 (codes "a\n") ∷ to_agent_at 5 (codes "b\n") ∷ to_agent_at 5 (codes "c\n") ∷ [])
+        ≡ to_agent_at 5 (codes "a\n.\r\nb\n.\r\nc\n") ∷ [] }
+    ensures none { packed [] ≡ [] }
+    ensures other_moment { packed (to_agent_at 5 (codes "a\n") ∷ to_agent_at 6 (codes "b\n") ∷ [])
+        ≡ to_agent_at 5 (codes "a\n") ∷ to_agent_at 6 (codes "b\n") ∷ [] }
+    ensures other_host { packed (to_agent (codes "a\n") ∷ (record { to = record agent { ip = other_host }; moment = 0; bytes = codes "b\n" }) ∷ [])
+        ≡ to_agent (codes "a\n") ∷ (record { to = record agent { ip = other_host }; moment = 0; bytes = codes "b\n" }) ∷ [] }
+    ensures other_port { packed (to_agent (codes "a\n") ∷ (record { to = record agent { port = 2728 }; moment = 0; bytes = codes "b\n" }) ∷ [])
+        ≡ to_agent (codes "a\n") ∷ (record { to = record agent { port = 2728 }; moment = 0; bytes = codes "b\n" }) ∷ [] }
+    ensures successive { packed (to_agent (codes "a\n") ∷ to_other_at 0 (codes "b\n") ∷ to_agent (codes "c\n") ∷ [])
+        ≡ to_agent (codes "a\n") ∷ to_other_at 0 (codes "b\n") ∷ to_agent (codes "c\n") ∷ [] }
+    ensures longest { packed (to_agent (replicate 1998 10) ∷ to_agent (replicate 1999 10) ∷ [])
+        ≡ to_agent (replicate 1998 10 ++ codes ".\r\n" ++ replicate 1999 10) ∷ [] }
+    ensures too_long { packed (to_agent (replicate 1999 10) ∷ to_agent (replicate 1999 10) ∷ to_agent (codes "c\n") ∷ [])
+        ≡ to_agent (replicate 1999 10) ∷ to_agent (replicate 1999 10 ++ codes ".\r\nc\n") ∷ [] }
+    ensures taken_apart { messages_in (to_other_at 7 (codes "a\n.\r\nb\n"))
+        ≡ to_other_at 7 (codes "a\n") ∷ to_other_at 7 (codes "b\n") ∷ [] }
 {}

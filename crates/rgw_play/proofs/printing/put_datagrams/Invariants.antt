@@ -4,7 +4,7 @@ use Rattle.rgw_play.specs.Printing.{printed_datagram}
 use Rattle.rgw_play.proofs.printing.put_datagrams.Given as goal
 
 abbrev pub invariant-loop-datagram : goal.invariant-loop-datagram
-invariant-loop-datagram l = record {
+invariant-loop-datagram g l = record {
   grows : length l.fn.out.items ≤ length l.out.items;
   ok : l.out.items ++ flat_map printed_datagram (drop l.datagram-index l.datagrams) ≡ l.fn.out.items ++ flat_map printed_datagram l.datagrams;
 }

@@ -5,4 +5,4 @@ use Rattle.rgw_play.proofs.player.Player.send.Goals as goal
 
 pub returns-clause-printed : goal.returns-clause-printed
 unfolding printed is_refused
-returns-clause-printed c = prints_one _ _ (sends c.args.outputs.now) (rw c.as_slice.ensures at c.in_ok-put_datagrams.ensures.ok) (sym (add-zero c.args.self.now.refused))
+returns-clause-printed g c = prints_one _ _ (sends c.args.outputs.now) (rw c.as_slice.ensures at c.in_ok-put_datagrams.ensures.ok) (sym (add-zero c.args.self.now.refused))

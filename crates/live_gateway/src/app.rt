@@ -1,0 +1,190 @@
+//! The program: reads its words and its configuration, opens its sockets, and serves.
+use crate::clock::LiveClock;
+use crate::ending::Ending;
+use crate::journal::Journal;
+use crate::live_wire::{Ends, LiveWire};
+use crate::message_tally::MessageTally;
+use crate::report::report;
+use crate::session::serve;
+use crate::telephones::Telephones;
+use crate::trace::{Trace, TraceState};
+use crate::words::{Settings, WordFault, read_words};
+use gateway_core::Gateway;
+use rgw_play::{LIMIT, PlayFault, gateway_of, read_limited};
+use std::alloc::Global;
+use std::fs::File;
+use std::io::ErrorKind;
+use std::net::{Net, SocketAddrV4, UdpSocket};
+use std::rt::{Clock, Env, Files};
+use std::{env, io};
+
+// The number of the fault that a configuration can't be read.
+const BAD_TOML: u8 = 7;
+
+// The program's words, of which the first is its name.
+fn words_of<R: AllocGlobal + Env>(rt: &R) -> Result<Vec<String>, WordFault> {
+    match env::args(rt) {
+        Ok(args) => match args.collect::<Vec<String>>(rt.alloc()) {
+            Ok(words) => Ok(words),
+            Err(_) => Err(WordFault::OutOfMemory),
+        },
+        Err(e) if e.kind() == ErrorKind::OutOfMemory => Err(WordFault::OutOfMemory),
+        Err(_) => Err(WordFault::Usage),
+    }
+}
+
+// What went wrong with the file of the configuration.
+fn file_ending(file: &str, fault: PlayFault) -> Ending<'_> {
+    match fault {
+        PlayFault::OutOfMemory => Ending::OutOfMemory,
+        PlayFault::Config { number } => Ending::Config { file, number },
+        PlayFault::Read | PlayFault::Write | PlayFault::Script { .. } => {
+            Ending::Unreadable { file }
+        }
+    }
+}
+
+// The text of the configuration.
+fn config_text<'a, R: Files>(rt: &R, alloc: Global, file: &'a str) -> Result<Vec<u8>, Ending<'a>> {
+    let mut reader = match File::open(rt, file) {
+        Ok(reader) => reader,
+        Err(e) if e.kind() == ErrorKind::OutOfMemory => return Err(Ending::OutOfMemory),
+        Err(_) => return Err(Ending::Unreadable { file }),
+    };
+    let text = match read_limited(alloc, &mut reader) {
+        Ok(text) => text,
+        Err(fault) => return Err(file_ending(file, fault)),
+    };
+    if text.len() > LIMIT {
+        return Err(Ending::Config {
+            file,
+            number: BAD_TOML,
+        });
+    }
+    Ok(text)
+}
+
+// What went wrong with a socket.
+fn socket_ending<'a>(word: &'static str, address: SocketAddrV4, fault: &io::Error) -> Ending<'a> {
+    match fault.kind() {
+        ErrorKind::OutOfMemory => Ending::OutOfMemory,
+        _ => Ending::Unbound { word, address },
+    }
+}
+
+// The sockets and the clock.
+fn open_ends<'a, 'w, R: Net + Clock>(
+    rt: &'a R,
+    alloc: Global,
+    settings: &Settings<'w>,
+) -> Result<Ends<'a, R>, Ending<'w>> {
+    let listen = settings.listen;
+    let phones = settings.phones;
+    let socket = match UdpSocket::bind(rt, listen) {
+        Ok(socket) => socket,
+        Err(e) => return Err(socket_ending("--listen", listen, &e)),
+    };
+    let telephones = match Telephones::open(rt, alloc, phones) {
+        Ok(telephones) => telephones,
+        Err(e) => return Err(socket_ending("--phones", phones, &e)),
+    };
+    let Ok(clock) = LiveClock::start(rt) else {
+        return Err(Ending::Clock);
+    };
+    match Ends::new(socket, telephones, clock, settings.stop_after) {
+        Ok(ends) => Ok(ends),
+        Err(e) => Err(socket_ending("--listen", listen, &e)),
+    }
+}
+
+// Says on standard error where the sockets are.
+fn tell_addresses<R: Net + Clock + Eprint>(rt: &R, ends: &Ends<'_, R>) -> io::Result<()> {
+    let listen = ends.socket.local_addr()?;
+    let phones = ends.telephones.address()?;
+    eprintln!(rt; "listen {listen} phones {phones}")
+}
+
+// How a trace that stands so ends the program.
+fn trace_ending<'a>(state: TraceState) -> Ending<'a> {
+    match state {
+        TraceState::Off | TraceState::On => Ending::Served,
+        TraceState::OutOfMemory => Ending::OutOfMemory,
+        TraceState::Write => Ending::Write,
+    }
+}
+
+// Serves until the end, and says on standard error what was counted.
+fn serve_wire<'w, R: Net + Clock + Print + Eprint>(
+    rt: &R,
+    alloc: Global,
+    gateway: &mut Gateway,
+    wire: &mut LiveWire<'_, R>,
+) -> Ending<'w> {
+    let faults = serve(rt, alloc, gateway, wire);
+    wire.journal.trace.end();
+    wire.journal.trace.write(rt);
+    let Ok(counts) = report(alloc, gateway, &wire.journal.tally, faults) else {
+        return Ending::OutOfMemory;
+    };
+    // Nobody is left who could be told that standard error failed.
+    let _ = eprint!(rt; "{counts}");
+    trace_ending(wire.journal.trace.state())
+}
+
+// Does what the words ask.
+fn perform<'w, R: AllocGlobal + Files + Net + Clock + Print + Eprint>(
+    rt: &R,
+    alloc: Global,
+    words: &'w [String],
+) -> Result<Ending<'w>, Ending<'w>> {
+    let settings = match read_words(alloc, words) {
+        Ok(settings) => settings,
+        Err(fault) => return Err(Ending::from(fault)),
+    };
+    let text = config_text(rt, alloc, settings.config)?;
+    let mut gateway = match gateway_of(alloc, text.as_slice()) {
+        Ok(gateway) => gateway,
+        Err(fault) => return Err(file_ending(settings.config, fault)),
+    };
+    let Ok(tally) = MessageTally::new(alloc) else {
+        return Err(Ending::OutOfMemory);
+    };
+    let mut trace = Trace::new(alloc, settings.trace);
+    trace.begin(text.as_slice());
+    let ends = open_ends(rt, alloc, &settings)?;
+    let _ = tell_addresses(rt, &ends);
+    trace.write(rt);
+    let journal = Journal {
+        tally,
+        trace,
+        given: None,
+    };
+    let mut wire = LiveWire::new(ends, journal);
+    Ok(serve_wire(rt, alloc, &mut gateway, &mut wire))
+}
+
+// How the program with these words ends.
+fn ending_of<'w, R: AllocGlobal + Files + Net + Clock + Print + Eprint>(
+    rt: &R,
+    words: &'w [String],
+) -> Ending<'w> {
+    match perform(rt, rt.alloc(), words) {
+        Ok(ending) => ending,
+        Err(ending) => ending,
+    }
+}
+
+// Says on standard error how the program ended, unless all went well.
+fn tell<R: Eprint>(rt: &R, ending: Ending<'_>) -> u8 {
+    // Nobody is left who could be told that standard error failed.
+    let _ = eprint!(rt; "{ending}");
+    ending.status()
+}
+
+/// Runs the program, and gives its exit status.
+pub fn run<R: AllocGlobal + Env + Files + Net + Clock + Print + Eprint>(rt: &R) -> u8 {
+    match words_of(rt) {
+        Ok(words) => tell(rt, ending_of(rt, words.as_slice())),
+        Err(fault) => tell(rt, Ending::from(fault)),
+    }
+}

@@ -1,0 +1,86 @@
+//! How the program ends: its status, and its line on standard error.
+use crate::words::WordFault;
+use rgw_play::name_of_config_fault;
+use std::fmt;
+use std::net::SocketAddrV4;
+
+/// How the program ends.
+#[derive(Clone, Copy)]
+pub enum Ending<'a> {
+    /// The gateway served up to the moment that was asked for.
+    Served,
+    /// The words of the command line are other words.
+    Usage,
+    /// What stands behind this word isn't an address.
+    BadAddress {
+        word: &'static str,
+    },
+    /// The configuration in this file has this fault.
+    Config {
+        file: &'a str,
+        number: u8,
+    },
+    /// This file can't be read.
+    Unreadable {
+        file: &'a str,
+    },
+    /// No socket can be had at the address that this word asks for.
+    Unbound {
+        word: &'static str,
+        address: SocketAddrV4,
+    },
+    /// The clock can't be read.
+    Clock,
+    /// The trace can't be written.
+    Write,
+    /// Memory was refused.
+    OutOfMemory,
+}
+
+impl<'a> Ending<'a> {
+    /// The exit status: 0 served, 2 words or a configuration that are refused, 3 memory, a file, a socket or a stream.
+    pub fn status(self) -> u8 {
+        match self {
+            Ending::Served => 0,
+            Ending::Usage | Ending::BadAddress { .. } | Ending::Config { .. } => 2,
+            Ending::Unreadable { .. }
+            | Ending::Unbound { .. }
+            | Ending::Clock
+            | Ending::Write
+            | Ending::OutOfMemory => 3,
+        }
+    }
+}
+
+impl<'a> From<WordFault> for Ending<'a> {
+    fn from(fault: WordFault) -> Ending<'a> {
+        match fault {
+            WordFault::OutOfMemory => Ending::OutOfMemory,
+            WordFault::Usage => Ending::Usage,
+            WordFault::BadAddress { word } => Ending::BadAddress { word },
+        }
+    }
+}
+
+// What is written on standard error: a line, or nothing where the gateway served.
+impl<'a> fmt::Display for Ending<'a> {
+    fn fmt<W: fmt::Write>(&self, f: &mut fmt::Formatter<W>) -> fmt::Result {
+        match *self {
+            Ending::Served => Ok(()),
+            Ending::Usage => writeln!(
+                f,
+                "usage: rgwd CONFIG [--listen ADDRESS] [--phones ADDRESS] [--trace] [--stop-after MS]"
+            ),
+            Ending::BadAddress { word } => writeln!(f, "{word}: no address a.b.c.d:port"),
+            Ending::Config { file, number } => {
+                let name = name_of_config_fault(number);
+                writeln!(f, "{file}: config {number} {name}")
+            }
+            Ending::Unreadable { file } => writeln!(f, "{file}: read fault"),
+            Ending::Unbound { word, address } => writeln!(f, "{word} {address}: no socket"),
+            Ending::Clock => writeln!(f, "clock fault"),
+            Ending::Write => writeln!(f, "write fault"),
+            Ending::OutOfMemory => writeln!(f, "out of memory"),
+        }
+    }
+}

@@ -1,0 +1,22 @@
+//! The gateway on a live network: what the program `rgwd` does.
+//!
+//! A wire of two sockets and the machine's clock gives the gateway its inputs, a turn at a time, and takes its datagrams.
+//! What goes over it is counted, and traced where that is asked for.
+#![tactic(auto)]
+
+mod app;
+mod clock;
+mod ending;
+mod journal;
+mod live_wire;
+mod message_tally;
+mod recent;
+mod report;
+mod session;
+mod telephones;
+mod trace;
+mod words;
+
+pub use crate::app::run;
+pub use crate::ending::Ending;
+pub use crate::words::{Settings, WordFault, read_words};

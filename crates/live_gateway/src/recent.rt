@@ -1,0 +1,37 @@
+//! Which ids were sent first less than half a minute ago.
+use lru::LruCache;
+use std::alloc::{AllocError, Global};
+use std::num::NonZeroUsize;
+
+// How long what is sent with the same id is a repeat, from the first on, in ms (RFC 3435, 3.5.1).
+const REPEAT_TIME: u64 = 30_000;
+
+// So many ids are remembered. A gateway answers no more commands in that time.
+const MOST: usize = 4096;
+
+/// The ids that were sent lately, with the moments of the first sends. The oldest gives way.
+#[derive(Drop)]
+pub struct Recent {
+    firsts: LruCache<u32, u64>,
+}
+
+impl Recent {
+    /// None so far.
+    pub fn new(alloc: Global) -> Result<Recent, AllocError> {
+        let most = NonZeroUsize::new(MOST).unwrap_or(NonZeroUsize::MIN);
+        Ok(Recent {
+            firsts: LruCache::new(alloc, most)?,
+        })
+    }
+
+    /// Something is sent with this id: whether it is a repeat. Where memory is refused it isn't remembered.
+    pub fn is_repeat(&mut self, moment: u64, id: u32) -> bool {
+        if let Some(first) = self.firsts.peek(&id) {
+            if moment.saturating_sub(*first) < REPEAT_TIME {
+                return true;
+            }
+        }
+        let _ = self.firsts.put(id, moment);
+        false
+    }
+}

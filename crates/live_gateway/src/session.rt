@@ -1,0 +1,142 @@
+//! Serves a wire a turn at a time, and answers what is asked of the telephones between the turns.
+ghost use Rattle.std.specs.Prelude.{◌≤◌, ◌↔◌, IsTrue};
+
+use crate::live_wire::LiveWire;
+use crate::report::Faults;
+use crate::telephones::Request;
+use gateway_core::{Gateway, Input, Refusal};
+use mg_bytes::OutOfMemory;
+use mg_line::Act;
+use mg_packages::Hook;
+use rgw_play::{put_line, put_refusal, status_of};
+use std::alloc::Global;
+use std::net::Net;
+use std::rt::Clock;
+
+// The answer to an act that was done.
+const DONE: &[u8] = b"done\n";
+
+// The answer to a line that says nothing that can be done.
+const UNKNOWN: &[u8] = b"? phone LINE off|on|flash|KEY, or show LINE\n";
+
+// The answer where memory is refused for any other.
+const OUT_OF_MEMORY: &[u8] = b"! 1 OutOfMemory\n";
+
+// No datagram asks for more than this.
+const MOST_REQUESTS: u16 = u16::MAX;
+
+fn is_line(gateway: &Gateway, line: u16) -> bool
+    ensures { IsTrue result ↔ ((1 ≤ line) × (line ≤ gateway.now.setup.names.lines)) }
+{
+    1 <= line && line <= gateway.lines()
+}
+
+// Why the gateway refused an act.
+fn refusal_of(gateway: &Gateway, line: u16, act: Act) -> Refusal {
+    if !is_line(gateway, line) {
+        return Refusal::NoSuchLine;
+    }
+    match (gateway.hook(line), act) {
+        (Hook::OnHook, Act::OffHook) => Refusal::OutOfMemory,
+        (Hook::OnHook, _) | (Hook::OffHook, Act::OffHook) => Refusal::PhoneState,
+        (Hook::OffHook, _) => Refusal::OutOfMemory,
+    }
+}
+
+// What a question for a line is answered.
+fn shown(alloc: Global, gateway: &Gateway, line: u16) -> Result<Vec<u8>, OutOfMemory> {
+    let mut text = Vec::new(alloc);
+    if is_line(gateway, line) {
+        put_line(alloc, &mut text, &status_of(gateway, line))?;
+    } else {
+        put_refusal(alloc, &mut text, Refusal::NoSuchLine)?;
+    }
+    Ok(text)
+}
+
+fn refusal_text(alloc: Global, refusal: Refusal) -> Result<Vec<u8>, OutOfMemory> {
+    let mut text = Vec::new(alloc);
+    put_refusal(alloc, &mut text, refusal)?;
+    Ok(text)
+}
+
+impl<'a, R: Net + Clock> LiveWire<'a, R> {
+    // The gateway refused an act: the telephone is told why.
+    fn refuse_act(&mut self, alloc: Global, refusal: Refusal) {
+        if refusal == Refusal::OutOfMemory {
+            self.journal.trace.refused();
+            self.ends.telephones.answer(OUT_OF_MEMORY);
+            return;
+        }
+        match refusal_text(alloc, refusal) {
+            Ok(text) => {
+                self.journal.trace.shown(text.as_slice());
+                self.ends.telephones.answer(text.as_slice());
+            }
+            Err(_) => {
+                self.journal.trace.took();
+                self.ends.telephones.answer(OUT_OF_MEMORY);
+            }
+        }
+    }
+
+    // A turn is over, which was refused or not.
+    fn settle(&mut self, alloc: Global, gateway: &Gateway, is_refused: bool) {
+        self.ends.clock.set(gateway.now());
+        match (self.journal.given, is_refused) {
+            (Some(Input::Phone { line, act }), true) => {
+                self.refuse_act(alloc, refusal_of(gateway, line, act));
+            }
+            (Some(Input::Phone { .. }), false) => {
+                self.journal.trace.took();
+                self.ends.telephones.answer(DONE);
+            }
+            (_, true) => self.journal.trace.refused(),
+            (_, false) => self.journal.trace.took(),
+        }
+    }
+
+    fn answer_question(&mut self, alloc: Global, gateway: &Gateway, line: u16) {
+        match shown(alloc, gateway, line) {
+            Ok(text) => {
+                self.journal.trace.line(self.ends.telephones.line());
+                self.journal.trace.shown(text.as_slice());
+                self.ends.telephones.answer(text.as_slice());
+            }
+            Err(_) => self.ends.telephones.answer(OUT_OF_MEMORY),
+        }
+    }
+
+    // Answers what needs no turn, up to the next act.
+    fn answer_questions(&mut self, alloc: Global, gateway: &Gateway) {
+        for _ in 0..MOST_REQUESTS {
+            match self.ends.telephones.request() {
+                Some(Request::Show { line }) => self.answer_question(alloc, gateway, line),
+                Some(Request::Unknown) => self.ends.telephones.answer(UNKNOWN),
+                Some(Request::OutOfMemory) => self.ends.telephones.answer(OUT_OF_MEMORY),
+                Some(Request::Act { .. }) | None => return,
+            }
+        }
+    }
+}
+
+/// Serves the wire until its end comes, and gives how often something failed.
+pub fn serve<R: Net + Clock + Print>(
+    rt: &R,
+    alloc: Global,
+    gateway: &mut Gateway,
+    wire: &mut LiveWire<'_, R>,
+) -> Faults {
+    let mut faults = Faults::NONE;
+    for _ in 0..u64::MAX {
+        let served = gateway.serve(wire, 1);
+        faults.add(served);
+        if served.ended {
+            return faults;
+        }
+        wire.settle(alloc, gateway, served.refused > 0);
+        wire.answer_questions(alloc, gateway);
+        wire.journal.trace.write(rt);
+    }
+    faults
+}

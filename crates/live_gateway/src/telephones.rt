@@ -1,0 +1,134 @@
+//! The telephones: a socket that takes lines of text, and answers each.
+use mg_bytes::lines;
+use mg_line::Act;
+use rgw_play::{ScriptLine, Step, line_in};
+use std::alloc::Global;
+use std::io;
+use std::net::{Ipv4Addr, Net, SocketAddr, SocketAddrV4, UdpSocket};
+
+// The room for a datagram of lines. What is longer is cut off.
+const ROOM: usize = 4096;
+
+/// What a line asks for.
+#[derive(Clone, Copy)]
+pub enum Request {
+    /// Something is done at the telephone of a line.
+    Act { line: u16, act: Act },
+    /// What a line is, is asked.
+    Show { line: u16 },
+    /// The line says nothing that can be done.
+    Unknown,
+    /// Memory was refused while it was read.
+    OutOfMemory,
+}
+
+/// The telephones' socket, and what is left of the last datagram that came to it.
+#[derive(Drop)]
+pub struct Telephones {
+    alloc: Global,
+    socket: UdpSocket,
+    // Who sent the datagram, its bytes, and how many of them were read.
+    sender: SocketAddr,
+    text: Vec<u8>,
+    read: usize,
+    // The line that is answered next: its bytes, and what it asks for.
+    line: Vec<u8>,
+    request: Option<Request>,
+}
+
+// What a line asks for, if it isn't empty.
+fn request_in(alloc: Global, line: &[u8]) -> Option<Request> {
+    match line_in(alloc, line) {
+        Ok(Some(ScriptLine::Empty)) => None,
+        Ok(
+            Some(
+                ScriptLine::Whole {
+                    step: Step::Phone { line, act },
+                },
+            ),
+        ) => Some(Request::Act { line, act }),
+        Ok(
+            Some(
+                ScriptLine::Whole {
+                    step: Step::Show { line },
+                },
+            ),
+        ) => Some(Request::Show { line }),
+        Ok(_) => Some(Request::Unknown),
+        Err(_) => Some(Request::OutOfMemory),
+    }
+}
+
+impl Telephones {
+    /// A socket at this address.
+    pub fn open<R: Net>(rt: &R, alloc: Global, address: SocketAddrV4) -> io::Result<Telephones> {
+        let socket = UdpSocket::bind(rt, address)?;
+        socket.set_nonblocking(true)?;
+        Ok(Telephones {
+            alloc,
+            socket,
+            sender: SocketAddr::V4(SocketAddrV4::new(Ipv4Addr::LOCALHOST, 0)),
+            text: Vec::new(alloc),
+            read: 0,
+            line: Vec::new(alloc),
+            request: None,
+        })
+    }
+
+    /// The address of its socket.
+    pub fn address(&self) -> io::Result<SocketAddr> {
+        self.socket.local_addr()
+    }
+
+    /// What is asked for next, of what came.
+    pub fn request(&self) -> Option<Request> {
+        self.request
+    }
+
+    /// The line that asks for it, without its end.
+    pub fn line(&self) -> &[u8] {
+        self.line.as_slice()
+    }
+
+    // The next line that isn't empty is asked next.
+    fn advance(&mut self) {
+        self.request = None;
+        let text = self.text.get(self.read..).unwrap_or(&[]);
+        let mut rest = lines(text);
+        while let Some(line) = rest.next() {
+            self.read = self.text.len().saturating_sub(rest.rest().len());
+            if let Some(request) = request_in(self.alloc, line) {
+                self.line.clear();
+                self.request = match self.line.extend_from_slice(line) {
+                    Ok(()) => Some(request),
+                    Err(_) => Some(Request::OutOfMemory),
+                };
+                return;
+            }
+        }
+    }
+
+    /// Takes a datagram, where one has come and nothing is left of the one before.
+    pub fn look(&mut self) {
+        if self.request.is_some() {
+            return;
+        }
+        let mut room = [0u8; ROOM];
+        let Ok((len, sender)) = self.socket.recv_from(&mut room) else {
+            return;
+        };
+        self.sender = sender;
+        self.text.clear();
+        self.read = 0;
+        match self.text.extend_from_slice(&room[..len]) {
+            Ok(()) => self.advance(),
+            Err(_) => self.request = Some(Request::OutOfMemory),
+        }
+    }
+
+    /// Answers what is asked for, and goes on to the next. Where the answer can't be sent it is lost.
+    pub fn answer(&mut self, answer: &[u8]) {
+        let _ = self.socket.send_to(answer, self.sender);
+        self.advance();
+    }
+}

@@ -1,0 +1,110 @@
+//! What is said of commands in flight and of announcements (RFC 3435, 3.5, 4.4.1, 4.4.6 and 4.4.7), as theorems.
+#![tactic(auto, unfolding(crate::proofs::Computing::on_examples))]
+
+ghost use Rattle.std.specs.Prelude.{codes, [], ◌∷◌, None, Some, false, true};
+ghost use Rattle.outbound.specs.Flight.{begun};
+ghost use Rattle.mg_line.specs.declared.state.State.TheVariants.{Normal, Notification, Lockstep};
+ghost use Rattle.restart.specs.declared.restart.Restart.TheVariants.{Waiting, Announced, Serving};
+ghost use Rattle.plain_machine.specs.Message.{resent};
+ghost use Rattle.plain_machine.specs.Notifying.{silent};
+ghost use Rattle.plain_machine.specs.Flights.{Waits, HasOwnId, InOrderBy, IsInOrder, OwnInOrderBy, OwnIsInOrder, IsClosed, InOrderWhile, AreInOrder, BeginsNothing, IsSame, Carries};
+ghost use Rattle.plain_machine.specs.Machine.{opening_station, opening_own, with_own};
+ghost use Rattle.plain_machine.specs.Example.{example, agent, other_agent, announced, announced_under, announcing, lifted, own_at, flying, ending, waiting, ready_own, ready_post, ready_station, lost_station, stations, stations_announcing, disconnected};
+
+/// While a command of a line is in flight, under an id of that line, the line waits for the answer.
+pub fn a_line_waits_while_its_command_flies()
+    ensures flies { Waits 1 (record (lost_station 6000) { post = flying 1 10000000 lifted (Some 1500) }) }
+    ensures greatest { Waits 1 (record (lost_station 6000) { post = flying 0 19999999 lifted (Some 1500) }) }
+    ensures normal { Waits 1 (ending None [] (Some 1500)) → ⊥ }
+    ensures of_another { Waits 2 (record (lost_station 6000) { post = flying 1 10000000 lifted (Some 1500) }) → ⊥ }
+    ensures nothing { Waits 1 (ready_station example 1) }
+{}
+
+/// What the gateway itself has in flight is under an id of its own.
+pub fn the_gateway_has_ids_of_its_own()
+    ensures own { HasOwnId (announcing (Some 1500)) }
+    ensures greatest { HasOwnId (record { post = flying 1 9999999 (announced_under 9999999) (Some 1500) }) }
+    ensures of_a_line { HasOwnId (record { post = flying 2 10000000 lifted (Some 1500) }) → ⊥ }
+    ensures nothing { HasOwnId (announcing None) }
+{}
+
+/// While the announcement of a line waits nothing is in flight, and the line waits; while it is on its way it is in flight.
+/// Otherwise the line waits where something is in flight.
+pub fn what_is_in_flight_of_a_line_agrees_with_its_announcement()
+    ensures waits { InOrderBy (Waiting 6000) 1 None Notification }
+    ensures waits_normal { InOrderBy (Waiting 6000) 1 None Normal → ⊥ }
+    ensures waits_with { InOrderBy (Waiting 6000) 1 (Some (begun 10000000 agent lifted 1000)) Notification → ⊥ }
+    ensures announced { InOrderBy Announced 1 (Some (begun 10000001 agent lifted 1000)) Notification }
+    ensures announced_normal { InOrderBy Announced 1 (Some (begun 10000001 agent lifted 1000)) Normal → ⊥ }
+    ensures announced_without { InOrderBy Announced 1 None Notification → ⊥ }
+    ensures announced_by_another { InOrderBy Announced 2 (Some (begun 10000001 agent lifted 1000)) Notification → ⊥ }
+    ensures serves { InOrderBy Serving 1 (Some (begun 10000000 agent lifted 1000)) Notification }
+    ensures serves_normal { InOrderBy Serving 1 None Normal }
+    ensures serves_in_lockstep { InOrderBy Serving 1 (Some (begun 10000000 agent lifted 1000)) Lockstep → ⊥ }
+    ensures serves_another { InOrderBy Serving 2 (Some (begun 10000000 agent lifted 1000)) Notification → ⊥ }
+    ensures station { IsInOrder 1 (lost_station 6000) }
+    ensures station_with { IsInOrder 1 (waiting 6000 (record (lost_station 6000) { post = flying 1 10000000 lifted (Some 1500) })) → ⊥ }
+    ensures station_normal { IsInOrder 1 (waiting 6000 (ready_station example 1)) → ⊥ }
+{}
+
+/// The gateway itself sends nothing but announcements.
+pub fn what_is_in_flight_of_the_gateway_is_its_announcement()
+    ensures waits { OwnInOrderBy (Waiting 1) None }
+    ensures waits_with { OwnInOrderBy (Waiting 1) (Some (begun 1 agent announced 1000)) → ⊥ }
+    ensures announced { OwnInOrderBy Announced (Some (begun 1 agent announced 1000)) }
+    ensures announced_without { OwnInOrderBy Announced None → ⊥ }
+    ensures announced_by_a_line { OwnInOrderBy Announced (Some (begun 10000001 agent (disconnected 10000001) 1000)) → ⊥ }
+    ensures serves { OwnInOrderBy Serving None }
+    ensures serves_with { OwnInOrderBy Serving (Some (begun 1 agent announced 1000)) → ⊥ }
+    ensures opening { OwnIsInOrder (opening_own example) }
+    ensures flies { OwnIsInOrder (announcing (Some 1500)) }
+    ensures still_flies { OwnIsInOrder (record { post = flying 2 1 announced (Some 1500) }) → ⊥ }
+{}
+
+/// Until the gateway serves its lines are closed, and from then on in order.
+pub fn lines_are_closed_until_the_gateway_serves()
+    ensures opening { IsClosed (opening_station example 1) }
+    ensures waits { IsClosed (waiting 6000 (opening_station example 1)) → ⊥ }
+    ensures flies { IsClosed (record (opening_station example 1) { post = flying 1 10000000 lifted (Some 1500) }) → ⊥ }
+    ensures open { IsClosed (ready_station example 1) → ⊥ }
+    ensures lost { InOrderWhile true 1 (lost_station 6000) }
+    ensures ready { InOrderWhile true 1 (ready_station example 1) }
+    ensures flies_normal { InOrderWhile true 1 (ending None [] (Some 1500)) → ⊥ }
+    ensures closed { InOrderWhile false 1 (opening_station example 1) }
+    ensures not_closed { InOrderWhile false 1 (ready_station example 1) → ⊥ }
+    ensures not_lost { InOrderWhile false 1 (lost_station 6000) → ⊥ }
+{}
+
+/// Endpoints are in order where the gateway itself is, and each of its lines.
+pub fn each_line_has_its_order()
+    ensures own { AreInOrder (with_own (stations []) (record { post = flying 2 1 announced (Some 1500) })) → ⊥ }
+    ensures line { AreInOrder (stations (ready_station example 1 ∷ ending None [] (Some 1500) ∷ [])) → ⊥ }
+    ensures open { AreInOrder (stations_announcing (ready_station example 1 ∷ [])) → ⊥ }
+{}
+
+/// A line begins nothing where its command in flight, if there is one, stays, and nothing is sent.
+pub fn a_line_may_begin_nothing()
+    ensures stays { BeginsNothing (ending None [] (Some 1500)) (silent (ending (Some 5000) [] (Some 1500))) }
+    ensures answered { BeginsNothing (ending None [] (Some 1500)) (silent (ready_station example 1)) → ⊥ }
+    ensures begins { BeginsNothing (ready_station example 1) (silent (ending None [] (Some 1500))) → ⊥ }
+    ensures sends { BeginsNothing (ending None [] (Some 1500))
+        (record { station = ending None [] (Some 1500); sent = own_at 1 1500 (resent lifted) ∷ [] }) → ⊥ }
+{}
+
+/// A message is the same where its id, its address and its bytes are, whenever it was sent and is due again.
+pub fn a_message_stays_the_same()
+    ensures same { IsSame (begun 10000000 agent lifted 1000)
+        (record { id = 10000000; to = agent; text = lifted; first = 1000; repeats = 1; due = 2500 }) }
+    ensures other_id { IsSame (begun 10000000 agent lifted 1000) (begun 10000001 agent lifted 1000) → ⊥ }
+    ensures other_address { IsSame (begun 10000000 agent lifted 1000) (begun 10000000 other_agent lifted 1000) → ⊥ }
+    ensures other_text { IsSame (begun 10000000 agent lifted 1000) (begun 10000000 agent announced 1000) → ⊥ }
+{}
+
+/// What is sent is a message in flight where it goes to its address, has its bytes and is a command of that line's own.
+pub fn what_is_sent_is_in_flight()
+    ensures carries { Carries 1 (begun 10000000 agent lifted 1000) (own_at 1 1500 (resent lifted)) }
+    ensures of_the_gateway { Carries 0 (begun 1 agent announced 1000) (own_at 0 1500 (resent announced)) }
+    ensures other_address { Carries 1 (begun 10000000 other_agent lifted 1000) (own_at 1 1500 (resent lifted)) → ⊥ }
+    ensures other_text { Carries 1 (begun 10000000 agent lifted 1000) (own_at 1 1500 (resent announced)) → ⊥ }
+    ensures other_line { Carries 1 (begun 10000000 agent lifted 1000) (own_at 2 1500 (resent lifted)) → ⊥ }
+{}

@@ -1,0 +1,8 @@
+//! The program `rgwd`.
+#![tactic(auto)]
+
+use std::process::ExitCode;
+
+fn main(rt: HostRuntime) -> ExitCode {
+    ExitCode::from(live_gateway::run(&rt))
+}
