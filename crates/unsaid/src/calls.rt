@@ -6,13 +6,12 @@ use std::alloc::Global;
 use std::net::{Ipv4Addr, SocketAddrV4};
 use std::test::Fail;
 
-/// Bytes as a text.
-pub fn text(alloc: Global, bytes: &[u8]) -> Result<Text, OutOfMemory> {
+fn text(alloc: Global, bytes: &[u8]) -> Result<Text, OutOfMemory> {
     Ok(Text::of(Vec::from_slice(alloc, bytes)?))
 }
 
-/// The gateway of the example's configuration.
-pub fn opened(alloc: Global) -> Result<Gateway, ConfigFault> {
+// The gateway of the example's configuration.
+fn opened(alloc: Global) -> Result<Gateway, ConfigFault> {
     let mut names = Sequence::new(alloc);
     names.push(NamedAddress {
         name: text(alloc, b"ca.example.net")?,

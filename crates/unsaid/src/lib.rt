@@ -7,8 +7,4 @@ mod calls;
 #[cfg(test)]
 mod lists;
 #[cfg(test)]
-mod serving;
-#[cfg(test)]
-mod sockets;
-#[cfg(test)]
 mod streams;
