@@ -5,19 +5,7 @@ use rgw_cli::{Ending, asked, perform, simulate};
 use std::alloc::Global;
 use std::io::{self, Write};
 use std::net::Net;
-use tales::value_of;
-
-// The configuration that every story has but for its changes.
-const SETTINGS: &str = "domain = \"rgw.example.net\"
-lines = 16
-agent = \"ca@ca.example.net\"
-restart_wait = 1
-disconnected_wait = 5000
-media_address = \"127.0.0.1\"
-media_base = 3000
-[names]
-\"ca.example.net\" = \"127.0.0.1\"
-";
+use tales::{SETTINGS, value_of};
 
 // The first word of a line of the settings.
 fn key_of(line: &str) -> &str {

@@ -10,6 +10,7 @@ mod again;
 mod count;
 mod files;
 mod rows;
+mod settings;
 mod texts;
 mod turns;
 
@@ -17,5 +18,6 @@ pub use crate::again::refused;
 pub use crate::count::Count;
 pub use crate::files::{Kinds, play};
 pub use crate::rows::{Tale, told};
+pub use crate::settings::SETTINGS;
 pub use crate::texts::{bytes_of, in_full, or_none, put_piece, said, value_of, yes_or_no};
 pub use crate::turns::{code_text, no_such_row, unless_said};

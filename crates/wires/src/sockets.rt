@@ -1,0 +1,108 @@
+//! A gateway that is served over a UDP socket, with the call agent's in the same process.
+//!
+//! Under a title stand rows of two fields, two blanks apart: a datagram that the agent sends before a turn is served, and
+//! what it gets then.
+//!
+//! - `AUEP 1200 aaln/1@~¶  200 1200 OK¶` an answer;
+//! - `200 7 OK¶  none` nothing;
+//! - `''  fault: 1 not received, 0 not sent` nothing is sent, so the turn is a fault; so many the socket has counted so far.
+use crate::gateways::usual_gateway;
+use gateway_core::Gateway;
+use rgw_play::UdpWire;
+use std::alloc::Global;
+use std::io;
+use std::net::{Ipv4Addr, Net, SocketAddrV4, UdpSocket};
+use std::time::Duration;
+use tales::{Count, bytes_of, in_full, said};
+
+// For how long each socket waits for a datagram, in ms. What was sent on the loopback is there at once.
+const LONGEST_WAIT: u64 = 200;
+
+// Both ends: a gateway with its socket, and the agent's socket.
+#[derive(Drop)]
+struct Ends {
+    gateway: Gateway,
+    wire: UdpWire,
+    agent: UdpSocket,
+}
+
+// Both ends, each at a free port of this host.
+fn both_ends<R: AllocGlobal + Net>(rt: &R) -> io::Result<Ends> {
+    let any = SocketAddrV4::new(Ipv4Addr::LOCALHOST, 0);
+    let wait = Duration::from_millis(LONGEST_WAIT);
+    let gateway = usual_gateway(rt.alloc())?;
+    let wire = UdpWire::bind(rt, any, wait)?;
+    let agent = UdpSocket::bind(rt, any)?;
+    agent.set_read_timeout(Some(wait))?;
+    agent.connect(wire.address()?)?;
+    Ok(Ends {
+        gateway,
+        wire,
+        agent,
+    })
+}
+
+impl Ends {
+    // What the agent gets.
+    fn received(&self, alloc: Global) -> io::Result<String> {
+        let mut room = [0u8; 4000];
+        match self.agent.recv(&mut room) {
+            Ok(len) => match room.get(..len) {
+                Some(bytes) => said(alloc, bytes),
+                None => Ok("more than there is room for".to_string(alloc)?),
+            },
+            Err(_) => Ok("none".to_string(alloc)?),
+        }
+    }
+
+    fn faults(&self, alloc: Global) -> io::Result<String> {
+        let received = self.wire.receive_faults();
+        let sent = self.wire.send_faults();
+        Ok(format!(in alloc; "fault: {received} not received, {sent} not sent")?)
+    }
+
+    // What comes of a datagram of the agent's, and a turn.
+    fn answer(&mut self, alloc: Global, datagram: &str) -> io::Result<String> {
+        let bytes = bytes_of(alloc, datagram)?;
+        if !bytes.is_empty() {
+            self.agent.send(&bytes)?;
+        }
+        let served = self.gateway.serve(&mut self.wire, 1);
+        if served.receive_faults > 0 {
+            return self.faults(alloc);
+        }
+        self.received(alloc)
+    }
+}
+
+// Whether a row is as it is told. What differs is printed.
+fn is_told<R: AllocGlobal + Print>(
+    rt: &R,
+    ends: &mut Ends,
+    title: &str,
+    row: &str,
+) -> io::Result<bool> {
+    let full = in_full(rt.alloc(), row)?;
+    let (datagram, wanted) = full.as_str().split_once("  ").unwrap_or((row, ""));
+    let given = ends.answer(rt.alloc(), datagram)?;
+    if given.as_str() == wanted {
+        return Ok(true);
+    }
+    println!(rt; "{title}: {row}\n  gives {given}")?;
+    Ok(false)
+}
+
+/// Tells the rows of a file, with two new ends under each title.
+pub fn told<R: AllocGlobal + Net + Print>(rt: &R, text: &str) -> io::Result<Count> {
+    let mut count = Count::nothing();
+    for block in text.split("\n= ").skip(1) {
+        let (title, rows) = block.split_once('\n').unwrap_or((block, ""));
+        let mut ends = both_ends(rt)?;
+        for row in rows.lines() {
+            if !row.is_empty() && !row.starts_with('#') {
+                count.put(is_told(rt, &mut ends, title, row)?);
+            }
+        }
+    }
+    Ok(count)
+}
