@@ -15,7 +15,7 @@ pub or_right : (x y : Bool) → y ≡ true → (x || y) ≡ true
 or_right true y e = refl
 or_right false y e = e
 
-again_rest : (is_letter : Letter → Bool) (rest : List Letter → Bool) (word : List Letter) → rest word ≡ true → letters_again is_letter rest word ≡ true
+pub again_rest : (is_letter : Letter → Bool) (rest : List Letter → Bool) (word : List Letter) → rest word ≡ true → letters_again is_letter rest word ≡ true
 again_rest is_letter rest [] e = e
 again_rest is_letter rest (letter ∷ word) e = rw e refl
 

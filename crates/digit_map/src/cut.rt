@@ -21,7 +21,7 @@ fn split_string(parted: bool, text: &[u8]) -> (&[u8], Option<&[u8]>)
 
 /// The strings of a map that are left. A contract sees their list.
 #[derive(Drop)]
-pub(crate) struct StringsLeft<'a> {
+pub struct StringsLeft<'a> {
     // Whether bars part what is left.
     parted: bool,
     rest: Option<&'a [u8]>,
@@ -68,7 +68,7 @@ fn in_parentheses(text: &[u8]) -> Option<&[u8]>
 
 /// The strings of a map: what bars part in its parentheses, or its text itself where it has none.
 #[tactic(auto, unfolding(crate::specs::Cuts::strings_of))]
-pub(crate) fn strings(map: &[u8]) -> StringsLeft<'_>
+pub fn strings(map: &[u8]) -> StringsLeft<'_>
     ensures { result ≡ strings_of map.now }
 {
     match in_parentheses(map) {
@@ -128,7 +128,7 @@ fn split_position(text: &[u8]) -> Option<(&[u8], &[u8])>
 
 /// The positions of a string that are left, each with its brackets and its dot. A contract sees their list.
 #[derive(Drop)]
-pub(crate) struct PositionsLeft<'a> {
+pub struct PositionsLeft<'a> {
     rest: &'a [u8],
 }
 
@@ -157,8 +157,8 @@ impl<'a> Iterator for PositionsLeft<'a> {
     }
 }
 
-/// The positions of a string.
-pub(crate) fn positions(string: &[u8]) -> PositionsLeft<'_>
+/// The positions of a string, from front to back.
+pub fn positions(string: &[u8]) -> PositionsLeft<'_>
     ensures { result ≡ positions_of string.now }
 {
     PositionsLeft { rest: string }
@@ -166,7 +166,7 @@ pub(crate) fn positions(string: &[u8]) -> PositionsLeft<'_>
 
 /// What may stand at a position: what its brackets have in them, or its byte.
 #[tactic(auto, unfolding(crate::specs::Cuts::set_of))]
-pub(crate) fn set_of(position: &[u8]) -> &[u8]
+pub fn set_of(position: &[u8]) -> &[u8]
     ensures { result.now ≡ set_of position.now }
 {
     let [first, behind @ ..] = position else {

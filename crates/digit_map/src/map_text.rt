@@ -49,7 +49,8 @@ impl MapText {
         self.copy_in(self.alloc)
     }
 
-    pub(crate) fn copy_in(&self, alloc: Global) -> Result<MapText, OutOfMemory>
+    /// An equal map, in memory of this allocator. An error is for want of memory only.
+    pub fn copy_in(&self, alloc: Global) -> Result<MapText, OutOfMemory>
         ensures { IfOk result (λ copy. copy ≡ self.now) }
     {
         Ok(MapText {

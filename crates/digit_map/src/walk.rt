@@ -1,5 +1,5 @@
 //! Letters walked through the positions of a map, from front to back.
-ghost use Rattle.std.specs.Prelude.{◌≡◌, ◌<◌, ◌≤◌, ◌+◌, ◌||◌, ℕ, length, true, false};
+ghost use Rattle.std.specs.Prelude.{◌≡◌, ◌<◌, ◌≤◌, ◌+◌, ◌||◌, ◌∷◌, [], ℕ, length, true, false};
 ghost use Rattle.std.specs.List.{slice_index_or};
 ghost use Rattle.digit_map.specs.Words.{names, is_in_range, has_letter, is_repeated, spells, is_word};
 ghost use Rattle.digit_map.specs.Verdict.{verdict_of};
@@ -40,6 +40,15 @@ pub fn is_in_range(range: &[u8], letter: Letter) -> bool
     false
 }
 
+/// Whether a letter is one of those that a byte by itself stands for, as it does in brackets: `X` for any digit, another
+/// byte for the letter that it is, in any case (RFC 3435, 2.1.5).
+#[tactic(auto, unfolding(crate::specs::Cuts::parts_of))]
+pub fn stands_for(byte: u8, letter: Letter) -> bool
+    ensures { result ≡ is_in_range (byte ∷ []) letter }
+{
+    names(Part::Single(byte), letter)
+}
+
 #[tactic(auto, unfolding(crate::specs::Words::has_letter))]
 fn has_letter(position: &[u8], letter: Letter) -> bool
     ensures { result ≡ has_letter position.now letter }
@@ -47,7 +56,8 @@ fn has_letter(position: &[u8], letter: Letter) -> bool
     is_in_range(set_of(position), letter)
 }
 
-fn is_repeated(position: &[u8]) -> bool
+/// Whether a position has a dot: its letters may come zero or more times (RFC 3435, 2.1.5).
+pub fn is_repeated(position: &[u8]) -> bool
     ensures { result ≡ is_repeated position.now }
 {
     matches!(position, [.., b'.'])

@@ -1,10 +1,10 @@
 -- The texts of a datagram, one after the other.
 use Rattle.std.proofs.Common.{◌≡◌, ℕ, ◌<◌, ◌≤◌, Option, true, false, List, [], ◌∷◌, ◌++◌, length, refl, sym, ◌∙◌, ap, subst, append_assoc, append-nil, arith}
-use Rattle.std.specs.Prelude.{nat_lt, Bool, Result}
-use Rattle.std.specs.Bool.{OnTrue}
+use Rattle.std.specs.Prelude.{nat_lt, if◌then◌else◌, Bool, Result}
+use Rattle.std.specs.Bool.{OnTrue, OnFalse}
 use Rattle.std.specs.declared.alloc.AllocError.{AllocError}
 use Rattle.history.specs.Memory.{most_firsts}
-use Rattle.history.specs.Looking.{Told as Looked, new, look_of}
+use Rattle.history.specs.Looking.{Told as Looked, new, repeat, confirmed, full, look_of}
 use Rattle.mgcp_text.specs.Reading.{message}
 use Rattle.mgcp_text.specs.Writing.{written}
 use Rattle.mgcp_text.specs.Message.{params_in}
@@ -22,14 +22,19 @@ use Rattle.history.specs.declared.span.IdSpan.{IdSpan}
 use Rattle.mgcp_text.specs.Answer.{Answer, response_of}
 use Rattle.mgcp_text.specs.Reading.{read_text}
 use Rattle.plain_machine.specs.declared.setup.Setup.{Setup}
-use Rattle.plain_machine.specs.declared.output.OutDatagram.{OutDatagram}
+use Rattle.transmission.specs.declared.output.OutDatagram.{OutDatagram}
 use Rattle.plain_machine.specs.Message.{datagram_of, datagrams_of}
 use Rattle.plain_machine.specs.Machine.{Machine, Effect, told, serves}
 use Rattle.plain_machine.specs.Done.{Done, only_answer}
 use Rattle.piggyback.specs.Parts.{parts_of}
-use Rattle.plain_machine.specs.Arriving.{texts_of}
-use Rattle.plain_machine.specs.Answering.{line_of_name, spans_of, Transaction, transaction, executed, transacted_by, transacted, transaction_of, handled_as, handled, took_all}
+use Rattle.transmission.specs.Texts.{texts_of}
+use Rattle.transmission.specs.Acknowledging.{asks_for_acknowledgement, acknowledgements, acknowledgement_text}
+use Rattle.transmission.specs.Transacting.{message_to, is_new, answered_again}
+use Rattle.transmission.specs.Confirming.{spans_of}
+use Rattle.plain_machine.specs.Answering.{line_of_name, Transaction, transaction, executed, transacted_by, transacted, transaction_of, handled_as, handled, took_all}
 use Rattle.gateway_floor.specs.Tells.{Goes}
+use Rattle.plain_machine.specs.Responding.{acknowledged}
+use Rattle.plain_machine.specs.Message.{of_none, acknowledgement}
 use Rattle.plain_machine.proofs.EffectLaws.{handled_now}
 use Rattle.gateway_core.specs.declared.state.State.{State}
 use Rattle.gateway_core.specs.State.{machine_in, Went, Does, Happened}
@@ -52,6 +57,31 @@ executed_then was mid is source id line kept confirms done given caused were nex
 } where
   front : ℕ → SocketAddrV4 → ℕ → Answer → OutDatagram
   front id source now a = record { to = source; moment = now; bytes = written (response_of id a) }
+
+-- whether it is new, by what is told of it
+pub told_new : (told : Looked) (source : SocketAddrV4) (now : ℕ) (is : Bool) (were are : List OutDatagram) → is ≡ is_new told → are ≡ were ++ answered_again told source now
+    → OnTrue is ((told ≡ new) × (are ≡ were))
+told_new new source now is were are same sent = rw same (refl, sent ∙ append-nil were)
+told_new (repeat text) source now is were are same sent = rw same tt
+told_new confirmed source now is were are same sent = rw same tt
+told_new full source now is were are same sent = rw same tt
+
+-- another one changes nothing, and a repeat gets the stored answer again
+pub told_other : (was : State) (source : SocketAddrV4) (t : Transaction) (told : Looked) (is : Bool) (were are : List OutDatagram)
+    → is ≡ is_new told → are ≡ were ++ answered_again told source was.clock → OnFalse is (Went (transacted_by told (machine_in was) source t) was was were are)
+told_other was source t new is were are same sent = rw same tt
+told_other was source t (repeat text) is were are same sent = rw same (record { machine = refl; found = refl; sent = sent })
+told_other was source t confirmed is were are same sent = rw same (record { machine = refl; found = refl; sent = sent })
+told_other was source t full is were are same sent = rw same (record { machine = refl; found = refl; sent = sent })
+
+-- the acknowledgements are those of the plain machine
+pub acknowledged_is : (moment : ℕ) (source : SocketAddrV4) (code id : ℕ) (params : List Param)
+    → acknowledgements moment source code id params ≡ datagrams_of (acknowledged moment source code id params)
+acknowledged_is moment source code id params = by_test (asks_for_acknowledgement code params) where
+  by_test : (b : Bool) → (if b then message_to source moment (acknowledgement_text id) ∷ [] else [])
+      ≡ datagrams_of (if b then (record { to = source; moment = moment; owner = of_none; said = acknowledgement (messages.Response 0 id [] []) }) ∷ [] else [])
+  by_test true = refl
+  by_test false = refl
 
 on_true : (b : Bool) (P : Type 0) → b ≡ true → OnTrue b P → P
 on_true true P is p = p

@@ -12,7 +12,7 @@ use Rattle.plain_machine.specs.declared.config.Config.{Config}
 use Rattle.plain_machine.specs.declared.due_item.DueItem.{DueItem}
 use Rattle.plain_machine.specs.declared.setup.Setup.{Setup}
 use Rattle.plain_machine.specs.declared.station.Station.{Station}
-use Rattle.plain_machine.specs.declared.output.OutDatagram.{OutDatagram}
+use Rattle.transmission.specs.declared.output.OutDatagram.{OutDatagram}
 use Rattle.plain_machine.specs.declared.refusal.Refusal.{Refusal}
 use Rattle.plain_machine.specs.declared.refusal.Refusal.TheVariants.{OutOfMemory}
 use Rattle.plain_machine.specs.Setup.{setup_of}
@@ -21,10 +21,10 @@ use Rattle.plain_machine.specs.Message.{datagrams_of}
 use Rattle.plain_machine.specs.Notifying.{noted}
 use Rattle.plain_machine.specs.Machine.{Endpoints, Machine, Effect, Told, told, told_in, station_at, turned_at, on_line, opening_station}
 use Rattle.plain_machine.specs.Acting.{acted_on}
-use Rattle.plain_machine.specs.Arriving.{texts_of}
+use Rattle.transmission.specs.Texts.{texts_of}
 use Rattle.plain_machine.specs.Answering.{took_all}
 use Rattle.plain_machine.specs.Falling.{due_by, is_due, pass}
-use Rattle.plain_machine.specs.Packing.{packed}
+use Rattle.transmission.specs.Packing.{packed}
 use Rattle.plain_machine.specs.Happening.{ticked, effect}
 use Rattle.plain_machine.specs.Refusing.{refusal_of, is_unheeded, takes_none, ends, Ends}
 use Rattle.plain_machine.proofs.FallingLaws.{pass_none}

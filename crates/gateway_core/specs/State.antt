@@ -4,7 +4,7 @@ use Rattle.std.specs.Global.{Vec}
 use Rattle.std.specs.declared.alloc.AllocError.{AllocError}
 use Rattle.history.specs.declared.entry.Entry.{Entry}
 use Rattle.history.specs.Kept.{from_young}
-use Rattle.plain_machine.specs.declared.output.OutDatagram.{OutDatagram}
+use Rattle.transmission.specs.declared.output.OutDatagram.{OutDatagram}
 use Rattle.plain_machine.specs.declared.refusal.Refusal.{Refusal}
 use Rattle.plain_machine.specs.Message.{datagrams_of}
 use Rattle.plain_machine.specs.Packing.{put_out}

@@ -7,7 +7,7 @@ ghost use Rattle.mgcp_text.specs.Confirmation.{k_of};
 ghost use Rattle.history.specs.Memory.{most_firsts};
 ghost use Rattle.history.specs.Looking.{new, look_of};
 ghost use Rattle.piggyback.specs.Parts.{parts_of};
-ghost use Rattle.plain_machine.specs.Arriving.{largest_datagram, texts_of};
+ghost use Rattle.transmission.specs.Texts.{largest_datagram, texts_of};
 ghost use Rattle.std.specs.Result.{result_err};
 ghost use Rattle.plain_machine.specs.Refusing.{ends};
 ghost use Rattle.command_forms.specs.Order.{form_while_in};
@@ -16,30 +16,23 @@ ghost use Rattle.plain_machine.specs.Machine.{serves};
 ghost use Rattle.plain_machine.specs.Done.{only_answer};
 ghost use Rattle.plain_machine.specs.Commanding.{done_by};
 ghost use Rattle.gateway_stations.specs.Telling.{MayTell};
-ghost use Rattle.plain_machine.specs.Answering.{transaction, span_of, spans_of, executed, transacted, refusing, handled, took_all};
+ghost use Rattle.transmission.specs.Confirming.{spans_of};
+ghost use Rattle.plain_machine.specs.Answering.{transaction, executed, transacted, refusing, handled, took_all};
 ghost use Rattle.gateway_core.specs.State.{machine_in, Went, Does, Happens};
 
 use crate::commanding::commanded;
 use crate::responding::respond;
-use crate::sending::{Origin, send_all};
+use crate::sending::send_all;
 use crate::state::State;
-use gateway_stations::{Context, send};
-use history::{IdSpan, Look};
-use mg_bytes::{OutOfMemory, ReturnCode, Sequence, Text};
-use mgcp_text::{Answer, IdRange, KValue, Message, TextFault, read_k, read_message};
+use gateway_stations::Context;
+use history::IdSpan;
+use mg_bytes::{OutOfMemory, ReturnCode, Sequence};
+use mgcp_text::{Answer, Message, TextFault, read_k, read_message};
 use piggyback::parts;
 use plain_machine::{OutDatagram, Refusal};
 use std::alloc::{AllocError, Global};
 use std::net::SocketAddrV4;
-
-/// The largest datagram that is taken, in bytes (RFC 3435, 3.5.4).
-pub(crate) const LARGEST_DATAGRAM: usize = 4000;
-
-fn copy_of(alloc: Global, text: &[u8]) -> Result<Text, OutOfMemory>
-    ensures { IfOk result (λ copy. copy ≡ text.now) }
-{
-    Ok(Text::of(Vec::from_slice(alloc, text)?))
-}
+use transmission::{LARGEST_DATAGRAM, Origin, spans_of};
 
 // The answer to a first is kept, behind what that confirms, and goes to its source.
 #[tactic(auto, unfolding(plain_machine::specs::Answering::executed))]
@@ -55,12 +48,15 @@ fn answer(
         (transaction origin.id line confirms (only_answer state.old.floor.endpoints answer.now)))
         state.old state.new out.old.items out.new.items }
 {
-    let text = answer.text(context.alloc, origin.id)?;
-    let kept = copy_of(context.alloc, text.as_bytes())?;
-    state.history.confirm(confirms)?;
-    state.history.first(origin.id.number(), state.clock, kept)?;
-    send(out, origin.source, state.clock, text)?;
-    Ok(())
+    transmission::answer(
+        context.alloc,
+        &mut state.history,
+        origin,
+        state.clock,
+        confirms,
+        answer,
+        out,
+    )
 }
 
 // Whether a command is new; another one is a repeat, which gets the stored answer again or silence, or is lost.
@@ -76,13 +72,7 @@ fn is_new(
         (Went (transacted (machine_in state.now) origin.source (transaction origin.id line confirms done))
         state.now state.now out.old.items out.new.items)) }
 {
-    let stored = match state.history.look(origin.id.number(), state.clock) {
-        Look::New => return Ok(true),
-        Look::Confirmed | Look::Full => return Ok(false),
-        Look::Repeat(answer) => copy_of(context.alloc, answer.as_bytes())?,
-    };
-    send(out, origin.source, state.clock, stored)?;
-    Ok(false)
+    transmission::is_new(context.alloc, &state.history, origin, state.clock, out)
 }
 
 // A command that this code answers.
@@ -110,29 +100,6 @@ fn refuse(
         out,
     )?;
     Ok(())
-}
-
-fn span_of(range: &IdRange) -> IdSpan
-    ensures { result ≡ span_of range.now }
-{
-    IdSpan {
-        first: range.first.number(),
-        last: range.last.number(),
-    }
-}
-
-// The spans of ids that a readable K names (RFC 3435, 3.2.2.1).
-fn spans_of(alloc: Global, confirms: &KValue) -> Result<Sequence<IdSpan>, OutOfMemory>
-    ensures { IfOk result (λ spans. spans ≡ spans_of confirms.now) }
-{
-    let KValue::Items(ranges) = confirms else {
-        return Ok(Sequence::new(alloc));
-    };
-    let mut spans = Vec::new(alloc);
-    for range in ranges.as_slice() {
-        spans.push(span_of(range))?;
-    }
-    Ok(Sequence::of(spans))
 }
 
 // A command that is a first is executed, and its K is read once: its answer goes out before what lines send because of it.

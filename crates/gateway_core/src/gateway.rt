@@ -64,6 +64,13 @@ impl Gateway {
         })
     }
 
+    /// What it is set up to be.
+    pub fn setup(&self) -> &Setup
+        ensures { result.now ≡ self.now.setup }
+    {
+        &self.setup
+    }
+
     /// How many lines it has.
     pub fn lines(&self) -> u16
         ensures { result ≡ self.now.setup.names.lines }

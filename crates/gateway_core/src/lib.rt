@@ -9,7 +9,6 @@ mod answering;
 mod commanding;
 mod gateway;
 pub mod laws;
-mod packing;
 mod reporting;
 mod responding;
 mod sending;

@@ -1,5 +1,5 @@
 //! What a tick does.
-ghost use Rattle.std.specs.Prelude.{◌≡◌, ◌<◌, ◌^◌, not};
+ghost use Rattle.std.specs.Prelude.{not};
 ghost use Rattle.plain_machine.specs.Falling.{is_due, pass};
 ghost use Rattle.plain_machine.specs.Happening.{ticked};
 ghost use Rattle.std.specs.Result.{result_err};
@@ -10,27 +10,7 @@ ghost use Rattle.gateway_core.specs.State.{machine_in, Happens};
 use crate::state::State;
 use gateway_floor::{is_due, pass};
 use gateway_stations::Context;
-use plain_machine::{OutDatagram, Refusal};
-
-/// Moments are below this (in ms).
-const END_OF_TIME: u64 = 1 << 62;
-
-/// How far a tick may go at once, in ms.
-const LARGEST_TICK: u64 = 1000;
-
-// Why a tick is refused.
-fn tick_refusal(now: u64, moment: u64) -> Option<Refusal>
-    requires { now < 2 ^ 62 }
-    ensures { result ≡ tick_refusal now moment }
-{
-    if moment > now + LARGEST_TICK || moment >= END_OF_TIME {
-        return Some(Refusal::TickTooFar);
-    }
-    if moment < now {
-        return Some(Refusal::ClockBack);
-    }
-    None
-}
+use plain_machine::{OutDatagram, Refusal, tick_refusal};
 
 /// A tick to a moment: what is sent. One up to which nothing is due takes no memory.
 pub(crate) fn tick(

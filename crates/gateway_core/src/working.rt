@@ -10,11 +10,11 @@ ghost use Rattle.gateway_core.specs.State.{machine_in, found_in, purged_in, Happ
 
 use crate::acting::act_on;
 use crate::answering::take_datagram;
-use crate::packing::packed;
 use crate::state::State;
 use crate::ticking::tick;
 use gateway_stations::Context;
 use plain_machine::{Event, OutDatagram, Outputs, Refusal};
+use transmission::packed;
 
 // An event happens, or is refused: what is to be sent.
 #[tactic(auto, unfolding(plain_machine::specs::Happening::effect, plain_machine::specs::Refusing::refusal_of))]

@@ -14,7 +14,7 @@ use Rattle.command_forms.specs.declared.forms.Target.{Target}
 use Rattle.command_forms.specs.Meaning.{is_for}
 use Rattle.plain_machine.specs.declared.own.Own.{Own}
 use Rattle.plain_machine.specs.declared.station.Station.{Station}
-use Rattle.plain_machine.specs.declared.output.OutDatagram.{OutDatagram}
+use Rattle.transmission.specs.declared.output.OutDatagram.{OutDatagram}
 use Rattle.plain_machine.specs.Message.{datagram_of, datagrams_of}
 use Rattle.plain_machine.specs.Notifying.{Turn, silent}
 use Rattle.plain_machine.specs.declared.setup.Setup.{Setup}

@@ -1,7 +1,7 @@
 -- What a rule does to the floor.
 use Rattle.std.specs.Prelude.{◌≡◌, List, ◌++◌, Result, Ok, Err}
 use Rattle.std.specs.declared.alloc.AllocError.{AllocError}
-use Rattle.plain_machine.specs.declared.output.OutDatagram.{OutDatagram}
+use Rattle.transmission.specs.declared.output.OutDatagram.{OutDatagram}
 use Rattle.plain_machine.specs.Message.{datagrams_of}
 use Rattle.plain_machine.specs.Machine.{Told}
 use Rattle.gateway_floor.specs.FloorState.{FloorState}

@@ -12,7 +12,7 @@ use Rattle.plain_machine.specs.declared.due_item.Due.TheVariants.{OfLine, Resend
 use Rattle.plain_machine.specs.declared.own.Own.{Own}
 use Rattle.plain_machine.specs.declared.response.Response.{Response}
 use Rattle.plain_machine.specs.declared.setup.Setup.{Setup}
-use Rattle.plain_machine.specs.declared.output.OutDatagram.{OutDatagram}
+use Rattle.transmission.specs.declared.output.OutDatagram.{OutDatagram}
 use Rattle.std.specs.Prelude.{List}
 use Rattle.plain_machine.specs.Posting.{number_after, repeated_as, resent_by}
 use Rattle.plain_machine.specs.Announcing.{announced, announced_by, heard_on, replied}

@@ -15,7 +15,7 @@ use Rattle.endpoint_names.specs.Table.{is_domain}
 use Rattle.outbound.specs.declared.repeat.Repeat.{Repeat}
 use Rattle.outbound.specs.declared.repeat.Repeat.TheVariants.{Sent as SentAgain, GivenUp}
 use Rattle.outbound.specs.Flight.{InFlight, repeat_of, repeated_as, repeated}
-use Rattle.plain_machine.specs.declared.output.OutDatagram.{OutDatagram}
+use Rattle.transmission.specs.declared.output.OutDatagram.{OutDatagram}
 use Rattle.plain_machine.specs.declared.post.Post.{Post}
 use Rattle.plain_machine.specs.declared.setup.Setup.{Setup}
 use Rattle.plain_machine.specs.Posting.{resent_on}

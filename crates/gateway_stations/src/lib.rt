@@ -13,7 +13,6 @@ mod notifying;
 mod posting;
 mod requesting;
 mod responding;
-mod sending;
 mod station;
 
 pub use crate::acting::acted_on;
@@ -24,4 +23,3 @@ pub use crate::falling::{due_on, earlier, happened_on, own_happened, post_due};
 pub use crate::posting::Occasion;
 pub use crate::requesting::{deed_on, has_place, refusal_by};
 pub use crate::responding::{opened_on, own_responded, redirected_on, responded_on};
-pub use crate::sending::send;

@@ -8,13 +8,13 @@ ghost use Rattle.gateway_stations.specs.Telling.{HasId};
 ghost use Rattle.gateway_stations.specs.Turns.{PostHasTurn};
 
 use crate::context::Context;
-use crate::sending::send;
 use endpoint_names::Entity;
 use mg_bytes::{OutOfMemory, Text};
 use mgcp_text::{Message, write_message};
 use outbound::{Pending, Repeat};
 use plain_machine::{OutDatagram, Post, Setup};
 use restart::Restart;
+use transmission::send;
 
 /// Which line it is, and what time (in ms). The gateway itself is line 0.
 #[derive(Clone, Copy)]

@@ -11,3 +11,4 @@ pub mod SpotRecalls
 pub mod CountLaws
 pub mod MarkLaws
 pub mod IndexLaws
+pub mod BareLaws

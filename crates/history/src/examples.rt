@@ -4,6 +4,7 @@
 
 ghost use Rattle.std.specs.Prelude.{◌≡◌, ◌++◌, [], ◌∷◌, length};
 ghost use Rattle.history.specs.Memory.{memory_time, most_firsts};
+ghost use Rattle.history.specs.Arrival.{unanswered};
 ghost use Rattle.history.specs.Firsts.{a_first, a_repeat, lost, firsts_of};
 ghost use Rattle.history.specs.Answers.{answers_of};
 ghost use Rattle.history.specs.Kept.{settled_at, kept_with, from_young, entries_of, firsts_in};
@@ -162,4 +163,10 @@ pub fn what_is_kept_since_a_purge_is_not_settled()
 pub fn a_first_is_kept_behind_its_k()
     ensures { entries_of (comes 5 0 1 ∷ comes_with (to 5 6 ∷ []) 8 3 2 ∷ [])
         ≡ entries_of (comes 5 0 1 ∷ []) ++ confirmed_ids 5 6 ∷ kept 8 3 2 ∷ [] }
+{}
+
+/// An arrival without its answer has its id, its moment and what it confirms.
+pub fn what_is_unanswered_is_the_same_otherwise()
+    ensures { unanswered (comes_with (to 5 5 ∷ []) 8 1000 9)
+        ≡ record { id = 8; moment = 1000; confirms = to 5 5 ∷ []; answer = [] } }
 {}

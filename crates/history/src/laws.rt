@@ -1,11 +1,11 @@
 //! Laws of transactions, over the whole list of what arrived (RFC 3435, 3.5.1), and of what a history keeps of it.
-ghost use Rattle.std.specs.Prelude.{◌≡◌, ◌≢◌, ◌↔◌, ◌-◌, ◌<◌, ◌≤◌, ◌++◌, ◌∷◌, [], ℕ, List, length, fold, All, AllPairs, Any};
+ghost use Rattle.std.specs.Prelude.{◌≡◌, ◌≢◌, ◌↔◌, ◌-◌, ◌<◌, ◌≤◌, ◌++◌, ◌∷◌, [], ℕ, List, length, map, fold, All, AllPairs, Any};
 ghost use Rattle.std.specs.Prelude.{Some, None, IfSome};
 ghost use Rattle.history.specs.declared.entry.First.{First as KeptFirst};
 ghost use Rattle.history.specs.declared.entry.Entry.{Entry};
 ghost use Rattle.history.specs.declared.entry.Entry.TheVariants.{Confirmation};
 ghost use Rattle.history.specs.Memory.{memory_time, most_firsts};
-ghost use Rattle.history.specs.Arrival.{Arrival};
+ghost use Rattle.history.specs.Arrival.{Arrival, unanswered};
 ghost use Rattle.history.specs.Firsts.{Copied, a_first, a_repeat, lost, young_of, kind_of, firsts_of};
 ghost use Rattle.history.specs.Firsts.{IsNoCopy, IsLatestCopy};
 ghost use Rattle.history.specs.Answers.{IsConfirmed, IsRepeat, IsSilenced, answer_to, answers_from, answers_of};
@@ -78,6 +78,12 @@ pub fn what_is_confirmed_stays_confirmed()
         firsts_of limit (earlier ++ more) ≡ firsts_of limit earlier ++ newer →
         All (λ (first : Arrival). first.id ≢ a.id) newer → b.id ≡ a.id → a.moment ≤ b.moment →
         IsSilenced limit earlier a → IsRepeat limit (earlier ++ more) b → IsSilenced limit (earlier ++ more) b }
+{}
+
+/// Which arrivals are firsts doesn't hang on what they are answered.
+pub fn answers_make_no_firsts()
+    ensures { (limit : ℕ) (arrivals : List Arrival) →
+        firsts_of limit (map unanswered arrivals) ≡ map unanswered (firsts_of limit arrivals) }
 {}
 
 // Of what is kept

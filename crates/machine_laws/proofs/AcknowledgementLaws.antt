@@ -16,13 +16,15 @@ use Rattle.mgcp_text.specs.Reading.{Outcome, message, no_header, bad_version, ba
 use Rattle.command_forms.specs.Command.{Command}
 use Rattle.plain_machine.specs.declared.setup.Setup.{Setup}
 use Rattle.plain_machine.specs.Answering.{Transaction, refusing, command_with, executed, transacted_by, handled, took_all}
-use Rattle.plain_machine.specs.Arriving.{arrival, texts_of, arrivals_at, clock_after, arrivals_from, arrivals_of}
+use Rattle.transmission.specs.Texts.{texts_of}
+use Rattle.plain_machine.specs.Arriving.{arrival, arrivals_at, clock_after, arrivals_from, arrivals_of}
 use Rattle.plain_machine.specs.Event.{GatewayEvent, datagram, phone, tick}
 use Rattle.plain_machine.specs.Happening.{effect}
 use Rattle.plain_machine.specs.Lists.{sent_from, sent_of}
 use Rattle.plain_machine.specs.Machine.{Endpoints, Machine, told, opening}
 use Rattle.plain_machine.specs.Message.{Sent}
-use Rattle.plain_machine.specs.Responding.{response_with, is_empty_k, asks_for_acknowledgement, acknowledged, responded, heard_from}
+use Rattle.transmission.specs.Acknowledging.{is_empty_k, asks_for_acknowledgement}
+use Rattle.plain_machine.specs.Responding.{response_with, acknowledged, responded, heard_from}
 use Rattle.plain_machine.proofs.EffectLaws.{handled_now, effect_now}
 use Rattle.plain_machine.proofs.TurnLemmas.{response_read, acted_goes, responded_goes, pass_goes, command_goes}
 use Rattle.machine_laws.specs.Owning.{is_acknowledgement, acknowledging, acknowledged_as, acknowledgements_to}

@@ -7,4 +7,12 @@ pub mod AcknowledgementLaws
 pub mod OrderLaws
 pub mod TextLaws
 pub mod WaitLaws
+pub mod EachLemmas
+pub mod TellsLemmas
+pub mod FlightLemmas
+pub mod PostLogs
+pub mod LogTurns
+pub mod GatewayTurns
+pub mod GatewayEvents
+pub mod GatewayLists
 pub mod Computing

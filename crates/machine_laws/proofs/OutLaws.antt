@@ -11,15 +11,16 @@ use Rattle.piggyback.specs.Packing.{ends_in_line_feed, is_joinable, has_room, wi
 use Rattle.piggyback.proofs.PackingLaws.{Joins, joins-from, parts-with_text, ends-with_text}
 use Rattle.piggyback.proofs.PartingLaws.{parts-apart, short-parts_of}
 use Rattle.piggyback.proofs.GroupLaws.{packing_some}
-use Rattle.plain_machine.specs.declared.output.OutDatagram.{OutDatagram}
+use Rattle.transmission.specs.declared.output.OutDatagram.{OutDatagram}
 use Rattle.plain_machine.specs.declared.setup.Setup.{Setup}
-use Rattle.plain_machine.specs.Arriving.{largest_datagram}
+use Rattle.transmission.specs.Texts.{largest_datagram}
 use Rattle.plain_machine.specs.Event.{GatewayEvent}
 use Rattle.plain_machine.specs.Happening.{effect}
 use Rattle.plain_machine.specs.Lists.{machine_after, sent_from, outputs_from, outputs_of, sent_of, plain}
 use Rattle.plain_machine.specs.Machine.{Machine, opening}
 use Rattle.plain_machine.specs.Message.{Sent, text_of, datagram_of, datagrams_of}
-use Rattle.plain_machine.specs.Packing.{same_address, joins, joined, packed_after, packed, messages_in, put_out}
+use Rattle.transmission.specs.Packing.{same_address, joins, joined, packed_after, packed, messages_in}
+use Rattle.plain_machine.specs.Packing.{put_out}
 use Rattle.plain_machine.specs.Setup.{IsSetUp}
 use Rattle.plain_machine.proofs.ListLaws.{outputs_on}
 use Rattle.plain_machine.proofs.MessageLaws.{sent_as_messages, sent_within, sent_can_join}

@@ -9,7 +9,7 @@ use Rattle.std.proofs.lemmas.List.Kept.{AllPairs-cons}
 use Rattle.std.proofs.lemmas.Slice.Eq.{bytes_eq-Decides}
 use Rattle.std.specs.declared.net.socket_addr.SocketAddrV4.{SocketAddrV4}
 use Rattle.plain_machine.specs.Message.{Sent}
-use Rattle.plain_machine.specs.Packing.{same_address}
+use Rattle.transmission.specs.Packing.{same_address}
 use Rattle.machine_laws.specs.Runs.{GoTogether, EachEnds, AreRuns, go_together, with_first, runs_of}
 
 -- The test and the fact

@@ -11,7 +11,7 @@ use Rattle.mgcp_text.specs.declared.message.Message.TheVariants as messages
 use Rattle.mgcp_text.specs.declared.message.Param.{Param}
 use Rattle.plain_machine.specs.declared.setup.Setup.{Setup}
 use Rattle.plain_machine.specs.Answering.{Transaction, transaction_of, transacted, handled_as, handled, took_all, after}
-use Rattle.plain_machine.specs.Arriving.{texts_of}
+use Rattle.transmission.specs.Texts.{texts_of}
 use Rattle.plain_machine.specs.Event.{datagram, phone, tick}
 use Rattle.plain_machine.specs.Happening.{effect}
 use Rattle.plain_machine.specs.Machine.{Machine, Effect, idle, told_in}

@@ -1,10 +1,10 @@
 -- Runs of messages, and the datagrams that a run goes out in (RFC 3435, 3.5.5).
 use Rattle.std.specs.Prelude.{◌≡◌, ℕ, ◌<◌, ◌==◌, ◌&&◌, Bool, if◌then◌else◌, List, [], ◌∷◌, length, map, flat_map, All, AllPairs}
 use Rattle.piggyback.specs.Packing.{packed, IsPackedInto}
-use Rattle.plain_machine.specs.declared.output.OutDatagram.{OutDatagram}
+use Rattle.transmission.specs.declared.output.OutDatagram.{OutDatagram}
 use Rattle.plain_machine.specs.Message.{Sent, text_of}
-use Rattle.plain_machine.specs.Arriving.{largest_datagram}
-use Rattle.plain_machine.specs.Packing.{same_address}
+use Rattle.transmission.specs.Texts.{largest_datagram}
+use Rattle.transmission.specs.Packing.{same_address}
 
 -- two messages go to one address at one moment
 abbrev pub GoTogether : Sent → Sent → Type 0

@@ -11,5 +11,6 @@ pub mod answer_laws;
 pub mod deed_laws;
 pub mod examples;
 pub mod packing_laws;
+pub mod saying_laws;
 pub mod text_laws;
 pub mod waiting_laws;

@@ -2,9 +2,9 @@
 ghost use Rattle.std.specs.Prelude.{◌≡◌, ◌<◌, ◌≤◌, ◌++◌, ◌∷◌, [], ℕ, true, List, length, map, flat_map, All, Ok};
 ghost use Rattle.piggyback.specs.Parts.{parts_of};
 ghost use Rattle.piggyback.specs.Packing.{is_joinable, with_text};
-ghost use Rattle.plain_machine.specs.declared.output.OutDatagram.{OutDatagram};
+ghost use Rattle.transmission.specs.declared.output.OutDatagram.{OutDatagram};
 ghost use Rattle.plain_machine.specs.declared.setup.Setup.{Setup};
-ghost use Rattle.plain_machine.specs.Arriving.{largest_datagram};
+ghost use Rattle.transmission.specs.Texts.{largest_datagram};
 ghost use Rattle.plain_machine.specs.Event.{GatewayEvent};
 ghost use Rattle.plain_machine.specs.Happening.{effect};
 ghost use Rattle.plain_machine.specs.Lists.{plain, outputs_of};

@@ -13,7 +13,7 @@ ghost use Rattle.mg_line.specs.declared.phone.Act.{Act};
 ghost use Rattle.plain_machine.specs.declared.setup.Setup.{Setup};
 ghost use Rattle.plain_machine.specs.Answering.{Transaction, transaction_of, transacted, handled, took_all, after};
 ghost use Rattle.plain_machine.specs.Event.{GatewayEvent, datagram, phone, tick};
-ghost use Rattle.plain_machine.specs.Arriving.{texts_of};
+ghost use Rattle.transmission.specs.Texts.{texts_of};
 ghost use Rattle.plain_machine.specs.Happening.{effect};
 ghost use Rattle.plain_machine.specs.Machine.{Machine, idle, told_in};
 ghost use Rattle.plain_machine.specs.Responding.{heard_from};

@@ -83,6 +83,10 @@ sent_by false e = absurd cc
 allowed : (message : InFlight) (moment : ℕ) → repeat_of message moment ≡ Sent → IsAllowed message moment
 allowed message moment is = allowed_by message moment (sent_by (may_repeat message.first message.repeats moment) is)
 
+-- what is sent again was first sent less than 20,000 ms ago
+pub sent_soon : (message : InFlight) (moment : ℕ) → repeat_of message moment ≡ Sent → moment - message.first < 20000
+sent_soon message moment is = (allowed message moment is).soon
+
 pub sent_later : (message : InFlight) (moment : ℕ) → repeat_of message moment ≡ Sent → moment < (repeated message moment).due
 sent_later message moment is = (allowed message moment is).later
 

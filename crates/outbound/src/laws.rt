@@ -1,5 +1,5 @@
 //! Laws of messages in flight, in the words of their subject (RFC 3435, 3.5).
-ghost use Rattle.std.specs.Prelude.{◌≡◌, ◌≢◌, ◌↔◌, ◌+◌, ◌<◌, ◌≤◌, ℕ, List, ◌∷◌, All, length, true};
+ghost use Rattle.std.specs.Prelude.{◌≡◌, ◌≢◌, ◌↔◌, ◌+◌, ◌-◌, ◌<◌, ◌≤◌, ℕ, List, ◌∷◌, All, length, true};
 ghost use Rattle.std.specs.declared.net.socket_addr.SocketAddrV4.{SocketAddrV4};
 ghost use Rattle.outbound.specs.declared.repeat.Repeat.TheVariants as repeats;
 ghost use Rattle.outbound.specs.declared.reply.Reply.TheVariants as replies;
@@ -27,7 +27,8 @@ pub fn there_are_at_most_eight_sends()
 
 /// It is sent again less than 20,000 ms after it was first sent, whatever happens (RFC 3435, 4.3).
 pub fn repeats_go_out_within_20_seconds()
-    ensures { (id : ℕ) (to : SocketAddrV4) (text : List ℕ) (first : ℕ) (happenings : List Happening) →
+    ensures one { (message : InFlight) (moment : ℕ) → repeat_of message moment ≡ repeats.Sent → moment - message.first < 20000 }
+    ensures all { (id : ℕ) (to : SocketAddrV4) (text : List ℕ) (first : ℕ) (happenings : List Happening) →
         All (λ moment. moment < first + 20000) (resent (begun id to text first) happenings) }
 {}
 

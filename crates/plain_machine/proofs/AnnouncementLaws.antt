@@ -56,7 +56,7 @@ use Rattle.plain_machine.specs.Posting.{id_on, line_of_id, wait_of, unsent, with
 use Rattle.plain_machine.specs.Announcing.{announcement, announced, announced_by, announced_on, heard_by, heard_on, replied}
 use Rattle.plain_machine.specs.Notifying.{Turn, with_notice, noted}
 use Rattle.plain_machine.specs.Machine.{Endpoints, Machine, Told, told, serves, opening, on_line, on_own, on_lines, own_posted, with_own, afterwards}
-use Rattle.plain_machine.specs.Arriving.{texts_of}
+use Rattle.transmission.specs.Texts.{texts_of}
 use Rattle.plain_machine.specs.Acting.{acted_on, acted}
 use Rattle.plain_machine.specs.Done.{Done}
 use Rattle.plain_machine.specs.Requesting.{refused_by, with_entity, with_connections, asked_if, deed_on, lines_meant, unless_refused, deed_done, line_with_place, done_there, done_for}

@@ -15,7 +15,7 @@ use Rattle.mgcp_text.proofs.WholeLemmas.{whole_written}
 use Rattle.piggyback.specs.Packing.{is_joinable}
 use Rattle.piggyback.proofs.PackingLaws.{joinable-from}
 use Rattle.plain_machine.specs.declared.setup.Setup.{Setup}
-use Rattle.plain_machine.specs.Arriving.{largest_datagram}
+use Rattle.transmission.specs.Texts.{largest_datagram}
 use Rattle.plain_machine.specs.Setup.{IsSetUp}
 use Rattle.plain_machine.specs.Posting.{numbers, first_number, number_after, id_on}
 use Rattle.plain_machine.specs.Announcing.{announcement}
@@ -86,6 +86,14 @@ announced_joins all setup line id set_up few some small =
     let whole = whole_written (Announced all setup line id) (announced_writable all setup line id set_up few some small) in
     joinable-from largest_datagram (written (Announced all setup line id))
     (record { ends = whole.ends; apart = whole.apart; short = announced_short all setup line id set_up few small })
+
+pub announcement_writable : (setup : Setup) (line number : ℕ) → IsSetUp setup → line ≤ 16 → number < numbers → 1 ≤ id_on line number
+    → is_writable (announcement setup line (id_on line number)) ≡ true
+unfolding announcement
+announcement_writable setup line number set_up few below some = by_line (line == 0) where
+  by_line : (b : Bool) → is_writable (messages.Command Rsip (id_on line number) (name_text (if b then All else One line) setup.names.domain)
+      ((record { code = codes "RM"; value = if b then codes "restart" else codes "disconnected" }) ∷ []) []) ≡ true
+  by_line b = announced_writable b setup line (id_on line number) set_up few some (omega (arith, few, below))
 
 pub announcement_goes : (setup : Setup) (line number : ℕ) → IsSetUp setup → line ≤ 16 → number < numbers → 1 ≤ id_on line number
     → is_joinable largest_datagram (written (announcement setup line (id_on line number))) ≡ true

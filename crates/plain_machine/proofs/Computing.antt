@@ -8,8 +8,9 @@ use Rattle.command_forms.proofs.Computing.{on_examples as form_examples}
 use Rattle.mg_line.proofs.Computing.{on_examples as line_examples}
 use Rattle.outbound.proofs.Computing.{on_examples as flight_examples}
 use Rattle.plain_machine.specs.Setup.{table_from, setup_of}
-use Rattle.plain_machine.specs.Arriving.{texts_of, arrivals_from}
-use Rattle.plain_machine.specs.Packing.{packed_after}
+use Rattle.transmission.specs.Texts.{texts_of}
+use Rattle.plain_machine.specs.Arriving.{arrivals_from}
+use Rattle.transmission.specs.Packing.{packed_after}
 use Rattle.audits.proofs.Computing.{on_examples as audit_examples}
 use Rattle.plain_machine.specs.Announcing.{announcement, announced, replied}
 use Rattle.plain_machine.specs.Reporting.{names_of}

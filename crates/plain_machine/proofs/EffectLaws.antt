@@ -15,7 +15,8 @@ use Rattle.plain_machine.specs.declared.station.Station.{Station}
 use Rattle.plain_machine.specs.Event.{GatewayEvent, datagram, phone, tick}
 use Rattle.plain_machine.specs.Notifying.{Turn, silent}
 use Rattle.plain_machine.specs.Machine.{Endpoints, Machine, Effect, OwnTurn, told, serves, station_at, with_turn, turned_at, on_line, on_own, on_either, on_lines}
-use Rattle.plain_machine.specs.Arriving.{texts_of, clock_after}
+use Rattle.transmission.specs.Texts.{texts_of}
+use Rattle.plain_machine.specs.Arriving.{clock_after}
 use Rattle.history.specs.Memory.{most_firsts}
 use Rattle.history.specs.Looking.{Told as Looked, new, repeat, confirmed, full, look_of}
 use Rattle.plain_machine.specs.Acting.{acted_on}

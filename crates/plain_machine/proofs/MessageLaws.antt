@@ -35,12 +35,13 @@ use Rattle.command_forms.specs.declared.forms.Target.{Target}
 use Rattle.command_forms.specs.declared.forms.Target.TheVariants.{One, All as AllLines, Any as AnyLine}
 use Rattle.plain_machine.specs.declared.setup.Setup.{Setup}
 use Rattle.plain_machine.specs.declared.station.Station.{Station}
-use Rattle.plain_machine.specs.declared.output.OutDatagram.{OutDatagram}
+use Rattle.transmission.specs.declared.output.OutDatagram.{OutDatagram}
 use Rattle.plain_machine.specs.Event.{GatewayEvent, datagram, phone, tick}
 use Rattle.plain_machine.specs.Message.{Sent, of_none, answer as answers, again, acknowledgement, datagram_of, datagrams_of}
 use Rattle.plain_machine.specs.Machine.{serves, Endpoints, Machine, Effect, opening, station_at, numbered}
-use Rattle.plain_machine.specs.Arriving.{largest_datagram, texts_of}
-use Rattle.plain_machine.specs.Packing.{messages_in, put_out}
+use Rattle.transmission.specs.Texts.{largest_datagram, texts_of}
+use Rattle.transmission.specs.Packing.{messages_in}
+use Rattle.plain_machine.specs.Packing.{put_out}
 use Rattle.audits.specs.Fitting.{fitting}
 use Rattle.audits.specs.EndpointReport.{endpoint_report}
 use Rattle.audits.specs.ConnectionReport.{connection_report}
@@ -76,10 +77,11 @@ use Rattle.plain_machine.proofs.StandingLemmas.{OfConnections, AnyOwn, AnySent, 
 use Rattle.plain_machine.proofs.ShowingLemmas.{Shows, showing_turns, showing_own_turns, opening_shows, line_shows}
 use Rattle.plain_machine.proofs.ShownLemmas.{IsShown, nothing_is, connected_is, line_inside}
 use Rattle.plain_machine.specs.Answering.{Transaction, response_to, answer_text, reply, executed, transacted_by, refusing, handled, took_all}
-use Rattle.plain_machine.specs.Responding.{response_with, asks_for_acknowledgement, acknowledged}
+use Rattle.transmission.specs.Acknowledging.{asks_for_acknowledgement}
+use Rattle.plain_machine.specs.Responding.{response_with, acknowledged}
 use Rattle.plain_machine.specs.Happening.{effect}
 use Rattle.plain_machine.specs.Lists.{outputs_from, sent_from}
-use Rattle.plain_machine.proofs.PackingLaws.{IsMessage, IsWithin, packed_messages, packed_within}
+use Rattle.transmission.proofs.PackingLaws.{IsMessage, IsWithin, packed_messages, packed_within}
 
 -- An answer
 
@@ -106,7 +108,7 @@ is_no_body : is_writable_body [] ≡ true
 unfolding is_writable_body
 is_no_body = refl
 
-code_is : (code : ℕ) → code ≤ 999 → IsAnswer (plain_code code)
+pub code_is : (code : ℕ) → code ≤ 999 → IsAnswer (plain_code code)
 unfolding is_writable_body
 code_is code small = record { three_digits = small; each = refl; whole = refl }
 
@@ -118,16 +120,27 @@ code_short code id small =
     let three = length-append (ended (response_line code id) ++ []) [] in
     omega (arith, head, two, three)
 
-code_goes : (code id : ℕ) → IsId id → IsCode code → Goes (written (response_of id (plain_code code)))
-code_goes code id has small = short_goes id (plain_code code) has (code_is code small) (code_short code id has.1)
+-- an answer in this transaction that can be written, and is no longer than a datagram may be
+pub record IsFit (id : ℕ) (answer : Answer) : Type 0 where
+  pub is : IsAnswer answer
+  pub short : length (written (response_of id answer)) ≤ largest_datagram
+
+pub fit_goes : (id : ℕ) (answer : Answer) → IsId id → IsFit id answer → Goes (written (response_of id answer))
+fit_goes id answer has fit = short_goes id answer has fit.is fit.short
+
+pub code_fits : (code id : ℕ) → IsId id → IsCode code → IsFit id (plain_code code)
+code_fits code id has small = record { is = code_is code small; short = code_short code id has.1 }
+
+pub code_goes : (code id : ℕ) → IsId id → IsCode code → Goes (written (response_of id (plain_code code)))
+code_goes code id has small = fit_goes id (plain_code code) has (code_fits code id has small)
 
 -- a report that can be written, or a code
 report_goes : (id : ℕ) (report : Result Answer ℕ) → IsId id → ((answer : Answer) → report ≡ Ok answer → CanBeWritten id answer) → ((code : ℕ) → report ≡ Err code → IsCode code)
-    → Goes (written (response_of id (answer_by report)))
+    → IsFit id (answer_by report)
 report_goes id (Ok answer) has fine small =
     let is = fine answer refl in
-    short_goes id answer has (record { three_digits = is.three_digits; each = is.each; whole = is.whole }) is.short
-report_goes id (Err code) has fine small = code_goes code id has (small code refl)
+    record { is = record { three_digits = is.three_digits; each = is.each; whole = is.whole }; short = is.short }
+report_goes id (Err code) has fine small = code_fits code id has (small code refl)
 
 -- An acknowledgement
 
@@ -141,32 +154,32 @@ acknowledgement_out moment source code id params has = by_test (asks_for_acknowl
 
 -- What a command is answered
 
-abbrev AnswerGoes : ℕ → Done → Type 0
-AnswerGoes id done = Goes (written (response_of id done.answer))
+abbrev pub AnswerGoes : ℕ → Done → Type 0
+AnswerGoes id done = IsFit id done.answer
 
 unless_answered : (id : ℕ) (endpoints : Endpoints) (refusal : Option ℕ) (done : Done) → IsId id → IfSome refusal IsCode → AnswerGoes id done → AnswerGoes id (unless_refused refusal endpoints done)
 unless_answered id endpoints None done has small goes = goes
-unless_answered id endpoints (Some code) done has small goes = code_goes code id has small
+unless_answered id endpoints (Some code) done has small goes = code_fits code id has small
 
 -- each line has its places for connections
-abbrev HasLines : Setup → Endpoints → Type 0
+abbrev pub HasLines : Setup → Endpoints → Type 0
 HasLines setup endpoints = Holds (OfConnections (HasLine setup)) AnyOwn endpoints
 
 -- a machine that belongs to a setup, and whose commands in flight can go out again
-record Fits (setup : Setup) (m : Machine) : Type 0 where
-  set_up : IsSetUp setup
-  lines : length m.endpoints.stations ≡ setup.names.lines
-  holds : Holds (Always Sound) OwnSound m.endpoints
-  places : HasLines setup m.endpoints
-  shows : Holds (Always Shows) AnyOwn m.endpoints
+pub record Fits (setup : Setup) (m : Machine) : Type 0 where
+  pub set_up : IsSetUp setup
+  pub lines : length m.endpoints.stations ≡ setup.names.lines
+  pub holds : Holds (Always Sound) OwnSound m.endpoints
+  pub places : HasLines setup m.endpoints
+  pub shows : Holds (Always Shows) AnyOwn m.endpoints
 
 -- An audit
 
 -- of one line, or of one connection
-line_answered : (setup : Setup) (m : Machine) (id line : ℕ) (audit : Audit) → Fits setup m → IsId id → Goes (written (response_of id (answer_by (line_report (station_at m.endpoints line) id audit))))
+line_answered : (setup : Setup) (m : Machine) (id line : ℕ) (audit : Audit) → Fits setup m → IsId id → IsFit id (answer_by (line_report (station_at m.endpoints line) id audit))
 line_answered setup m id line audit fits has = by_station (station_at m.endpoints line) refl where
   by_connection : (station : Station) (connection : Option (List ℕ)) → IsShowable (audited_endpoint station)
-      → Goes (written (response_of id (answer_by (report_by connection id (audited_endpoint station) (items_of audit.items)))))
+      → IsFit id (answer_by (report_by connection id (audited_endpoint station) (items_of audit.items)))
   by_connection station None is =
       report_goes id (endpoint_report id (audited_endpoint station) (items_of audit.items)) has
       (λ answer e. line_written id (audited_endpoint station) (items_of audit.items) answer is e) (λ code e. line_code id (audited_endpoint station) (items_of audit.items) code e)
@@ -175,14 +188,14 @@ line_answered setup m id line audit fits has = by_station (station_at m.endpoint
       (λ answer e. connection_written id (audited_endpoint station) connection (items_of audit.items) answer is e)
       (λ code e. connection_code id (audited_endpoint station) connection (items_of audit.items) code e)
 
-  by_station : (found : Option Station) → station_at m.endpoints line ≡ found → Goes (written (response_of id (answer_by (line_report found id audit))))
-  by_station None at = code_goes 500 id has (omega arith)
+  by_station : (found : Option Station) → station_at m.endpoints line ≡ found → IsFit id (answer_by (line_report found id audit))
+  by_station None at = code_fits 500 id has (omega arith)
   by_station (Some station) at =
       by_connection station audit.connection (line_shows setup line station fits.set_up (of_line (Always Sound true) m.endpoints line station fits.holds.stations at)
       (of_line (OfConnections (HasLine setup) true) m.endpoints line station fits.places.stations at) (of_line (Always Shows true) m.endpoints line station fits.shows.stations at))
 
 -- of all lines
-names_answered : (id : ℕ) (names : List Param) → IsId id → list_all is_writable_param names ≡ true → Goes (written (response_of id (answer_by (fitting id (reported names)))))
+names_answered : (id : ℕ) (names : List Param) → IsId id → list_all is_writable_param names ≡ true → IsFit id (answer_by (fitting id (reported names)))
 names_answered id names has each =
     let wanted : Answer = reported names in
     report_goes id (fitting id wanted) has
@@ -196,14 +209,14 @@ names_answered id names has each =
     (λ code e. fitting_code id wanted code e)
 
 audit_answered : (setup : Setup) (m : Machine) (id : ℕ) (target : Target) (audit : Audit) → Fits setup m → IsId id
-    → Goes (written (response_of id (answer_by (audited setup m.endpoints id target audit))))
+    → IsFit id (answer_by (audited setup m.endpoints id target audit))
 unfolding audited names_of
 audit_answered setup m id (One line) audit fits has = line_answered setup m id line audit fits has
 audit_answered setup m id AllLines audit fits has =
     let lines : setup.names.lines ≤ 16 = fits.set_up.lines in
     let few : length m.endpoints.stations < 2 ^ 16 = omega (arith, fits.lines, lines) in
     names_answered id (map (name_param setup) (numbered m.endpoints)) has (names_writable setup m.endpoints.stations fits.set_up.domain few)
-audit_answered setup m id AnyLine audit fits has = code_goes 503 id has (omega arith)
+audit_answered setup m id AnyLine audit fits has = code_fits 503 id has (omega arith)
 
 -- What a deed is answered
 
@@ -242,11 +255,13 @@ shown_short code id params more body small one two few =
     let whole = length-append (ended (response_line code id) ++ flat_map text (params ++ more)) (body_text body) in
     omega (arith, head, middle, end, front, whole)
 
-answer_with_goes : (id : ℕ) (more : List Param) (deed : LineDeed) (shown : Shown) → IsId id → Params more 100 → IsShown shown → Goes (written (response_of id (answer_with more deed shown)))
+answer_with_goes : (id : ℕ) (more : List Param) (deed : LineDeed) (shown : Shown) → IsId id → Params more 100 → IsShown shown → IsFit id (answer_with more deed shown)
 answer_with_goes id more deed shown has one is =
     let both = params_both shown.params more 100 100 (is.each, is.params) one in
-    short_goes id (answer_with more deed shown) has (record { three_digits = deed_code deed.connections; each = both.0; whole = is.whole })
-    (shown_short (done_code deed.connections) id shown.params more shown.body has.1 (is.each, is.params) one is.body)
+    record {
+      is = record { three_digits = deed_code deed.connections; each = both.0; whole = is.whole };
+      short = shown_short (done_code deed.connections) id shown.params more shown.body has.1 (is.each, is.params) one is.body;
+    }
 
 shown_of_is : (setup : Setup) (endpoints : Endpoints) (lines : Target) (deed : LineDeed) → IsSetUp setup → HasLines setup endpoints → IsShown (shown_of endpoints lines deed)
 unfolding shown_of
@@ -279,7 +294,7 @@ target_answered setup endpoints (One line) deed moment id set_up lines places ha
 target_answered setup endpoints AllLines deed moment id set_up lines places has = deed_answered setup endpoints AllLines [] deed moment id set_up places has no_more
 target_answered setup endpoints AnyLine deed moment id set_up lines places has = by_line (line_with_place endpoints) refl where
   by_line : (found : Option ℕ) → line_with_place endpoints ≡ found → AnswerGoes id (done_there found setup endpoints deed moment)
-  by_line None is = code_goes 410 id has (omega arith)
+  by_line None is = code_fits 410 id has (omega arith)
   by_line (Some line) is =
       let last = line_inside endpoints line is in
       deed_answered setup endpoints (One line) (name_of_line setup line ∷ []) deed moment id set_up places has
@@ -287,7 +302,7 @@ target_answered setup endpoints AnyLine deed moment id set_up lines places has =
 
 form_answered : (asks : Result Asks ℕ) (setup : Setup) (m : Machine) (id : ℕ) → Fits setup m → IsId id
     → ((code : ℕ) → asks ≡ Err code → IsCode code) → AnswerGoes id (done_by asks setup m.endpoints m.now id)
-form_answered (Err code) setup m id fits has small = code_goes code id has (small code refl)
+form_answered (Err code) setup m id fits has small = code_fits code id has (small code refl)
 form_answered (Ok (Reports target audit)) setup m id fits has small = audit_answered setup m id target audit fits has
 form_answered (Ok (Does target deed)) setup m id fits has small =
     target_answered setup m.endpoints target (line_deed deed) m.now id fits.set_up fits.lines fits.places has
@@ -302,14 +317,14 @@ form_code : (serving : Bool) (command : Command) (confirms : KValue) (names : Na
 form_code serving command confirms names code is =
     ⊎_elim (λ known. ⊎_elim (small_name code) (small_param code) known) (λ (same : code ≡ 405). omega (arith, same)) (while_code serving command confirms names code is)
 
-command_answered : (setup : Setup) (m : Machine) (id : ℕ) (command : Command) (confirms : KValue) → Fits setup m → IsId id → AnswerGoes id (commanded setup m.endpoints m.now id command confirms)
+pub command_answered : (setup : Setup) (m : Machine) (id : ℕ) (command : Command) (confirms : KValue) → Fits setup m → IsId id → AnswerGoes id (commanded setup m.endpoints m.now id command confirms)
 command_answered setup m id command confirms fits has =
     form_answered (form_while (serves m.endpoints) command confirms setup.names) setup m id fits has
     (λ code is. form_code (serves m.endpoints) command confirms setup.names code is)
 
 -- What is kept and sent
 
-abbrev AreKept : List Entry → Type 0
+abbrev pub AreKept : List Entry → Type 0
 AreKept entries = All (λ (first : KeptFirst). Goes first.answer) (firsts_in entries)
 
 kept_more : (some more : List Entry) → AreKept some → AreKept more → AreKept (some ++ more)
@@ -324,9 +339,9 @@ again_goes text entries all kept =
     let goes : Goes (slice_index_or (firsts_in entries) kept.0 kept.1).answer = all kept.0 kept.1 kept.2 in
     rw (← kept.4) (rw (← kept.3) goes)
 
-record GoesOut (done : Effect) : Type 0 where
-  kept : AreKept done.machine.history
-  sent : All IsOut done.sent
+pub record GoesOut (done : Effect) : Type 0 where
+  pub kept : AreKept done.machine.history
+  pub sent : All IsOut done.sent
 
 one_sent : (one : Sent) → Goes (datagram_of one).bytes → All IsOut (one ∷ [])
 one_sent one goes = All-cons IsOut one [] goes (All-nil IsOut)
@@ -353,7 +368,7 @@ handled_goes setup m source (bad_body id) fits all has =
     transacted_goes _ m source (refusing m id 510) all (code_goes 510 id has (omega arith)) (All-nil IsOut) refl
 handled_goes setup m source (message (messages.Command verb id name params body)) fits all has =
     let command : Command = record { verb = verb; name = name; params = params; body = body } in
-    transacted_goes _ m source _ all (command_answered setup m id command (k_of params) fits has)
+    transacted_goes _ m source _ all (fit_goes id _ has (command_answered setup m id command (k_of params) fits has))
     (command_goes setup (Always Sound) OwnSound IsOut (sound_turns setup fits.set_up) (sound_own_turns setup fits.set_up) command (k_of params) m.endpoints m.now id fits.holds).sent refl
 handled_goes setup m source (message (messages.Response code id params body)) fits all has = record {
   kept = all;
@@ -362,7 +377,7 @@ handled_goes setup m source (message (messages.Response code id params body)) fi
       (response_read setup id code params) fits.holds).sent;
 }
 
-handled_fits : (setup : Setup) (m : Machine) (source : SocketAddrV4) (outcome : Outcome) → Fits setup m → Fits setup (handled setup m source outcome).machine
+pub handled_fits : (setup : Setup) (m : Machine) (source : SocketAddrV4) (outcome : Outcome) → Fits setup m → Fits setup (handled setup m source outcome).machine
 handled_fits setup m source outcome fits = record {
   set_up = fits.set_up;
   lines = handled_lines setup m source outcome ∙ fits.lines;
@@ -379,7 +394,7 @@ texts_go setup m source (text ∷ texts) fits all =
     let rest = texts_go setup (handled setup m source (read_text text)).machine source texts (handled_fits setup m source (read_text text) fits) first.kept in
     record { kept = rest.kept; sent = All-append IsOut (handled setup m source (read_text text)).sent _ first.sent rest.sent }
 
-event_goes : (setup : Setup) (m : Machine) (event : GatewayEvent) → Fits setup m → AreKept m.history → GoesOut (effect setup m event)
+pub event_goes : (setup : Setup) (m : Machine) (event : GatewayEvent) → Fits setup m → AreKept m.history → GoesOut (effect setup m event)
 unfolding effect
 event_goes setup m (datagram source bytes) fits all = texts_go setup m source (texts_of bytes) fits all
 event_goes setup m (phone line act) fits all =
@@ -387,7 +402,7 @@ event_goes setup m (phone line act) fits all =
 event_goes setup m (tick moment) fits all =
     record { kept = all; sent = (pass_goes setup (Always Sound) OwnSound IsOut (sound_turns setup fits.set_up) (sound_own_turns setup fits.set_up) m.endpoints moment fits.holds).sent }
 
-event_fits : (setup : Setup) (m : Machine) (event : GatewayEvent) → Fits setup m → Fits setup (effect setup m event).machine
+pub event_fits : (setup : Setup) (m : Machine) (event : GatewayEvent) → Fits setup m → Fits setup (effect setup m event).machine
 event_fits setup m event fits = record {
   set_up = fits.set_up;
   lines = effect_lines setup m event ∙ fits.lines;
@@ -426,7 +441,7 @@ outputs_fit setup m (event ∷ events) fits all =
 pub nothing_kept : (setup : Setup) → AreKept (opening setup).history
 nothing_kept setup = All-nil (λ (first : KeptFirst). Goes first.answer)
 
-opening_fits : (setup : Setup) → IsSetUp setup → Fits setup (opening setup)
+pub opening_fits : (setup : Setup) → IsSetUp setup → Fits setup (opening setup)
 opening_fits setup set_up = record { set_up = set_up; lines = lines_of_opening setup; holds = opening_is_sound setup set_up; places = opening_has_places setup; shows = opening_shows setup set_up }
 
 pub sent_as_messages : (setup : Setup) (events : List GatewayEvent) → IsSetUp setup

@@ -36,7 +36,7 @@ use Rattle.plain_machine.specs.declared.post.Post.{Post}
 use Rattle.plain_machine.specs.declared.response.Response.{Response}
 use Rattle.plain_machine.specs.declared.setup.Setup.{Setup}
 use Rattle.plain_machine.specs.declared.station.Station.{Station}
-use Rattle.plain_machine.specs.declared.output.OutDatagram.{OutDatagram}
+use Rattle.transmission.specs.declared.output.OutDatagram.{OutDatagram}
 use Rattle.plain_machine.specs.Message.{Sent, is_answer, datagram_of, datagrams_of}
 use Rattle.plain_machine.specs.Posting.{line_of_id, repeated_as, resent_by, resent_on}
 use Rattle.plain_machine.specs.Announcing.{announced, announced_by, announced_on, heard_on, replied}
@@ -47,7 +47,8 @@ use Rattle.plain_machine.specs.Falling.{due_by, happened_on, own_happened, happe
 use Rattle.plain_machine.specs.Done.{Done}
 use Rattle.plain_machine.specs.Requesting.{refused_by, with_entity, with_connections, asked_if, deed_on, lines_meant, unless_refused, deed_done, line_with_place, done_there, done_for}
 use Rattle.plain_machine.specs.Commanding.{line_deed, done_by}
-use Rattle.plain_machine.specs.Responding.{asks_for_acknowledgement, acknowledged, response_with, responded_as, responded_on, own_responded, redirected_on, opened_on, lines_told, own_heard, responded}
+use Rattle.transmission.specs.Acknowledging.{asks_for_acknowledgement}
+use Rattle.plain_machine.specs.Responding.{acknowledged, response_with, responded_as, responded_on, own_responded, redirected_on, opened_on, lines_told, own_heard, responded}
 use Rattle.plain_machine.specs.Answering.{transaction_of, heard_as}
 
 -- the answers among what is sent, each in a datagram of its own

@@ -49,7 +49,7 @@ use Rattle.plain_machine.specs.Posting.{line_of_id, repeated_as, resent_by}
 use Rattle.plain_machine.specs.Announcing.{announced, announced_by, heard_by, heard_on, replied}
 use Rattle.plain_machine.specs.Notifying.{Turn}
 use Rattle.plain_machine.specs.Machine.{Endpoints, Machine, OwnTurn, Told, told, serves, station_at, with_turn, turned_at, on_line, own_posted, with_own, on_own, on_lines, afterwards}
-use Rattle.plain_machine.specs.Arriving.{texts_of}
+use Rattle.transmission.specs.Texts.{texts_of}
 use Rattle.plain_machine.specs.Acting.{acted_on, acted}
 use Rattle.plain_machine.specs.Falling.{due_by, happened_on, own_happened, happened, go_on, passed, room, pass}
 use Rattle.plain_machine.specs.Done.{Done}

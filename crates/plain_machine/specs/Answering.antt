@@ -1,5 +1,5 @@
 -- What is done at a text that arrived: a command is executed and answered (RFC 3435, 3.2 and 3.5).
-use Rattle.std.specs.Prelude.{ℕ, List, [], ◌∷◌, ◌++◌, map, Option, Some, None, Result, Ok, Err}
+use Rattle.std.specs.Prelude.{ℕ, List, [], ◌∷◌, ◌++◌, Option, Some, None, Result, Ok, Err}
 use Rattle.std.specs.declared.net.socket_addr.SocketAddrV4.{SocketAddrV4}
 use Rattle.mgcp_text.specs.declared.message.Message.TheVariants as messages
 use Rattle.mgcp_text.specs.Reading.{Outcome, message, no_header, bad_version, bad_body, read_text}
@@ -7,14 +7,13 @@ use Rattle.mgcp_text.specs.declared.message.Message.{Message}
 use Rattle.mgcp_text.specs.Answer.{plain_code, response_of}
 use Rattle.mgcp_text.specs.Writing.{written}
 use Rattle.mgcp_text.specs.Confirmation.{k_of}
-use Rattle.mgcp_text.specs.declared.confirmation.IdRange.{IdRange}
 use Rattle.mgcp_text.specs.declared.confirmation.KValue.{KValue}
-use Rattle.mgcp_text.specs.declared.confirmation.KValue.TheVariants.{Absent, Unreadable, Items}
 use Rattle.history.specs.declared.span.IdSpan.{IdSpan}
 use Rattle.history.specs.declared.entry.Entry.{Entry}
 use Rattle.history.specs.declared.entry.Entry.TheVariants.{First, Confirmation}
 use Rattle.history.specs.Memory.{most_firsts}
 use Rattle.history.specs.Looking.{Told as Looked, new, repeat, confirmed, full, look_of}
+use Rattle.transmission.specs.Confirming.{spans_of}
 use Rattle.endpoint_names.specs.declared.name.Pattern.{Pattern}
 use Rattle.endpoint_names.specs.declared.name.Pattern.TheVariants.{One, All, Any}
 use Rattle.endpoint_names.specs.declared.name.NameFault.{NameFault}
@@ -40,15 +39,6 @@ line_of_name setup name = line_meant (name_of name setup.names.domain setup.name
 -- a message to where a command came from
 abbrev pub reply : Machine → SocketAddrV4 → Option ℕ → Said → Sent
 reply m source line said = record { to = source; moment = m.now; owner = answer_of line; said = said }
-
--- the spans of ids that a readable K names (RFC 3435, 3.2.2.1)
-abbrev pub span_of : IdRange → IdSpan
-span_of range = record { first = range.first; last = range.last }
-
-abbrev pub spans_of : KValue → List IdSpan
-spans_of Absent = []
-spans_of Unreadable = []
-spans_of (Items ranges) = map span_of ranges
 
 -- a command that arrived: its id, the line that it names, what it confirms, and what it would do now
 pub record Transaction : Type 0 where

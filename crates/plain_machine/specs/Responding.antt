@@ -1,16 +1,14 @@
 -- What a response does to a command of the gateway's own, which its id joins it to (RFC 3435, 3.2.1.2, 3.5, 4.4.1, 4.4.6
 -- and 4.4.7).
-use Rattle.std.specs.Prelude.{ℕ, ◌&&◌, ◌==◌, nat_le, codes, if◌then◌else◌, Bool, true, false, List, [], ◌∷◌, ◌++◌, Option, Some, option_and_then}
+use Rattle.std.specs.Prelude.{ℕ, ◌==◌, codes, if◌then◌else◌, List, [], ◌∷◌, ◌++◌, Option, Some, option_and_then}
 use Rattle.std.specs.declared.net.socket_addr.SocketAddrV4.{SocketAddrV4}
 use Rattle.endpoint_names.specs.declared.entity.Entity.{Entity}
 use Rattle.endpoint_names.specs.Entity.{entity_of}
 use Rattle.mgcp_text.specs.declared.message.Message.TheVariants as messages
 use Rattle.mgcp_text.specs.declared.message.Param.{Param}
 use Rattle.mgcp_text.specs.Message.{param_at}
-use Rattle.mgcp_text.specs.declared.confirmation.KValue.{KValue}
-use Rattle.mgcp_text.specs.declared.confirmation.KValue.TheVariants.{Absent, Unreadable, Items}
-use Rattle.mgcp_text.specs.Confirmation.{k_of}
 use Rattle.command_forms.specs.declared.forms.Target.TheVariants.{All}
+use Rattle.transmission.specs.Acknowledging.{asks_for_acknowledgement}
 use Rattle.mg_line.specs.Answering.{answered}
 use Rattle.mg_line.specs.Opening.{opened}
 use Rattle.restart.specs.declared.heard.Heard.{Heard}
@@ -27,16 +25,6 @@ use Rattle.plain_machine.specs.Machine.{Endpoints, OwnTurn, Told, told, own_post
 use Rattle.plain_machine.specs.Requesting.{with_entity, lines_meant}
 
 -- The acknowledgement
-
-abbrev pub is_empty_k : KValue → Bool
-is_empty_k Absent = false
-is_empty_k Unreadable = false
-is_empty_k (Items []) = true
-is_empty_k (Items (range ∷ ranges)) = false
-
--- a final response whose first K is empty asks for an acknowledgement (RFC 3435, 3.2.2.1 and 3.5.6)
-abbrev pub asks_for_acknowledgement : ℕ → List Param → Bool
-asks_for_acknowledgement code params = nat_le 200 code && nat_le code 999 && is_empty_k (k_of params)
 
 -- it goes to where the response came from, whether or not a command with that id is in flight
 abbrev pub acknowledged : ℕ → SocketAddrV4 → ℕ → ℕ → List Param → List Sent

@@ -9,7 +9,7 @@ use Rattle.mg_packages.specs.declared.hook.Hook.{Hook}
 use Rattle.connections.specs.declared.connection.Connection.{Connection}
 use Rattle.connections.specs.declared.mode.Mode.{Mode}
 use Rattle.plain_machine.specs.declared.config.Config.{Config}
-use Rattle.plain_machine.specs.declared.output.OutDatagram.{OutDatagram}
+use Rattle.transmission.specs.declared.output.OutDatagram.{OutDatagram}
 use Rattle.plain_machine.specs.Example.{configuration, example, ready, first_connection}
 use Rattle.plain_machine.specs.Event.{GatewayEvent, datagram}
 use Rattle.rgw_play.specs.declared.step.Step.{Step}

@@ -1,7 +1,7 @@
 -- What the steps of a script show, and the events that the gateway takes at them.
 use Rattle.std.specs.Prelude.{ℕ, ◌+◌, ◌/◌, ◌%◌, ◌==◌, ◌&&◌, nat_le, Bool, true, false, if◌then◌else◌, List, [], ◌∷◌, ◌++◌, replicate, Option, Some, None}
 use Rattle.std.specs.List.{flat_map}
-use Rattle.plain_machine.specs.declared.output.OutDatagram.{OutDatagram}
+use Rattle.transmission.specs.declared.output.OutDatagram.{OutDatagram}
 use Rattle.plain_machine.specs.declared.refusal.Refusal.{Refusal}
 use Rattle.plain_machine.specs.declared.refusal.Refusal.TheVariants.{NoSuchLine}
 use Rattle.plain_machine.specs.declared.setup.Setup.{Setup}

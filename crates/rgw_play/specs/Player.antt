@@ -1,7 +1,7 @@
 -- What moves make of a player.
 use Rattle.std.specs.Prelude.{◌≡◌, ◌≢◌, ◌+◌, ◌++◌, List, [], ◌∷◌, count_by, Result, Ok, Err}
 use Rattle.std.specs.List.{flat_map}
-use Rattle.plain_machine.specs.declared.output.OutDatagram.{OutDatagram}
+use Rattle.transmission.specs.declared.output.OutDatagram.{OutDatagram}
 use Rattle.plain_machine.specs.declared.refusal.Refusal.{Refusal}
 use Rattle.plain_machine.specs.declared.refusal.Refusal.TheVariants.{OutOfMemory}
 use Rattle.plain_machine.specs.Event.{GatewayEvent}

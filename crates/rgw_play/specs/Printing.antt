@@ -10,7 +10,7 @@ use Rattle.signals.specs.declared.active.ActiveSignal.{ActiveSignal}
 use Rattle.connections.specs.declared.connection.Connection.{Connection}
 use Rattle.connections.specs.Modes.{mode_text}
 use Rattle.connections.specs.Numbers.{number_text}
-use Rattle.plain_machine.specs.declared.output.OutDatagram.{OutDatagram}
+use Rattle.transmission.specs.declared.output.OutDatagram.{OutDatagram}
 use Rattle.plain_machine.specs.declared.refusal.Refusal.{Refusal}
 use Rattle.plain_machine.specs.Refusal.{refusal_number, refusal_name}
 use Rattle.rgw_play.specs.Status.{LineStatus}

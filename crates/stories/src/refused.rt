@@ -10,13 +10,16 @@
 use crate::played::input_of;
 use crate::runs::runs_alike;
 use crate::titles::Pieces;
-use crate::twins::{Twins, are_events, event_of, scene_of};
+use crate::twins::{Twins, are_events, event_of, scene_again, scene_of};
 use crate::written::read_story;
 use gateway_core::{Event, Refusal};
 use rgw_play::{Scene, Step};
 use std::alloc::Global;
 use std::io;
 use tales::{Count, again};
+
+// What is said of an input that has no gateway and no steps.
+const UNPLAYED: &str = "it can't be played";
 
 // What comes after a refusal: the same event at once, or other ones first.
 #[derive(Clone, Copy)]
@@ -94,28 +97,60 @@ fn differing_at(
     Ok(Some("the gateway and its twin part"))
 }
 
-// The first step at which something differs, counted from 1, and what.
+// What differs at a step.
+fn differing_step(
+    alloc: Global,
+    input: &[u8],
+    twins: &mut Twins,
+    step: &Step,
+    next: Next<'_>,
+    place: usize,
+) -> io::Result<Option<&'static str>> {
+    match event_of(step, twins.gateway.now()) {
+        Some(event) => differing_at(alloc, input, twins, event, next, place),
+        None => Ok(Some("it is no event")),
+    }
+}
+
+// The first of these steps at which something differs, counted from 1, and what.
+fn differing_among(
+    alloc: Global,
+    input: &[u8],
+    twins: &mut Twins,
+    steps: &[Step],
+    next: Next<'_>,
+) -> io::Result<Option<(usize, &'static str)>> {
+    for (place, step) in steps.iter().enumerate() {
+        if let Some(said) = differing_step(alloc, input, twins, step, next, place)? {
+            return Ok(Some((place.wrapping_add(1), said)));
+        }
+    }
+    Ok(None)
+}
+
+// The same of an input's twins, which are made here.
+fn differing_twins(
+    alloc: Global,
+    input: &[u8],
+    steps: &[Step],
+    next: Next<'_>,
+) -> io::Result<Option<(usize, &'static str)>> {
+    match Twins::after(alloc, input, 0)? {
+        Some(mut twins) => differing_among(alloc, input, &mut twins, steps, next),
+        None => Ok(Some((0, UNPLAYED))),
+    }
+}
+
+// The same of an input.
 fn differing(
     alloc: Global,
     input: &[u8],
     next: Next<'_>,
 ) -> io::Result<Option<(usize, &'static str)>> {
-    let (Some(scene), Some(mut twins)) = (
-        again!(scene_of(alloc, input))?,
-        Twins::after(alloc, input, 0)?,
-    ) else {
-        return Ok(Some((0, "it can't be played")));
-    };
-    for (place, step) in scene.steps.iter().enumerate() {
-        let number = place.wrapping_add(1);
-        let Some(event) = event_of(step, twins.gateway.now()) else {
-            return Ok(Some((number, "it is no event")));
-        };
-        if let Some(said) = differing_at(alloc, input, &mut twins, event, next, place)? {
-            return Ok(Some((number, said)));
-        }
+    match scene_again(alloc, input)? {
+        Some(scene) => differing_twins(alloc, input, &scene.steps, next),
+        None => Ok(Some((0, UNPLAYED))),
     }
-    Ok(None)
 }
 
 // What differs under a title, three times.
@@ -156,6 +191,20 @@ fn is_told<R: AllocGlobal + Print>(
     }
 }
 
+// Takes the steps of `otherwise`; whether they are events alone. Where they aren't that is printed.
+fn takes_otherwise<R: AllocGlobal + Print>(
+    rt: &R,
+    lines: &str,
+    otherwise: &mut Vec<Step>,
+) -> io::Result<bool> {
+    let Some(steps) = again!(steps_of(rt.alloc(), lines))? else {
+        println!(rt; "otherwise\n  it isn't events alone")?;
+        return Ok(false);
+    };
+    *otherwise = steps;
+    Ok(true)
+}
+
 /// Tells the scripts of a file.
 pub fn told<R: AllocGlobal + Print>(rt: &R, text: &str) -> io::Result<Count> {
     let alloc = rt.alloc();
@@ -169,14 +218,8 @@ pub fn told<R: AllocGlobal + Print>(rt: &R, text: &str) -> io::Result<Count> {
         };
         if title != "otherwise" {
             count.put(is_told(rt, title, lines.as_str(), &otherwise)?);
-            continue;
-        }
-        match again!(steps_of(alloc, lines.as_str()))? {
-            Some(steps) => otherwise = steps,
-            None => {
-                println!(rt; "{title}\n  it isn't events alone")?;
-                count.put(false);
-            }
+        } else if !takes_otherwise(rt, lines.as_str(), &mut otherwise)? {
+            count.put(false);
         }
     }
     Ok(count)

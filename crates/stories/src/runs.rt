@@ -1,7 +1,7 @@
 //! All events of a script in one run, which goes on at its place where it was refused memory.
-use crate::twins::{are_same, event_of, scene_of, stepped};
+use crate::twins::{are_same, event_of, scene_again, stepped};
 use gateway_core::{Event, Gateway, OutDatagram, Outputs, Refusal};
-use rgw_play::{Scene, Step};
+use rgw_play::Step;
 use std::alloc::Global;
 use std::io;
 use tales::again;
@@ -107,19 +107,25 @@ fn are_same_lists(one: &[Outputs], other: &[Outputs]) -> bool {
     true
 }
 
+// Whether a gateway gives to all events of steps in one run what its twin gives to them one by one.
+fn are_runs_alike(
+    alloc: Global,
+    gateway: &mut Gateway,
+    twin: &mut Gateway,
+    steps: &[Step],
+) -> io::Result<bool> {
+    let given = one_by_one(alloc, twin, steps)?;
+    let outputs = in_one_run(alloc, gateway, &given.events)?;
+    Ok(are_same_lists(&outputs, &given.outputs) && are_same(gateway, twin))
+}
+
 /// Whether a gateway that takes all events of an input in one run gives what it gives to them one by one.
 pub fn runs_alike(alloc: Global, input: &[u8]) -> io::Result<bool> {
-    let (Some(Scene { mut gateway, .. }), Some(scene)) = (
-        again!(scene_of(alloc, input))?,
-        again!(scene_of(alloc, input))?,
-    ) else {
+    let Some(mut scene) = scene_again(alloc, input)? else {
         return Ok(false);
     };
-    let Scene {
-        gateway: mut twin,
-        steps,
-    } = scene;
-    let given = one_by_one(alloc, &mut twin, &steps)?;
-    let outputs = in_one_run(alloc, &mut gateway, &given.events)?;
-    Ok(are_same_lists(&outputs, &given.outputs) && are_same(&gateway, &twin))
+    let Some(mut twin) = scene_again(alloc, input)? else {
+        return Ok(false);
+    };
+    are_runs_alike(alloc, &mut scene.gateway, &mut twin.gateway, &twin.steps)
 }

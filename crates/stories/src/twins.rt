@@ -18,6 +18,11 @@ pub fn scene_of(alloc: Global, input: &[u8]) -> io::Result<Option<Scene>> {
     }
 }
 
+/// The same, read again where memory was refused.
+pub fn scene_again(alloc: Global, input: &[u8]) -> io::Result<Option<Scene>> {
+    again!(scene_of(alloc, input))
+}
+
 /// The event that a step is at this moment; nothing where it is none or several.
 pub fn event_of(step: &Step, now: u64) -> Option<Event<'_>> {
     match step {
@@ -127,7 +132,7 @@ fn are_same_outcomes(one: &Result<Outputs, Refusal>, other: &Result<Outputs, Ref
 
 // The gateway of an input after so many of its steps.
 fn gateway_after(alloc: Global, input: &[u8], count: usize) -> io::Result<Option<Gateway>> {
-    let Some(Scene { mut gateway, steps }) = again!(scene_of(alloc, input))? else {
+    let Some(Scene { mut gateway, steps }) = scene_again(alloc, input)? else {
         return Ok(None);
     };
     for step in steps.iter().take(count) {
@@ -148,10 +153,10 @@ pub struct Twins {
 impl Twins {
     /// Two gateways of an input after so many of its steps; nothing where it is refused.
     pub fn after(alloc: Global, input: &[u8], count: usize) -> io::Result<Option<Twins>> {
-        let (Some(gateway), Some(twin)) = (
-            gateway_after(alloc, input, count)?,
-            gateway_after(alloc, input, count)?,
-        ) else {
+        let Some(gateway) = gateway_after(alloc, input, count)? else {
+            return Ok(None);
+        };
+        let Some(twin) = gateway_after(alloc, input, count)? else {
             return Ok(None);
         };
         Ok(Some(Twins { gateway, twin }))

@@ -1,7 +1,7 @@
 //! Calls of digit maps and their brackets.
 //!
 //! - `verdict  (0T|8xxx)  0  partial critical` what is dialled by a map: `perfect`, `partial` or `impossible`, and
-//!   `critical` where timer T would complete it; a copy of what matches says the same;
+//!   `critical` where timer T would complete it; a copy of what matches says the same, and so does each kind of matcher;
 //! - `map  ( x x )  (xx)` a map without its blanks, 510 where it is misspelled, 502 where it is too long;
 //! - `change  xx  xx` what a D makes of the map: another, `keep` where it is absent (`-`), `remove`, or a code;
 //! - `range  1-3x  yes` it may stand in brackets; `in range  1-3  2  yes` that names the key.
@@ -11,6 +11,7 @@ use digit_map::{
     MapChange, MapFault, MapText, Matcher, SlowMap, Verdict, is_in_range, is_range, read_change,
     read_map,
 };
+use digit_map_bits::{Compiled, Dialling};
 use mg_bytes::{CodeFault, Letter, OutOfMemory, letter_of};
 use std::alloc::Global;
 use std::io;
@@ -29,7 +30,7 @@ fn letters_of(alloc: Global, dialled: &[u8]) -> Result<Option<Vec<Letter>>, OutO
 }
 
 // What is said of the last of these letters, fed one by one.
-fn fed(matcher: &mut SlowMap, letters: &[Letter]) -> Option<Verdict>
+fn fed(matcher: &mut Dialling, letters: &[Letter]) -> Option<Verdict>
     requires { length letters.now ≤ 64 }
 {
     matcher.clear();
@@ -52,19 +53,56 @@ fn verdict_text(said: Option<Verdict>, is_critical: bool) -> &'static str {
     }
 }
 
-// By a map and by a copy of what matches.
+// What a matcher of any kind says of the last of these letters, and whether T would complete them.
+fn said<M: Matcher>(
+    alloc: Global,
+    map: &MapText,
+    letters: &[Letter],
+) -> Result<(Option<Verdict>, bool), OutOfMemory>
+    requires { length letters.now ≤ 64 }
+{
+    let mut matcher = M::start(alloc, map)?;
+    let mut said = None;
+    for letter in letters {
+        said = Some(matcher.feed(*letter));
+    }
+    Ok((said, matcher.critical()))
+}
+
+// Whether matchers of the other kinds say the same, and their copies before any letter.
+fn others_say(
+    alloc: Global,
+    map: &MapText,
+    letters: &[Letter],
+    expected: (Option<Verdict>, bool),
+) -> Result<bool, OutOfMemory>
+    requires { length letters.now ≤ 64 }
+{
+    let slow = SlowMap::start(alloc, map)?.try_copy()?;
+    let compiled = Compiled::start(alloc, map)?.try_copy()?;
+    Ok(
+        slow.critical() == compiled.critical()
+            && said::<SlowMap>(alloc, map, letters)? == expected
+            && said::<Compiled>(alloc, map, letters)? == expected,
+    )
+}
+
+// By a map, by a copy of what matches, and by the other kinds of matchers.
 fn verdict_by(alloc: Global, map: &MapText, letters: &[Letter]) -> io::Result<&'static str>
     requires { length letters.now ≤ 64 }
 {
-    let mut matcher = SlowMap::start(alloc, map)?;
+    let mut matcher = Dialling::start(alloc, map)?;
     let said = fed(&mut matcher, letters);
     let is_critical = matcher.critical();
     let mut copy = matcher.try_copy()?;
     let is_equal = copy.critical() == is_critical;
-    if is_equal && fed(&mut copy, letters) == said && copy.critical() == is_critical {
+    if !is_equal || fed(&mut copy, letters) != said || copy.critical() != is_critical {
+        return Ok("a copy says something else");
+    }
+    if others_say(alloc, map, letters, (said, is_critical))? {
         return Ok(verdict_text(said, is_critical));
     }
-    Ok("a copy says something else")
+    Ok("another matcher says something else")
 }
 
 fn verdict(alloc: Global, map: &[u8], dialled: &[u8]) -> io::Result<&'static str> {

@@ -1,5 +1,5 @@
 use Rattle.std.proofs.Common.{refl, ap, ◌∙◌}
-use Rattle.plain_machine.specs.Answering.{spans_of}
+use Rattle.transmission.specs.Confirming.{spans_of}
 use Rattle.gateway_core.proofs.TextLemmas.{executed_then}
 use Rattle.gateway_core.proofs.answering.execute.Goals as goal
 

@@ -1,5 +1,5 @@
 use Rattle.std.proofs.Common.{◌≡◌, List}
-use Rattle.plain_machine.specs.declared.output.OutDatagram.{OutDatagram}
+use Rattle.transmission.specs.declared.output.OutDatagram.{OutDatagram}
 use Rattle.piggyback.specs.Parts.{parts_of}
 use Rattle.plain_machine.specs.Answering.{took_all}
 use Rattle.gateway_core.specs.declared.state.State.{State}

@@ -1,5 +1,5 @@
 use Rattle.std.proofs.Common.{◌≡◌, List}
-use Rattle.plain_machine.specs.declared.output.OutDatagram.{OutDatagram}
+use Rattle.transmission.specs.declared.output.OutDatagram.{OutDatagram}
 use Rattle.plain_machine.specs.Falling.{pass}
 use Rattle.plain_machine.proofs.FallingLaws.{left}
 use Rattle.gateway_floor.specs.FloorState.{FloorState}

@@ -1,5 +1,5 @@
 use Rattle.std.proofs.Common.{◌≡◌, List}
-use Rattle.plain_machine.specs.declared.output.OutDatagram.{OutDatagram}
+use Rattle.transmission.specs.declared.output.OutDatagram.{OutDatagram}
 use Rattle.plain_machine.specs.Machine.{on_lines}
 use Rattle.plain_machine.specs.Requesting.{deed_on, deed_on_all}
 use Rattle.gateway_floor.specs.FloorState.{FloorState}

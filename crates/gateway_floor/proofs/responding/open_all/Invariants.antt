@@ -1,6 +1,6 @@
 use Rattle.std.proofs.Common.{◌≡◌, List}
 use Rattle.command_forms.specs.declared.forms.Target.TheVariants.{All}
-use Rattle.plain_machine.specs.declared.output.OutDatagram.{OutDatagram}
+use Rattle.transmission.specs.declared.output.OutDatagram.{OutDatagram}
 use Rattle.plain_machine.specs.Machine.{on_lines}
 use Rattle.plain_machine.specs.Responding.{opened_on, on_all}
 use Rattle.gateway_floor.specs.FloorState.{FloorState}

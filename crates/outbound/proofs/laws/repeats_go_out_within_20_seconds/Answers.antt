@@ -1,5 +1,8 @@
-use Rattle.outbound.proofs.LifeLaws.{within_time}
+use Rattle.outbound.proofs.LifeLaws.{sent_soon, within_time}
 use Rattle.outbound.proofs.laws.repeats_go_out_within_20_seconds.Goals as goal
 
-pub returns : goal.returns
-returns c = within_time
+pub returns-clause-one : goal.returns-clause-one
+returns-clause-one c = sent_soon
+
+pub returns-clause-all : goal.returns-clause-all
+returns-clause-all c = within_time

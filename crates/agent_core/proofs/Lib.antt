@@ -1,0 +1,15 @@
+pub mod Computing
+mod ReachedLaws
+mod AgentLaws
+mod WorldLaws
+mod AnswersOnce
+mod AgentStands
+mod FirstLaws
+mod AgentFirsts
+mod LinkLaws
+mod TakenLaws
+pub mod FlightTable
+pub mod TellingLemmas
+pub mod PassLemmas
+pub mod HearingLemmas
+pub mod StandLemmas

@@ -1,0 +1,14 @@
+pub mod Growing
+pub mod Agent
+pub mod Issuing
+pub mod Flying
+pub mod Flights
+pub mod Responding
+pub mod Taking
+pub mod Hearing
+pub mod World
+pub mod Reached
+pub mod AgentAlike
+pub mod State
+pub mod AgentStands
+pub mod Example

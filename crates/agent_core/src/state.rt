@@ -1,0 +1,44 @@
+//! What changes in an agent.
+
+use crate::flights::Flights;
+use crate::growing::Growing;
+use crate::setup::AgentSetup;
+use crate::told::Told;
+use history::History;
+use mg_bytes::Text;
+use std::alloc::Global;
+
+/// The answer to a command of the agent's.
+#[derive(Drop)]
+pub struct Answer {
+    /// Its return code.
+    pub code: u16,
+    /// Its whole text.
+    pub text: Text,
+}
+
+/// The answer to the command with this id.
+#[derive(Drop)]
+pub(crate) struct Answered {
+    pub id: u32,
+    pub answer: Answer,
+}
+
+/// What changes in an agent: the clock, the next id, the commands in flight, the answers, what was told of each line, and
+/// the history of transactions.
+#[derive(Drop)]
+pub(crate) struct State {
+    pub clock: u64,
+    pub next: u32,
+    pub flights: Flights,
+    pub answers: Growing<Answered>,
+    pub told: Told,
+    pub history: History,
+}
+
+/// What a piece of work is done with.
+#[derive(Clone, Copy)]
+pub(crate) struct Context<'a> {
+    pub alloc: Global,
+    pub setup: &'a AgentSetup,
+}

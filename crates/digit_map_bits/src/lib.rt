@@ -1,0 +1,17 @@
+//! A matcher of digit maps that keeps a bit for each place of its map (RFC 3435, 2.1.5): what a letter costs doesn't grow
+//! with the letters before it.
+//!
+//! What its calls promise stands in `digit_map`, at `Matcher`, and speaks of the words of the map alone. `specs/` says
+//! what is kept. It is nothing that a caller has to believe: of that the contracts say that letters lead from one state
+//! to the next, and the promises are proved from it.
+#![tactic(auto)]
+
+mod block;
+mod compiled;
+mod dialling;
+mod draft;
+pub mod laws;
+mod plan;
+
+pub use crate::compiled::Compiled;
+pub use crate::dialling::Dialling;

@@ -1,0 +1,338 @@
+-- What a gateway sends at an event: commands of its own, answers to the firsts that it keeps, and acknowledgements.
+use Rattle.std.proofs.Common.{◌≡◌, ℕ, zero, suc, ◌+◌, ◌<◌, ◌≤◌, Bool, true, false, ◌||◌, if◌then◌else◌, List, [], ◌∷◌, ◌++◌, length, Option, Some, None, inl, inr, refl, sym, ap, ◌∙◌, subst, arith, append-nil, append_assoc}
+use Rattle.std.specs.Prelude.{Any, IfSome, nat_le, nat_lt, ◌^◌}
+use Rattle.std.specs.List.{slice_index_or}
+use Rattle.std.proofs.lemmas.Bool.{ltb-false, ne_eqb}
+use Rattle.std.proofs.lemmas.Option.{none-some}
+use Rattle.std.specs.declared.net.socket_addr.SocketAddrV4.{SocketAddrV4}
+use Rattle.mgcp_text.specs.declared.message.Message.TheVariants as messages
+use Rattle.mgcp_text.specs.declared.message.Param.{Param}
+use Rattle.mgcp_text.specs.Reading.{Outcome, message, no_header, bad_version, bad_body, id_in, read_text}
+use Rattle.mgcp_text.specs.Answer.{Answer, IsAnswer, plain_code, response_of}
+use Rattle.mgcp_text.specs.Confirmation.{k_of}
+use Rattle.mgcp_text.proofs.AnswerLemmas.{answer_writable}
+use Rattle.mgcp_text.proofs.IdLemmas.{IsId, read_id}
+use Rattle.mgcp_text.proofs.RoundLaws.{read_again}
+use Rattle.command_forms.specs.Command.{Command}
+use Rattle.history.specs.declared.entry.First.{First as KeptFirst}
+use Rattle.history.specs.declared.entry.Entry.{Entry}
+use Rattle.history.specs.declared.entry.Entry.TheVariants.{First, Confirmation}
+use Rattle.history.specs.Memory.{most_firsts}
+use Rattle.history.specs.Kept.{firsts_in}
+use Rattle.history.specs.Looking.{Told as Looked, new, repeat, confirmed, full, look_of}
+use Rattle.history.proofs.LookLaws.{repeat_kept}
+use Rattle.outbound.specs.Flight.{InFlight}
+use Rattle.plain_machine.specs.declared.own.Own.{Own as Itself}
+use Rattle.plain_machine.specs.declared.setup.Setup.{Setup}
+use Rattle.plain_machine.specs.declared.station.Station.{Station}
+use Rattle.plain_machine.specs.declared.refusal.Refusal.TheVariants.{ClockBack, TickTooFar}
+use Rattle.plain_machine.specs.Setup.{IsSetUp}
+use Rattle.plain_machine.specs.Event.{GatewayEvent, datagram, phone, tick}
+use Rattle.plain_machine.specs.Message.{of_none, again, acknowledgement, Sent, text_of}
+use Rattle.plain_machine.specs.Posting.{first_number}
+use Rattle.plain_machine.specs.Machine.{Endpoints, Machine, Effect, Told, told, opening, opening_station}
+use Rattle.transmission.specs.Texts.{texts_of}
+use Rattle.plain_machine.specs.Arriving.{clock_after}
+use Rattle.plain_machine.specs.Done.{Done, only_answer}
+use Rattle.plain_machine.specs.Commanding.{commanded}
+use Rattle.transmission.specs.Acknowledging.{asks_for_acknowledgement}
+use Rattle.plain_machine.specs.Responding.{acknowledged, response_with, responded}
+use Rattle.plain_machine.specs.Answering.{Transaction, response_to, answer_text, history_with, refusing, command_with, reply, executed, transacted_by, handled, took_all}
+use Rattle.plain_machine.specs.Happening.{effect}
+use Rattle.plain_machine.specs.Refusing.{refusal_of}
+use Rattle.plain_machine.proofs.AllLemmas.{OnAll}
+use Rattle.plain_machine.proofs.TurnLemmas.{on_made}
+use Rattle.plain_machine.proofs.CommandLaws.{opening_is_sound}
+use Rattle.plain_machine.proofs.NoticeLemmas.{opening_is_fine}
+use Rattle.plain_machine.proofs.MessageLaws.{nothing_kept, opening_fits, Fits, code_is, code_fits, command_answered, handled_fits, event_fits, AreKept, event_goes}
+use Rattle.plain_machine.proofs.EffectLaws.{handled_now, effect_now}
+use Rattle.machine_laws.proofs.EachLemmas.{Each, each_both, each_weaker, one_behind}
+use Rattle.machine_laws.proofs.GatewayTurns.{OwnStands, Stationed, log_turns}
+use Rattle.machine_laws.proofs.LogTurns.{Goes, Stands, acted_goes, command_goes, log_both, on_later, pass_goes, responded_goes}
+use Rattle.machine_laws.proofs.PostLogs.{InLog, Logged, Own, Posted, WasBegun}
+use Rattle.machine_laws.proofs.TellsLemmas.{AreAnswers, tells_on}
+use Rattle.machine_laws.specs.Saying.{IsAnswerTo, Issued, OneOf, Tells, begun_in}
+
+-- what is sent by this moment
+abbrev pub Said : List Issued → List KeptFirst → ℕ → Sent → Type 0
+Said log firsts until sent = Tells log firsts (text_of sent.said) sent.moment × (sent.moment ≤ until)
+
+pub said_on : (log more : List Issued) (firsts later : List KeptFirst) (until : ℕ) (sent : Sent) → Said log firsts until sent → Said (log ++ more) (firsts ++ later) until sent
+said_on log more firsts later until sent s = (tells_on log more firsts later (text_of sent.said) sent.moment s.0, s.1)
+
+-- the endpoints by this moment
+pub record EndpointsStand (until : ℕ) (log : List Issued) (endpoints : Endpoints) : Type 0 where
+  pub logged : Logged until log
+  pub stations : OnAll (Stationed until log) 1 endpoints.stations
+  pub own : OwnStands until log endpoints.own
+
+-- what is done is said by the gateway's lines and itself alone
+pub record ToldGoes (until : ℕ) (log : List Issued) (is : Told) : Type 0 where
+  pub stands : EndpointsStand until (log ++ begun_in is.sent) is.endpoints
+  pub sent_own : Each (Own until (log ++ begun_in is.sent)) is.sent
+
+-- what a text does
+pub record TextGoes (log : List Issued) (m : Machine) (done : Effect) : Type 0 where
+  pub stands : EndpointsStand m.now (log ++ begun_in done.sent) done.machine.endpoints
+  pub more : List KeptFirst
+  pub grown : firsts_in done.machine.history ≡ firsts_in m.history ++ more
+  pub answers : AreAnswers (firsts_in done.machine.history)
+  pub sent_says : Each (Said (log ++ begun_in done.sent) (firsts_in done.machine.history) m.now) done.sent
+
+own_said : (until : ℕ) (log : List Issued) (firsts : List KeptFirst) (sent : List Sent) → Each (Own until log) sent → Each (Said log firsts until) sent
+own_said until log firsts sent own = each_weaker (Own until log) (Said log firsts until) (λ one is. (inl is.carries, is.early)) sent own
+
+firsts_append : (some more : List Entry) → firsts_in (some ++ more) ≡ firsts_in some ++ firsts_in more
+firsts_append [] more = refl
+firsts_append (First first ∷ some) more = ap (λ (rest : List KeptFirst). first ∷ rest) (firsts_append some more)
+firsts_append (Confirmation spans ∷ some) more = firsts_append some more
+
+one_first : (m : Machine) (t : Transaction) → firsts_in (history_with m t) ≡ firsts_in m.history ++ (record { id = t.id; moment = m.now; answer = answer_text t }) ∷ []
+one_first m t =
+    firsts_append (m.history ++ Confirmation t.confirms ∷ []) (First (record { id = t.id; moment = m.now; answer = answer_text t }) ∷ [])
+    ∙ ap (λ (x : List KeptFirst). x ++ (record { id = t.id; moment = m.now; answer = answer_text t }) ∷ []) (firsts_append m.history (Confirmation t.confirms ∷ []) ∙ append-nil (firsts_in m.history))
+
+kept_one : (text : List ℕ) (firsts : List KeptFirst) → Any (λ (first : KeptFirst). first.answer ≡ text) firsts → OneOf (λ (first : KeptFirst). first.answer ≡ text) firsts
+kept_one text firsts any = from firsts any.0 any.1 any.2 any.3 any.4 where
+  from : (firsts : List KeptFirst) (place : ℕ) (first : KeptFirst) → place < length firsts → slice_index_or firsts place first ≡ first → first.answer ≡ text
+      → OneOf (λ (first : KeptFirst). first.answer ≡ text) firsts
+  from [] place first less at is = absurd (omega arith)
+  from (x ∷ firsts) zero first less at is = inl (ap (λ (f : KeptFirst). f.answer) at ∙ is)
+  from (x ∷ firsts) (suc place) first less at is = inr (from firsts place first (omega (arith, less)) at is)
+
+answer_is : (t : Transaction) → IsId t.id → IsAnswer t.done.answer → IsAnswerTo t.id (answer_text t)
+answer_is t has is =
+    let given = t.done.answer in
+    record { code = given.code; params = given.params; body = given.body; reads = read_again (response_to t) (answer_writable t.id given has.0 has.1 is) }
+
+endpoints_same : (until : ℕ) (log : List Issued) (endpoints : Endpoints) (sent : List Sent) → begun_in sent ≡ [] → EndpointsStand until log endpoints → EndpointsStand until (log ++ begun_in sent) endpoints
+endpoints_same until log endpoints sent none s =
+    subst (λ (x : List Issued). EndpointsStand until x endpoints) (sym (ap (λ (x : List Issued). log ++ x) none ∙ append-nil log)) s
+
+still_goes : (log : List Issued) (m : Machine) (sent : List Sent) → begun_in sent ≡ [] → EndpointsStand m.now log m.endpoints → AreAnswers (firsts_in m.history)
+    → Each (Said log (firsts_in m.history) m.now) sent → TextGoes log m (record { machine = m; sent = sent })
+still_goes log m sent none stands answered says =
+    let same : log ≡ log ++ begun_in sent = sym (ap (λ (x : List Issued). log ++ x) none ∙ append-nil log) in
+    record {
+      stands = endpoints_same m.now log m.endpoints sent none stands;
+      more = [];
+      grown = sym (append-nil (firsts_in m.history));
+      answers = answered;
+      sent_says = subst (λ (x : List Issued). Each (Said x (firsts_in m.history) m.now) sent) same says;
+    }
+
+transacted_goes : (log : List Issued) (looked : Looked) (m : Machine) (source : SocketAddrV4) (t : Transaction) → EndpointsStand m.now log m.endpoints
+    → AreAnswers (firsts_in m.history) → IsAnswerTo t.id (answer_text t) → ToldGoes m.now log t.done.told → looked ≡ look_of most_firsts m.history t.id m.now
+    → TextGoes log m (transacted_by looked m source t)
+unfolding executed
+transacted_goes log new m source t stands answered is goes at = record {
+  stands = goes.stands;
+  more = kept ∷ [];
+  grown = one_first m t;
+  answers = subst AreAnswers (sym (one_first m t)) (each_both (λ (first : KeptFirst). IsAnswerTo first.id first.answer) (firsts_in m.history) (kept ∷ []) answered (is, tt));
+  sent_says = (
+    (inr (inl (subst (OneOf (λ (first : KeptFirst). first.answer ≡ answer_text t)) (sym (one_first m t)) (one_behind (λ (first : KeptFirst). first.answer ≡ answer_text t) (firsts_in m.history) (kept ∷ []) (inl refl)))), omega arith),
+    own_said m.now (log ++ begun_in t.done.told.sent) (firsts_in (history_with m t)) t.done.told.sent goes.sent_own,
+  );
+} where
+  kept : KeptFirst
+  kept = record { id = t.id; moment = m.now; answer = answer_text t }
+transacted_goes log (repeat text) m source t stands answered is goes at =
+    still_goes log m (reply m source t.line (again text) ∷ []) refl stands answered
+    ((inr (inl (kept_one text (firsts_in m.history) (repeat_kept most_firsts m.history t.id m.now text (sym at)))), omega arith), tt)
+transacted_goes log confirmed m source t stands answered is goes at = still_goes log m [] refl stands answered tt
+transacted_goes log full m source t stands answered is goes at = still_goes log m [] refl stands answered tt
+
+only_goes : (log : List Issued) (until : ℕ) (endpoints : Endpoints) → EndpointsStand until log endpoints → ToldGoes until log (told endpoints [])
+only_goes log until endpoints stands = record { stands = endpoints_same until log endpoints [] refl stands; sent_own = tt }
+
+none_acknowledged : (now : ℕ) (source : SocketAddrV4) (code id : ℕ) (params : List Param) → begun_in (acknowledged now source code id params) ≡ []
+none_acknowledged now source code id params = by_test (asks_for_acknowledgement code params) where
+  by_test : (b : Bool) → begun_in (if b then (record { to = source; moment = now; owner = of_none; said = acknowledgement (messages.Response 0 id [] []) }) ∷ [] else []) ≡ []
+  by_test true = refl
+  by_test false = refl
+
+acknowledged_says : (log : List Issued) (firsts : List KeptFirst) (now : ℕ) (source : SocketAddrV4) (code id : ℕ) (params : List Param) → IsId id
+    → Each (Said log firsts now) (acknowledged now source code id params)
+acknowledged_says log firsts now source code id params has = by_test (asks_for_acknowledgement code params) where
+  by_test : (b : Bool) → Each (Said log firsts now) (if b then (record { to = source; moment = now; owner = of_none; said = acknowledgement (messages.Response 0 id [] []) }) ∷ [] else [])
+  by_test true = ((inr (inr (record { id = id; reads = read_again (response_of id (plain_code 0)) (answer_writable id (plain_code 0) has.0 has.1 (code_is 0 (omega arith))) })), omega arith), tt)
+  by_test false = tt
+
+-- what a turn of the endpoints gives
+from_goes : (setup : Setup) (until : ℕ) (set_up : IsSetUp setup) (log : List Issued) (is : Told)
+    → Goes setup until (Stationed until) (OwnStands until) (Own until) (Logged until) (log_turns setup until set_up) log is → ToldGoes until log is
+from_goes setup until set_up log is goes =
+    record { stands = record { logged = goes.stands.log_holds; stations = goes.stands.stations; own = goes.stands.own }; sent_own = goes.sent }
+
+to_stands : (setup : Setup) (until : ℕ) (set_up : IsSetUp setup) (log : List Issued) (endpoints : Endpoints) → EndpointsStand until log endpoints
+    → Stands setup until (Stationed until) (OwnStands until) (Own until) (Logged until) (log_turns setup until set_up) log endpoints
+to_stands setup until set_up log endpoints s = record { log_holds = s.logged; stations = s.stations; own = s.own }
+
+handled_goes : (setup : Setup) (log : List Issued) (m : Machine) (source : SocketAddrV4) (outcome : Outcome) → Fits setup m → EndpointsStand m.now log m.endpoints
+    → AreAnswers (firsts_in m.history) → IfSome (id_in outcome) IsId → TextGoes log m (handled setup m source outcome)
+unfolding handled
+handled_goes setup log m source no_header fits stands answered has = still_goes log m [] refl stands answered tt
+handled_goes setup log m source (bad_version id) fits stands answered has =
+    transacted_goes log _ m source (refusing m id 528) stands answered (answer_is (refusing m id 528) has (code_is 528 (omega arith))) (only_goes log m.now m.endpoints stands) refl
+handled_goes setup log m source (bad_body id) fits stands answered has =
+    transacted_goes log _ m source (refusing m id 510) stands answered (answer_is (refusing m id 510) has (code_is 510 (omega arith))) (only_goes log m.now m.endpoints stands) refl
+handled_goes setup log m source (message (messages.Command verb id name params body)) fits stands answered has =
+    let said : Command = record { verb = verb; name = name; params = params; body = body } in
+    let t = command_with setup m id said (k_of params) in
+    transacted_goes log _ m source t stands answered (answer_is t has (command_answered setup m id said (k_of params) fits has).is)
+    (from_goes setup m.now fits.set_up log t.done.told
+    (command_goes setup m.now (Stationed m.now) (OwnStands m.now) (Own m.now) (Logged m.now) (log_turns setup m.now fits.set_up) said (k_of params) log m.endpoints id
+    (to_stands setup m.now fits.set_up log m.endpoints stands))) refl
+handled_goes setup log m source (message (messages.Response code id params body)) fits stands answered has =
+    let response = response_with setup id code params in
+    let goes = from_goes setup m.now fits.set_up log (responded setup m.endpoints m.now response)
+    (responded_goes setup m.now (Stationed m.now) (OwnStands m.now) (Own m.now) (Logged m.now) (log_turns setup m.now fits.set_up) log m.endpoints response
+    (to_stands setup m.now fits.set_up log m.endpoints stands)) in
+    let own = (responded setup m.endpoints m.now response).sent in
+    let ack = acknowledged m.now source code id params in
+    let same : log ++ begun_in own ≡ log ++ begun_in (ack ++ own) =
+    sym (log_both log ack own ∙ ap (λ (x : List Issued). (log ++ x) ++ begun_in own) (none_acknowledged m.now source code id params) ∙ ap (λ (x : List Issued). x ++ begun_in own) (append-nil log)) in
+    record {
+      stands = subst (λ (x : List Issued). EndpointsStand m.now x (responded setup m.endpoints m.now response).endpoints) same goes.stands;
+      more = [];
+      grown = sym (append-nil (firsts_in m.history));
+      answers = answered;
+      sent_says = each_both (Said (log ++ begun_in (ack ++ own)) (firsts_in m.history) m.now) ack own
+          (acknowledged_says (log ++ begun_in (ack ++ own)) (firsts_in m.history) m.now source code id params has)
+          (subst (λ (x : List Issued). Each (Said x (firsts_in m.history) m.now) own) same (own_said m.now (log ++ begun_in own) (firsts_in m.history) own goes.sent_own));
+    }
+
+texts_go : (setup : Setup) (log : List Issued) (m : Machine) (source : SocketAddrV4) (texts : List (List ℕ)) → Fits setup m → EndpointsStand m.now log m.endpoints
+    → AreAnswers (firsts_in m.history) → TextGoes log m (took_all setup m source texts)
+unfolding took_all
+texts_go setup log m source [] fits stands answered = still_goes log m [] refl stands answered tt
+texts_go setup log m source (text ∷ texts) fits stands answered =
+    let one = handled setup m source (read_text text) in
+    let first = handled_goes setup log m source (read_text text) fits stands answered (read_id text) in
+    let now : one.machine.now ≡ m.now = handled_now setup m source (read_text text) in
+    let log' = log ++ begun_in one.sent in
+    let rest = texts_go setup log' one.machine source texts (handled_fits setup m source (read_text text) fits)
+    (subst (λ (t : ℕ). EndpointsStand t log' one.machine.endpoints) (sym now) first.stands) first.answers in
+    let others = took_all setup one.machine source texts in
+    let is = sym (log_both log one.sent others.sent) in
+    record {
+      stands = subst (λ (x : List Issued). EndpointsStand m.now x others.machine.endpoints) is
+          (subst (λ (t : ℕ). EndpointsStand t (log' ++ begun_in others.sent) others.machine.endpoints) now rest.stands);
+      more = first.more ++ rest.more;
+      grown = rest.grown ∙ ap (λ (x : List KeptFirst). x ++ rest.more) first.grown ∙ append_assoc (firsts_in m.history) first.more rest.more;
+      answers = rest.answers;
+      sent_says = subst (λ (x : List Issued). Each (Said x (firsts_in others.machine.history) m.now) (one.sent ++ others.sent)) is
+          (each_both (Said (log' ++ begun_in others.sent) (firsts_in others.machine.history) m.now) one.sent others.sent
+          (subst (λ (f : List KeptFirst). Each (Said (log' ++ begun_in others.sent) f m.now) one.sent) (sym rest.grown)
+          (each_weaker (Said log' (firsts_in one.machine.history) m.now) (Said (log' ++ begun_in others.sent) (firsts_in one.machine.history ++ rest.more) m.now)
+          (said_on log' (begun_in others.sent) (firsts_in one.machine.history) rest.more m.now) one.sent first.sent_says))
+          (subst (λ (t : ℕ). Each (Said (log' ++ begun_in others.sent) (firsts_in others.machine.history) t) others.sent) now rest.sent_says));
+    }
+
+-- An event
+
+-- what holds of a gateway whose commands began so
+pub record GatewayHolds (setup : Setup) (log : List Issued) (m : Machine) : Type 0 where
+  pub fits : Fits setup m
+  pub stands : EndpointsStand m.now log m.endpoints
+  pub kept : AreKept m.history
+  pub answers : AreAnswers (firsts_in m.history)
+
+pub record EventGoes (setup : Setup) (log : List Issued) (m : Machine) (done : Effect) : Type 0 where
+  pub holds : GatewayHolds setup (log ++ begun_in done.sent) done.machine
+  pub more : List KeptFirst
+  pub grown : firsts_in done.machine.history ≡ firsts_in m.history ++ more
+  pub sent_says : Each (Said (log ++ begun_in done.sent) (firsts_in done.machine.history) done.machine.now) done.sent
+
+flight_later : (now later : ℕ) → now ≤ later → (log : List Issued) (found : Option InFlight) → IfSome found (InLog now log) → IfSome found (InLog later log)
+flight_later now later past log None is = tt
+flight_later now later past log (Some flight) is = record { known = is.known; later = is.later; past = omega (arith, past, is.past) }
+
+stands_later : (now later : ℕ) → now ≤ later → (log : List Issued) (endpoints : Endpoints) → EndpointsStand now log endpoints → EndpointsStand later log endpoints
+stands_later now later past log endpoints s = record {
+  logged = record {
+    begun = each_weaker (WasBegun now) (WasBegun later) (λ b w. record { name = w.name; reads = w.reads; past = omega (arith, past, w.past) }) log s.logged.begun;
+    apart = s.logged.apart;
+  };
+  stations = on_later (Stationed now log) (Stationed later log) 1 endpoints.stations
+      (λ i station low is. record { sound = is.sound; post = record { below = is.post.below; counts = is.post.counts; flight = flight_later now later past log station.post.pending is.post.flight } })
+      s.stations;
+  own = record {
+    sound = s.own.sound;
+    post = record { below = s.own.post.below; counts = s.own.post.counts; flight = flight_later now later past log endpoints.own.post.pending s.own.post.flight };
+  };
+}
+
+pub tick_on : (m : Machine) (moment : ℕ) → refusal_of m (tick moment) ≡ None → m.now ≤ moment
+unfolding refusal_of
+tick_on m moment taken = by_far (nat_lt (m.now + 1000) moment || nat_le (2 ^ 62) moment) taken where
+  by_back : (b : Bool) → nat_lt moment m.now ≡ b → (if b then Some ClockBack else None) ≡ None → m.now ≤ moment
+  by_back true back e = absurd (none-some ClockBack (sym e))
+  by_back false forward e = ltb-false moment m.now forward
+
+  by_far : (b : Bool) → (if b then Some TickTooFar else (if nat_lt moment m.now then Some ClockBack else None)) ≡ None → m.now ≤ moment
+  by_far true e = absurd (none-some TickTooFar (sym e))
+  by_far false e = by_back (nat_lt moment m.now) refl e
+
+pub event_holds : (setup : Setup) (log : List Issued) (m : Machine) (event : GatewayEvent) → GatewayHolds setup log m → refusal_of m event ≡ None → EventGoes setup log m (effect setup m event)
+unfolding effect
+event_holds setup log m (datagram source bytes) h taken =
+    let goes = texts_go setup log m source (texts_of bytes) h.fits h.stands h.answers in
+    let now : (took_all setup m source (texts_of bytes)).machine.now ≡ m.now = effect_now setup m (datagram source bytes) in
+    let done = took_all setup m source (texts_of bytes) in
+    record {
+      holds = record {
+        fits = event_fits setup m (datagram source bytes) h.fits;
+        stands = subst (λ (t : ℕ). EndpointsStand t (log ++ begun_in done.sent) done.machine.endpoints) (sym now) goes.stands;
+        kept = (event_goes setup m (datagram source bytes) h.fits h.kept).kept;
+        answers = goes.answers;
+      };
+      more = goes.more;
+      grown = goes.grown;
+      sent_says = subst (λ (t : ℕ). Each (Said (log ++ begun_in done.sent) (firsts_in done.machine.history) t) done.sent) (sym now) goes.sent_says;
+    }
+event_holds setup log m (phone line act) h taken =
+    let goes = from_goes setup m.now h.fits.set_up log _
+    (acted_goes setup m.now (Stationed m.now) (OwnStands m.now) (Own m.now) (Logged m.now) (log_turns setup m.now h.fits.set_up) log m.endpoints line act (to_stands setup m.now h.fits.set_up log m.endpoints h.stands)) in
+    record {
+      holds = record { fits = event_fits setup m (phone line act) h.fits; stands = goes.stands; kept = h.kept; answers = h.answers };
+      more = [];
+      grown = sym (append-nil (firsts_in m.history));
+      sent_says = own_said m.now _ (firsts_in m.history) _ goes.sent_own;
+    }
+event_holds setup log m (tick moment) h taken =
+    let past = tick_on m moment taken in
+    let goes = from_goes setup moment h.fits.set_up log _
+    (pass_goes setup moment (Stationed moment) (OwnStands moment) (Own moment) (Logged moment) (log_turns setup moment h.fits.set_up) log m.endpoints
+    (to_stands setup moment h.fits.set_up log m.endpoints (stands_later m.now moment past log m.endpoints h.stands))) in
+    record {
+      holds = record { fits = event_fits setup m (tick moment) h.fits; stands = goes.stands; kept = h.kept; answers = h.answers };
+      more = [];
+      grown = sym (append-nil (firsts_in m.history));
+      sent_says = own_said moment _ (firsts_in m.history) _ goes.sent_own;
+    }
+
+opening_stands : (setup : Setup) → IsSetUp setup → EndpointsStand 0 [] (opening setup).endpoints
+opening_stands setup set_up =
+    let lines : setup.names.lines ≤ 16 = set_up.lines in
+    let sound = opening_is_sound setup set_up in
+    record {
+      logged = record { begun = tt; apart = λ few. λ i j d less none. absurd (omega arith) };
+      stations = on_made (Stationed 0 []) (opening_station setup) 1 setup.names.lines
+          (λ i low high. record {
+            sound = record { some = low; few = omega (arith, high, lines); below = omega arith; fine = opening_is_fine; flight = tt };
+            post = record { below = omega arith; counts = λ few. record { count = first_of i low; below = tt }; flight = tt };
+          });
+      own = record { sound = sound.own; post = record { below = omega arith; counts = λ few. record { count = refl; below = tt }; flight = tt } };
+    } where
+      first_of : (i : ℕ) → 1 ≤ i → 0 ≡ first_number i + 0
+      first_of i low = ap (λ (b : Bool). (if b then 1 else 0) + 0) (sym (ne_eqb i 0 (λ none. absurd (omega (arith, low, none)))))
+
+pub opening_gateway : (setup : Setup) → IsSetUp setup → GatewayHolds setup [] (opening setup)
+opening_gateway setup set_up = record { fits = opening_fits setup set_up; stands = opening_stands setup set_up; kept = nothing_kept setup; answers = tt }
+
+pub gateway_forward : (m : Machine) (event : GatewayEvent) → refusal_of m event ≡ None → m.now ≤ clock_after m.now event
+gateway_forward m (datagram source bytes) taken = omega arith
+gateway_forward m (phone line act) taken = omega arith
+gateway_forward m (tick moment) taken = tick_on m moment taken

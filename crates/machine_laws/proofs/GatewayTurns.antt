@@ -1,0 +1,252 @@
+-- What a gateway sends of its own: the commands of each line, and of the gateway itself, under ids of their own, and again for
+-- less than 20,000 ms.
+use Rattle.std.proofs.Common.{◌≡◌, ◌≢◌, ℕ, ◌≤◌, true, List, [], ◌∷◌, ◌++◌, Option, Some, None, Ok, inl, inr, refl, sym, ap, subst, arith, append-nil}
+use Rattle.std.specs.Prelude.{◌⊎◌, IfSome, option_map}
+use Rattle.std.specs.Option.{unwrap_or}
+use Rattle.mgcp_text.specs.declared.confirmation.KValue.{KValue}
+use Rattle.mgcp_text.specs.declared.message.Verb.TheVariants.{Ntfy}
+use Rattle.endpoint_names.specs.declared.entity.Entity.{Entity}
+use Rattle.endpoint_names.specs.declared.name.Pattern.TheVariants.{One}
+use Rattle.endpoint_names.specs.Name.{name_text}
+use Rattle.event_values.specs.Observed.{observed_text}
+use Rattle.std.specs.Prelude.{codes}
+use Rattle.command_forms.specs.declared.forms.Asks.TheVariants.{Does}
+use Rattle.command_forms.specs.declared.forms.Deed.{Deed}
+use Rattle.command_forms.specs.declared.forms.Target.{Target}
+use Rattle.command_forms.specs.Command.{Command}
+use Rattle.command_forms.specs.Order.{form_of}
+use Rattle.command_forms.proofs.FormLemmas.{deed_has_values}
+use Rattle.outbound.specs.Flight.{InFlight}
+use Rattle.restart.specs.declared.restart.Restart.TheVariants.{Serving}
+use Rattle.restart.specs.declared.heard.Heard.{Heard}
+use Rattle.restart.specs.declared.heard.Heard.TheVariants.{Nothing, PutOff, Redirected, Answered}
+use Rattle.mg_line.specs.Line.{LineDone, Notice}
+use Rattle.mg_line.specs.Acting.{phoned}
+use Rattle.mg_line.specs.Answering.{answered}
+use Rattle.mg_line.specs.Opening.{opened}
+use Rattle.mg_line.specs.Falling.{fired}
+use Rattle.mg_line.specs.declared.due.Due.{Due as LineDue}
+use Rattle.mg_line.specs.declared.phone.Act.{Act}
+use Rattle.plain_machine.specs.declared.due_item.Due.TheVariants.{OfLine, Resend, Announce}
+use Rattle.plain_machine.specs.declared.due_item.DueItem.{DueItem}
+use Rattle.plain_machine.specs.declared.own.Own.{Own as Itself}
+use Rattle.plain_machine.specs.declared.post.Post.{Post}
+use Rattle.plain_machine.specs.declared.response.Response.{Response}
+use Rattle.plain_machine.specs.declared.setup.Setup.{Setup}
+use Rattle.plain_machine.specs.declared.station.Station.{Station}
+use Rattle.plain_machine.specs.Setup.{IsSetUp}
+use Rattle.plain_machine.specs.Posting.{id_on, line_of_id, PostTurn, resent_on}
+use Rattle.plain_machine.specs.Announcing.{announced_on, heard_on, replied}
+use Rattle.plain_machine.specs.Notifying.{Turn, silent, posted, notification, with_notice, noted}
+use Rattle.plain_machine.specs.Machine.{own_posted}
+use Rattle.plain_machine.specs.Requesting.{with_entity, with_connections, asked_if, deed_on}
+use Rattle.plain_machine.specs.Commanding.{line_request, line_deed}
+use Rattle.plain_machine.specs.Falling.{due_on, own_due, happened_on, own_happened, post_due}
+use Rattle.plain_machine.specs.Responding.{responded_as, responded_on, own_responded, redirected_on, opened_on}
+use Rattle.plain_machine.proofs.CommandLaws.{Sound, OwnSound, sound_turns, sound_own_turns, noted_sound, responded_sound, own_responded_sound, asked_if_done}
+use Rattle.plain_machine.proofs.NoticeLemmas.{IsDone, IsTold, phoned_done, answered_done, opened_done, fired_done}
+use Rattle.plain_machine.proofs.NotificationLemmas.{told_writable}
+use Rattle.plain_machine.proofs.FirstLemmas.{OfItsLine, OfItsCommand, OfItsAnnouncement, due_cases, post_cases}
+use Rattle.machine_laws.proofs.EachLemmas.{Each}
+use Rattle.machine_laws.proofs.LogTurns.{Good, LogTurns, OwnGood}
+use Rattle.machine_laws.proofs.PostLogs.{InLog, Logged, Own, PostGood, Posted, announcing_good, command_good, others_stay, own_more, post_still, replied_good, resent_good}
+use Rattle.machine_laws.specs.Saying.{Issued, begun_in}
+
+pub record Stationed (until : ℕ) (log : List Issued) (line : ℕ) (station : Station) : Type 0 where
+  pub sound : Sound line station
+  pub post : Posted until log line station.post
+
+pub record OwnStands (until : ℕ) (log : List Issued) (own : Itself) : Type 0 where
+  pub sound : OwnSound own
+  pub post : Posted until log 0 own.post
+
+abbrev GoodTurn : ℕ → List Issued → ℕ → Turn → Type 0
+GoodTurn until log line turn = Good (Stationed until) (Own until) (Logged until) log line turn
+
+-- a turn of its post, after which the station is sound
+post_turn : (until : ℕ) (log : List Issued) (line : ℕ) (station : Station) (turn : PostTurn) → Sound line (posted station turn).station → PostGood until log line turn
+    → GoodTurn until log line (posted station turn)
+post_turn until log line station turn sound good = record {
+  log_holds = good.log_holds;
+  of = good.of;
+  station_holds = record { sound = sound; post = good.post_holds };
+  sent_holds = good.sent_holds;
+}
+
+-- a turn in which nothing is sent
+still : (until : ℕ) (log : List Issued) (line : ℕ) (station : Station) → Logged until log → Stationed until log line station → GoodTurn until log line (silent station)
+still until log line station logged s = record {
+  log_holds = subst (Logged until) (sym (append-nil log)) logged;
+  of = tt;
+  station_holds = subst (λ (x : List Issued). Stationed until x line station) (sym (append-nil log)) s;
+  sent_holds = tt;
+}
+
+-- the same of the gateway itself
+own_turn : (until : ℕ) (log : List Issued) (own : Itself) (turn : PostTurn) → OwnSound (own_posted own turn).own → PostGood until log 0 turn
+    → OwnGood (OwnStands until) (Own until) (Logged until) log (own_posted own turn)
+own_turn until log own turn sound good = record {
+  log_holds = good.log_holds;
+  of = good.of;
+  own_holds = record { sound = sound; post = good.post_holds };
+  sent_holds = good.sent_holds;
+}
+
+-- with another notified entity it stands as well
+entity_stands : (until : ℕ) (log : List Issued) (line : ℕ) (station : Station) (agent : Option Entity) → Stationed until log line station → Stationed until log line (with_entity agent station)
+entity_stands until log line station agent s = record {
+  sound = record { some = s.sound.some; few = s.sound.few; below = s.sound.below; fine = s.sound.fine; flight = s.sound.flight };
+  post = record { below = s.post.below; counts = s.post.counts; flight = s.post.flight };
+}
+
+-- A notification
+
+noted_good : (setup : Setup) (until : ℕ) → IsSetUp setup → (log : List Issued) (line moment : ℕ) (station : Station) (done : LineDone) → moment ≤ until → Logged until log
+    → Stationed until log line station → IsDone done → GoodTurn until log line (noted setup line moment station done)
+unfolding noted notification
+noted_good setup until set_up log line moment station done past logged s is =
+    by_notice done.notice is.told (noted_sound setup line moment station done set_up s.sound.some s.sound.few s.sound.below is s.sound.flight).0 where
+      was : Station
+      was = record station { line = done.line }
+
+      by_notice : (notice : Option Notice) → IfSome notice IsTold → Sound line (with_notice setup line moment was notice).station
+          → GoodTurn until log line (with_notice setup line moment was notice)
+      by_notice None told sound = still until log line was logged (record { sound = sound; post = s.post })
+      by_notice (Some notice) told sound =
+          post_turn until log line was _ sound
+          (command_good until log line moment station.post Ntfy (name_text (One line) setup.names.domain)
+          ((record { code = codes "X"; value = notice.identifier }) ∷ (record { code = codes "O"; value = observed_text notice.observed }) ∷ []) []
+          (told_writable setup line station.post.number notice set_up s.sound.some s.sound.few s.sound.below told) past logged s.post)
+
+-- What falls due
+
+some_id : (line : ℕ) (station : Station) → Sound line station → 1 ≤ id_on line station.post.number
+some_id line station s = let one : 1 ≤ line = s.some in omega (arith, one)
+
+happening_good : (setup : Setup) (until : ℕ) → IsSetUp setup → (log : List Issued) (line : ℕ) (item : DueItem) (station : Station) → Logged until log → Stationed until log line station
+    → due_on (line, station) ≡ Some item → item.moment ≤ until → GoodTurn until log line (happened_on item.due setup line item.moment station)
+unfolding happened_on
+happening_good setup until set_up log line item station logged s due past = by_case (due_cases line station item due) where
+  sounds : Sound line (happened_on item.due setup line item.moment station).station
+  sounds = ((sound_turns setup set_up).happening true item.due line item.moment station s.sound).0
+
+  Happens : DueItem → Type 0
+  Happens i = i.moment ≤ until → Sound line (happened_on i.due setup line i.moment station).station → GoodTurn until log line (happened_on i.due setup line i.moment station)
+
+  of_line : (due : LineDue) (moment : ℕ) → moment ≤ until → GoodTurn until log line (happened_on (OfLine due) setup line moment station)
+  of_line due moment by = noted_good setup until set_up log line moment station (fired station.line due moment) by logged s (fired_done station.line due moment s.sound.fine)
+
+  of_command : (message : InFlight) → station.post.pending ≡ Some message → message.due ≤ until → Sound line (happened_on Resend setup line message.due station).station
+      → GoodTurn until log line (happened_on Resend setup line message.due station)
+  of_command message pending by sound =
+      post_turn until log line station (resent_on setup line message.due station.post) sound (resent_good setup until log line message.due station.post message pending refl by logged s.post)
+
+  of_announcement : (moment : ℕ) → moment ≤ until → Sound line (happened_on Announce setup line moment station).station → GoodTurn until log line (happened_on Announce setup line moment station)
+  of_announcement moment by sound =
+      post_turn until log line station (announced_on setup line moment station.post) sound
+      (announcing_good setup until log line moment station.post set_up s.sound.few (some_id line station s.sound) by logged s.post)
+
+  by_post : OfItsCommand line station.post item ⊎ OfItsAnnouncement line station.post item → GoodTurn until log line (happened_on item.due setup line item.moment station)
+  by_post (inl of) = subst Happens of.same (λ by sound. of_command of.message of.pending by sound) past sounds
+  by_post (inr of) = subst Happens of.same (λ by sound. of_announcement of.until by sound) past sounds
+
+  by_case : OfItsLine line station item ⊎ (post_due line station.post ≡ Some item) → GoodTurn until log line (happened_on item.due setup line item.moment station)
+  by_case (inl of) = subst Happens of.same (λ by sound. of_line of.found.1 of.found.0 by) past sounds
+  by_case (inr is) = by_post (post_cases line station.post item is)
+
+own_happening_good : (setup : Setup) (until : ℕ) → IsSetUp setup → (log : List Issued) (item : DueItem) (own : Itself) → Logged until log → OwnStands until log own
+    → own_due own ≡ Some item → item.moment ≤ until → OwnGood (OwnStands until) (Own until) (Logged until) log (own_happened item.due setup item.moment own)
+unfolding own_happened
+own_happening_good setup until set_up log item own logged s due past = by_post (post_cases 0 own.post item due) where
+  sounds : OwnSound (own_happened item.due setup item.moment own).own
+  sounds = ((sound_own_turns setup set_up).happening item.due item.moment own s.sound).0
+
+  Happens : DueItem → Type 0
+  Happens i = i.moment ≤ until → OwnSound (own_happened i.due setup i.moment own).own → OwnGood (OwnStands until) (Own until) (Logged until) log (own_happened i.due setup i.moment own)
+
+  of_command : (message : InFlight) → own.post.pending ≡ Some message → message.due ≤ until → OwnSound (own_happened Resend setup message.due own).own
+      → OwnGood (OwnStands until) (Own until) (Logged until) log (own_happened Resend setup message.due own)
+  of_command message pending by sound =
+      own_turn until log own (resent_on setup 0 message.due own.post) sound (resent_good setup until log 0 message.due own.post message pending refl by logged s.post)
+
+  of_announcement : (moment : ℕ) → moment ≤ until → OwnSound (own_happened Announce setup moment own).own
+      → OwnGood (OwnStands until) (Own until) (Logged until) log (own_happened Announce setup moment own)
+  of_announcement moment by sound =
+      own_turn until log own (announced_on setup 0 moment own.post) sound
+      (announcing_good setup until log 0 moment own.post set_up (omega arith) s.sound.some by logged s.post)
+
+  by_post : OfItsCommand 0 own.post item ⊎ OfItsAnnouncement 0 own.post item → OwnGood (OwnStands until) (Own until) (Logged until) log (own_happened item.due setup item.moment own)
+  by_post (inl of) = subst Happens of.same (λ by sound. of_command of.message of.pending by sound) past sounds
+  by_post (inr of) = subst Happens of.same (λ by sound. of_announcement of.until by sound) past sounds
+
+-- A response
+
+responded_good : (setup : Setup) (until : ℕ) → IsSetUp setup → (log : List Issued) (line : ℕ) (response : Response) (station : Station) → Logged until log → Stationed until log line station
+    → GoodTurn until log line (responded_on setup line until response station)
+unfolding responded_on replied
+responded_good setup until set_up log line response station logged s = by_heard (heard_on station.post response) (responded_sound setup set_up line until response station s.sound).0 where
+  goes : (heard : Heard) → PostGood until log line (replied heard setup line until response station.post)
+  goes heard = replied_good heard setup until log line response station.post set_up s.sound.few (some_id line station s.sound) logged s.post
+
+  by_heard : (heard : Heard) → Sound line (responded_as heard setup line until response station).station → GoodTurn until log line (responded_as heard setup line until response station)
+  by_heard Nothing sound = still until log line station logged s
+  by_heard PutOff sound = post_turn until log line station (replied PutOff setup line until response station.post) sound (goes PutOff)
+  by_heard (Redirected agent) sound = post_turn until log line station (replied (Redirected agent) setup line until response station.post) sound (goes (Redirected agent))
+  by_heard (Answered agent) sound =
+      let post : Post = record station.post { entity = unwrap_or agent station.post.entity; pending = None; restart = Serving } in
+      noted_good setup until set_up log line until (record station { post = post }) (answered station.line until) (omega arith) logged
+      (record {
+        sound = record { some = s.sound.some; few = s.sound.few; below = s.sound.below; fine = s.sound.fine; flight = tt };
+        post = record { below = s.post.below; counts = s.post.counts; flight = tt };
+      })
+      (answered_done station.line until s.sound.fine)
+
+own_responded_good : (setup : Setup) (until : ℕ) → IsSetUp setup → (log : List Issued) (response : Response) (own : Itself) → Logged until log → OwnStands until log own
+    → OwnGood (OwnStands until) (Own until) (Logged until) log (own_responded setup until response own)
+unfolding own_responded
+own_responded_good setup until set_up log response own logged s =
+    own_turn until log own (replied (heard_on own.post response) setup 0 until response own.post) (own_responded_sound setup set_up until response own s.sound).0
+    (replied_good (heard_on own.post response) setup until log 0 response own.post set_up (omega arith) s.sound.some logged s.post)
+
+-- The lines hear of the gateway's answer
+
+redirected_good : (until : ℕ) (log : List Issued) (agent : Entity) (line : ℕ) (station : Station) → Logged until log → Stationed until log line station
+    → GoodTurn until log line (redirected_on agent line station)
+unfolding redirected_on
+redirected_good until log agent line station logged s =
+    still until log line (with_entity (Some agent) station) logged (entity_stands until log line station (Some agent) s)
+
+opened_good : (setup : Setup) (until : ℕ) → IsSetUp setup → (log : List Issued) (agent : Option Entity) (line : ℕ) (station : Station) → Logged until log → Stationed until log line station
+    → GoodTurn until log line (opened_on agent setup until line station)
+unfolding opened_on
+opened_good setup until set_up log agent line station logged s =
+    noted_good setup until set_up log line until (with_entity agent station) (opened station.line until) (omega arith) logged
+    (entity_stands until log line station agent s) (opened_done station.line until s.sound.fine)
+
+-- A deed
+
+deed_good : (setup : Setup) (until : ℕ) → IsSetUp setup → (command : Command) (confirms : KValue) (target : Target) (deed : Deed)
+    → form_of command confirms setup.names ≡ Ok (Does target deed) → (log : List Issued) (line : ℕ) (station : Station) → Logged until log → Stationed until log line station
+    → GoodTurn until log line (deed_on setup (line_deed deed) until line station)
+unfolding deed_on
+deed_good setup until set_up command confirms target deed is log line station logged s =
+    let with' = entity_stands until log line station deed.entity s in
+    noted_good setup until set_up log line until (with_connections (line_deed deed) (with_entity deed.entity station)) (asked_if (option_map line_request deed.request) station.line until) (omega arith) logged
+    (record { sound = record { some = with'.sound.some; few = with'.sound.few; below = with'.sound.below; fine = with'.sound.fine; flight = with'.sound.flight }; post = with'.post })
+    (asked_if_done command.params station.line deed.request until (deed_has_values command confirms setup.names target deed is).request s.sound.fine)
+
+pub log_turns : (setup : Setup) (until : ℕ) → IsSetUp setup → LogTurns setup until (Stationed until) (OwnStands until) (Own until) (Logged until)
+log_turns setup until set_up = record {
+  act = λ log line act station logged s.
+      noted_good setup until set_up log line until station (phoned station.line act until) (omega arith) logged s (phoned_done station.line act until s.sound.fine);
+  deed = deed_good setup until set_up;
+  response = responded_good setup until set_up;
+  happening = happening_good setup until set_up;
+  redirecting = redirected_good until;
+  opening = opened_good setup until set_up;
+  own_response = own_responded_good setup until set_up;
+  own_happening = own_happening_good setup until set_up;
+  others = λ log new line station apart s. record { sound = s.sound; post = others_stay until log new line station.post apart s.post };
+  own_others = λ log new own apart s. record { sound = s.sound; post = others_stay until log new 0 own.post apart s.post };
+  more = own_more until;
+}

@@ -1,0 +1,289 @@
+-- What holds of each station and of the gateway itself beside the commands that began so far, and of all that they send: what
+-- does at each turn.
+use Rattle.std.proofs.Common.{◌≡◌, ◌≢◌, ℕ, zero, suc, ◌+◌, ◌-◌, ◌≤◌, Bool, true, false, ◌==◌, if◌then◌else◌, List, [], ◌∷◌, ◌++◌, Option, Some, None, Result, Ok, Err, inl, inr, refl, sym, ap, ◌∙◌, subst, arith, append-nil, append_assoc}
+use Rattle.std.specs.Prelude.{◌⊎◌, slice_get, slice_set}
+use Rattle.std.proofs.lemmas.Bool.Decides.{Decides-eqb, nat_tests}
+use Rattle.std.proofs.lemmas.Grind.{flat_map-append}
+use Rattle.std.proofs.lemmas.Option.{none-some}
+use Rattle.endpoint_names.specs.declared.entity.Entity.{Entity}
+use Rattle.mgcp_text.specs.declared.confirmation.KValue.{KValue}
+use Rattle.mgcp_text.specs.declared.message.Param.{Param}
+use Rattle.command_forms.specs.declared.forms.Asks.{Asks}
+use Rattle.command_forms.specs.declared.forms.Asks.TheVariants.{Reports, Does}
+use Rattle.command_forms.specs.declared.forms.Deed.{Deed}
+use Rattle.command_forms.specs.declared.forms.Target.{Target}
+use Rattle.command_forms.specs.declared.forms.Target.TheVariants.{One, All as AllLines, Any as AnyLine}
+use Rattle.command_forms.specs.Command.{Command}
+use Rattle.command_forms.specs.Order.{form_of, form_while}
+use Rattle.command_forms.proofs.RestartLemmas.{while_taken, while_none}
+use Rattle.mg_line.specs.declared.phone.Act.{Act}
+use Rattle.restart.specs.declared.heard.Heard.{Heard}
+use Rattle.restart.specs.declared.heard.Heard.TheVariants.{Nothing, PutOff, Redirected, Answered}
+use Rattle.plain_machine.specs.declared.due_item.DueItem.{DueItem}
+use Rattle.plain_machine.specs.declared.line_deed.LineDeed.{LineDeed}
+use Rattle.plain_machine.specs.declared.own.Own.{Own as Itself}
+use Rattle.plain_machine.specs.declared.response.Response.{Response}
+use Rattle.plain_machine.specs.declared.setup.Setup.{Setup}
+use Rattle.plain_machine.specs.declared.station.Station.{Station}
+use Rattle.plain_machine.specs.Message.{Sent}
+use Rattle.plain_machine.specs.Posting.{line_of_id}
+use Rattle.plain_machine.specs.Announcing.{heard_on}
+use Rattle.plain_machine.specs.Notifying.{Turn}
+use Rattle.plain_machine.specs.Machine.{Endpoints, OwnTurn, Told, told, serves, station_at, with_turn, turned_at, on_line, on_own, on_lines, afterwards}
+use Rattle.plain_machine.specs.Acting.{acted_on, acted}
+use Rattle.plain_machine.specs.Falling.{due_on, own_due, first_due, due_by, own_happened, happened_on, happened, go_on, passed, room, pass}
+use Rattle.plain_machine.specs.Done.{Done}
+use Rattle.plain_machine.specs.Requesting.{refused_by, deed_on, lines_meant, unless_refused, deed_done, line_with_place, done_there, done_for}
+use Rattle.plain_machine.specs.Commanding.{line_deed, done_by, commanded}
+use Rattle.plain_machine.specs.Responding.{responded_on, own_responded, redirected_on, opened_on, on_all, lines_told, own_heard, responded}
+use Rattle.plain_machine.proofs.AllLemmas.{OnAll}
+use Rattle.plain_machine.proofs.TurnLemmas.{of_line}
+use Rattle.plain_machine.proofs.FirstLemmas.{IsDueOn, first_on, by_moment, station_is, post_line, station_line}
+use Rattle.machine_laws.proofs.EachLemmas.{Each, each_both, each_weaker}
+use Rattle.machine_laws.specs.Saying.{Issued, begun_at, begun_in}
+
+-- Of all stations from this line on
+
+pub on_later : (P P' : ℕ → Station → Type 0) (n : ℕ) (stations : List Station) → ((i : ℕ) (station : Station) → n ≤ i → P i station → P' i station) → OnAll P n stations → OnAll P' n stations
+on_later P P' n [] step all = tt
+on_later P P' n (station ∷ stations) step all =
+    (step n station (omega arith) all.0, on_later P P' (n + 1) stations (λ i st low is. step i st (omega (arith, low)) is) all.1)
+
+on_turned : (P P' : ℕ → Station → Type 0) (n : ℕ) (stations : List Station) (place : ℕ) (station : Station)
+    → ((i : ℕ) (other : Station) → i ≢ n + place → P i other → P' i other) → P' (n + place) station → OnAll P n stations → OnAll P' n (slice_set stations place station)
+on_turned P P' n [] place station step is all = tt
+on_turned P P' n (first ∷ stations) zero station step is all = (
+  subst (λ (i : ℕ). P' i station) (let e : n + zero ≡ n = omega arith in e) is,
+  on_later P P' (n + 1) stations (λ i st low holds. step i st (λ same. absurd (omega (arith, same, low))) holds) all.1,
+)
+on_turned P P' n (first ∷ stations) (suc place) station step is all =
+    let here : n + suc place ≡ n + 1 + place = omega arith in (
+      step n first (λ same. absurd (omega (arith, same))) all.0,
+      on_turned P P' (n + 1) stations place station (λ i st other holds. step i st (λ same. other (same ∙ here)) holds) (subst (λ (i : ℕ). P' i station) here is) all.1,
+    )
+
+-- What began with some messages, and with more
+
+pub log_both : (log : List Issued) (some more : List Sent) → log ++ begun_in (some ++ more) ≡ (log ++ begun_in some) ++ begun_in more
+log_both log some more =
+    ap (λ (x : List Issued). log ++ x) (flat_map-append begun_at some more) ∙ sym (append_assoc log (begun_in some) (begun_in more))
+
+-- What a turn keeps: P of a line, R of the gateway itself, Q of what is sent, and L of all that began
+
+pub record Good (P : List Issued → ℕ → Station → Type 0) (Q : List Issued → Sent → Type 0) (L : List Issued → Type 0) (log : List Issued) (line : ℕ) (turn : Turn) : Type 0 where
+  pub log_holds : L (log ++ begun_in turn.sent)
+  pub of : Each (λ (b : Issued). line_of_id b.id ≡ line) (begun_in turn.sent)
+  pub station_holds : P (log ++ begun_in turn.sent) line turn.station
+  pub sent_holds : Each (Q (log ++ begun_in turn.sent)) turn.sent
+
+pub record OwnGood (R : List Issued → Itself → Type 0) (Q : List Issued → Sent → Type 0) (L : List Issued → Type 0) (log : List Issued) (turn : OwnTurn) : Type 0 where
+  pub log_holds : L (log ++ begun_in turn.sent)
+  pub of : Each (λ (b : Issued). line_of_id b.id ≡ 0) (begun_in turn.sent)
+  pub own_holds : R (log ++ begun_in turn.sent) turn.own
+  pub sent_holds : Each (Q (log ++ begun_in turn.sent)) turn.sent
+
+-- each turn by this moment keeps what holds
+pub record LogTurns (setup : Setup) (until : ℕ) (P : List Issued → ℕ → Station → Type 0) (R : List Issued → Itself → Type 0) (Q : List Issued → Sent → Type 0) (L : List Issued → Type 0) : Type 0 where
+  pub act : (log : List Issued) (line : ℕ) (act : Act) (station : Station) → L log → P log line station → Good P Q L log line (acted_on setup line until act station)
+  pub deed : (command : Command) (confirms : KValue) (target : Target) (deed : Deed) → form_of command confirms setup.names ≡ Ok (Does target deed)
+      → (log : List Issued) (line : ℕ) (station : Station) → L log → P log line station → Good P Q L log line (deed_on setup (line_deed deed) until line station)
+  pub response : (log : List Issued) (line : ℕ) (response : Response) (station : Station) → L log → P log line station → Good P Q L log line (responded_on setup line until response station)
+  pub happening : (log : List Issued) (line : ℕ) (item : DueItem) (station : Station) → L log → P log line station → due_on (line, station) ≡ Some item → item.moment ≤ until
+      → Good P Q L log line (happened_on item.due setup line item.moment station)
+  pub redirecting : (log : List Issued) (agent : Entity) (line : ℕ) (station : Station) → L log → P log line station → Good P Q L log line (redirected_on agent line station)
+  pub opening : (log : List Issued) (agent : Option Entity) (line : ℕ) (station : Station) → L log → P log line station → Good P Q L log line (opened_on agent setup until line station)
+  pub own_response : (log : List Issued) (response : Response) (own : Itself) → L log → R log own → OwnGood R Q L log (own_responded setup until response own)
+  pub own_happening : (log : List Issued) (item : DueItem) (own : Itself) → L log → R log own → own_due own ≡ Some item → item.moment ≤ until
+      → OwnGood R Q L log (own_happened item.due setup item.moment own)
+  -- what others begin changes nothing of it
+  pub others : (log new : List Issued) (line : ℕ) (station : Station) → Each (λ (b : Issued). line_of_id b.id ≢ line) new → P log line station → P (log ++ new) line station
+  pub own_others : (log new : List Issued) (own : Itself) → Each (λ (b : Issued). line_of_id b.id ≢ 0) new → R log own → R (log ++ new) own
+  pub more : (log new : List Issued) (sent : Sent) → Q log sent → Q (log ++ new) sent
+
+module _ (setup : Setup) (until : ℕ) (P : List Issued → ℕ → Station → Type 0) (R : List Issued → Itself → Type 0) (Q : List Issued → Sent → Type 0) (L : List Issued → Type 0)
+    (turns : LogTurns setup until P R Q L) where
+  pub record Stands (log : List Issued) (endpoints : Endpoints) : Type 0 where
+    pub log_holds : L log
+    pub stations : OnAll (P log) 1 endpoints.stations
+    pub own : R log endpoints.own
+
+  pub record Goes (log : List Issued) (is : Told) : Type 0 where
+    pub stands : Stands (log ++ begun_in is.sent) is.endpoints
+    pub sent : Each (Q (log ++ begun_in is.sent)) is.sent
+
+  stays : (log : List Issued) (endpoints : Endpoints) → Stands log endpoints → Goes log (told endpoints [])
+  stays log endpoints s = record { stands = subst (λ (x : List Issued). Stands x endpoints) (sym (append-nil log)) s; sent = tt }
+
+  -- one thing, and then what comes after it
+  both_go : (log : List Issued) (first next : Told) → Goes log first → Goes (log ++ begun_in first.sent) next → Goes log (told next.endpoints (first.sent ++ next.sent))
+  both_go log first next one two =
+      let is = sym (log_both log first.sent next.sent) in
+      record {
+        stands = subst (λ (x : List Issued). Stands x next.endpoints) is two.stands;
+        sent = subst (λ (x : List Issued). Each (Q x) (first.sent ++ next.sent)) is
+            (each_both (Q ((log ++ begun_in first.sent) ++ begun_in next.sent)) first.sent next.sent
+            (each_weaker (Q (log ++ begun_in first.sent)) (Q ((log ++ begun_in first.sent) ++ begun_in next.sent))
+            (λ sent is. turns.more (log ++ begun_in first.sent) (begun_in next.sent) sent is) first.sent one.sent)
+            two.sent);
+      }
+
+  turned : (log : List Issued) (endpoints : Endpoints) (line : ℕ) (station : Station) (turn : Turn) → Stands log endpoints → station_at endpoints line ≡ Some station
+      → Good P Q L log line turn → Goes log (with_turn endpoints line turn)
+  turned log endpoints line station turn s at good = by_zero (line == 0) refl at where
+    one_more : (line == 0) ≡ false → line ≡ 1 + (line - 1)
+    one_more some = grind (arith, nat_tests)
+
+    by_zero : (b : Bool) → (line == 0) ≡ b → (if b then None else slice_get endpoints.stations (line - 1)) ≡ Some station → Goes log (with_turn endpoints line turn)
+    by_zero true e at = absurd (none-some station at)
+    by_zero false e at = record {
+      stands = record {
+        log_holds = good.log_holds;
+        stations = on_turned (P log) (P (log ++ begun_in turn.sent)) 1 endpoints.stations (line - 1) turn.station
+            (λ i other apart holds. turns.others log (begun_in turn.sent) i other
+            (each_weaker (λ (b : Issued). line_of_id b.id ≡ line) (λ (b : Issued). line_of_id b.id ≢ i) (λ b of. λ same. apart (sym same ∙ of ∙ one_more e)) (begun_in turn.sent) good.of) holds)
+            (subst (λ (i : ℕ). P (log ++ begun_in turn.sent) i turn.station) (one_more e) good.station_holds) s.stations;
+        own = turns.own_others log (begun_in turn.sent) endpoints.own
+            (each_weaker (λ (b : Issued). line_of_id b.id ≡ line) (λ (b : Issued). line_of_id b.id ≢ 0)
+            (λ b of. λ none. absurd (let some : line ≡ 1 + (line - 1) = one_more e in omega (arith, of, none, some))) (begun_in turn.sent) good.of)
+            s.own;
+      };
+      sent = good.sent_holds;
+    }
+
+  abbrev LineGoes : List Issued → ℕ → (Station → Turn) → Type 0
+  LineGoes log line turn = (station : Station) → L log → P log line station → Good P Q L log line (turn station)
+
+  turned_goes : (log : List Issued) (endpoints : Endpoints) (line : ℕ) (turn : Station → Turn) → Stands log endpoints → LineGoes log line turn → Goes log (on_line endpoints line turn)
+  unfolding on_line
+  turned_goes log endpoints line turn s good = by_station (station_at endpoints line) refl where
+    by_station : (found : Option Station) → station_at endpoints line ≡ found → Goes log (turned_at found endpoints line turn)
+    by_station None e = stays log endpoints s
+    by_station (Some station) e = turned log endpoints line station _ s e (good station s.log_holds (of_line (P log) endpoints line station s.stations e))
+
+  -- the gateway itself has its turn
+  own_turned : (log : List Issued) (endpoints : Endpoints) (turn : Itself → OwnTurn) → Stands log endpoints → OwnGood R Q L log (turn endpoints.own) → Goes log (on_own endpoints turn)
+  own_turned log endpoints turn s good = record {
+    stands = record {
+      log_holds = good.log_holds;
+      stations = on_later (P log) (P (log ++ begun_in (turn endpoints.own).sent)) 1 endpoints.stations
+          (λ i station low holds. turns.others log (begun_in (turn endpoints.own).sent) i station
+          (each_weaker (λ (b : Issued). line_of_id b.id ≡ 0) (λ (b : Issued). line_of_id b.id ≢ i) (λ b of. λ same. absurd (omega (arith, of, same, low))) (begun_in (turn endpoints.own).sent) good.of) holds)
+          s.stations;
+      own = good.own_holds;
+    };
+    sent = good.sent_holds;
+  }
+
+  -- several lines have theirs
+  several_go : (lines : List ℕ) (log : List Issued) (endpoints : Endpoints) (turn : ℕ → Station → Turn) → Stands log endpoints → ((log : List Issued) (line : ℕ) → LineGoes log line (turn line))
+      → Goes log (on_lines lines endpoints turn)
+  unfolding on_lines
+  several_go [] log endpoints turn s good = stays log endpoints s
+  several_go (line ∷ lines) log endpoints turn s good =
+      let first = turned_goes log endpoints line (turn line) s (good log line) in
+      let here = on_line endpoints line (turn line) in
+      both_go log here (on_lines lines here.endpoints turn) first (several_go lines (log ++ begun_in here.sent) here.endpoints turn first.stands good)
+
+  pub acted_goes : (log : List Issued) (endpoints : Endpoints) (line : ℕ) (act : Act) → Stands log endpoints → Goes log (acted setup endpoints line until act)
+  acted_goes log endpoints line act s = turned_goes log endpoints line (acted_on setup line until act) s (λ station holds has. turns.act log line act station holds has)
+
+  -- A response
+
+  lines_go : (heard : Heard) (log : List Issued) (endpoints : Endpoints) → Stands log endpoints → Goes log (lines_told heard setup until endpoints)
+  lines_go Nothing log endpoints s = stays log endpoints s
+  lines_go PutOff log endpoints s = stays log endpoints s
+  lines_go (Redirected agent) log endpoints s =
+      several_go (lines_meant endpoints AllLines) log endpoints (redirected_on agent) s (λ log line station holds has. turns.redirecting log agent line station holds has)
+  lines_go (Answered agent) log endpoints s =
+      several_go (lines_meant endpoints AllLines) log endpoints (opened_on agent setup until) s (λ log line station holds has. turns.opening log agent line station holds has)
+
+  own_heard_goes : (log : List Issued) (endpoints : Endpoints) (response : Response) → Stands log endpoints → Goes log (own_heard setup endpoints until response)
+  own_heard_goes log endpoints response s =
+      let first = own_turned log endpoints (own_responded setup until response) s (turns.own_response log response endpoints.own s.log_holds s.own) in
+      let here = on_own endpoints (own_responded setup until response) in
+      both_go log here (lines_told (heard_on endpoints.own.post response) setup until here.endpoints) first
+      (lines_go (heard_on endpoints.own.post response) (log ++ begun_in here.sent) here.endpoints first.stands)
+
+  pub responded_goes : (log : List Issued) (endpoints : Endpoints) (response : Response) → Stands log endpoints → Goes log (responded setup endpoints until response)
+  responded_goes log endpoints response s = by_test (line_of_id response.id == 0) where
+    by_test : (b : Bool) → Goes log (if b then own_heard setup endpoints until response
+        else on_line endpoints (line_of_id response.id) (responded_on setup (line_of_id response.id) until response))
+    by_test true = own_heard_goes log endpoints response s
+    by_test false = turned_goes log endpoints (line_of_id response.id) (responded_on setup (line_of_id response.id) until response) s
+        (λ station holds has. turns.response log (line_of_id response.id) response station holds has)
+
+  -- What falls due
+
+  happened_goes : (log : List Issued) (endpoints : Endpoints) (item : DueItem) → due_by endpoints until ≡ Some item → Stands log endpoints → Goes log (happened setup endpoints item)
+  unfolding on_line
+  happened_goes log endpoints item due s = by_case (first_on endpoints item by.0) where
+    by : (first_due endpoints ≡ Some item) × (item.moment ≤ until)
+    by = by_moment endpoints until item due
+
+    Happens : Bool → Type 0
+    Happens b = Goes log (if b then on_own endpoints (own_happened item.due setup item.moment) else on_line endpoints item.line (happened_on item.due setup item.line item.moment))
+
+    at_station : (on : IsDueOn 1 endpoints.stations item) → Goes log (on_line endpoints item.line (happened_on item.due setup item.line item.moment))
+    at_station on =
+        let at = station_is endpoints item on in
+        subst (λ (found : Option Station). Goes log (turned_at found endpoints item.line (happened_on item.due setup item.line item.moment))) (sym at)
+        (turned log endpoints item.line on.station _ s at
+        (turns.happening log item.line item on.station s.log_holds (of_line (P log) endpoints item.line on.station s.stations at) on.due by.1))
+
+    by_case : (own_due endpoints.own ≡ Some item) ⊎ IsDueOn 1 endpoints.stations item → Happens (item.line == 0)
+    by_case (inl is) = subst Happens (sym ((Decides-eqb item.line 0).1 (post_line 0 endpoints.own.post item is)))
+        (own_turned log endpoints (own_happened item.due setup item.moment) s (turns.own_happening log item endpoints.own s.log_holds s.own is by.1))
+    by_case (inr on) = subst Happens (sym (station_line endpoints item on)) (at_station on)
+
+  passed_goes : (n : ℕ) (log : List Issued) (endpoints : Endpoints) → Stands log endpoints → Goes log (passed n setup endpoints until)
+  unfolding passed
+  passed_goes zero log endpoints s = stays log endpoints s
+  passed_goes (suc n) log endpoints s = by_due (due_by endpoints until) refl
+      (λ item goes. passed_goes n (log ++ begun_in (happened setup endpoints item).sent) (happened setup endpoints item).endpoints goes.stands) where
+        by_due : (found : Option DueItem) → due_by endpoints until ≡ found
+            → ((item : DueItem) → (goes : Goes log (happened setup endpoints item)) → Goes (log ++ begun_in (happened setup endpoints item).sent) (passed n setup (happened setup endpoints item).endpoints until))
+            → Goes log (go_on found setup endpoints (λ next. passed n setup next until))
+        by_due None e rest = stays log endpoints s
+        by_due (Some item) e rest =
+            let first = happened_goes log endpoints item e s in
+            both_go log (happened setup endpoints item) (passed n setup (happened setup endpoints item).endpoints until) first (rest item first)
+
+  pub pass_goes : (log : List Issued) (endpoints : Endpoints) → Stands log endpoints → Goes log (pass setup endpoints until)
+  unfolding pass
+  pass_goes log endpoints s = passed_goes (room endpoints until) log endpoints s
+
+  -- A command
+
+  unless_goes : (log : List Issued) (refusal : Option ℕ) (endpoints : Endpoints) (done : Done) → Stands log endpoints → Goes log done.told → Goes log (unless_refused refusal endpoints done).told
+  unless_goes log None endpoints done s goes = goes
+  unless_goes log (Some code) endpoints done s goes = stays log endpoints s
+
+  abbrev DeedGoes : LineDeed → Type 0
+  DeedGoes deed = (log : List Issued) (line : ℕ) → LineGoes log line (deed_on setup deed until line)
+
+  deed_goes : (log : List Issued) (endpoints : Endpoints) (lines : Target) (more : List Param) (deed : LineDeed) → Stands log endpoints → DeedGoes deed
+      → Goes log (deed_done setup endpoints lines more deed until).told
+  deed_goes log endpoints lines more deed s good =
+      unless_goes log (refused_by endpoints lines deed) endpoints _ s (several_go (lines_meant endpoints lines) log endpoints (deed_on setup deed until) s good)
+
+  target_goes : (log : List Issued) (endpoints : Endpoints) (target : Target) (deed : LineDeed) → Stands log endpoints → DeedGoes deed → Goes log (done_for setup endpoints target deed until).told
+  target_goes log endpoints (One line) deed s good = deed_goes log endpoints (One line) [] deed s good
+  target_goes log endpoints AllLines deed s good = deed_goes log endpoints AllLines [] deed s good
+  target_goes log endpoints AnyLine deed s good = by_line (line_with_place endpoints) where
+    by_line : (found : Option ℕ) → Goes log (done_there found setup endpoints deed until).told
+    by_line None = stays log endpoints s
+    by_line (Some line) = deed_goes log endpoints (One line) _ deed s good
+
+  form_goes : (serving : Bool) (command : Command) (confirms : KValue) (asks : Result Asks ℕ) → form_while serving command confirms setup.names ≡ asks
+      → (log : List Issued) (endpoints : Endpoints) (id : ℕ) → Stands log endpoints → Goes log (done_by asks setup endpoints until id).told
+  form_goes serving command confirms (Err code) is log endpoints id s = stays log endpoints s
+  form_goes serving command confirms (Ok (Reports target audit)) is log endpoints id s = stays log endpoints s
+  form_goes false command confirms (Ok (Does target deed)) is log endpoints id s = absurd (while_none command confirms setup.names target deed is)
+  form_goes true command confirms (Ok (Does target deed)) is log endpoints id s =
+      target_goes log endpoints target (line_deed deed) s
+      (λ log line station holds has. turns.deed command confirms target deed (while_taken true command confirms setup.names (Does target deed) is) log line station holds has)
+
+  pub command_goes : (command : Command) (confirms : KValue) (log : List Issued) (endpoints : Endpoints) (id : ℕ) → Stands log endpoints
+      → Goes log (commanded setup endpoints until id command confirms).told
+  command_goes command confirms log endpoints id s =
+      form_goes (serves endpoints) command confirms (form_while (serves endpoints) command confirms setup.names) refl log endpoints id s

@@ -1,0 +1,296 @@
+-- What is sent under a post: its commands, each under an id of its own, and again for less than 20,000 ms.
+use Rattle.std.proofs.Common.{◌≡◌, ◌≢◌, ℕ, ◌+◌, ◌-◌, ◌<◌, ◌≤◌, Bool, true, ◌==◌, ◌&&◌, if◌then◌else◌, List, [], ◌∷◌, ◌++◌, length, Option, Some, None, inl, inr, refl, sym, ap, ◌∙◌, subst, arith, append-nil, codes}
+use Rattle.std.specs.Prelude.{AllPairs, IfSome, filter, option_map}
+use Rattle.std.specs.Option.{unwrap_or}
+use Rattle.std.specs.Str.{bytes_eq}
+use Rattle.std.proofs.lemmas.Bool.{and_from, eq-eqb, ne_eqb}
+use Rattle.std.proofs.lemmas.Slice.Eq.{bytes_eq-Decides}
+use Rattle.std.proofs.lemmas.Nat.{div-mul-add}
+use Rattle.std.proofs.lemmas.List.{length-append}
+use Rattle.std.proofs.lemmas.List.Elements.{filter-append}
+use Rattle.std.proofs.lemmas.List.Quantifiers.{all_pairs_push}
+use Rattle.mgcp_text.specs.declared.message.Param.{Param}
+use Rattle.mgcp_text.specs.declared.message.Verb.{Verb}
+use Rattle.mgcp_text.specs.declared.message.Verb.TheVariants.{Rsip}
+use Rattle.mgcp_text.specs.declared.message.Message.TheVariants as messages
+use Rattle.mgcp_text.specs.Reading.{message, read_text}
+use Rattle.mgcp_text.specs.Writing.{written, is_writable}
+use Rattle.mgcp_text.proofs.RoundLaws.{read_again}
+use Rattle.endpoint_names.specs.Name.{name_text}
+use Rattle.outbound.specs.declared.repeat.Repeat.{Repeat}
+use Rattle.outbound.specs.declared.repeat.Repeat.TheVariants.{Sent as SentAgain, GivenUp}
+use Rattle.outbound.specs.declared.reply.Reply.{Reply}
+use Rattle.outbound.specs.declared.reply.Reply.TheVariants.{Answered as AnsweredReply, Provisional, Stranger}
+use Rattle.outbound.specs.Flight.{InFlight, begun as sent_first, repeat_of, repeated, reply_of, heard_as, heard}
+use Rattle.outbound.proofs.LifeLaws.{repeat_same, sent_later, sent_soon}
+use Rattle.restart.specs.declared.restart.Restart.{Restart}
+use Rattle.restart.specs.declared.restart.Restart.TheVariants.{Waiting, Announced, Serving}
+use Rattle.restart.specs.declared.heard.Heard.{Heard}
+use Rattle.restart.specs.declared.heard.Heard.TheVariants.{Nothing, PutOff, Redirected, Answered}
+use Rattle.plain_machine.specs.declared.post.Post.{Post}
+use Rattle.plain_machine.specs.declared.response.Response.{Response}
+use Rattle.plain_machine.specs.declared.setup.Setup.{Setup}
+use Rattle.plain_machine.specs.Setup.{IsSetUp}
+use Rattle.plain_machine.specs.Message.{own_of, command, resent, Sent, text_of}
+use Rattle.plain_machine.specs.Posting.{numbers, first_number, number_after, id_on, line_of_id, PostTurn, unsent, with_command, given_up, repeated_as, resent_by, resent_on}
+use Rattle.plain_machine.specs.Announcing.{announced_lines, method_of, announcement, announced, announced_by, announced_on, put_off, replied}
+use Rattle.plain_machine.proofs.FlightLaws.{next_below}
+use Rattle.plain_machine.proofs.AnnouncementLemmas.{announcement_writable}
+use Rattle.machine_laws.proofs.EachLemmas.{Each, all_from_each, each_both, each_push, each_weaker, one_before, one_behind, one_weaker}
+use Rattle.machine_laws.proofs.FlightLemmas.{IsSame}
+use Rattle.machine_laws.specs.Saying.{Carries, Issued, OneOf, begun_in, count_of, is_command_as}
+
+-- a command of a gateway's own: it is read as a command with its id, and began by this moment
+pub record WasBegun (until : ℕ) (one : Issued) : Type 0 where
+  pub name : List ℕ
+  pub reads : is_command_as one.id name (read_text one.text) ≡ true
+  pub past : one.moment ≤ until
+
+-- fewer than all numbers of a line are used up
+abbrev pub Few : ℕ → List Issued → Type 0
+Few line log = first_number line + count_of line log < numbers
+
+abbrev pub AllFew : List Issued → Type 0
+AllFew log = (line : ℕ) → Few line log
+
+abbrev pub Apart : List Issued → Type 0
+Apart log = AllPairs (λ (a b : Issued). a.id ≢ b.id) log
+
+pub record Logged (until : ℕ) (log : List Issued) : Type 0 where
+  pub begun : Each (WasBegun until) log
+  pub apart : AllFew log → Apart log
+
+-- the command in flight is one that began
+pub record InLog (until : ℕ) (log : List Issued) (flight : InFlight) : Type 0 where
+  pub known : OneOf (IsSame flight) log
+  pub later : flight.first ≤ flight.due
+  pub past : flight.first ≤ until
+
+-- the line's ids so far are below its next
+pub record Counts (line number : ℕ) (log : List Issued) : Type 0 where
+  pub count : number ≡ first_number line + count_of line log
+  pub below : Each (λ (b : Issued). line_of_id b.id ≡ line → b.id < id_on line number) log
+
+pub record Posted (until : ℕ) (log : List Issued) (line : ℕ) (post : Post) : Type 0 where
+  pub below : post.number < numbers
+  pub counts : Few line log → Counts line post.number log
+  pub flight : IfSome post.pending (InLog until log)
+
+pub record Own (until : ℕ) (log : List Issued) (sent : Sent) : Type 0 where
+  pub carries : OneOf (Carries (text_of sent.said) sent.moment) log
+  pub early : sent.moment ≤ until
+
+-- a turn of a post keeps all that
+pub record PostGood (until : ℕ) (log : List Issued) (line : ℕ) (turn : PostTurn) : Type 0 where
+  pub log_holds : Logged until (log ++ begun_in turn.sent)
+  pub of : Each (λ (b : Issued). line_of_id b.id ≡ line) (begun_in turn.sent)
+  pub post_holds : Posted until (log ++ begun_in turn.sent) line turn.post
+  pub sent_holds : Each (Own until (log ++ begun_in turn.sent)) turn.sent
+
+-- Counting
+
+line_is : (line number : ℕ) → number < numbers → line_of_id (id_on line number) ≡ line
+line_is line number below = div-mul-add line numbers number below
+
+count_both : (line : ℕ) (log more : List Issued) → count_of line (log ++ more) ≡ count_of line log + count_of line more
+count_both line log more =
+    ap (λ (x : List Issued). length x) (filter-append (λ (one : Issued). line_of_id one.id == line) log more)
+    ∙ length-append (filter (λ (one : Issued). line_of_id one.id == line) log) (filter (λ (one : Issued). line_of_id one.id == line) more)
+
+pub few_before : (line : ℕ) (log more : List Issued) → Few line (log ++ more) → Few line log
+few_before line log more few = let both = count_both line log more in omega (arith, both, few)
+
+count_one : (line : ℕ) (one : Issued) → line_of_id one.id ≡ line → count_of line (one ∷ []) ≡ 1
+count_one line one is = rw (eq-eqb (line_of_id one.id) line is) refl
+
+count_none : (line : ℕ) (new : List Issued) → Each (λ (b : Issued). line_of_id b.id ≢ line) new → count_of line new ≡ 0
+count_none line [] all = refl
+count_none line (b ∷ new) all = rw (ne_eqb (line_of_id b.id) line all.0) (count_none line new all.1)
+
+-- A log that grows
+
+known_on : (log new : List Issued) (flight : InFlight) → OneOf (IsSame flight) log → OneOf (IsSame flight) (log ++ new)
+known_on log new flight known = one_before (IsSame flight) log new known
+
+in_log_on : (until : ℕ) (log new : List Issued) (found : Option InFlight) → IfSome found (InLog until log) → IfSome found (InLog until (log ++ new))
+in_log_on until log new None is = tt
+in_log_on until log new (Some flight) is = record { known = known_on log new flight is.known; later = is.later; past = is.past }
+
+-- what other lines begin changes nothing
+pub others_stay : (until : ℕ) (log new : List Issued) (line : ℕ) (post : Post) → Each (λ (b : Issued). line_of_id b.id ≢ line) new → Posted until log line post
+    → Posted until (log ++ new) line post
+others_stay until log new line post apart s = record {
+  below = s.below;
+  counts = λ few.
+      let was = s.counts (few_before line log new few) in
+      record {
+        count = let both = count_both line log new in let none = count_none line new apart in omega (arith, was.count, both, none);
+        below = both_each log new was.below (each_weaker (λ (b : Issued). line_of_id b.id ≢ line) (λ (b : Issued). line_of_id b.id ≡ line → b.id < id_on line post.number)
+            (λ b other. λ same. absurd (other same)) new apart);
+      };
+  flight = in_log_on until log new post.pending s.flight;
+} where
+  both_each : (xs ys : List Issued) → Each (λ (b : Issued). line_of_id b.id ≡ line → b.id < id_on line post.number) xs
+      → Each (λ (b : Issued). line_of_id b.id ≡ line → b.id < id_on line post.number) ys → Each (λ (b : Issued). line_of_id b.id ≡ line → b.id < id_on line post.number) (xs ++ ys)
+  both_each xs ys one two = each_both (λ (b : Issued). line_of_id b.id ≡ line → b.id < id_on line post.number) xs ys one two
+
+pub own_more : (until : ℕ) (log new : List Issued) (sent : Sent) → Own until log sent → Own until (log ++ new) sent
+own_more until log new sent own = record { carries = one_before (Carries (text_of sent.said) sent.moment) log new own.carries; early = own.early }
+
+-- A turn in which nothing begins and nothing is sent
+
+pub post_still : (until : ℕ) (log : List Issued) (line : ℕ) (post : Post) → Logged until log → Posted until log line post → PostGood until log line (unsent post)
+post_still until log line post logged s = record {
+  log_holds = subst (Logged until) (sym (append-nil log)) logged;
+  of = tt;
+  post_holds = subst (λ (x : List Issued). Posted until x line post) (sym (append-nil log)) s;
+  sent_holds = tt;
+}
+
+-- A command begins
+
+same_command : (id : ℕ) (name : List ℕ) → (id == id && bytes_eq name name) ≡ true
+same_command id name = and_from (id == id) (bytes_eq name name) (eq-eqb id id refl) ((bytes_eq-Decides name name).1 refl)
+
+next_number : (line number count : ℕ) → number ≡ first_number line + count → first_number line + (count + 1) < numbers → number_after line number ≡ number + 1
+next_number line number count is few =
+    ap (λ (b : Bool). if b then first_number line else number + 1) (ne_eqb (number + 1) numbers (λ same. absurd (omega (arith, is, few, same))))
+
+pub command_good : (until : ℕ) (log : List Issued) (line moment : ℕ) (post : Post) (verb : Verb) (name : List ℕ) (params : List Param) (body : List ℕ)
+    → is_writable (messages.Command verb (id_on line post.number) name params body) ≡ true → moment ≤ until → Logged until log → Posted until log line post
+    → PostGood until log line (with_command line moment post (messages.Command verb (id_on line post.number) name params body))
+command_good until log line moment post verb name params body writable past logged s = record {
+  log_holds = record {
+    begun = each_push (WasBegun until) log b logged.begun
+        (record { name = name; reads = ap (is_command_as id name) reads ∙ same_command id name; past = past });
+    apart = λ few. all_pairs_push (λ (a c : Issued). a.id ≢ c.id) log b (logged.apart (λ i. few_before i log (b ∷ []) (few i)))
+        (all_from_each (λ (a : Issued). a.id ≢ id) log
+        (each_weaker (λ (a : Issued). line_of_id a.id ≡ line → a.id < id) (λ (a : Issued). a.id ≢ id)
+        (λ a below. λ same. absurd (let less : a.id < id = below (ap (λ (x : ℕ). line_of_id x) same ∙ of_line) in omega (arith, less, same)))
+        log (s.counts (few_before line log (b ∷ []) (few line))).below));
+  };
+  of = (of_line, tt);
+  post_holds = record {
+    below = next_below line post.number s.below;
+    counts = λ few.
+        let old = s.counts (few_before line log (b ∷ []) few) in
+        let total : count_of line (log ++ b ∷ []) ≡ count_of line log + 1 = count_both line log (b ∷ []) ∙ ap (λ (x : ℕ). count_of line log + x) (count_one line b of_line) in
+        let next : number_after line post.number ≡ post.number + 1 =
+        next_number line post.number (count_of line log) old.count (let f : first_number line + count_of line (log ++ b ∷ []) < numbers = few in omega (arith, f, total)) in
+        record {
+          count = omega (arith, next, total, old.count);
+          below = each_push (λ (a : Issued). line_of_id a.id ≡ line → a.id < id_on line (number_after line post.number)) log b
+              (each_weaker (λ (a : Issued). line_of_id a.id ≡ line → a.id < id) (λ (a : Issued). line_of_id a.id ≡ line → a.id < id_on line (number_after line post.number))
+              (λ a below. λ of. let less : a.id < id = below of in omega (arith, less, next)) log old.below)
+              (λ of. omega (arith, next));
+        };
+    flight = record { known = one_behind (IsSame flight) log (b ∷ []) (inl (record { id = refl; text = refl; moment = refl })); later = omega arith; past = past };
+  };
+  sent_holds = (record { carries = one_behind (Carries text moment) log (b ∷ []) (inl (record { text = refl; since = omega arith; within = omega arith })); early = past }, tt);
+} where
+  id : ℕ
+  id = id_on line post.number
+
+  text : List ℕ
+  text = written (messages.Command verb (id_on line post.number) name params body)
+
+  b : Issued
+  b = record { id = id; moment = moment; text = text }
+
+  flight : InFlight
+  flight = sent_first id post.entity.address text moment
+
+  of_line : line_of_id (id_on line post.number) ≡ line
+  of_line = line_is line post.number s.below
+
+  reads : read_text text ≡ message (messages.Command verb (id_on line post.number) name params body)
+  reads = read_again (messages.Command verb (id_on line post.number) name params body) writable
+
+-- What falls due of a post
+
+pub resent_good : (setup : Setup) (until : ℕ) (log : List Issued) (line moment : ℕ) (post : Post) (flight : InFlight) → post.pending ≡ Some flight → moment ≡ flight.due → moment ≤ until
+    → Logged until log → Posted until log line post → PostGood until log line (resent_on setup line moment post)
+resent_good setup until log line moment post flight pending due past logged s =
+    subst (λ (found : Option InFlight). PostGood until log line (resent_by found setup line moment post)) (sym pending) (by_repeat (repeat_of flight moment) refl) where
+      in_log : InLog until log flight
+      in_log = subst (λ (found : Option InFlight). IfSome found (InLog until log)) pending s.flight
+
+      by_repeat : (repeat : Repeat) → repeat_of flight moment ≡ repeat → PostGood until log line (repeated_as repeat setup line moment post flight)
+      by_repeat GivenUp is = post_still until log line (given_up setup line moment post) logged (record { below = s.below; counts = s.counts; flight = tt })
+      by_repeat SentAgain is =
+          let same = repeat_same flight moment in
+          let later = sent_later flight moment is in
+          let few : moment - flight.first < 20000 = sent_soon flight moment is in
+          record {
+            log_holds = subst (Logged until) (sym (append-nil log)) logged;
+            of = tt;
+            post_holds = subst (λ (x : List Issued). Posted until x line (record post { pending = Some (repeated flight moment) })) (sym (append-nil log)) (record {
+              below = s.below;
+              counts = s.counts;
+              flight = record {
+                known = one_weaker (IsSame flight) (IsSame (repeated flight moment))
+                    (λ one e. record { id = e.id ∙ sym same.same_id; text = e.text ∙ sym same.same_text; moment = e.moment ∙ sym same.same_start }) log in_log.known;
+                later = omega (arith, later, due, in_log.later, same.same_start);
+                past = omega (arith, in_log.past, same.same_start);
+              };
+            });
+            sent_holds = subst (λ (x : List Issued). Own until x (record { to = flight.to; moment = moment; owner = own_of line; said = resent flight.text }) × Unit {0}) (sym (append-nil log)) (
+              record {
+                carries = one_weaker (IsSame flight) (Carries flight.text moment)
+                    (λ one e. record { text = sym e.text; since = omega (arith, e.moment, in_log.later, due); within = omega (arith, e.moment, few, in_log.later, due) }) log in_log.known;
+                early = past;
+              },
+              tt,
+            );
+          }
+
+-- An announcement
+
+pub announced_good : (setup : Setup) (until : ℕ) (log : List Issued) (line moment : ℕ) (post : Post) → IsSetUp setup → line ≤ 16 → 1 ≤ id_on line post.number → moment ≤ until → Logged until log
+    → Posted until log line post → PostGood until log line (announced setup line moment post)
+unfolding announced announcement
+announced_good setup until log line moment post set_up few some past logged s =
+    command_good until log line moment (record post { restart = Announced }) Rsip (name_text (announced_lines line) setup.names.domain)
+    ((record { code = codes "RM"; value = method_of line }) ∷ []) [] (announcement_writable setup line post.number set_up few s.below some) past logged
+    (record { below = s.below; counts = s.counts; flight = s.flight })
+
+pub announcing_good : (setup : Setup) (until : ℕ) (log : List Issued) (line moment : ℕ) (post : Post) → IsSetUp setup → line ≤ 16 → 1 ≤ id_on line post.number → moment ≤ until → Logged until log
+    → Posted until log line post → PostGood until log line (announced_on setup line moment post)
+announcing_good setup until log line moment post set_up few some past logged s = by_restart post.restart where
+  by_restart : (restart : Restart) → PostGood until log line (announced_by restart setup line moment post)
+  by_restart (Waiting since) = announced_good setup until log line moment post set_up few some past logged s
+  by_restart Announced = post_still until log line post logged s
+  by_restart Serving = post_still until log line post logged s
+
+-- A response
+
+heard_in_log : (until : ℕ) (log : List Issued) (flight : InFlight) (id code : ℕ) → InLog until log flight → InLog until log (heard flight id code until)
+unfolding heard
+heard_in_log until log flight id code is = by_reply (reply_of flight id code) where
+  by_reply : (reply : Reply) → InLog until log (heard_as reply flight until)
+  by_reply AnsweredReply = is
+  by_reply Provisional = record {
+    known = one_weaker (IsSame flight) (IsSame (heard_as Provisional flight until)) (λ one e. record { id = e.id; text = e.text; moment = e.moment }) log is.known;
+    later = omega (arith, is.past);
+    past = is.past;
+  }
+  by_reply Stranger = is
+
+put_off_stands : (until : ℕ) (log : List Issued) (line : ℕ) (response : Response) (post : Post) → Posted until log line post → Posted until log line (put_off response until post)
+put_off_stands until log line response post s = by_pending post.pending s.flight where
+  by_pending : (pending : Option InFlight) → IfSome pending (InLog until log)
+      → Posted until log line (record post { pending = option_map (λ message. heard message response.id response.code until) pending })
+  by_pending None is = record { below = s.below; counts = s.counts; flight = tt }
+  by_pending (Some flight) is = record { below = s.below; counts = s.counts; flight = heard_in_log until log flight response.id response.code is }
+
+pub replied_good : (heard : Heard) (setup : Setup) (until : ℕ) (log : List Issued) (line : ℕ) (response : Response) (post : Post) → IsSetUp setup → line ≤ 16 → 1 ≤ id_on line post.number → Logged until log
+    → Posted until log line post → PostGood until log line (replied heard setup line until response post)
+unfolding replied
+replied_good Nothing setup until log line response post set_up few some logged s = post_still until log line post logged s
+replied_good PutOff setup until log line response post set_up few some logged s =
+    post_still until log line (put_off response until post) logged (put_off_stands until log line response post s)
+replied_good (Redirected agent) setup until log line response post set_up few some logged s =
+    announced_good setup until log line until (record post { entity = agent }) set_up few some (omega arith) logged (record { below = s.below; counts = s.counts; flight = s.flight })
+replied_good (Answered agent) setup until log line response post set_up few some logged s =
+    post_still until log line (record post { entity = unwrap_or agent post.entity; pending = None; restart = Serving }) logged
+    (record { below = s.below; counts = s.counts; flight = tt })

@@ -1,0 +1,24 @@
+//! What a gateway says, and for how long.
+ghost use Rattle.std.specs.Prelude.{◌≡◌, ◌≢◌, ◌≤◌, List, All, AllPairs, true};
+ghost use Rattle.history.specs.declared.entry.First.{First as KeptFirst};
+ghost use Rattle.history.specs.Kept.{firsts_in};
+ghost use Rattle.plain_machine.specs.declared.setup.Setup.{Setup};
+ghost use Rattle.plain_machine.specs.Setup.{IsSetUp};
+ghost use Rattle.plain_machine.specs.Event.{GatewayEvent};
+ghost use Rattle.plain_machine.specs.Message.{Sent, text_of};
+ghost use Rattle.plain_machine.specs.Machine.{opening};
+ghost use Rattle.plain_machine.specs.Lists.{are_taken, plain, sent_of};
+ghost use Rattle.machine_laws.specs.Saying.{Issued, begun_in, HasNumbersLeft, Tells, IsAnswerTo};
+
+/// What a gateway sends are commands of its own, each for less than 20,000 ms and under an id of its own, the answers that it
+/// keeps, each in its transaction, and acknowledgements; nothing is sent later than its clock.
+pub fn a_gateway_says_so()
+    ensures said { (setup : Setup) (events : List GatewayEvent) → IsSetUp setup → are_taken setup (opening setup) events ≡ true →
+        All (λ (one : Sent). Tells (begun_in (sent_of setup events)) (firsts_in (plain setup events).history) (text_of one.said) one.moment
+        × (one.moment ≤ (plain setup events).now)) (sent_of setup events) }
+    ensures answers { (setup : Setup) (events : List GatewayEvent) → IsSetUp setup → are_taken setup (opening setup) events ≡ true →
+        All (λ (first : KeptFirst). IsAnswerTo first.id first.answer) (firsts_in (plain setup events).history) }
+    ensures apart { (setup : Setup) (events : List GatewayEvent) → IsSetUp setup → are_taken setup (opening setup) events ≡ true →
+        HasNumbersLeft (begun_in (sent_of setup events)) →
+        AllPairs (λ (a b : Issued). a.id ≢ b.id) (begun_in (sent_of setup events)) }
+{}

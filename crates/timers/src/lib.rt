@@ -1,0 +1,20 @@
+//! What falls due of a gateway and its lines, when, and what of it falls due first (RFC 3435, 2.1.5, 2.1.7, 3.5.3 and
+//! 4.4.6).
+//!
+//! Nothing here knows a clock, or what happens when something falls due: the owner sets and clears moments, and asks
+//! for the least.
+#![tactic(auto)]
+
+mod due;
+mod entry;
+pub mod examples;
+mod kind;
+pub mod laws;
+mod place;
+#[cfg(test)]
+mod tests;
+
+pub use crate::due::Due;
+pub use crate::entry::Entry;
+pub use crate::kind::Kind;
+pub use crate::place::Place;

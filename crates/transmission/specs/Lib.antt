@@ -1,0 +1,5 @@
+pub mod Texts
+pub mod Packing
+pub mod Confirming
+pub mod Transacting
+pub mod Acknowledging

@@ -1,0 +1,11 @@
+-- The texts of a datagram (RFC 3435, 3.5.4 and 3.5.5).
+use Rattle.std.specs.Prelude.{ℕ, nat_lt, if◌then◌else◌, List, [], length}
+use Rattle.piggyback.specs.Parts.{parts_of}
+
+-- the largest datagram that is taken (RFC 3435, 3.5.4)
+abbrev pub largest_datagram : ℕ
+largest_datagram = 4000
+
+-- the texts of a datagram: its parts, or none where it is too long
+unfoldable pub texts_of : List ℕ → List (List ℕ)
+texts_of bytes = if nat_lt largest_datagram (length bytes) then [] else parts_of bytes

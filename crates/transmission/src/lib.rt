@@ -1,0 +1,22 @@
+//! What both ends do with messages and datagrams (RFC 3435, 3.5: transmission over UDP): the texts of a datagram, messages
+//! that are packed into datagrams, what a K confirms, and acknowledgements.
+//!
+//! Nothing here knows what a command does, or whether it is a gateway's or a call agent's.
+#![tactic(auto)]
+
+mod acknowledging;
+mod confirming;
+mod output;
+mod packing;
+mod sending;
+mod transacting;
+
+pub use crate::acknowledging::acknowledge;
+pub use crate::confirming::spans_of;
+pub use crate::output::{OutDatagram, Outputs};
+pub use crate::packing::packed;
+pub use crate::sending::send;
+pub use crate::transacting::{Origin, answer, is_new};
+
+/// The largest datagram that is taken, in bytes (RFC 3435, 3.5.4).
+pub const LARGEST_DATAGRAM: usize = 4000;

@@ -1,0 +1,23 @@
+//! Messages go out behind those that there are.
+ghost use Rattle.std.specs.Prelude.{◌≡◌, ◌++◌, ◌∷◌, [], OnOk};
+
+use crate::output::OutDatagram;
+use mg_bytes::{OutOfMemory, Text};
+use std::net::SocketAddrV4;
+
+/// A text goes to this address at this moment (in ms), behind the messages that there are.
+pub fn send(
+    out: &mut Vec<OutDatagram>,
+    to: SocketAddrV4,
+    moment: u64,
+    text: Text,
+) -> Result<(), OutOfMemory>
+    ensures { OnOk result (out.new.items ≡ out.old.items ++ (record { to = to; moment = moment; bytes = text }) ∷ []) }
+{
+    out.push(OutDatagram {
+        to,
+        moment,
+        bytes: text,
+    })?;
+    Ok(())
+}

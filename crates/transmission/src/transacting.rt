@@ -1,0 +1,75 @@
+//! How a command that arrives is answered (RFC 3435, 3.5.1): each is executed once, and its repeats get the stored answer.
+ghost use Rattle.std.specs.Prelude.{◌≡◌, ◌++◌, ◌∷◌, [], IfOk, OnOk, OnErr};
+ghost use Rattle.history.specs.Memory.{most_firsts};
+ghost use Rattle.history.specs.Looking.{look_of};
+ghost use Rattle.mgcp_text.specs.Answer.{response_of};
+ghost use Rattle.mgcp_text.specs.Writing.{written};
+ghost use Rattle.transmission.specs.Transacting.{message_to, is_new, answered_again, with_first};
+
+use crate::output::OutDatagram;
+use crate::sending::send;
+use history::{History, IdSpan, Look};
+use mg_bytes::{OutOfMemory, Sequence, Text};
+use mgcp_text::{Answer, TransactionId};
+use std::alloc::Global;
+use std::net::SocketAddrV4;
+
+/// Where a message came from, and its transaction id.
+#[derive(Clone, Copy)]
+pub struct Origin {
+    pub source: SocketAddrV4,
+    pub id: TransactionId,
+}
+
+fn copy_of(alloc: Global, text: &[u8]) -> Result<Text, OutOfMemory>
+    ensures { IfOk result (λ copy. copy ≡ text.now) }
+{
+    Ok(Text::of(Vec::from_slice(alloc, text)?))
+}
+
+/// Whether a command that arrives now (in ms) is new; a repeat gets its stored answer again, and what is confirmed or finds
+/// no room gets none (RFC 3435, 3.5.1).
+pub fn is_new(
+    alloc: Global,
+    history: &History,
+    origin: Origin,
+    now: u64,
+    out: &mut Vec<OutDatagram>,
+) -> Result<bool, OutOfMemory>
+    ensures told { IfOk result (λ told. told ≡ is_new (look_of most_firsts history.now.kept origin.id now)) }
+    ensures sent { OnOk result (out.new.items ≡ out.old.items
+        ++ answered_again (look_of most_firsts history.now.kept origin.id now) origin.source now) }
+{
+    let stored = match history.look(origin.id.number(), now) {
+        Look::New => return Ok(true),
+        Look::Confirmed | Look::Full => return Ok(false),
+        Look::Repeat(answer) => copy_of(alloc, answer.as_bytes())?,
+    };
+    send(out, origin.source, now, stored)?;
+    Ok(false)
+}
+
+/// A new command is answered now (in ms): what its K names is confirmed, its answer is kept, and goes to where it came from
+/// (RFC 3435, 3.2.2.1 and 3.5.1). After an error `undo` still leads to what the history was after the last purge.
+pub fn answer(
+    alloc: Global,
+    history: &mut History,
+    origin: Origin,
+    now: u64,
+    confirms: Sequence<IdSpan>,
+    answer: &Answer,
+    out: &mut Vec<OutDatagram>,
+) -> Result<(), OutOfMemory>
+    ensures kept { OnOk result (history.new
+        ≡ with_first history.old origin.id now confirms (written (response_of origin.id answer.now))) }
+    ensures sent { OnOk result (out.new.items ≡ out.old.items
+        ++ message_to origin.source now (written (response_of origin.id answer.now)) ∷ []) }
+    ensures err { OnErr result (history.new.settled ≡ history.old.settled) }
+{
+    let text = answer.text(alloc, origin.id)?;
+    let kept = copy_of(alloc, text.as_bytes())?;
+    history.confirm(confirms)?;
+    history.first(origin.id.number(), now, kept)?;
+    send(out, origin.source, now, text)?;
+    Ok(())
+}
