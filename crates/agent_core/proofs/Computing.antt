@@ -6,7 +6,8 @@ use Rattle.agent_core.specs.Responding.{responded}
 use Rattle.agent_core.specs.Hearing.{handled, took_all, agent_effect, agent_refusal, agent_after, issued_from}
 use Rattle.agent_core.specs.World.{went, step_refusal, world_after, steps_are_taken}
 use Rattle.agent_core.specs.Reached.{executed_with}
+use Rattle.agent_core.specs.AgentStands.{agent_takes}
 
 unfoldable pub on_examples : ⊤
-unfolding machine_examples first_flight with_flight without_flight passed pass responded handled took_all agent_effect agent_refusal agent_after issued_from went step_refusal world_after steps_are_taken executed_with
+unfolding machine_examples first_flight with_flight without_flight passed pass responded handled took_all agent_effect agent_refusal agent_after issued_from went step_refusal world_after steps_are_taken executed_with agent_takes
 on_examples = tt

@@ -1,11 +1,10 @@
 -- The texts of a datagram, one after the other.
 use Rattle.std.proofs.Common.{◌≡◌, ℕ, ◌<◌, ◌≤◌, true, false, List, [], ◌∷◌, ◌++◌, length, refl, sym, ◌∙◌, ap, append_assoc, append-nil, arith}
-use Rattle.std.specs.Prelude.{nat_lt, find, Bool, Option, Some, None}
+use Rattle.std.specs.Prelude.{nat_lt, find, Option, Some, None}
 use Rattle.std.proofs.lemmas.Bool.Decides.{nat_tests}
 use Rattle.std.specs.declared.net.socket_addr.SocketAddrV4.{SocketAddrV4}
 use Rattle.mgcp_text.specs.Reading.{Outcome, read_text, message, no_header, bad_version, bad_body}
 use Rattle.mgcp_text.specs.declared.message.Message.TheVariants as messages
-use Rattle.mgcp_text.specs.declared.message.Param.{Param}
 use Rattle.history.specs.Memory.{most_firsts}
 use Rattle.history.specs.Looking.{Told as Looked, new, repeat, confirmed, full, look_of}
 use Rattle.outbound.specs.declared.reply.Reply.{Reply}
@@ -21,7 +20,7 @@ use Rattle.agent_core.specs.Flying.{has_id}
 use Rattle.agent_core.specs.Hearing.{handled, handled_as, took_all}
 use Rattle.agent_core.specs.Responding.{replied, responded, responded_to}
 use Rattle.agent_core.specs.Taking.{GatewayCommand, command_of, transacted_by}
-use Rattle.agent_core.specs.State.{kept_in, found_in, Went, Happened}
+use Rattle.agent_core.specs.State.{kept_in, Went, Happened}
 
 -- the first of these, and then the others
 pub went_next : (setup : AgentSetup) (source : SocketAddrV4) (all texts : List (List ℕ)) (text : List ℕ) (was between is : State) (were mid are : List OutDatagram) → all ≡ text ∷ texts

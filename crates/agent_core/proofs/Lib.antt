@@ -13,3 +13,9 @@ pub mod TellingLemmas
 pub mod PassLemmas
 pub mod HearingLemmas
 pub mod StandLemmas
+pub mod EndLemmas
+pub mod PostLemmas
+pub mod DeliveryLemmas
+pub mod OpenLemmas
+pub mod TickLemmas
+pub mod RunLemmas

@@ -1,6 +1,6 @@
 -- What comes to the agent of a world: commands of the gateway's own, less than 30,000 ms after they began, and the answers
 -- that the gateway keeps; and what the gateway hears are the answers that the agent keeps.
-use Rattle.std.proofs.Common.{◌≡◌, ◌≢◌, ℕ, ◌-◌, ◌<◌, ◌≤◌, Bool, true, false, ◌==◌, ◌&&◌, if◌then◌else◌, List, [], ◌∷◌, ◌++◌, map, Option, Some, None, refl, sym, ap, ◌∙◌, subst, arith, append-nil, append_assoc}
+use Rattle.std.proofs.Common.{◌≡◌, ◌≢◌, ℕ, ◌-◌, ◌≤◌, Bool, true, false, ◌==◌, ◌&&◌, if◌then◌else◌, List, [], ◌∷◌, ◌++◌, map, Option, Some, None, refl, sym, ap, ◌∙◌, subst, arith, append-nil, append_assoc}
 use Rattle.std.specs.Prelude.{All, AllPairs, Any, IfSome, nat_le, find, flat_map, slice_get, is_none}
 use Rattle.std.proofs.lemmas.Bool.{and_parts, leb-true, eqb-true}
 use Rattle.std.proofs.lemmas.Grind.{flat_map-append}
@@ -34,7 +34,7 @@ use Rattle.plain_machine.proofs.EffectLaws.{effect_now}
 use Rattle.plain_machine.proofs.MessageLaws.{event_goes}
 use Rattle.plain_machine.specs.declared.setup.Setup.{Setup}
 use Rattle.machine_laws.proofs.EachLemmas.{Each, all_from_each, any_from_one, each_at, each_both, each_from_all, each_mapped, each_weaker, is_none-None, one_before, one_weaker}
-use Rattle.machine_laws.proofs.GatewayEvents.{EventGoes, GatewayHolds, event_holds, opening_gateway, tick_on, gateway_forward}
+use Rattle.machine_laws.proofs.GatewayEvents.{EventGoes, GatewayHolds, event_holds, opening_gateway, gateway_forward}
 use Rattle.machine_laws.proofs.PostLogs.{Logged, WasBegun}
 use Rattle.machine_laws.proofs.TellsLemmas.{AreAnswers, IsAnsweredBy, IsCommand, final_answers}
 use Rattle.machine_laws.specs.Saying.{HasNumbersLeft, Issued, OneOf, Tells, begun_at, begun_in}

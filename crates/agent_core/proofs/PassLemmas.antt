@@ -1,6 +1,6 @@
 -- What falls due, one thing after the other.
-use Rattle.std.proofs.Common.{◌≡◌, ℕ, zero, suc, ◌+◌, ◌-◌, ◌*◌, ◌<◌, ◌≤◌, Bool, true, false, if◌then◌else◌, List, [], ◌∷◌, ◌++◌, length, drop, get_or, Option, Some, None, refl, sym, ap, ◌∙◌, arith, append_assoc, append-nil}
-use Rattle.std.specs.Prelude.{nat_le, cond}
+use Rattle.std.proofs.Common.{◌≡◌, ℕ, zero, suc, ◌+◌, ◌*◌, ◌<◌, ◌≤◌, Bool, true, false, if◌then◌else◌, List, [], ◌∷◌, ◌++◌, length, drop, get_or, Option, Some, None, refl, sym, ap, ◌∙◌, arith, append_assoc, append-nil}
+use Rattle.std.specs.Prelude.{nat_le}
 use Rattle.std.specs.Option.{is_some}
 use Rattle.std.specs.declared.net.socket_addr.SocketAddrV4.{SocketAddrV4}
 use Rattle.std.proofs.lemmas.Bool.{leb-true}
@@ -13,7 +13,7 @@ use Rattle.outbound.proofs.LifeLaws.{repeat_same}
 use Rattle.transmission.specs.declared.output.OutDatagram.{OutDatagram}
 use Rattle.transmission.specs.Transacting.{message_to}
 use Rattle.agent_core.specs.Growing.{Grown}
-use Rattle.agent_core.specs.Flying.{Flown, flown, flown_on, afterwards, fly_on, if_due, first_flight, passed, pass, with_flight, without_flight}
+use Rattle.agent_core.specs.Flying.{Flown, flown_on, if_due, first_flight, passed, pass, with_flight, without_flight}
 use Rattle.agent_core.specs.Flights.{flight_in, flights_in}
 use Rattle.agent_core.specs.State.{FlewOn}
 

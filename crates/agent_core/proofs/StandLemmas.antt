@@ -1,16 +1,11 @@
 -- What an agent stands for, an event later.
-use Rattle.std.proofs.Common.{◌≡◌, ℕ, ◌+◌, ◌≤◌, ◌<◌, ◌^◌, Bool, true, false, ◌&&◌, ◌||◌, ◌==◌, List, [], ◌∷◌, ◌++◌, map, length, Option, Some, None, refl, sym, ◌∙◌, ap, subst, arith, append_assoc, append-nil}
+use Rattle.std.proofs.Common.{◌≡◌, ℕ, ◌+◌, ◌≤◌, ◌<◌, ◌^◌, Bool, true, false, ◌&&◌, ◌||◌, ◌==◌, List, [], ◌∷◌, ◌++◌, map, Option, Some, None, refl, sym, ◌∙◌, ap, subst, arith, append_assoc}
 use Rattle.std.specs.Prelude.{cond, find, is_none, nat_lt, nat_le, option_map, Result, Ok, Err, IfOk, OnErr, if◌then◌else◌}
 use Rattle.std.specs.Result.{result_err}
-use Rattle.std.specs.Fmt.{decimal}
 use Rattle.std.proofs.lemmas.Bool.{leb-false}
 use Rattle.std.proofs.lemmas.Bool.Decides.{nat_tests}
-use Rattle.std.proofs.lemmas.List.{map-append}
-use Rattle.std.specs.declared.net.socket_addr.SocketAddrV4.{SocketAddrV4}
 use Rattle.mg_bytes.specs.Bytes.{space}
-use Rattle.history.specs.Kept.{from_young}
 use Rattle.history.proofs.RecallLaws.{recalls_itself, recalls_purged}
-use Rattle.outbound.specs.Flight.{begun}
 use Rattle.plain_machine.specs.declared.refusal.Refusal.{Refusal}
 use Rattle.plain_machine.specs.declared.refusal.Refusal.TheVariants.{TickTooFar, ClockBack}
 use Rattle.plain_machine.specs.Event.{GatewayEvent, datagram, phone, tick}
@@ -20,15 +15,13 @@ use Rattle.transmission.specs.Packing.{packed, packed_after}
 use Rattle.transmission.specs.Texts.{texts_of}
 use Rattle.transmission.specs.Transacting.{message_to}
 use Rattle.agent_core.specs.declared.setup.AgentSetup.{AgentSetup}
-use Rattle.agent_core.specs.declared.state.Answer.{Answer}
 use Rattle.agent_core.specs.declared.state.Answered.{Answered}
 use Rattle.agent_core.specs.declared.state.State.{State}
 use Rattle.agent_core.specs.Agent.{AgentMachine, AgentEffect, FinalAnswer, agent_opening, answer_for, observed_on}
-use Rattle.agent_core.specs.Flying.{pass}
 use Rattle.agent_core.specs.Issuing.{command_text, is_good, greatest_id, issued, issue_refusal}
-use Rattle.agent_core.specs.Hearing.{AgentEvent, issues, hears, agent_after, agent_effect, agent_refusal, event_refused, issue_refused, hearing_refusal, plain_agent, took_all, handled}
-use Rattle.agent_core.specs.AgentAlike.{AgentAlike, with_history}
-use Rattle.agent_core.specs.State.{final_of, answer_in, answered_with, kept_in, found_in, machine_of, purged_in, PutsOut, AllOr, GoesOnAs}
+use Rattle.agent_core.specs.Hearing.{AgentEvent, issues, hears, agent_after, agent_effect, agent_refusal, event_refused, issue_refused, hearing_refusal, plain_agent}
+use Rattle.agent_core.specs.AgentAlike.{AgentAlike}
+use Rattle.agent_core.specs.State.{final_of, answer_in, answered_with, kept_in, purged_in, AllOr, GoesOnAs}
 use Rattle.agent_core.specs.AgentStands.{AgentState, agent_takes, AgentStands, AgentTook, AgentStays, IsAgentSound}
 use Rattle.agent_core.proofs.AgentLaws.{after_on}
 use Rattle.agent_core.proofs.AgentStands.{effect_alike}

@@ -2,7 +2,6 @@
 -- a gateway, each once (RFC 3435, 3.5). It forgets nothing.
 use Rattle.std.specs.Prelude.{ℕ, ◌-◌, ◌==◌, if◌then◌else◌, List, [], replicate, find, Option}
 use Rattle.std.specs.List.{slice_index_or}
-use Rattle.std.specs.declared.net.socket_addr.SocketAddrV4.{SocketAddrV4}
 use Rattle.agent_core.specs.declared.setup.AgentSetup.{AgentSetup}
 use Rattle.event_values.specs.declared.observed.Observed.{Observed}
 use Rattle.history.specs.declared.entry.Entry.{Entry}

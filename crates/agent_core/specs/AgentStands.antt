@@ -1,6 +1,5 @@
 -- An agent as contracts see it, and what it stands for: a list of events, which it needn't store.
-use Rattle.std.specs.Prelude.{◌≡◌, ◌⊎◌, ◌≤◌, ◌<◌, ◌^◌, ℕ, Bool, true, ◌&&◌, is_none, List, [], ◌∷◌, ◌++◌, Option, Some, None, IfSome}
-use Rattle.std.specs.declared.net.socket_addr.SocketAddrV4.{SocketAddrV4}
+use Rattle.std.specs.Prelude.{◌≡◌, ◌⊎◌, ◌≤◌, ◌<◌, ◌^◌, Bool, true, ◌&&◌, is_none, List, [], ◌∷◌, ◌++◌, Option, Some, None, IfSome}
 use Rattle.transmission.specs.declared.output.OutDatagram.{OutDatagram}
 use Rattle.transmission.specs.Packing.{packed}
 use Rattle.agent_core.specs.declared.setup.AgentSetup.{AgentSetup}

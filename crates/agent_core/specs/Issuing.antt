@@ -1,9 +1,7 @@
 -- How an agent issues a command (RFC 3435, 3.2.1 and 3.5.3).
-use Rattle.std.specs.Prelude.{ℕ, ◌+◌, ◌==◌, ◌&&◌, nat_lt, codes, decimal, if◌then◌else◌, Bool, false, List, [], ◌∷◌, ◌++◌, Option, Some, None}
-use Rattle.std.specs.Str.{bytes_eq}
+use Rattle.std.specs.Prelude.{ℕ, ◌+◌, ◌&&◌, nat_lt, codes, decimal, if◌then◌else◌, Bool, List, [], ◌∷◌, ◌++◌, Option, Some, None}
 use Rattle.mg_bytes.specs.Bytes.{space}
-use Rattle.mgcp_text.specs.declared.message.Message.TheVariants as messages
-use Rattle.mgcp_text.specs.Reading.{Outcome, message, no_header, bad_version, bad_body, read_text}
+use Rattle.mgcp_text.specs.Reading.{read_text}
 use Rattle.piggyback.specs.Packing.{is_joinable}
 use Rattle.outbound.specs.Flight.{begun}
 use Rattle.transmission.specs.Texts.{largest_datagram}

@@ -11,4 +11,9 @@ pub mod Reached
 pub mod AgentAlike
 pub mod State
 pub mod AgentStands
+pub mod StepRefusal
+pub mod WorldStands
+pub mod WorldWork
+pub mod WorldTicks
+pub mod Delivering
 pub mod Example

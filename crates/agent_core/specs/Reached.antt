@@ -1,16 +1,12 @@
 -- The firsts among all that arrived, each with what it was read as, and the commands that an end began (RFC 3435, 3.5.1).
-use Rattle.std.specs.Prelude.{ℕ, ◌+◌, ◌<◌, ◌==◌, List, [], ◌∷◌, ◌++◌, map, flat_map, filter, fold, length, Option, Some, None}
+use Rattle.std.specs.Prelude.{ℕ, List, [], ◌∷◌, ◌++◌, map, flat_map, fold, Option, Some, None}
 use Rattle.history.specs.declared.entry.First.{First as KeptFirst}
 use Rattle.history.specs.Arrival.{Arrival}
 use Rattle.history.specs.Memory.{most_firsts}
 use Rattle.history.specs.Firsts.{Kind, a_first, a_repeat, lost, kind_of}
-use Rattle.mgcp_text.specs.declared.message.Message.TheVariants as messages
 use Rattle.mgcp_text.specs.Reading.{Outcome}
-use Rattle.mgcp_text.specs.Writing.{written}
 use Rattle.plain_machine.specs.declared.setup.Setup.{Setup}
 use Rattle.plain_machine.specs.Event.{GatewayEvent}
-use Rattle.plain_machine.specs.Message.{Said, answer, again, command, resent, acknowledgement, Sent}
-use Rattle.plain_machine.specs.Posting.{numbers, first_number, line_of_id}
 use Rattle.plain_machine.specs.Arriving.{Arrival as TextArrival, arrivals_of}
 use Rattle.plain_machine.specs.Lists.{sent_of}
 use Rattle.plain_machine.specs.Transactions.{Asked, asked}

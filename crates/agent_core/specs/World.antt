@@ -1,6 +1,6 @@
 -- A world: a gateway and an agent with one clock, and a network that may lose datagrams, hand them over late, out of order and
 -- more than once, but none that is older than ten seconds (RFC 3435, 3.5).
-use Rattle.std.specs.Prelude.{ℕ, ◌-◌, ◌&&◌, nat_lt, if◌then◌else◌, Bool, true, is_none, List, [], ◌∷◌, ◌++◌, map, flat_map, Option, Some, None, slice_get}
+use Rattle.std.specs.Prelude.{ℕ, ◌-◌, ◌&&◌, nat_lt, if◌then◌else◌, Bool, true, is_none, List, [], ◌∷◌, ◌++◌, map, Option, Some, None, slice_get}
 use Rattle.std.specs.declared.net.socket_addr.SocketAddrV4.{SocketAddrV4}
 use Rattle.mg_line.specs.declared.phone.Act.{Act}
 use Rattle.plain_machine.specs.declared.setup.Setup.{Setup}
@@ -18,7 +18,7 @@ use Rattle.agent_core.specs.declared.packet.End.{End}
 use Rattle.agent_core.specs.declared.packet.End.TheVariants.{GatewayEnd as gateway_end, AgentEnd as agent_end}
 use Rattle.agent_core.specs.declared.packet.Packet.{Packet}
 use Rattle.agent_core.specs.declared.packet.Posted.{Posted}
-use Rattle.agent_core.specs.Agent.{AgentMachine, agent_opening}
+use Rattle.agent_core.specs.Agent.{AgentMachine}
 use Rattle.agent_core.specs.Hearing.{AgentEvent, issues, hears, AgentRefusal, agent_effect, agent_refusal, plain_agent}
 
 -- the address of the gateway: its media address, with the port of gateways (RFC 3435, 3.5)

@@ -1,5 +1,5 @@
 //! Laws of an agent, and of a world: two ends over a bad network.
-ghost use Rattle.std.specs.Prelude.{◌≡◌, ◌≢◌, ◌≤◌, ℕ, List, map, flat_map, fold, find, None, Some, ◌++◌, ◌∷◌, [], All, Any, AllPairs, true};
+ghost use Rattle.std.specs.Prelude.{◌≡◌, ◌≢◌, ◌≤◌, ℕ, List, length, ◌<◌, map, flat_map, fold, find, None, Some, ◌++◌, ◌∷◌, [], All, Any, AllPairs, true, false, IfSome, slice_get};
 ghost use Rattle.std.specs.declared.net.socket_addr.SocketAddrV4.{SocketAddrV4};
 ghost use Rattle.mgcp_text.specs.declared.message.Message.TheVariants as messages;
 ghost use Rattle.mgcp_text.specs.declared.message.Param.{Param};
@@ -22,7 +22,13 @@ ghost use Rattle.agent_core.specs.Taking.{with_taken};
 ghost use Rattle.agent_core.specs.Flying.{has_id};
 ghost use Rattle.agent_core.specs.Hearing.{AgentEvent, agent_effect, agent_refusal, handled, agent_after, plain_agent};
 ghost use Rattle.agent_core.specs.AgentAlike.{AgentAlike, AgentGoesAlike};
-ghost use Rattle.agent_core.specs.World.{WorldStep, agent_of, world_opening, steps_are_taken, plain_world, gateway_in, agent_in};
+ghost use Rattle.agent_core.specs.World.{WorldStep, agent_of, world_opening, steps_are_taken, step_refusal, plain_world, gateway_in, agent_in};
+ghost use Rattle.agent_core.specs.declared.step.Step.{Step};
+ghost use Rattle.agent_core.specs.declared.step.StepRefusal.TheVariants.{OutOfMemory};
+ghost use Rattle.agent_core.specs.declared.step.WorldStopped.{WorldStopped};
+ghost use Rattle.agent_core.specs.AgentStands.{AgentStands};
+ghost use Rattle.agent_core.specs.WorldStands.{WorldState, WorldStands, WorldTook, WorldStoppedAt, StepEnds, step_of, steps_before};
+ghost use Rattle.gateway_core.specs.Stands.{Stands};
 ghost use Rattle.agent_core.specs.Reached.{Reached, taken_with, key_kept, key_reached, issued_in, executed_in, own_in, taken_in};
 
 /// Whatever the network does, the gateway executes each command that the agent issued once at most, as it was issued, and
@@ -103,4 +109,42 @@ pub fn an_agent_has_one_answer_to_a_command()
 pub fn an_agent_goes_on_as_the_plain_one()
     ensures { (setup : AgentSetup) (kept m : AgentMachine) (event : AgentEvent) → AgentAlike kept m → agent_refusal kept event ≡ None →
         AgentGoesAlike (agent_effect setup kept event) (agent_effect setup m event) }
+{}
+
+/// A world that stands for steps took each of them, and its setup is one as configurations give it: so what is said above of
+/// lists of steps holds of it. Its ends stand for what the ends of the plain world took, and its packets are that world's.
+pub fn what_a_world_stands_for()
+    ensures taken { (w : WorldState) (steps : List WorldStep) → WorldStands w steps →
+        steps_are_taken w.gateway.setup world_opening steps ≡ true }
+    ensures setup { (w : WorldState) (steps : List WorldStep) → WorldStands w steps → IsSetUp w.gateway.setup }
+    ensures gateway { (w : WorldState) (steps : List WorldStep) → WorldStands w steps →
+        Stands w.gateway (plain_world w.gateway.setup steps).gateway_took }
+    ensures agent { (w : WorldState) (steps : List WorldStep) → WorldStands w steps →
+        AgentStands w.agent (plain_world w.gateway.setup steps).agent_took }
+    ensures who { (w : WorldState) (steps : List WorldStep) → WorldStands w steps →
+        w.agent.setup ≡ agent_of w.gateway.setup }
+    ensures packets { (w : WorldState) (steps : List WorldStep) → WorldStands w steps →
+        w.posted ≡ (plain_world w.gateway.setup steps).posted }
+    ensures spent { (w : WorldState) (steps : List WorldStep) → WorldStands w steps → w.spent ≡ false }
+{}
+
+/// A world that took steps stands for the longer list. One that stopped took the steps before that place, unless it is spent,
+/// and why it stopped is why the plain world refuses the step there.
+pub fn what_running_a_world_means()
+    ensures took { (w w' : WorldState) (before steps : List WorldStep) → WorldTook w steps w' → WorldStands w before →
+        WorldStands w' (before ++ steps) }
+    ensures place { (w w' : WorldState) (steps : List Step) (stopped : WorldStopped) → WorldStoppedAt w steps w' stopped →
+        w.spent ≡ false → stopped.place < length steps }
+    ensures before { (w w' : WorldState) (before : List WorldStep) (steps : List Step) (stopped : WorldStopped) →
+        WorldStoppedAt w steps w' stopped → WorldStands w before → steps_are_taken w.gateway.setup
+        (plain_world w.gateway.setup before) (steps_before steps stopped.place) ≡ true }
+    ensures stands { (w w' : WorldState) (before : List WorldStep) (steps : List Step) (stopped : WorldStopped) →
+        WorldStoppedAt w steps w' stopped → stopped.refusal ≢ OutOfMemory → WorldStands w before →
+        WorldStands w' (before ++ steps_before steps stopped.place) }
+    ensures spent { (w w' : WorldState) (steps : List Step) (stopped : WorldStopped) → WorldStoppedAt w steps w' stopped →
+        stopped.refusal ≡ OutOfMemory → w'.spent ≡ true }
+    ensures cause { (w w' : WorldState) (before : List WorldStep) (steps : List Step) (stopped : WorldStopped) →
+        WorldStoppedAt w steps w' stopped → WorldStands w before → IfSome (slice_get steps stopped.place) (λ step.
+        StepEnds (step_refusal w.gateway.setup (plain_world w.gateway.setup (before ++ steps_before steps stopped.place)) (step_of step))
+        (Some stopped.refusal)) }
 {}

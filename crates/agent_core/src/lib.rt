@@ -2,6 +2,7 @@
 #![tactic(auto)]
 
 mod agent;
+mod ends;
 pub mod examples;
 mod flights;
 mod growing;
@@ -12,13 +13,17 @@ mod packet;
 mod responding;
 mod setup;
 mod state;
+mod step;
 mod taking;
 mod ticking;
 mod told;
 mod working;
+mod world;
 
 pub use crate::agent::Agent;
 pub use crate::issuing::{IssueFault, Issued};
 pub use crate::packet::Packet;
 pub use crate::setup::AgentSetup;
 pub use crate::state::Answer;
+pub use crate::step::{Step, StepRefusal, WorldStopped};
+pub use crate::world::{World, world_run};

@@ -14,3 +14,10 @@ pub mod EmbeddedLaws
 pub mod RequestLaws
 pub mod RequestReading
 pub mod FaultLaws
+pub mod ClosingLemmas
+pub mod TrimLemmas
+pub mod MarkLemmas
+pub mod StandLemmas
+pub mod PartLemmas
+pub mod WalkLaws
+pub mod LoopLemmas

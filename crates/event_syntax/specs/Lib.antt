@@ -8,3 +8,4 @@ pub mod Actions
 pub mod Embedding
 pub mod Requested
 pub mod RequestExample
+pub mod Walking

@@ -14,10 +14,10 @@ mod range;
 mod request;
 pub mod request_examples;
 pub mod request_laws;
-mod request_spelling;
 mod request_writing;
 mod requested;
 mod rule;
+mod walk;
 
 pub use crate::detect::{DetectedEvents, read_detect, write_detect};
 pub use crate::events::Events;

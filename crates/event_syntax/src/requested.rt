@@ -10,8 +10,8 @@ ghost use Rattle.event_syntax.specs.Requested.{response_of, requested, requested
 use crate::detect::MOST_EVENTS;
 use crate::embedded::embedded_in;
 use crate::request::{Embedding, RequestedEvent, RequestedEvents, Response};
-use crate::request_spelling::are_requested;
 use crate::rule::{Deed, rule_of};
+use crate::walk::are_requested;
 use event_cuts::{entries, has_at_most};
 use mg_bytes::{CodeFault, ReturnCode};
 use std::alloc::Global;
@@ -90,7 +90,8 @@ pub fn read_events(alloc: Global, value: &[u8]) -> Result<RequestedEvents, CodeF
     // What is read can be written.
     ensures writable { IfOk result (λ list. are_writable_requested list ≡ true) }
 {
-    if !are_requested(value) {
+    let spelled = are_requested(alloc, value)?;
+    if !spelled {
         return Err(CodeFault::of(ReturnCode::ProtocolError));
     }
     requested_in(alloc, value)

@@ -1,5 +1,6 @@
 //! The quarantined events of a line.
 
+use circular_buffer::{HeapCircularBuffer, Iter};
 use event_values::Observed;
 use mg_bytes::OutOfMemory;
 use std::alloc::Global;
@@ -11,25 +12,23 @@ use std::marker::Model;
 /// A contract sees the events, for how many there is room, and the count.
 #[derive(Drop)]
 pub struct Buffer {
-    alloc: Global,
-    events: Vec<Observed>,
-    room: usize,
+    // A ring of one block: an event stays where it was put, also when others are taken out.
+    events: HeapCircularBuffer<Observed>,
     lost: u64,
 }
 
 impl Model for Buffer {
-    ghost use Rattle.std.specs.Prelude.{◌≤◌, length, vec_capacity};
     ghost use Rattle.quarantine.specs.Held.{Held};
 
     ghost Value = { Held };
 
-    ghost view = { λ b. record { events = b.events.items; room = b.room; lost = b.lost } };
-
-    ghost invariant = { λ b. (length b.events.items ≤ b.room) × (b.room ≤ vec_capacity b.events) };
+    ghost view = { λ b. record { events = b.events.items; room = b.events.capacity; lost = b.lost } };
 }
 
 impl Buffer {
     ghost use Rattle.std.specs.Prelude.{◌≡◌, IfOk, length, ◌≤◌};
+    ghost use Rattle.std.specs.Map.Iter.{ShowsInOrder, deref};
+    ghost use Rattle.event_values.specs.declared.observed.Observed.{Observed};
     ghost use Rattle.quarantine.specs.Held.{nothing_held, holding, first_of, without_first, cleared};
 
     /// No events, and room for so many. An error is for want of memory only.
@@ -37,9 +36,7 @@ impl Buffer {
         ensures { IfOk result (λ buffer. buffer ≡ nothing_held room) }
     {
         Ok(Buffer {
-            alloc,
-            events: Vec::with_capacity(alloc, room)?,
-            room,
+            events: HeapCircularBuffer::with_capacity(alloc, room)?,
             lost: 0,
         })
     }
@@ -48,12 +45,13 @@ impl Buffer {
     pub fn try_copy(&self) -> Result<Self, OutOfMemory>
         ensures { IfOk result (λ copy. copy ≡ self.now) }
     {
-        let mut events = Vec::with_capacity(self.alloc, self.room)?;
-        events.extend_from_slice(&self.events)?;
+        let room = self.events.capacity();
+        let mut events = HeapCircularBuffer::with_capacity(*self.events.allocator(), room)?;
+        let (front, back) = self.events.as_slices();
+        events.extend_from_slice(front);
+        events.extend_from_slice(back);
         Ok(Buffer {
-            alloc: self.alloc,
             events,
-            room: self.room,
             lost: self.lost,
         })
     }
@@ -64,22 +62,18 @@ impl Buffer {
     pub fn hold(&mut self, event: Observed)
         ensures { self.new ≡ holding self.old event }
     {
-        if self.events.len() < self.room {
-            self.events.push(event).unwrap();
-        } else {
-            self.lost = self.lost.saturating_add(1);
+        match self.events.try_push_back(event) {
+            Ok(()) => {}
+            Err(_lost) => self.lost = self.lost.saturating_add(1),
         }
     }
 
-    /// Takes out the event that came first; `None` where there is none, and then nothing changes.
+    /// Takes out the event that came first; `None` where there is none, and then nothing changes. The others aren't moved.
     pub fn take(&mut self) -> Option<Observed>
         ensures value { result ≡ first_of self.old.events }
         ensures rest { self.new ≡ without_first self.old }
     {
-        if self.events.is_empty() {
-            return None;
-        }
-        Some(self.events.remove(0))
+        self.events.pop_front()
     }
 
     /// Drops all events. They don't count as lost.
@@ -97,10 +91,12 @@ impl Buffer {
     }
 
     /// The events, in the order in which they came.
-    pub fn as_slice(&self) -> &[Observed]
-        ensures value { result.now ≡ self.now.events }
-        ensures few { length result.now ≤ self.now.room }
+    pub fn iter(&self) -> Iter<'_, Observed>
+        ensures value { result ≡ self.now.events }
+        ensures few { length result ≤ self.now.room }
+        ensures runs { ShowsInOrder (deref {X = Observed}) }
     {
-        &self.events
+        let _room = self.events.capacity();
+        self.events.iter()
     }
 }

@@ -1,4 +1,5 @@
 //! Events as rows spell them.
+use crate::texts::text_of;
 use event_syntax::{Observed, read_observed, write_observed};
 use mg_bytes::CodeFault;
 use std::alloc::Global;
@@ -17,5 +18,5 @@ pub fn observed_of(alloc: Global, text: &str) -> io::Result<Option<Observed>> {
 /// Events as O spells them.
 pub fn spelled(alloc: Global, events: &[Observed]) -> io::Result<String> {
     let text = write_observed(alloc, events)?;
-    Ok(String::from_utf8_lossy(alloc, text.as_bytes())?)
+    text_of(alloc, text.as_bytes())
 }

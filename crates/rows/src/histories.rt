@@ -8,11 +8,12 @@
 //! - `run 1-20000 every 10 holding 3000` commands that come one by one, at their ids times 10 ms: each is new, and after a
 //!   purge no more firsts are ever kept; `run 1-4999 every 100 confirming holding 300` the same, each with a K that names all
 //!   so far.
+use crate::texts::unless_number;
 use history::{History, IdSpan, Look};
 use mg_bytes::{OutOfMemory, Sequence, Text, decimal};
 use std::alloc::Global;
 use std::io;
-use tales::{Tale, again, no_such_row, unless_said};
+use tales::{Tale, again, no_such_row};
 
 // The answer to the command with this id: its bytes.
 fn answer(alloc: Global, id: u32) -> Result<Text, OutOfMemory> {
@@ -46,18 +47,22 @@ struct Run {
     most: usize,
 }
 
+// `10` or `100 confirming`: the wait, and whether each confirms all so far.
+fn pace_of(text: &str) -> Option<(u64, bool)> {
+    match text.strip_suffix(" confirming") {
+        Some(wait) => Some((decimal(wait.as_bytes())?, true)),
+        None => Some((decimal(text.as_bytes())?, false)),
+    }
+}
+
 // `1-20000 every 10 holding 3000` or `1-4999 every 100 confirming holding 300`.
 fn run_of(text: &str) -> Option<Run> {
     let (ids, rest) = text.split_once(" every ")?;
-    let (how, most) = rest.split_once(" holding ")?;
-    let (wait, confirming) = match how.split_once(' ') {
-        Some((wait, "confirming")) => (wait, true),
-        Some(_) => return None,
-        None => (how, false),
-    };
+    let (pace, most) = rest.split_once(" holding ")?;
+    let (wait, confirming) = pace_of(pace)?;
     Some(Run {
         ids: ids_of(ids)?,
-        wait: decimal(wait.as_bytes())?,
+        wait,
         confirming,
         most: most.parse::<usize>().ok()?,
     })
@@ -73,6 +78,18 @@ fn told(history: &History, id: u32, now: u64) -> &'static str {
     }
 }
 
+// `1-7,9`.
+fn spans_of(alloc: Global, named: &str) -> Result<Option<Sequence<IdSpan>>, OutOfMemory> {
+    let mut spans = Sequence::new(alloc);
+    for ids in named.split(',') {
+        let Some(span) = ids_of(ids) else {
+            return Ok(None);
+        };
+        spans.push(span)?;
+    }
+    Ok(Some(spans))
+}
+
 /// A history.
 #[derive(Drop)]
 pub struct HistoryTale {
@@ -83,6 +100,11 @@ impl HistoryTale {
     // Keeps a command with its answer.
     fn keep(&mut self, alloc: Global, id: u32, moment: u64) -> io::Result<()> {
         Ok(self.history.first(id, moment, answer(alloc, id)?)?)
+    }
+
+    // The same, and once more where memory was refused.
+    fn keep_again(&mut self, alloc: Global, id: u32, moment: u64) -> io::Result<()> {
+        again!(self.keep(alloc, id, moment))
     }
 
     // A K names all ids from this one to that.
@@ -98,39 +120,63 @@ impl HistoryTale {
             return no_such_row(alloc);
         };
         for id in ids.first..=ids.last {
-            again!(self.keep(alloc, id, moment))?;
+            self.keep_again(alloc, id, moment)?;
         }
         Ok(None)
     }
 
     fn confirm(&mut self, alloc: Global, named: &str) -> io::Result<Option<String>> {
-        let mut spans = Sequence::new(alloc);
-        for ids in named.split(',') {
-            let Some(span) = ids_of(ids) else {
-                return no_such_row(alloc);
-            };
-            spans.push(span)?;
-        }
+        let Some(spans) = spans_of(alloc, named)? else {
+            return no_such_row(alloc);
+        };
         self.history.confirm(spans)?;
         Ok(None)
+    }
+
+    // The command of a run is confirmed with all before, where the run's commands confirm.
+    fn confirm_so_far(&mut self, alloc: Global, run: &Run, id: u32) -> io::Result<()> {
+        if !run.confirming {
+            return Ok(());
+        }
+        again!(self.confirm_all(alloc, run.ids.first, id))
+    }
+
+    // More firsts than may be kept.
+    fn unlike_held(&self, alloc: Global, most: usize, now: u64) -> io::Result<Option<String>> {
+        let held = self.history.len();
+        if held <= most {
+            return Ok(None);
+        }
+        Ok(Some(format!(in alloc; "{held} at {now}")?))
+    }
+
+    // What a command is that a row doesn't say.
+    fn unlike_told(
+        &self,
+        alloc: Global,
+        id: u32,
+        now: u64,
+        wanted: &str,
+    ) -> io::Result<Option<String>> {
+        let given = told(&self.history, id, now);
+        if given == wanted {
+            return Ok(None);
+        }
+        Ok(Some(format!(in alloc; "{given} for {id}")?))
     }
 
     // One command of a run: it is new, and is kept.
     fn turn(&mut self, alloc: Global, run: &Run, id: u32) -> io::Result<Option<String>> {
         let now = u64::from(id).saturating_mul(run.wait);
         self.history.purge(now);
-        let held = self.history.len();
-        if held > run.most {
-            return Ok(Some(format!(in alloc; "{held} at {now}")?));
+        if let Some(unlike) = self.unlike_held(alloc, run.most, now)? {
+            return Ok(Some(unlike));
         }
-        let given = told(&self.history, id, now);
-        if given != "new" {
-            return Ok(Some(format!(in alloc; "{given} for {id}")?));
+        if let Some(unlike) = self.unlike_told(alloc, id, now, "new")? {
+            return Ok(Some(unlike));
         }
-        if run.confirming {
-            again!(self.confirm_all(alloc, run.ids.first, id))?;
-        }
-        again!(self.keep(alloc, id, now))?;
+        self.confirm_so_far(alloc, run, id)?;
+        self.keep_again(alloc, id, now)?;
         Ok(None)
     }
 
@@ -146,16 +192,15 @@ impl HistoryTale {
         Ok(None)
     }
 
-    // `30999 again`, of these ids.
-    fn look(&self, alloc: Global, ids: &str, rest: &str) -> io::Result<Option<String>> {
-        let (moment, wanted) = rest.split_once(' ').unwrap_or((rest, ""));
-        let (Some(ids), Some(now)) = (ids_of(ids), decimal(moment.as_bytes())) else {
+    // `1-4095 at 30999 again`.
+    fn look(&self, alloc: Global, row: &str) -> io::Result<Option<String>> {
+        let (ids, wanted) = row.rsplit_once(' ').unwrap_or((row, ""));
+        let Some((ids, now)) = ids_at(ids) else {
             return no_such_row(alloc);
         };
         for id in ids.first..=ids.last {
-            let given = told(&self.history, id, now);
-            if given != wanted {
-                return Ok(Some(format!(in alloc; "{given} for {id}")?));
+            if let Some(unlike) = self.unlike_told(alloc, id, now, wanted)? {
+                return Ok(Some(unlike));
             }
         }
         Ok(None)
@@ -168,6 +213,11 @@ impl HistoryTale {
         self.history.purge(now);
         Ok(None)
     }
+
+    fn undo(&mut self) -> io::Result<Option<String>> {
+        self.history.undo();
+        Ok(None)
+    }
 }
 
 impl Tale for HistoryTale {
@@ -178,10 +228,8 @@ impl Tale for HistoryTale {
     }
 
     fn unlike(&mut self, alloc: Global, row: &str) -> io::Result<Option<String>> {
-        if let Some((ids, rest)) = row.split_once(" at ") {
-            if !ids.starts_with("first ") {
-                return self.look(alloc, ids, rest);
-            }
+        if row.contains(" at ") && !row.starts_with("first ") {
+            return self.look(alloc, row);
         }
         let (word, rest) = row.split_once(' ').unwrap_or((row, ""));
         match word {
@@ -189,14 +237,8 @@ impl Tale for HistoryTale {
             "confirm" => self.confirm(alloc, rest),
             "purge" => self.purge(alloc, rest),
             "run" => self.run(alloc, rest),
-            "undo" => {
-                self.history.undo();
-                Ok(None)
-            }
-            "holds" => {
-                let held = format!(in alloc; "{}", self.history.len())?;
-                unless_said(alloc, held.as_str(), rest)
-            }
+            "undo" => self.undo(),
+            "holds" => unless_number(alloc, self.history.len() as u64, rest),
             _ => no_such_row(alloc),
         }
     }

@@ -16,14 +16,15 @@ pub mod parameters;
 mod shown;
 
 use crate::requests;
+use crate::texts::judged;
 use acts::{act_of, due_of};
-use mg_bytes::CodeFault;
-use mg_line::{Act, Due, Line, LineStep};
+use mg_bytes::{CodeFault, OutOfMemory};
+use mg_line::{Act, Line, LineStep, Notice, Request};
 use parameters::request_of;
 use shown::{state_of, told};
 use std::alloc::Global;
 use std::io;
-use tales::{Tale, code_text, unless_said, yes_or_no};
+use tales::{Tale, code_text, unless_said};
 
 // What becomes of a line at a turn.
 type Given = Result<LineStep, CodeFault>;
@@ -31,23 +32,37 @@ type Given = Result<LineStep, CodeFault>;
 // The code of a row that can't be played.
 const NO_TURN: CodeFault = CodeFault::Code(0);
 
+// A step of the line, or want of memory.
+fn stepped(step: Result<LineStep, OutOfMemory>) -> Given {
+    match step {
+        Ok(step) => Ok(step),
+        Err(_) => Err(CodeFault::OutOfMemory),
+    }
+}
+
+fn requested(line: &Line, request: &Request, moment: u64) -> Given
+    requires { moment < 2 ^ 62 }
+{
+    match line.check(request) {
+        Some(code) => Err(CodeFault::Code(code)),
+        None => stepped(line.request(request, moment)),
+    }
+}
+
 fn asked(alloc: Global, line: &Line, row: &str, moment: u64) -> Given
     requires { moment < 2 ^ 62 }
 {
     let request = request_of(alloc, row)?;
-    match line.check(&request) {
-        Some(code) => Err(CodeFault::Code(code)),
-        None => Ok(line.request(&request, moment)?),
-    }
+    requested(line, &request, moment)
 }
 
-fn done(line: &Line, act: Act, moment: u64) -> Given
+fn done(line: &Line, word: &str, moment: u64) -> Given
     requires { moment < 2 ^ 62 }
 {
-    if !line.takes(act) {
-        return Err(NO_TURN);
+    match act_of(word) {
+        Some(act) if line.takes(act) => stepped(line.phone(act, moment)),
+        _ => Err(NO_TURN),
     }
-    Ok(line.phone(act, moment)?)
 }
 
 fn passed(line: &Line, act: Act) -> Given {
@@ -59,50 +74,52 @@ fn passed(line: &Line, act: Act) -> Given {
     Ok(LineStep { line, notice: None })
 }
 
-fn fallen(line: &Line, due: Due, moment: u64) -> Given
+fn idled(line: &Line, word: &str) -> Given {
+    match act_of(word) {
+        Some(act) => passed(line, act),
+        None => Err(NO_TURN),
+    }
+}
+
+fn fallen(line: &Line, word: &str, moment: u64) -> Given
     requires { moment < 2 ^ 62 }
 {
-    if line.due() != Some((moment, due)) {
-        return Err(NO_TURN);
+    match due_of(word) {
+        Some(due) if line.due() == Some((moment, due)) => stepped(line.fire(due, moment)),
+        _ => Err(NO_TURN),
     }
-    Ok(line.fire(due, moment)?)
 }
 
 // A turn, whose first words are these.
 fn turned(alloc: Global, line: &Line, moment: u64, words: &str, row: &str) -> Given
     requires { moment < 2 ^ 62 }
 {
-    if words == "asks" {
-        return asked(alloc, line, row, moment);
-    }
-    if words == "answered" {
-        return Ok(line.answered(moment)?);
-    }
-    if words == "opened" {
-        return Ok(line.opened(moment)?);
-    }
     if let Some(word) = words.strip_prefix("idles ") {
-        return passed(line, act_of(word).ok_or(NO_TURN)?);
+        return idled(line, word);
     }
     if let Some(word) = words.strip_prefix("falls ") {
-        return fallen(line, due_of(word).ok_or(NO_TURN)?, moment);
+        return fallen(line, word, moment);
     }
-    done(line, act_of(words).ok_or(NO_TURN)?, moment)
+    match words {
+        "asks" => asked(alloc, line, row, moment),
+        "answered" => stepped(line.answered(moment)),
+        "opened" => stepped(line.opened(moment)),
+        _ => done(line, words, moment),
+    }
+}
+
+// What a line tells, as rows say it.
+fn notice_text(alloc: Global, notice: &Option<Notice>) -> io::Result<String> {
+    match notice {
+        Some(notice) => told(alloc, notice),
+        None => Ok(String::new(alloc)),
+    }
 }
 
 // What a line gives, as rows say it.
 fn said(alloc: Global, given: &Given) -> io::Result<String> {
     match given {
-        Ok(
-            LineStep {
-                notice: Some(notice),
-                ..
-            },
-        ) => {
-            let text = told(alloc, notice)?;
-            Ok(format!(in alloc; "tells {text}")?)
-        }
-        Ok(LineStep { notice: None, .. }) => Ok(String::new(alloc)),
+        Ok(step) => notice_text(alloc, &step.notice),
         Err(fault) => code_text(alloc, *fault),
     }
 }
@@ -116,11 +133,22 @@ fn wanted(row: &str) -> &str {
     }
 }
 
-// A line of a gateway that serves.
-fn ready(alloc: Global) -> io::Result<Line> {
-    let opening = Line::new(alloc)?;
-    let step = opening.opened(0)?;
-    Ok(step.line)
+// What a line gives that a row doesn't say.
+fn unlike_given(alloc: Global, given: &Given, row: &str) -> io::Result<Option<String>> {
+    let text = said(alloc, given)?;
+    if text.as_str() == wanted(row) {
+        return Ok(None);
+    }
+    Ok(Some(text))
+}
+
+// The words behind the moment of a row.
+fn words_of(row: &str) -> &str {
+    let first = row.split("  ").next().unwrap_or("");
+    match first.split_once(' ') {
+        Some((_, words)) => words,
+        None => "",
+    }
 }
 
 /// A line, and as it was kept.
@@ -131,33 +159,48 @@ pub struct LineTale {
 }
 
 impl LineTale {
-    // A turn, after which the line is as it leaves it; after one that is refused it is as it was.
-    fn turn(&mut self, alloc: Global, moment: u64, row: &str) -> io::Result<Option<String>>
-        requires { moment < 2 ^ 62 }
-    {
-        let first = row.split("  ").next().unwrap_or("");
-        let (_, words) = first.split_once(' ').unwrap_or((first, ""));
-        let given = turned(alloc, &self.line, moment, words, row);
-        let text = said(alloc, &given)?;
+    // The line is as a step leaves it; where the turn was refused it is as it was.
+    fn settle(&mut self, given: Given) {
         if let Ok(step) = given {
             self.line = step.line;
         }
-        Ok(if text.as_str() == wanted(row) {
-            None
-        } else {
-            Some(text)
-        })
+    }
+
+    fn turn(&mut self, alloc: Global, moment: u64, row: &str) -> io::Result<Option<String>>
+        requires { moment < 2 ^ 62 }
+    {
+        let given = turned(alloc, &self.line, moment, words_of(row), row);
+        let unlike = unlike_given(alloc, &given, row)?;
+        self.settle(given);
+        Ok(unlike)
+    }
+
+    // What its hook state and its request say of an act.
+    fn answer_on(&self, word: &str, act: Act) -> Option<bool> {
+        match word {
+            "takes" => Some(self.line.takes(act)),
+            "heeds" => Some(self.line.heeds(act)),
+            _ => None,
+        }
     }
 
     // What the line says to a question.
     fn answer(&self, alloc: Global, question: &str) -> io::Result<String> {
         let (word, act) = question.split_once(' ').unwrap_or((question, ""));
-        let said = match (word, act_of(act)) {
-            ("takes", Some(act)) => yes_or_no(self.line.takes(act)),
-            ("heeds", Some(act)) => yes_or_no(self.line.heeds(act)),
-            _ => return requests::answer(alloc, self.line.requests(), question),
+        let is_so = match act_of(act) {
+            Some(act) => self.answer_on(word, act),
+            None => None,
         };
-        Ok(said.to_string(alloc)?)
+        match is_so {
+            Some(is_so) => judged(alloc, is_so),
+            None => requests::answer(alloc, self.line.requests(), question),
+        }
+    }
+
+    fn unlike_answer(&self, alloc: Global, row: &str) -> io::Result<Option<String>> {
+        let (question, wanted) = row.split_once("  ").unwrap_or((row, ""));
+        let given = self.answer(alloc, question)?;
+        unless_said(alloc, given.as_str(), wanted)
     }
 
     // What a row says that isn't so of the line.
@@ -170,39 +213,58 @@ impl LineTale {
             Some(state)
         })
     }
+
+    fn open(&mut self, alloc: Global) -> io::Result<Option<String>> {
+        self.line = Line::new(alloc)?;
+        Ok(None)
+    }
+
+    // The line of a gateway that serves.
+    fn serve(&mut self) -> io::Result<()> {
+        let step = self.line.opened(0)?;
+        self.line = step.line;
+        Ok(())
+    }
+
+    fn keep(&mut self) -> io::Result<Option<String>> {
+        self.kept = self.line.try_copy()?;
+        Ok(None)
+    }
+
+    fn back(&mut self) -> io::Result<Option<String>> {
+        self.line = self.kept.try_copy()?;
+        Ok(None)
+    }
+
+    // A row without a moment.
+    fn unlike_now(&mut self, alloc: Global, row: &str) -> io::Result<Option<String>> {
+        match row {
+            "opening" => self.open(alloc),
+            "keep" => self.keep(),
+            "back" => self.back(),
+            _ => match row.strip_prefix("is  ") {
+                Some(fields) => self.unlike_is(alloc, fields),
+                None => self.unlike_answer(alloc, row),
+            },
+        }
+    }
 }
 
 impl Tale for LineTale {
     fn begin(alloc: Global) -> io::Result<LineTale> {
-        Ok(LineTale {
-            line: ready(alloc)?,
-            kept: ready(alloc)?,
-        })
+        let line = Line::new(alloc)?;
+        let kept = Line::new(alloc)?;
+        let mut tale = LineTale { line, kept };
+        tale.serve()?;
+        tale.keep()?;
+        Ok(tale)
     }
 
     fn unlike(&mut self, alloc: Global, row: &str) -> io::Result<Option<String>> {
-        if let Some(fields) = row.strip_prefix("is  ") {
-            return self.unlike_is(alloc, fields);
-        }
-        if row == "opening" {
-            self.line = Line::new(alloc)?;
-            return Ok(None);
-        }
-        if row == "keep" {
-            self.kept = self.line.try_copy()?;
-            return Ok(None);
-        }
-        if row == "back" {
-            self.line = self.kept.try_copy()?;
-            return Ok(None);
-        }
         let first = row.split(' ').next().unwrap_or("");
         match first.parse::<u32>() {
             Ok(moment) => self.turn(alloc, u64::from(moment), row),
-            Err(_) => {
-                let (question, wanted) = row.split_once("  ").unwrap_or((row, ""));
-                unless_said(alloc, self.answer(alloc, question)?.as_str(), wanted)
-            }
+            Err(_) => self.unlike_now(alloc, row),
         }
     }
 }

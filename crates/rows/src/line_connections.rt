@@ -14,7 +14,7 @@
 mod asked;
 
 use asked::{change_of, creation_of, deletion_of, identifier_in};
-use connections::{Audited, Connections, Encoding, mode_text, read_encoding};
+use connections::{Audited, Connection, Connections, Created, Encoding, mode_text, read_encoding};
 use mg_bytes::CodeFault;
 use sdp_subset::{Session, write_sdp};
 use std::alloc::Global;
@@ -29,17 +29,26 @@ fn described(alloc: Global, description: &Session) -> Result<String, CodeFault> 
     Ok(text.as_str().trim_end().replace(alloc, "\r\n", "  ")?)
 }
 
-fn audited_text(alloc: Global, audited: &Audited) -> Result<String, CodeFault> {
-    let connection = &audited.connection;
+// A connection without its description.
+fn connection_text(alloc: Global, connection: &Connection) -> Result<String, CodeFault> {
     let call = String::from_utf8_lossy(alloc, connection.call.as_slice())?;
     let mode = String::from_utf8_lossy(alloc, mode_text(connection.mode))?;
-    let rtp = if connection.remote.is_some() {
-        "known"
-    } else {
-        "unknown"
+    let rtp = match &connection.remote {
+        Some(_) => "known",
+        None => "unknown",
     };
+    Ok(format!(in alloc; "C {call}  M {mode}  RTP {rtp}")?)
+}
+
+fn audited_text(alloc: Global, audited: &Audited) -> Result<String, CodeFault> {
+    let connection = connection_text(alloc, &audited.connection)?;
     let description = described(alloc, &audited.description)?;
-    Ok(format!(in alloc; "C {call}  M {mode}  RTP {rtp}  {description}")?)
+    Ok(format!(in alloc; "{connection}  {description}")?)
+}
+
+fn created_text(alloc: Global, created: &Created) -> Result<String, CodeFault> {
+    let description = described(alloc, &created.description)?;
+    Ok(format!(in alloc; "I {}  {description}", created.number)?)
 }
 
 fn create(
@@ -48,9 +57,11 @@ fn create(
     encoding: Encoding,
     row: &str,
 ) -> Result<String, CodeFault> {
-    let created = line.create(encoding, creation_of(alloc, row)?)?;
-    let description = described(alloc, &created.description)?;
-    Ok(format!(in alloc; "I {}  {description}", created.number)?)
+    let creation = creation_of(alloc, row)?;
+    match line.create(encoding, creation) {
+        Ok(created) => created_text(alloc, &created),
+        Err(fault) => Err(fault),
+    }
 }
 
 fn modify(
@@ -76,15 +87,28 @@ fn audit(alloc: Global, line: &Connections, row: &str) -> Result<String, CodeFau
     audited_text(alloc, &audited)
 }
 
+// Whether an answer has a field that a row says; parameters are none of it.
+fn has_field(answer: &str, field: &str) -> bool {
+    field.contains(": ") || answer.split("  ").any(|it| it == field)
+}
+
 // Whether the answer has all that a row says of it behind its parameters; a return code is always said.
 fn is_said(answer: &str, row: &str) -> bool {
     for field in row.split("  ").skip(1) {
-        if !field.contains(": ") && !answer.split("  ").any(|it| it == field) {
+        if !has_field(answer, field) {
             return false;
         }
     }
     let (_, last) = row.rsplit_once("  ").unwrap_or(("", row));
     answer.parse::<u32>().is_err() || last == answer
+}
+
+// An answer that a row doesn't say.
+fn unlike_answer(alloc: Global, answer: &str, row: &str) -> io::Result<Option<String>> {
+    if is_said(answer, row) {
+        return Ok(None);
+    }
+    Ok(Some(answer.to_string(alloc)?))
 }
 
 /// The connections of a line, its encoding, and its connections as they were kept; the last answer.
@@ -96,25 +120,31 @@ pub struct ConnectionsTale {
     answer: String,
 }
 
+// What a command is answered, as rows say it, or its return code.
+fn answered(
+    alloc: Global,
+    line: &mut Connections,
+    encoding: Encoding,
+    word: &str,
+    row: &str,
+) -> Result<String, CodeFault> {
+    match word {
+        "create" => create(alloc, line, encoding, row),
+        "modify" => modify(alloc, line, encoding, row),
+        "delete" => delete(alloc, line, row),
+        _ => audit(alloc, line, row),
+    }
+}
+
 impl ConnectionsTale {
     // A command is done to a copy of the line, which takes the line's place once all is done.
     fn command(&mut self, alloc: Global, word: &str, row: &str) -> io::Result<Option<String>> {
         let mut line = self.line.try_copy()?;
-        let given = match word {
-            "create" => create(alloc, &mut line, self.encoding, row),
-            "modify" => modify(alloc, &mut line, self.encoding, row),
-            "delete" => delete(alloc, &mut line, row),
-            _ => audit(alloc, &line, row),
-        };
-        let answer = match given {
+        let answer = match answered(alloc, &mut line, self.encoding, word, row) {
             Ok(text) => text,
             Err(fault) => code_text(alloc, fault)?,
         };
-        let unlike = if is_said(answer.as_str(), row) {
-            None
-        } else {
-            Some(answer.as_str().to_string(alloc)?)
-        };
+        let unlike = unlike_answer(alloc, answer.as_str(), row)?;
         self.line = line;
         self.answer = answer;
         Ok(unlike)
@@ -131,11 +161,26 @@ impl ConnectionsTale {
         Ok(out)
     }
 
+    fn unlike_places(&self, alloc: Global, wanted: &str) -> io::Result<Option<String>> {
+        let places = self.places(alloc)?;
+        unless_said(alloc, places.as_str().trim_start(), wanted)
+    }
+
     fn encode(&mut self, alloc: Global, value: &str) -> io::Result<Option<String>> {
         let Some(encoding) = read_encoding(value.as_bytes()) else {
             return no_such_row(alloc);
         };
         self.encoding = encoding;
+        Ok(None)
+    }
+
+    fn keep(&mut self) -> io::Result<Option<String>> {
+        self.kept = self.line.try_copy()?;
+        Ok(None)
+    }
+
+    fn back(&mut self) -> io::Result<Option<String>> {
+        self.line = self.kept.try_copy()?;
         Ok(None)
     }
 }
@@ -155,16 +200,10 @@ impl Tale for ConnectionsTale {
         match word {
             "create" | "modify" | "delete" | "audit" => self.command(alloc, word, row),
             "answer" => unless_said(alloc, self.answer.as_str(), rest.trim_start()),
-            "places" => unless_said(alloc, self.places(alloc)?.as_str().trim_start(), rest),
+            "places" => self.unlike_places(alloc, rest),
             "encoding" => self.encode(alloc, rest),
-            "keep" => {
-                self.kept = self.line.try_copy()?;
-                Ok(None)
-            }
-            "back" => {
-                self.line = self.kept.try_copy()?;
-                Ok(None)
-            }
+            "keep" => self.keep(),
+            "back" => self.back(),
             _ => no_such_row(alloc),
         }
     }

@@ -6,6 +6,7 @@
 //! What is told otherwise than it happens is printed under its title. `docs/TALES.md` says how tales are written.
 #![tactic(auto)]
 
+mod due_moments;
 mod events;
 mod histories;
 mod line;
@@ -14,8 +15,10 @@ mod messages;
 mod quarantines;
 mod requests;
 mod signal_sets;
+mod texts;
 mod values;
 
+use crate::due_moments::DueTale;
 use crate::histories::HistoryTale;
 use crate::line::LineTale;
 use crate::line_connections::ConnectionsTale;
@@ -47,6 +50,7 @@ impl Kinds for Rows {
             "message" => told::<MessageTale, R>(rt, text)?,
             "history" => told::<HistoryTale, R>(rt, text)?,
             "connections" => told::<ConnectionsTale, R>(rt, text)?,
+            "moments" => told::<DueTale, R>(rt, text)?,
             _ => return Ok(None),
         }))
     }

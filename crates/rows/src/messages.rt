@@ -9,6 +9,7 @@
 //! - `keep` and `back`: the message as it was once.
 ghost use Rattle.std.specs.Prelude.{◌<◌, ◌^◌};
 
+use crate::texts::unless_number;
 use mgcp_text::TransactionId;
 use outbound::{Pending, Repeat, Reply};
 use std::alloc::Global;
@@ -71,6 +72,29 @@ fn state_of(alloc: Global, message: &Pending) -> io::Result<String> {
     Ok(format!(in alloc; "{id}  {to}  {text}")?)
 }
 
+// `1500 sent`.
+fn unlike_repeat(alloc: Global, message: &mut Pending, rest: &str) -> io::Result<Option<String>> {
+    let (moment, wanted) = rest.split_once(' ').unwrap_or((rest, ""));
+    match moment.parse::<u32>() {
+        Ok(moment) => unless_said(alloc, repeated(message, u64::from(moment)), wanted),
+        Err(_) => no_such_row(alloc),
+    }
+}
+
+// `10000000 100 at 1200 provisional`.
+fn unlike_answer(alloc: Global, message: &mut Pending, rest: &str) -> io::Result<Option<String>> {
+    let (response, end) = rest.split_once(" at ").unwrap_or((rest, ""));
+    let (moment, wanted) = end.split_once(' ').unwrap_or((end, ""));
+    match moment.parse::<u32>() {
+        Ok(moment) => unless_said(
+            alloc,
+            answered(message, response, u64::from(moment)),
+            wanted,
+        ),
+        Err(_) => no_such_row(alloc),
+    }
+}
+
 /// A message, and as it was kept.
 #[derive(Drop)]
 pub struct MessageTale {
@@ -89,62 +113,50 @@ impl MessageTale {
         Ok(None)
     }
 
-    fn repeat(&mut self, alloc: Global, rest: &str) -> io::Result<Option<String>> {
-        let (moment, wanted) = rest.split_once(' ').unwrap_or((rest, ""));
-        let Ok(moment) = moment.parse::<u32>() else {
-            return no_such_row(alloc);
-        };
+    // What is done to the message is done to a copy, which takes its place once all is done.
+    fn turn(&mut self, alloc: Global, word: &str, rest: &str) -> io::Result<Option<String>> {
         let mut message = self.message.try_copy()?;
-        let unlike = unless_said(alloc, repeated(&mut message, u64::from(moment)), wanted)?;
+        let unlike = match word {
+            "repeat" => unlike_repeat(alloc, &mut message, rest)?,
+            _ => unlike_answer(alloc, &mut message, rest)?,
+        };
         self.message = message;
         Ok(unlike)
     }
 
-    fn answer(&mut self, alloc: Global, rest: &str) -> io::Result<Option<String>> {
-        let (response, end) = rest.split_once(" at ").unwrap_or((rest, ""));
-        let (moment, wanted) = end.split_once(' ').unwrap_or((end, ""));
-        let Ok(moment) = moment.parse::<u32>() else {
-            return no_such_row(alloc);
-        };
-        let mut message = self.message.try_copy()?;
-        let given = answered(&mut message, response, u64::from(moment));
-        let unlike = unless_said(alloc, given, wanted)?;
-        self.message = message;
-        Ok(unlike)
+    fn unlike_is(&self, alloc: Global, wanted: &str) -> io::Result<Option<String>> {
+        let state = state_of(alloc, &self.message)?;
+        unless_said(alloc, state.as_str(), wanted)
+    }
+
+    fn keep(&mut self) -> io::Result<Option<String>> {
+        self.kept = self.message.try_copy()?;
+        Ok(None)
+    }
+
+    fn back(&mut self) -> io::Result<Option<String>> {
+        self.message = self.kept.try_copy()?;
+        Ok(None)
     }
 }
 
 impl Tale for MessageTale {
     fn begin(alloc: Global) -> io::Result<MessageTale> {
         let id = TransactionId::of(1);
-        Ok(MessageTale {
-            message: Pending::begin(alloc, id, agent(), b"", 0)?,
-            kept: Pending::begin(alloc, id, agent(), b"", 0)?,
-        })
+        let message = Pending::begin(alloc, id, agent(), b"", 0)?;
+        let kept = message.try_copy()?;
+        Ok(MessageTale { message, kept })
     }
 
     fn unlike(&mut self, alloc: Global, row: &str) -> io::Result<Option<String>> {
         let (word, rest) = row.split_once(' ').unwrap_or((row, ""));
         match word {
             "begins" => self.begins(alloc, rest),
-            "repeat" => self.repeat(alloc, rest),
-            "answer" => self.answer(alloc, rest),
-            "due" => {
-                let due = format!(in alloc; "{}", self.message.due())?;
-                unless_said(alloc, due.as_str(), rest)
-            }
-            "is" => {
-                let state = state_of(alloc, &self.message)?;
-                unless_said(alloc, state.as_str(), rest.trim_start())
-            }
-            "keep" => {
-                self.kept = self.message.try_copy()?;
-                Ok(None)
-            }
-            "back" => {
-                self.message = self.kept.try_copy()?;
-                Ok(None)
-            }
+            "repeat" | "answer" => self.turn(alloc, word, rest),
+            "due" => unless_number(alloc, self.message.due(), rest),
+            "is" => self.unlike_is(alloc, rest.trim_start()),
+            "keep" => self.keep(),
+            "back" => self.back(),
             _ => no_such_row(alloc),
         }
     }

@@ -5,10 +5,18 @@
 //! - `holds 64`, `lost 1`: so many are held, and so many found no room;
 //! - `keep` and `back`: the quarantine as it was once.
 use crate::events::{observed_of, spelled};
+use crate::texts::unless_number;
 use quarantine::Buffer;
 use std::alloc::Global;
 use std::io;
 use tales::{Tale, no_such_row, unless_said};
+
+fn unlike_first(alloc: Global, buffer: &mut Buffer, wanted: &str) -> io::Result<Option<String>> {
+    match buffer.take() {
+        None => unless_said(alloc, "-", wanted),
+        Some(observed) => unless_said(alloc, spelled(alloc, &[observed])?.as_str(), wanted),
+    }
+}
 
 /// A quarantine, and as it was kept.
 #[derive(Drop)]
@@ -34,33 +42,35 @@ impl QuarantineTale {
         Ok(None)
     }
 
+    // It is taken out of a copy, which takes the place of the quarantine once all is done.
     fn take(&mut self, alloc: Global, wanted: &str) -> io::Result<Option<String>> {
         let mut buffer = self.buffer.try_copy()?;
-        let given = match buffer.take() {
-            None => "-".to_string(alloc)?,
-            Some(observed) => spelled(alloc, &[observed])?,
-        };
-        let unlike = unless_said(alloc, given.as_str(), wanted)?;
+        let unlike = unlike_first(alloc, &mut buffer, wanted)?;
         self.buffer = buffer;
         Ok(unlike)
     }
 
-    fn is_numbered(&self, alloc: Global, word: &str, wanted: &str) -> io::Result<Option<String>> {
-        let given = match word {
-            "holds" => format!(in alloc; "{}", self.buffer.as_slice().len())?,
-            "lost" => format!(in alloc; "{}", self.buffer.lost())?,
-            _ => "no such row".to_string(alloc)?,
-        };
-        unless_said(alloc, given.as_str(), wanted)
+    fn clear(&mut self) -> io::Result<Option<String>> {
+        self.buffer.clear();
+        Ok(None)
+    }
+
+    fn keep(&mut self) -> io::Result<Option<String>> {
+        self.kept = self.buffer.try_copy()?;
+        Ok(None)
+    }
+
+    fn back(&mut self) -> io::Result<Option<String>> {
+        self.buffer = self.kept.try_copy()?;
+        Ok(None)
     }
 }
 
 impl Tale for QuarantineTale {
     fn begin(alloc: Global) -> io::Result<QuarantineTale> {
-        Ok(QuarantineTale {
-            buffer: Buffer::new(alloc, 64)?,
-            kept: Buffer::new(alloc, 64)?,
-        })
+        let buffer = Buffer::new(alloc, 64)?;
+        let kept = buffer.try_copy()?;
+        Ok(QuarantineTale { buffer, kept })
     }
 
     fn unlike(&mut self, alloc: Global, row: &str) -> io::Result<Option<String>> {
@@ -69,19 +79,12 @@ impl Tale for QuarantineTale {
             "room" => self.room(alloc, rest),
             "hold" => self.hold(alloc, rest),
             "take" => self.take(alloc, rest),
-            "clear" => {
-                self.buffer.clear();
-                Ok(None)
-            }
-            "keep" => {
-                self.kept = self.buffer.try_copy()?;
-                Ok(None)
-            }
-            "back" => {
-                self.buffer = self.kept.try_copy()?;
-                Ok(None)
-            }
-            _ => self.is_numbered(alloc, word, rest),
+            "clear" => self.clear(),
+            "keep" => self.keep(),
+            "back" => self.back(),
+            "holds" => unless_number(alloc, self.buffer.iter().count() as u64, rest),
+            "lost" => unless_number(alloc, self.buffer.lost(), rest),
+            _ => no_such_row(alloc),
         }
     }
 }

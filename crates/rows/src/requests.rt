@@ -8,8 +8,10 @@
 //! - `after L/hd  S L/dl  D (1|2)` the request that is embedded at this event takes effect: its S, and its D or `-`.
 use crate::events::observed_of;
 use crate::line::parameters::events_of;
+use crate::texts::{judged, text_of};
+use digit_map::MapText;
 use event_requests::{Decision, Doing, Request, decide};
-use event_syntax::{Action, Embedding, Observed, write_signals};
+use event_syntax::{Action, Embedding, Observed, SignalRequest, write_signals};
 use mg_bytes::CodeFault;
 use mg_packages::event_of;
 use std::alloc::Global;
@@ -36,30 +38,42 @@ fn decision_text(alloc: Global, decision: Decision<'_>) -> io::Result<String> {
     Ok(format!(in alloc; "{done}{kept}")?)
 }
 
+fn says_requested(request: &Request, event: &str) -> &'static str {
+    match event_of(event.as_bytes()) {
+        Ok(event) => yes_or_no(request.is_requested(event)),
+        Err(_) => "no such event",
+    }
+}
+
+fn said_of_observed(
+    alloc: Global,
+    request: &Request,
+    word: &str,
+    observed: Observed,
+) -> io::Result<String> {
+    match word {
+        "at" => decision_text(alloc, decide(request, observed)),
+        "keeps" => judged(alloc, request.is_kept(observed)),
+        _ => Ok("no such row".to_string(alloc)?),
+    }
+}
+
 // What a request says of an event: `at L/hd`, `requested L/hd` or `keeps L/hd`.
 fn said_of(alloc: Global, request: &Request, word: &str, event: &str) -> io::Result<String> {
     if word == "requested" {
-        let said = match event_of(event.as_bytes()) {
-            Ok(event) => yes_or_no(request.is_requested(event)),
-            Err(_) => "no such event",
-        };
-        return Ok(said.to_string(alloc)?);
+        return Ok(says_requested(request, event).to_string(alloc)?);
     }
-    let Some(observed) = observed_of(alloc, event)? else {
-        return Ok("no such event".to_string(alloc)?);
-    };
-    match word {
-        "at" => decision_text(alloc, decide(request, observed)),
-        "keeps" => Ok(yes_or_no(request.is_kept(observed)).to_string(alloc)?),
-        _ => Ok("no such row".to_string(alloc)?),
+    match observed_of(alloc, event)? {
+        Some(observed) => said_of_observed(alloc, request, word, observed),
+        None => Ok("no such event".to_string(alloc)?),
     }
 }
 
 /// What a request says to a question.
 pub fn answer(alloc: Global, request: &Request, question: &str) -> io::Result<String> {
     match question {
-        "lacks map" => Ok(yes_or_no(request.lacks_map(false)).to_string(alloc)?),
-        "lacks map with D" => Ok(yes_or_no(request.lacks_map(true)).to_string(alloc)?),
+        "lacks map" => judged(alloc, request.lacks_map(false)),
+        "lacks map with D" => judged(alloc, request.lacks_map(true)),
         _ => {
             let (word, event) = question.split_once(' ').unwrap_or((question, ""));
             said_of(alloc, request, word, event)
@@ -67,31 +81,56 @@ pub fn answer(alloc: Global, request: &Request, question: &str) -> io::Result<St
     }
 }
 
+// What a request doesn't say to a question as a row does.
+fn unlike_answer(
+    alloc: Global,
+    request: &Request,
+    question: &str,
+    wanted: &str,
+) -> io::Result<Option<String>> {
+    let given = answer(alloc, request, question)?;
+    unless_said(alloc, given.as_str(), wanted)
+}
+
+fn signals_text(alloc: Global, signals: &[SignalRequest]) -> io::Result<String> {
+    let text = write_signals(alloc, signals)?;
+    text_of(alloc, text.as_bytes())
+}
+
+fn map_text(alloc: Global, map: &Option<MapText>) -> io::Result<String> {
+    match map {
+        None => Ok("-".to_string(alloc)?),
+        Some(map) => text_of(alloc, map.as_bytes()),
+    }
+}
+
 // The S and the D of an embedded request.
 fn embedding_text(alloc: Global, embedding: &Embedding) -> io::Result<String> {
     let request = embedding.request();
-    let signals = write_signals(alloc, request.signals.as_slice())?;
-    let s = String::from_utf8_lossy(alloc, signals.as_bytes())?;
-    let d = match &request.map {
-        None => "-".to_string(alloc)?,
-        Some(map) => String::from_utf8_lossy(alloc, map.as_bytes())?,
-    };
-    Ok(format!(in alloc; "S {s}  D {d}")?)
+    let signals = signals_text(alloc, request.signals.as_slice())?;
+    let map = map_text(alloc, &request.map)?;
+    Ok(format!(in alloc; "S {signals}  D {map}")?)
 }
 
-// The request after the one that is embedded at this event took effect, and its S and D.
-fn embedded(
+// The request that is embedded at this event.
+fn embedding_at(request: &Request, at: Observed) -> Option<&Embedding> {
+    match decide(request, at).doing {
+        Doing::Plain(_) => None,
+        Doing::Embed(embedding) | Doing::AccumulateAndEmbed(embedding) => Some(embedding),
+    }
+}
+
+fn unlike_embedded(
     alloc: Global,
     request: &Request,
     at: Observed,
-) -> io::Result<Option<(Request, String)>> {
-    match decide(request, at).doing {
-        Doing::Plain(_) => Ok(None),
-        Doing::Embed(embedding) | Doing::AccumulateAndEmbed(embedding) => {
-            let text = embedding_text(alloc, embedding)?;
-            Ok(Some((request.embedded(embedding)?, text)))
-        }
-    }
+    wanted: &str,
+) -> io::Result<Option<String>> {
+    let Some(embedding) = embedding_at(request, at) else {
+        return Ok(Some("nothing is embedded".to_string(alloc)?));
+    };
+    let text = embedding_text(alloc, embedding)?;
+    unless_said(alloc, text.as_str(), wanted)
 }
 
 /// What is asked for.
@@ -112,6 +151,14 @@ impl RequestTale {
         }
     }
 
+    // The request that is embedded at this event takes effect.
+    fn embed(&mut self, at: Observed) -> io::Result<()> {
+        if let Some(embedding) = embedding_at(&self.request, at) {
+            self.request = self.request.embedded(embedding)?;
+        }
+        Ok(())
+    }
+
     fn take_effect(
         &mut self,
         alloc: Global,
@@ -121,12 +168,23 @@ impl RequestTale {
         let Some(observed) = observed_of(alloc, event)? else {
             return no_such_row(alloc);
         };
-        let Some((request, text)) = embedded(alloc, &self.request, observed)? else {
-            return Ok(Some("nothing is embedded".to_string(alloc)?));
-        };
-        let unlike = unless_said(alloc, text.as_str(), wanted)?;
-        self.request = request;
+        let unlike = unlike_embedded(alloc, &self.request, observed, wanted)?;
+        self.embed(observed)?;
         Ok(unlike)
+    }
+
+    // A question is asked of a copy too.
+    fn unlike_question(
+        &self,
+        alloc: Global,
+        question: &str,
+        wanted: &str,
+    ) -> io::Result<Option<String>> {
+        if let Some(unlike) = unlike_answer(alloc, &self.request, question, wanted)? {
+            return Ok(Some(unlike));
+        }
+        let copy = self.request.try_copy()?;
+        unlike_answer(alloc, &copy, question, wanted)
     }
 }
 
@@ -145,11 +203,6 @@ impl Tale for RequestTale {
         if let Some(event) = question.strip_prefix("after ") {
             return self.take_effect(alloc, event, wanted);
         }
-        let given = answer(alloc, &self.request, question)?;
-        if given.as_str() != wanted {
-            return Ok(Some(given));
-        }
-        let copy = self.request.try_copy()?;
-        unless_said(alloc, answer(alloc, &copy, question)?.as_str(), wanted)
+        self.unlike_question(alloc, question, wanted)
     }
 }

@@ -7,9 +7,10 @@
 //! - `refused on  L/dl  402` the return code with which an S is refused on hook; `-` where it isn't.
 ghost use Rattle.std.specs.Prelude.{◌<◌, ◌^◌};
 
+use crate::texts::{text_of, unless_number};
 use event_syntax::read_signals;
 use mg_packages::{Hook, Signal, signal_name, signal_of};
-use signals::{SignalSet, refused};
+use signals::{ActiveSignal, SignalSet, refused};
 use std::alloc::Global;
 use std::io;
 use tales::{Tale, no_such_row, unless_said};
@@ -23,7 +24,7 @@ fn hook_of(word: &str) -> Option<Hook> {
 }
 
 fn name_of(alloc: Global, signal: Signal) -> io::Result<String> {
-    Ok(String::from_utf8_lossy(alloc, signal_name(signal))?)
+    text_of(alloc, signal_name(signal))
 }
 
 // What ends first.
@@ -37,28 +38,40 @@ fn due_of(alloc: Global, set: &SignalSet) -> io::Result<String> {
     }
 }
 
+fn put_active(alloc: Global, out: &mut String, active: ActiveSignal) -> io::Result<()> {
+    let name = name_of(alloc, active.signal)?;
+    match active.end {
+        None => write!(out, "  {name} -")?,
+        Some(end) => write!(out, "  {name} {end}")?,
+    }
+    Ok(())
+}
+
 // The active signals, a field each.
 fn listed(alloc: Global, set: &SignalSet) -> io::Result<String> {
     let mut out = String::new(alloc);
     for active in set.list().as_slice() {
-        let name = name_of(alloc, active.signal)?;
-        match active.end {
-            None => write!(out, "  {name} -")?,
-            Some(end) => write!(out, "  {name} {end}")?,
-        }
+        put_active(alloc, &mut out, *active)?;
     }
     Ok(out)
 }
 
-// Whether an S is refused in this state of the hook: `on  L/dl`.
-fn refusal_of(alloc: Global, rest: &str) -> io::Result<String> {
+// The return code of an S in this state of the hook: `on  L/dl`. Nothing where there is no such row.
+fn refusal_of(rest: &str) -> Option<Option<u16>> {
     let (hook, value) = rest.split_once("  ").unwrap_or((rest, ""));
-    let (Some(hook), Ok(requests)) = (hook_of(hook), read_signals(value.as_bytes())) else {
-        return Ok("no such row".to_string(alloc)?);
-    };
-    match refused(requests.as_slice(), hook) {
-        None => Ok("-".to_string(alloc)?),
-        Some(code) => Ok(format!(in alloc; "{code}")?),
+    let hook = hook_of(hook)?;
+    match read_signals(value.as_bytes()) {
+        Ok(requests) => Some(refused(requests.as_slice(), hook)),
+        Err(_) => None,
+    }
+}
+
+fn unlike_refusal(alloc: Global, rest: &str) -> io::Result<Option<String>> {
+    let (asked, wanted) = rest.rsplit_once("  ").unwrap_or((rest, ""));
+    match refusal_of(asked) {
+        Some(Some(code)) => unless_number(alloc, u64::from(code), wanted),
+        Some(None) => unless_said(alloc, "-", wanted),
+        None => no_such_row(alloc),
     }
 }
 
@@ -74,7 +87,10 @@ impl SignalTale {
         requires { moment < 2 ^ 62 }
     {
         let (hook, value) = rest.split_once("  S: ").unwrap_or((rest, ""));
-        let (Some(hook), Ok(requests)) = (hook_of(hook), read_signals(value.as_bytes())) else {
+        let Some(hook) = hook_of(hook) else {
+            return no_such_row(alloc);
+        };
+        let Ok(requests) = read_signals(value.as_bytes()) else {
             return no_such_row(alloc);
         };
         self.set.apply(requests.as_slice(), hook, moment);
@@ -87,6 +103,21 @@ impl SignalTale {
         };
         self.set.expire(signal);
         Ok(None)
+    }
+
+    fn stop_timeouts(&mut self) -> io::Result<Option<String>> {
+        self.set.stop_timeouts();
+        Ok(None)
+    }
+
+    fn unlike_due(&self, alloc: Global, wanted: &str) -> io::Result<Option<String>> {
+        let due = due_of(alloc, &self.set)?;
+        unless_said(alloc, due.as_str(), wanted)
+    }
+
+    fn unlike_active(&self, alloc: Global, wanted: &str) -> io::Result<Option<String>> {
+        let active = listed(alloc, &self.set)?;
+        unless_said(alloc, active.as_str().trim_start(), wanted.trim_start())
     }
 
     fn hook(&mut self, alloc: Global, word: &str) -> io::Result<Option<String>> {
@@ -113,20 +144,10 @@ impl Tale for SignalTale {
         match word {
             "hook" => self.hook(alloc, rest),
             "expire" => self.stop(alloc, rest),
-            "stop" => {
-                self.set.stop_timeouts();
-                Ok(None)
-            }
-            "due" => unless_said(alloc, due_of(alloc, &self.set)?.as_str(), rest),
-            "active" => unless_said(
-                alloc,
-                listed(alloc, &self.set)?.as_str().trim_start(),
-                rest.trim_start(),
-            ),
-            "refused" => {
-                let (asked, wanted) = rest.rsplit_once("  ").unwrap_or((rest, ""));
-                unless_said(alloc, refusal_of(alloc, asked)?.as_str(), wanted)
-            }
+            "stop" => self.stop_timeouts(),
+            "due" => self.unlike_due(alloc, rest),
+            "active" => self.unlike_active(alloc, rest),
+            "refused" => unlike_refusal(alloc, rest),
             _ => no_such_row(alloc),
         }
     }

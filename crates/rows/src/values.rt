@@ -15,7 +15,7 @@ mod packing;
 
 use std::alloc::Global;
 use std::io;
-use tales::{Tale, bytes_of};
+use tales::{Tale, bytes_of, said, unless_said};
 
 /// Rows that stand alone.
 #[derive(Drop)]
@@ -32,38 +32,40 @@ pub fn numbered(call: &str) -> (&str, u16) {
 }
 
 // What one of the modules gives of a value, each of which knows calls of its own.
-fn answer_of_text(alloc: Global, call: &str, value: &[u8]) -> io::Result<Option<String>> {
-    let mut given = bytes::answer(alloc, call, value)?;
-    if given.is_none() {
-        given = names::answer(alloc, call, value)?;
+fn answer_of_text(alloc: Global, call: &str, value: &[u8]) -> Option<io::Result<String>> {
+    if let Some(given) = bytes::answer(alloc, call, value) {
+        return Some(given);
     }
-    if given.is_none() {
-        given = packing::answer(alloc, call, value)?;
+    if let Some(given) = names::answer(alloc, call, value) {
+        return Some(given);
     }
-    if given.is_none() {
-        given = messages::answer(alloc, call, value)?;
+    if let Some(given) = packing::answer(alloc, call, value) {
+        return Some(given);
     }
-    Ok(given)
+    messages::answer(alloc, call, value)
 }
 
-fn answer(alloc: Global, call: &str, value: &[u8]) -> io::Result<Option<String>> {
-    let mut given = events::answer(alloc, call, value)?;
-    if given.is_none() {
-        given = maps::answer(alloc, call, value)?;
+fn answer_of_command(alloc: Global, call: &str, value: &[u8]) -> Option<io::Result<String>> {
+    if let Some(given) = commands::answer(alloc, call, value) {
+        return Some(given);
     }
-    if given.is_none() {
-        given = commands::answer(alloc, call, value)?;
+    if let Some(given) = descriptions::answer(alloc, call, value) {
+        return Some(given);
     }
-    if given.is_none() {
-        given = descriptions::answer(alloc, call, value)?;
+    connection_options::answer(alloc, call, value)
+}
+
+fn answer(alloc: Global, call: &str, value: &[u8]) -> Option<io::Result<String>> {
+    if let Some(given) = events::answer(alloc, call, value) {
+        return Some(given);
     }
-    if given.is_none() {
-        given = connection_options::answer(alloc, call, value)?;
+    if let Some(given) = maps::answer(alloc, call, value) {
+        return Some(given);
     }
-    match given {
-        Some(given) => Ok(Some(given)),
-        None => answer_of_text(alloc, call, value),
+    if let Some(given) = answer_of_command(alloc, call, value) {
+        return Some(given);
     }
+    answer_of_text(alloc, call, value)
 }
 
 // Whether a row says this answer.
@@ -75,14 +77,27 @@ fn is_said(answer: &str, wanted: &str) -> bool {
     }
 }
 
+// What a call gives of a value.
+fn answered(alloc: Global, call: &str, value: &[u8]) -> io::Result<String> {
+    match answer(alloc, call, value) {
+        Some(given) => given,
+        None => said(alloc, b"no such call"),
+    }
+}
+
 // What a call gives of a value that the row doesn't say.
 fn unlike_call(alloc: Global, call: &str, field: &str, wanted: &str) -> io::Result<Option<String>> {
     let value = bytes_of(alloc, field)?;
-    match answer(alloc, call, &value)? {
-        Some(given) if is_said(given.as_str(), wanted) => Ok(None),
-        Some(given) => Ok(Some(given)),
-        None => Ok(Some("no such call".to_string(alloc)?)),
+    let given = answered(alloc, call, &value)?;
+    if is_said(given.as_str(), wanted) {
+        return Ok(None);
     }
+    Ok(Some(given))
+}
+
+fn with_place(alloc: Global, given: &str, place: usize) -> io::Result<String> {
+    let place = place.saturating_add(1);
+    Ok(format!(in alloc; "{given} for value {place}")?)
 }
 
 // The same of each value, with its place.
@@ -94,11 +109,18 @@ fn unlike_each(
 ) -> io::Result<Option<String>> {
     for (place, field) in values.split("  ").enumerate() {
         if let Some(given) = unlike_call(alloc, call, field, wanted)? {
-            let place = place.saturating_add(1);
-            return Ok(Some(format!(in alloc; "{given} for value {place}")?));
+            return Ok(Some(with_place(alloc, given.as_str(), place)?));
         }
     }
     Ok(None)
+}
+
+// What a call of one value each gives. Without a value the row would say nothing of the call.
+fn unlike_any(alloc: Global, call: &str, values: &str, wanted: &str) -> io::Result<Option<String>> {
+    if values.is_empty() {
+        return Ok(Some("no value".to_string(alloc)?));
+    }
+    unlike_each(alloc, call, values, wanted)
 }
 
 impl Tale for Values {
@@ -110,11 +132,8 @@ impl Tale for Values {
         let (rest, wanted) = row.rsplit_once("  ").unwrap_or((row, ""));
         let (call, values) = rest.split_once("  ").unwrap_or((rest, ""));
         match maps::answer_of_all(alloc, call, values)? {
-            Some(given) if given.as_str() == wanted => Ok(None),
-            Some(given) => Ok(Some(given)),
-            // Without a value the row would say nothing of the call.
-            None if values.is_empty() => Ok(Some("no value".to_string(alloc)?)),
-            None => unlike_each(alloc, call, values, wanted),
+            Some(given) => unless_said(alloc, given, wanted),
+            None => unlike_any(alloc, call, values, wanted),
         }
     }
 }

@@ -4,7 +4,7 @@ use crate::kind::Kind;
 
 /// What falls due of a line, and when. Entries are in the order in which they fall due: by moment, then by line, then
 /// by kind (this gateway's profile).
-#[derive(Clone, Copy, Debug, PartialEq, Eq, PartialOrd, Ord)]
+#[derive(Clone, Copy, PartialEq, Eq, PartialOrd, Ord)]
 pub struct Entry {
     /// In ms.
     pub moment: u64,

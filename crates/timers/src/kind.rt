@@ -1,6 +1,6 @@
 /// What falls due of a line. Kinds are in the order in which they happen where they fall due at one moment (this
 /// gateway's profile).
-#[derive(Clone, Copy, Debug, PartialEq, Eq, PartialOrd, Ord)]
+#[derive(Clone, Copy, PartialEq, Eq, PartialOrd, Ord)]
 pub enum Kind {
     /// Timer T of the digits (RFC 3435, 2.1.5).
     Timer,

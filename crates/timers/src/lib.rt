@@ -11,8 +11,6 @@ pub mod examples;
 mod kind;
 pub mod laws;
 mod place;
-#[cfg(test)]
-mod tests;
 
 pub use crate::due::Due;
 pub use crate::entry::Entry;

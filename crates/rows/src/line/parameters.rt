@@ -1,7 +1,9 @@
 //! What a line is asked for, as rows say it: `X: A1  R: L/hd(A)  D: (xx)`.
 use digit_map::{MapChange, MapFault, read_change};
 use event_requests::Request as EventRequest;
-use event_syntax::{read_detect, read_events, read_handling, read_signals};
+use event_syntax::{
+    Handling, SignalRequests, read_detect, read_events, read_handling, read_signals,
+};
 use mg_bytes::{CodeFault, Identifier};
 use mg_line::Request;
 use std::alloc::Global;
@@ -36,13 +38,36 @@ fn map_of(alloc: Global, row: &str) -> Result<MapChange, CodeFault> {
     }
 }
 
-/// The request that a row asks. X is `A0` and Q `step` where they don't stand there.
-pub fn request_of(alloc: Global, row: &str) -> Result<Request, CodeFault> {
-    Ok(Request {
+/// X, S and Q.
+#[derive(Drop)]
+struct Plain {
+    identifier: Identifier,
+    signals: SignalRequests,
+    handling: Handling,
+}
+
+// X is `A0` and Q `step` where they don't stand there.
+fn plain_of(row: &str) -> Result<Plain, CodeFault> {
+    Ok(Plain {
         identifier: identifier_of(parameter(row, "X: ").unwrap_or("A0"))?,
-        events: events_of(alloc, row)?,
         signals: read_signals(parameter(row, "S: ").unwrap_or("").as_bytes())?,
         handling: read_handling(parameter(row, "Q: ").unwrap_or("step").as_bytes())?,
+    })
+}
+
+/// The request that a row asks.
+pub fn request_of(alloc: Global, row: &str) -> Result<Request, CodeFault> {
+    let Plain {
+        identifier,
+        signals,
+        handling,
+    } = plain_of(row)?;
+    let events = events_of(alloc, row)?;
+    Ok(Request {
+        identifier,
+        events,
+        signals,
+        handling,
         map: map_of(alloc, row)?,
     })
 }

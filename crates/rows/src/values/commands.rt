@@ -1,12 +1,15 @@
 //! Calls about what commands ask for, on a gateway of 16 lines that knows no host.
 use crate::values::names::{DOMAIN, pattern_text};
 use command_forms::{Asks, ConnectionDeed, Deed, RequestForm, Target, form};
-use connections::{CodecChoice, Deletion, Mode, Options, encoding_text, mode_text, write_options};
+use connections::{
+    Change, CodecChoice, Codecs, Creation, Deletion, Mode, Options, encoding_text, mode_text,
+    write_options,
+};
 use digit_map::MapChange;
 use endpoint_names::{Names, Pattern, Table};
 use event_syntax::{write_detect, write_events, write_handling, write_signals};
 use mg_bytes::{Identifier, Text, put_decimal};
-use mgcp_text::{TextFault, read_k, read_message};
+use mgcp_text::{Message, TextFault, read_k, read_message};
 use sdp_subset::Session;
 use std::alloc::Global;
 use std::io;
@@ -18,23 +21,35 @@ fn put_line(out: &mut Vec<u8>, code: &[u8], value: &[u8]) -> io::Result<()> {
     Ok(out.extend_from_slice(b"\r\n")?)
 }
 
+fn put_events(alloc: Global, out: &mut Vec<u8>, request: &RequestForm) -> io::Result<()> {
+    let requested = write_events(alloc, request.requested.as_slice())?;
+    put_line(out, b"R:", requested.as_bytes())?;
+    let detected = write_detect(alloc, request.detected.as_slice())?;
+    put_line(out, b"T:", detected.as_bytes())
+}
+
+fn put_signals(alloc: Global, out: &mut Vec<u8>, request: &RequestForm) -> io::Result<()> {
+    let signals = write_signals(alloc, request.signals.as_slice())?;
+    put_line(out, b"S:", signals.as_bytes())?;
+    let handling = write_handling(alloc, request.handling)?;
+    put_line(out, b"Q:", handling.as_bytes())
+}
+
+fn put_map(out: &mut Vec<u8>, map: &MapChange) -> io::Result<()> {
+    match map {
+        MapChange::Keep => Ok(()),
+        MapChange::Remove => put_line(out, b"D:", b""),
+        MapChange::Replace(map) => put_line(out, b"D:", map.as_bytes()),
+    }
+}
+
 // The parameters of a request as they are written again; D only where the digit map doesn't stay.
 fn request_text(alloc: Global, request: &RequestForm) -> io::Result<String> {
     let mut out = Vec::new(alloc);
     put_line(&mut out, b"X:", request.identifier.as_slice())?;
-    let requested = write_events(alloc, request.requested.as_slice())?;
-    put_line(&mut out, b"R:", requested.as_bytes())?;
-    let detected = write_detect(alloc, request.detected.as_slice())?;
-    put_line(&mut out, b"T:", detected.as_bytes())?;
-    let signals = write_signals(alloc, request.signals.as_slice())?;
-    put_line(&mut out, b"S:", signals.as_bytes())?;
-    let handling = write_handling(alloc, request.handling)?;
-    put_line(&mut out, b"Q:", handling.as_bytes())?;
-    match &request.map {
-        MapChange::Keep => {}
-        MapChange::Remove => put_line(&mut out, b"D:", b"")?,
-        MapChange::Replace(map) => put_line(&mut out, b"D:", map.as_bytes())?,
-    }
+    put_events(alloc, &mut out, request)?;
+    put_signals(alloc, &mut out, request)?;
+    put_map(&mut out, &request.map)?;
     said(alloc, &out)
 }
 
@@ -51,26 +66,27 @@ fn put_mode(out: &mut Vec<u8>, mode: Mode) -> io::Result<()> {
     put_line(out, b"M:", mode_text(mode))
 }
 
+fn put_codecs(alloc: Global, out: &mut Vec<u8>, codecs: Codecs, time: u16) -> io::Result<()> {
+    let text = write_options(alloc, codecs, time)?;
+    put_line(out, b"L:", text.as_bytes())
+}
+
+fn put_packet_time(alloc: Global, out: &mut Vec<u8>, time: u16) -> io::Result<()> {
+    out.extend_from_slice(b"L:p:")?;
+    put_decimal(alloc, out, u64::from(time))?;
+    put_line(out, b"", b"")
+}
+
 fn put_options(alloc: Global, out: &mut Vec<u8>, options: Options) -> io::Result<()> {
     match options.codecs {
-        CodecChoice::These(codecs) => {
-            let text = write_options(alloc, codecs, options.packet_time)?;
-            put_line(out, b"L:", text.as_bytes())
-        }
-        CodecChoice::ByEncoding => {
-            out.extend_from_slice(b"L:p:")?;
-            put_decimal(alloc, out, u64::from(options.packet_time))?;
-            put_line(out, b"", b"")
-        }
+        CodecChoice::These(codecs) => put_codecs(alloc, out, codecs, options.packet_time),
+        CodecChoice::ByEncoding => put_packet_time(alloc, out, options.packet_time),
         CodecChoice::NoneKnown => put_line(out, b"L:", b"none"),
     }
 }
 
-// The port and the payload types of the remote description, where there is one.
-fn put_remote(alloc: Global, out: &mut Vec<u8>, remote: &Option<Session>) -> io::Result<()> {
-    let Some(session) = remote else {
-        return Ok(());
-    };
+// The port and the payload types of a remote description.
+fn put_session(alloc: Global, out: &mut Vec<u8>, session: &Session) -> io::Result<()> {
     out.extend_from_slice(b"RTP:")?;
     put_decimal(alloc, out, u64::from(session.port))?;
     for payload in session.payloads.as_slice() {
@@ -80,36 +96,62 @@ fn put_remote(alloc: Global, out: &mut Vec<u8>, remote: &Option<Session>) -> io:
     put_line(out, b"", b"")
 }
 
+// The same where there is one.
+fn put_remote(alloc: Global, out: &mut Vec<u8>, remote: &Option<Session>) -> io::Result<()> {
+    match remote {
+        Some(session) => put_session(alloc, out, session),
+        None => Ok(()),
+    }
+}
+
+fn put_creation(alloc: Global, out: &mut Vec<u8>, creation: &Creation) -> io::Result<()> {
+    out.extend_from_slice(b"create ")?;
+    put_names(out, &creation.call, None)?;
+    put_mode(out, creation.mode)?;
+    put_options(alloc, out, creation.options)?;
+    put_remote(alloc, out, &creation.remote)
+}
+
+fn put_change(alloc: Global, out: &mut Vec<u8>, change: &Change) -> io::Result<()> {
+    if let Some(mode) = change.mode {
+        put_mode(out, mode)?;
+    }
+    if let Some(options) = change.options {
+        put_options(alloc, out, options)?;
+    }
+    put_remote(alloc, out, &change.remote)
+}
+
+fn put_modification(
+    alloc: Global,
+    out: &mut Vec<u8>,
+    call: &Identifier,
+    id: &Identifier,
+    change: &Change,
+) -> io::Result<()> {
+    out.extend_from_slice(b"modify ")?;
+    put_names(out, call, Some(id))?;
+    put_change(alloc, out, change)
+}
+
+fn put_deletion(out: &mut Vec<u8>, deletion: &Deletion) -> io::Result<()> {
+    out.extend_from_slice(b"delete ")?;
+    match deletion {
+        Deletion::All => Ok(()),
+        Deletion::OfCall(call) => put_names(out, call, None),
+        Deletion::One(call, id) => put_names(out, call, Some(id)),
+    }
+}
+
 // What becomes of the connections of a line.
 fn put_connections(alloc: Global, out: &mut Vec<u8>, deed: &ConnectionDeed) -> io::Result<()> {
     match deed {
         ConnectionDeed::Keep => Ok(out.extend_from_slice(b"keep ")?),
-        ConnectionDeed::Create(creation) => {
-            out.extend_from_slice(b"create ")?;
-            put_names(out, &creation.call, None)?;
-            put_mode(out, creation.mode)?;
-            put_options(alloc, out, creation.options)?;
-            put_remote(alloc, out, &creation.remote)
-        }
+        ConnectionDeed::Create(creation) => put_creation(alloc, out, creation),
         ConnectionDeed::Modify { call, id, change } => {
-            out.extend_from_slice(b"modify ")?;
-            put_names(out, call, Some(id))?;
-            if let Some(mode) = change.mode {
-                put_mode(out, mode)?;
-            }
-            if let Some(options) = change.options {
-                put_options(alloc, out, options)?;
-            }
-            put_remote(alloc, out, &change.remote)
+            put_modification(alloc, out, call, id, change)
         }
-        ConnectionDeed::Delete(deletion) => {
-            out.extend_from_slice(b"delete ")?;
-            match deletion {
-                Deletion::All => Ok(()),
-                Deletion::OfCall(call) => put_names(out, call, None),
-                Deletion::One(call, id) => put_names(out, call, Some(id)),
-            }
-        }
+        ConnectionDeed::Delete(deletion) => put_deletion(out, deletion),
     }
 }
 
@@ -120,10 +162,7 @@ fn becomes_text(alloc: Global, deed: &Deed) -> io::Result<String> {
     if let Some(encoding) = deed.encoding {
         put_line(&mut out, b"B:", encoding_text(encoding))?;
     }
-    if out.as_slice().ends_with(b" ") {
-        out.pop();
-    }
-    said(alloc, &out)
+    said(alloc, out.as_slice().strip_suffix(b" ").unwrap_or(&out))
 }
 
 // The lines that a command is for, by the name that means them.
@@ -153,24 +192,42 @@ fn asks_text(alloc: Global, call: &str, asks: &Asks<'_>) -> io::Result<String> {
     }
 }
 
-/// What a call gives: a return code where the command is refused. Nothing where there is no such call here.
-pub fn answer(alloc: Global, call: &str, value: &[u8]) -> io::Result<Option<String>> {
-    if call != "command on" && call != "asks" && call != "becomes" {
-        return Ok(None);
-    }
-    let message = match read_message(alloc, value) {
-        Ok(message) => message,
-        Err(TextFault::OutOfMemory) => return Err(refused()),
-        Err(_) => return Ok(Some("no message".to_string(alloc)?)),
-    };
-    let names = Names {
-        domain: Text::of(Vec::from_slice(alloc, DOMAIN)?),
+// A gateway of 16 lines that knows no host.
+fn names(alloc: Global) -> io::Result<Names> {
+    let domain = Vec::from_slice(alloc, DOMAIN)?;
+    Ok(Names {
+        domain: Text::of(domain),
         lines: 16,
         table: Table::new(),
-    };
-    let confirms = read_k(alloc, &message)?;
-    Ok(Some(match form(alloc, &message, &confirms, &names) {
-        Ok(asks) => asks_text(alloc, call, &asks)?,
-        Err(fault) => code_text(alloc, fault)?,
-    }))
+    })
+}
+
+// What a call gives of a message, or a return code where it is refused.
+fn given(alloc: Global, call: &str, message: &Message<'_>, names: &Names) -> io::Result<String> {
+    let confirms = read_k(alloc, message)?;
+    match form(alloc, message, &confirms, names) {
+        Ok(asks) => asks_text(alloc, call, &asks),
+        Err(fault) => code_text(alloc, fault),
+    }
+}
+
+fn of_message(alloc: Global, call: &str, message: &Message<'_>) -> io::Result<String> {
+    let names = names(alloc)?;
+    given(alloc, call, message, &names)
+}
+
+fn of_text(alloc: Global, call: &str, value: &[u8]) -> io::Result<String> {
+    match read_message(alloc, value) {
+        Ok(message) => of_message(alloc, call, &message),
+        Err(TextFault::OutOfMemory) => Err(refused()),
+        Err(_) => said(alloc, b"no message"),
+    }
+}
+
+/// What a call gives: a return code where the command is refused. Nothing where there is no such call here.
+pub fn answer(alloc: Global, call: &str, value: &[u8]) -> Option<io::Result<String>> {
+    match call {
+        "command on" | "asks" | "becomes" => Some(of_text(alloc, call, value)),
+        _ => None,
+    }
 }

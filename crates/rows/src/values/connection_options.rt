@@ -25,22 +25,34 @@ fn identifier(alloc: Global, value: &[u8]) -> io::Result<String> {
     said(alloc, &out)
 }
 
+fn read_l(alloc: Global, value: &[u8]) -> io::Result<String> {
+    match read_options(value) {
+        Ok(options) => options_text(alloc, options),
+        Err(code) => Ok(format!(in alloc; "{code}")?),
+    }
+}
+
+fn read_m(alloc: Global, value: &[u8]) -> io::Result<String> {
+    match read_mode(value) {
+        Some(mode) => said(alloc, mode_text(mode)),
+        None => said(alloc, b"none"),
+    }
+}
+
+fn read_b(alloc: Global, value: &[u8]) -> io::Result<String> {
+    match read_encoding(value) {
+        Some(encoding) => said(alloc, encoding_text(encoding)),
+        None => said(alloc, b"none"),
+    }
+}
+
 /// What a call gives; nothing where there is no such call here.
-pub fn answer(alloc: Global, call: &str, value: &[u8]) -> io::Result<Option<String>> {
-    Ok(Some(match call {
-        "L" => match read_options(value) {
-            Ok(options) => options_text(alloc, options)?,
-            Err(code) => format!(in alloc; "{code}")?,
-        },
-        "M" => match read_mode(value) {
-            Some(mode) => said(alloc, mode_text(mode))?,
-            None => "none".to_string(alloc)?,
-        },
-        "B" => match read_encoding(value) {
-            Some(encoding) => said(alloc, encoding_text(encoding))?,
-            None => "none".to_string(alloc)?,
-        },
-        "I" => identifier(alloc, value)?,
-        _ => return Ok(None),
-    }))
+pub fn answer(alloc: Global, call: &str, value: &[u8]) -> Option<io::Result<String>> {
+    Some(match call {
+        "L" => read_l(alloc, value),
+        "M" => read_m(alloc, value),
+        "B" => read_b(alloc, value),
+        "I" => identifier(alloc, value),
+        _ => return None,
+    })
 }

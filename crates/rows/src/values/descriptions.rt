@@ -16,32 +16,70 @@ fn offered(alloc: Global, session: &Session) -> io::Result<String> {
     Ok(out)
 }
 
+fn origin_of(number: &str, version: &str) -> Option<Origin> {
+    Some(Origin {
+        number: number.parse().ok()?,
+        version: version.parse().ok()?,
+    })
+}
+
 // The number of an origin, its version and a packet time: `1 2 20`.
 fn own_of(numbers: &str) -> Option<(Origin, u16)> {
     let (number, rest) = numbers.split_once(' ')?;
     let (version, ptime) = rest.split_once(' ')?;
-    let origin = Origin {
-        number: number.parse().ok()?,
-        version: version.parse().ok()?,
-    };
-    Some((origin, ptime.parse().ok()?))
+    Some((origin_of(number, version)?, ptime.parse().ok()?))
+}
+
+fn written(alloc: Global, session: &Session) -> io::Result<String> {
+    let text = write_sdp(alloc, session)?;
+    said(alloc, text.as_bytes())
+}
+
+// A description with an origin and a packet time of its own.
+fn written_own(
+    alloc: Global,
+    session: &mut Session,
+    origin: Origin,
+    ptime: u16,
+) -> io::Result<String> {
+    session.origin = Some(origin);
+    session.ptime = Some(ptime);
+    written(alloc, session)
+}
+
+// What a call gives of a description that is read.
+fn of_session(
+    alloc: Global,
+    call: &str,
+    own: Option<(Origin, u16)>,
+    session: &mut Session,
+) -> io::Result<String> {
+    match own {
+        Some((origin, ptime)) => written_own(alloc, session, origin, ptime),
+        None if call == "description" => offered(alloc, session),
+        None => written(alloc, session),
+    }
+}
+
+fn of_text(
+    alloc: Global,
+    call: &str,
+    own: Option<(Origin, u16)>,
+    value: &[u8],
+) -> io::Result<String> {
+    match read_sdp(value) {
+        Ok(mut session) => of_session(alloc, call, own, &mut session),
+        Err(_) => said(alloc, b"refused"),
+    }
 }
 
 /// What a call gives; nothing where there is no such call here.
-pub fn answer(alloc: Global, call: &str, value: &[u8]) -> io::Result<Option<String>> {
-    let own = call.strip_prefix("own description ").and_then(own_of);
-    if own.is_none() && call != "description" && call != "written description" {
-        return Ok(None);
+pub fn answer(alloc: Global, call: &str, value: &[u8]) -> Option<io::Result<String>> {
+    match call {
+        "description" | "written description" => Some(of_text(alloc, call, None, value)),
+        _ => {
+            let own = own_of(call.strip_prefix("own description ")?)?;
+            Some(of_text(alloc, call, Some(own), value))
+        }
     }
-    let Ok(mut session) = read_sdp(value) else {
-        return Ok(Some("refused".to_string(alloc)?));
-    };
-    if call == "description" {
-        return Ok(Some(offered(alloc, &session)?));
-    }
-    if let Some((origin, ptime)) = own {
-        session.origin = Some(origin);
-        session.ptime = Some(ptime);
-    }
-    Ok(Some(said(alloc, write_sdp(alloc, &session)?.as_bytes())?))
 }

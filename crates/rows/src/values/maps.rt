@@ -7,6 +7,7 @@
 //! - `range  1-3x  yes` it may stand in brackets; `in range  1-3  2  yes` that names the key.
 ghost use Rattle.std.specs.Prelude.{◌≤◌, length};
 
+use crate::texts::{judged, text_of};
 use digit_map::{
     MapChange, MapFault, MapText, Matcher, SlowMap, Verdict, is_in_range, is_range, read_change,
     read_map,
@@ -15,7 +16,7 @@ use digit_map_bits::{Compiled, Dialling};
 use mg_bytes::{CodeFault, Letter, OutOfMemory, letter_of};
 use std::alloc::Global;
 use std::io;
-use tales::{code_text, refused, value_of, yes_or_no};
+use tales::{bytes_of, code_text, refused, yes_or_no};
 
 // What is dialled; nothing where that has another sign, or more than 64.
 fn letters_of(alloc: Global, dialled: &[u8]) -> Result<Option<Vec<Letter>>, OutOfMemory> {
@@ -69,6 +70,31 @@ fn said<M: Matcher>(
     Ok((said, matcher.critical()))
 }
 
+// The same, where a matcher of another kind has said this.
+fn is_said_by<M: Matcher>(
+    alloc: Global,
+    map: &MapText,
+    letters: &[Letter],
+    expected: (Option<Verdict>, bool),
+) -> Result<bool, OutOfMemory>
+    requires { length letters.now ≤ 64 }
+{
+    let given = said::<M>(alloc, map, letters)?;
+    Ok(given == expected)
+}
+
+fn is_slow_copy_critical(alloc: Global, map: &MapText) -> Result<bool, OutOfMemory> {
+    let matcher = SlowMap::start(alloc, map)?;
+    let copy = matcher.try_copy()?;
+    Ok(copy.critical())
+}
+
+fn is_compiled_copy_critical(alloc: Global, map: &MapText) -> Result<bool, OutOfMemory> {
+    let matcher = Compiled::start(alloc, map)?;
+    let copy = matcher.try_copy()?;
+    Ok(copy.critical())
+}
+
 // Whether matchers of the other kinds say the same, and their copies before any letter.
 fn others_say(
     alloc: Global,
@@ -78,13 +104,31 @@ fn others_say(
 ) -> Result<bool, OutOfMemory>
     requires { length letters.now ≤ 64 }
 {
-    let slow = SlowMap::start(alloc, map)?.try_copy()?;
-    let compiled = Compiled::start(alloc, map)?.try_copy()?;
-    Ok(
-        slow.critical() == compiled.critical()
-            && said::<SlowMap>(alloc, map, letters)? == expected
-            && said::<Compiled>(alloc, map, letters)? == expected,
-    )
+    let slow = is_slow_copy_critical(alloc, map)?;
+    let compiled = is_compiled_copy_critical(alloc, map)?;
+    let is_said = is_said_by::<SlowMap>(alloc, map, letters, expected)?;
+    Ok(slow == compiled && is_said && is_said_by::<Compiled>(alloc, map, letters, expected)?)
+}
+
+// What is said of the last of these letters, and whether T would complete them.
+fn dialled(matcher: &mut Dialling, letters: &[Letter]) -> (Option<Verdict>, bool)
+    requires { length letters.now ≤ 64 }
+{
+    let said = fed(matcher, letters);
+    (said, matcher.critical())
+}
+
+// Whether a copy says the same after it was fed these letters, and before it is fed them anew.
+fn copy_says(
+    matcher: &Dialling,
+    letters: &[Letter],
+    expected: (Option<Verdict>, bool),
+) -> Result<bool, OutOfMemory>
+    requires { length letters.now ≤ 64 }
+{
+    let mut copy = matcher.try_copy()?;
+    let (_, is_critical) = expected;
+    Ok(copy.critical() == is_critical && dialled(&mut copy, letters) == expected)
 }
 
 // By a map, by a copy of what matches, and by the other kinds of matchers.
@@ -92,11 +136,8 @@ fn verdict_by(alloc: Global, map: &MapText, letters: &[Letter]) -> io::Result<&'
     requires { length letters.now ≤ 64 }
 {
     let mut matcher = Dialling::start(alloc, map)?;
-    let said = fed(&mut matcher, letters);
-    let is_critical = matcher.critical();
-    let mut copy = matcher.try_copy()?;
-    let is_equal = copy.critical() == is_critical;
-    if !is_equal || fed(&mut copy, letters) != said || copy.critical() != is_critical {
+    let (said, is_critical) = dialled(&mut matcher, letters);
+    if !copy_says(&matcher, letters, (said, is_critical))? {
         return Ok("a copy says something else");
     }
     if others_say(alloc, map, letters, (said, is_critical))? {
@@ -105,15 +146,18 @@ fn verdict_by(alloc: Global, map: &MapText, letters: &[Letter]) -> io::Result<&'
     Ok("another matcher says something else")
 }
 
-fn verdict(alloc: Global, map: &[u8], dialled: &[u8]) -> io::Result<&'static str> {
-    let map = match read_map(alloc, map) {
-        Ok(map) => map,
-        Err(MapFault::OutOfMemory) => return Err(refused()),
-        Err(_) => return Ok("no map"),
-    };
+fn verdict_of(alloc: Global, map: &MapText, dialled: &[u8]) -> io::Result<&'static str> {
     match letters_of(alloc, dialled)? {
-        Some(letters) if letters.len() <= 64 => verdict_by(alloc, &map, &letters),
+        Some(letters) if letters.len() <= 64 => verdict_by(alloc, map, &letters),
         _ => Ok("no letters"),
+    }
+}
+
+fn verdict(alloc: Global, map: &[u8], dialled: &[u8]) -> io::Result<&'static str> {
+    match read_map(alloc, map) {
+        Ok(map) => verdict_of(alloc, &map, dialled),
+        Err(MapFault::OutOfMemory) => Err(refused()),
+        Err(_) => Ok("no map"),
     }
 }
 
@@ -127,27 +171,43 @@ fn in_range(range: &[u8], key: &[u8]) -> &'static str {
     }
 }
 
+// What a call gives of two values.
+fn given(alloc: Global, call: &str, one: &[u8], other: &[u8]) -> io::Result<&'static str> {
+    match call {
+        "verdict" => verdict(alloc, one, other),
+        _ => Ok(in_range(one, other)),
+    }
+}
+
 /// The answer of a call of two values; nothing where there is no such call here.
-pub fn answer_of_all(alloc: Global, call: &str, fields: &str) -> io::Result<Option<String>> {
+pub fn answer_of_all(alloc: Global, call: &str, fields: &str) -> io::Result<Option<&'static str>> {
+    if call != "verdict" && call != "in range" {
+        return Ok(None);
+    }
     let (one, other) = fields.split_once("  ").unwrap_or((fields, ""));
-    let (one, other) = (value_of(alloc, one)?, value_of(alloc, other)?);
-    let given = match call {
-        "verdict" => verdict(alloc, one.as_bytes(), other.as_bytes())?,
-        "in range" => in_range(one.as_bytes(), other.as_bytes()),
-        _ => return Ok(None),
-    };
-    Ok(Some(given.to_string(alloc)?))
+    let one = bytes_of(alloc, one)?;
+    let other = bytes_of(alloc, other)?;
+    Ok(Some(given(alloc, call, &one, &other)?))
 }
 
 // A map, by a copy of it.
 fn map_text(alloc: Global, map: &MapText) -> io::Result<String> {
-    Ok(String::from_utf8_lossy(alloc, map.try_copy()?.as_bytes())?)
+    let copy = map.try_copy()?;
+    text_of(alloc, copy.as_bytes())
 }
 
 fn read(alloc: Global, value: &[u8]) -> io::Result<String> {
     match read_map(alloc, value) {
         Ok(map) => map_text(alloc, &map),
         Err(fault) => code_text(alloc, CodeFault::from(fault)),
+    }
+}
+
+fn change_text(alloc: Global, change: &MapChange) -> io::Result<String> {
+    match change {
+        MapChange::Keep => Ok("keep".to_string(alloc)?),
+        MapChange::Remove => Ok("remove".to_string(alloc)?),
+        MapChange::Replace(map) => map_text(alloc, map),
     }
 }
 
@@ -158,19 +218,17 @@ fn changed(alloc: Global, value: &[u8]) -> io::Result<String> {
         Some(value)
     };
     match read_change(alloc, given) {
-        Ok(MapChange::Keep) => Ok("keep".to_string(alloc)?),
-        Ok(MapChange::Remove) => Ok("remove".to_string(alloc)?),
-        Ok(MapChange::Replace(map)) => map_text(alloc, &map),
+        Ok(change) => change_text(alloc, &change),
         Err(fault) => code_text(alloc, CodeFault::from(fault)),
     }
 }
 
 /// The answer of a call of one value; nothing where there is no such call here.
-pub fn answer(alloc: Global, call: &str, value: &[u8]) -> io::Result<Option<String>> {
+pub fn answer(alloc: Global, call: &str, value: &[u8]) -> Option<io::Result<String>> {
     match call {
-        "map" => Ok(Some(read(alloc, value)?)),
-        "change" => Ok(Some(changed(alloc, value)?)),
-        "range" => Ok(Some(yes_or_no(is_range(value)).to_string(alloc)?)),
-        _ => Ok(None),
+        "map" => Some(read(alloc, value)),
+        "change" => Some(changed(alloc, value)),
+        "range" => Some(judged(alloc, is_range(value))),
+        _ => None,
     }
 }

@@ -1,30 +1,41 @@
 //! Calls about messages as text.
+ghost use Rattle.std.specs.Prelude.{◌<◌};
+
+use crate::texts::number_text;
 use mg_bytes::{decimal, split_once};
 use mgcp_text::{
-    Answer, KValue, Message, TextFault, TransactionId, is_writable, param_at, read_k, read_message,
-    write_message,
+    Answer, IdRange, KValue, Message, TextFault, TransactionId, is_writable, param_at, read_k,
+    read_message, write_message,
 };
 use std::alloc::Global;
 use std::io;
 use tales::{put_piece, refused, said};
 
+fn kind_of(alloc: Global, message: &Message<'_>) -> io::Result<String> {
+    match message {
+        Message::Command { id, .. } => Ok(format!(in alloc; "command {}", id.number())?),
+        Message::Response { .. } => Ok("response".to_string(alloc)?),
+    }
+}
+
+fn fault_text(alloc: Global, fault: &TextFault) -> io::Result<String> {
+    let number = fault.number();
+    match fault {
+        TextFault::OutOfMemory => Err(refused()),
+        TextFault::NoHeader => Ok(format!(in alloc; "{number} no header")?),
+        TextFault::BadVersion { id } => {
+            Ok(format!(in alloc; "{number} bad version {}", id.number())?)
+        }
+        TextFault::BadBody { id } => Ok(format!(in alloc; "{number} bad body {}", id.number())?),
+    }
+}
+
 // What a text is read as.
 fn kind(alloc: Global, text: &[u8]) -> io::Result<String> {
-    let read = read_message(alloc, text);
-    let fault = match &read {
-        Ok(Message::Command { id, .. }) => {
-            return Ok(format!(in alloc; "command {}", id.number())?);
-        }
-        Ok(Message::Response { .. }) => return Ok("response".to_string(alloc)?),
-        Err(fault) => fault,
-    };
-    let number = fault.number();
-    Ok(match fault {
-        TextFault::OutOfMemory => return Err(refused()),
-        TextFault::NoHeader => format!(in alloc; "{number} no header")?,
-        TextFault::BadVersion { id } => format!(in alloc; "{number} bad version {}", id.number())?,
-        TextFault::BadBody { id } => format!(in alloc; "{number} bad body {}", id.number())?,
-    })
+    match read_message(alloc, text) {
+        Ok(message) => kind_of(alloc, &message),
+        Err(fault) => fault_text(alloc, &fault),
+    }
 }
 
 // A message as it is written again.
@@ -32,37 +43,61 @@ fn again(alloc: Global, message: &Message<'_>) -> io::Result<String> {
     if !is_writable(message) {
         return Ok("not writable".to_string(alloc)?);
     }
-    said(alloc, write_message(alloc, message)?.as_bytes())
+    let text = write_message(alloc, message)?;
+    said(alloc, text.as_bytes())
+}
+
+// A parameter: its code, a colon and its value.
+fn param_text(alloc: Global, code: &[u8], value: &[u8]) -> io::Result<String> {
+    let mut out = Vec::new(alloc);
+    out.extend_from_slice(code)?;
+    out.push(b':')?;
+    out.extend_from_slice(value)?;
+    said(alloc, &out)
 }
 
 // The first parameter with a code.
 fn first(alloc: Global, message: &Message<'_>, code: &str) -> io::Result<String> {
-    let Some(param) = param_at(code.as_bytes(), message.params()) else {
-        return Ok("none".to_string(alloc)?);
-    };
-    let mut out = Vec::from_slice(alloc, param.code.as_slice())?;
-    out.push(b':')?;
-    out.extend_from_slice(param.value.as_slice())?;
+    match param_at(code.as_bytes(), message.params()) {
+        Some(param) => param_text(alloc, param.code.as_slice(), param.value.as_slice()),
+        None => said(alloc, b"none"),
+    }
+}
+
+fn put_range(alloc: Global, out: &mut Vec<u8>, range: &IdRange) -> io::Result<()> {
+    let (first, last) = (range.first.number(), range.last.number());
+    let text = format!(in alloc; "{first}-{last}")?;
+    put_piece(out, text.as_bytes())
+}
+
+fn ranges_text(alloc: Global, ranges: &[IdRange]) -> io::Result<String> {
+    let mut out = Vec::new(alloc);
+    for range in ranges {
+        put_range(alloc, &mut out, range)?;
+    }
     said(alloc, &out)
+}
+
+fn k_text(alloc: Global, value: &KValue) -> io::Result<String> {
+    match value {
+        KValue::Absent => said(alloc, b"none"),
+        KValue::Unreadable => said(alloc, b"unreadable"),
+        KValue::Items(ranges) => ranges_text(alloc, ranges.as_slice()),
+    }
 }
 
 // The ids that a message confirms.
 fn confirmed(alloc: Global, message: &Message<'_>) -> io::Result<String> {
     let value = read_k(alloc, message)?;
-    let ranges = match &value {
-        KValue::Absent => return Ok("none".to_string(alloc)?),
-        KValue::Unreadable => return Ok("unreadable".to_string(alloc)?),
-        KValue::Items(ranges) => ranges,
-    };
-    let mut out = Vec::new(alloc);
-    for range in ranges.as_slice() {
-        let (first, last) = (range.first.number(), range.last.number());
-        put_piece(
-            &mut out,
-            format!(in alloc; "{first}-{last}")?.as_str().as_bytes(),
-        )?;
-    }
-    said(alloc, &out)
+    k_text(alloc, &value)
+}
+
+fn answer_text(alloc: Global, code: u16, id: TransactionId) -> io::Result<String>
+    requires { code < 1000 }
+{
+    let answer = Answer::plain(alloc, code);
+    let text = answer.text(alloc, id)?;
+    said(alloc, text.as_bytes())
 }
 
 // The text of an answer: `510 1` is the return code 510 in transaction 1.
@@ -70,38 +105,35 @@ fn answered(alloc: Global, value: &[u8]) -> io::Result<String> {
     let (code, id) = split_once(value, b' ').unwrap_or((value, b""));
     let (code, id) = (decimal(code).unwrap_or(1000), decimal(id).unwrap_or(0));
     if code > 999 || id < 1 || id > 999_999_999 {
-        return Ok("no answer".to_string(alloc)?);
+        return said(alloc, b"no answer");
     }
-    let answer = Answer::plain(alloc, code as u16);
-    said(
-        alloc,
-        answer.text(alloc, TransactionId::of(id as u32))?.as_bytes(),
-    )
+    answer_text(alloc, code as u16, TransactionId::of(id as u32))
+}
+
+// What a call gives of a message that is read, if there is such a call.
+fn given(alloc: Global, call: &str, message: &Message<'_>) -> Option<io::Result<String>> {
+    match call {
+        "written message" => Some(again(alloc, message)),
+        "parameters" => Some(number_text(alloc, message.params().len() as u64)),
+        "confirms" => Some(confirmed(alloc, message)),
+        _ => Some(first(alloc, message, call.strip_prefix("first ")?)),
+    }
 }
 
 // What a call gives of a message.
-fn of_message(alloc: Global, call: &str, text: &[u8]) -> io::Result<Option<String>> {
-    let message = match read_message(alloc, text) {
-        Ok(message) => message,
-        Err(TextFault::OutOfMemory) => return Err(refused()),
-        Err(_) => return Ok(None),
-    };
-    if let Some(code) = call.strip_prefix("first ") {
-        return Ok(Some(first(alloc, &message, code)?));
+fn of_message(alloc: Global, call: &str, text: &[u8]) -> Option<io::Result<String>> {
+    match read_message(alloc, text) {
+        Ok(message) => given(alloc, call, &message),
+        Err(TextFault::OutOfMemory) => Some(Err(refused())),
+        Err(_) => None,
     }
-    Ok(Some(match call {
-        "written message" => again(alloc, &message)?,
-        "parameters" => format!(in alloc; "{}", message.params().len())?,
-        "confirms" => confirmed(alloc, &message)?,
-        _ => return Ok(None),
-    }))
 }
 
 /// What a call gives; nothing where there is no such call here, and where it is about a message that can't be read.
-pub fn answer(alloc: Global, call: &str, value: &[u8]) -> io::Result<Option<String>> {
+pub fn answer(alloc: Global, call: &str, value: &[u8]) -> Option<io::Result<String>> {
     match call {
-        "message" => Ok(Some(kind(alloc, value)?)),
-        "answer" => Ok(Some(answered(alloc, value)?)),
+        "message" => Some(kind(alloc, value)),
+        "answer" => Some(answered(alloc, value)),
         _ => of_message(alloc, call, value),
     }
 }

@@ -1,4 +1,5 @@
 //! Calls about names: of endpoints, of hosts and of call agents.
+use crate::texts::judged;
 use crate::values::numbered;
 use endpoint_names::{
     NameFault, Pattern, Table, TableFault, is_domain, matches, read_entity, read_name, write_name,
@@ -6,7 +7,7 @@ use endpoint_names::{
 use std::alloc::Global;
 use std::io;
 use std::net::Ipv4Addr;
-use tales::{or_none, said, yes_or_no};
+use tales::{or_none, said};
 
 /// The domain of the endpoints.
 pub const DOMAIN: &[u8] = b"rgw.example.net";
@@ -20,12 +21,7 @@ pub fn pattern_text(alloc: Global, pattern: Pattern) -> io::Result<String> {
     })
 }
 
-// What a name means on a gateway with so many lines.
-fn meaning(alloc: Global, name: &[u8], lines: u16) -> io::Result<String> {
-    let fault = match read_name(name, DOMAIN, lines) {
-        Ok(pattern) => return pattern_text(alloc, pattern),
-        Err(fault) => fault,
-    };
+fn fault_text(alloc: Global, fault: NameFault) -> io::Result<String> {
     let text = match fault {
         NameFault::Unknown => "unknown",
         NameFault::TooComplicated => "too complicated",
@@ -33,11 +29,24 @@ fn meaning(alloc: Global, name: &[u8], lines: u16) -> io::Result<String> {
     Ok(format!(in alloc; "{} {text}", fault as u8)?)
 }
 
+// What a name means on a gateway with so many lines.
+fn meaning(alloc: Global, name: &[u8], lines: u16) -> io::Result<String> {
+    match read_name(name, DOMAIN, lines) {
+        Ok(pattern) => pattern_text(alloc, pattern),
+        Err(fault) => fault_text(alloc, fault),
+    }
+}
+
+fn written_pattern(alloc: Global, pattern: Pattern) -> io::Result<String> {
+    let name = write_name(alloc, pattern, DOMAIN)?;
+    said(alloc, name.as_bytes())
+}
+
 // The name that is written of what a name means.
 fn written(alloc: Global, name: &[u8]) -> io::Result<String> {
     match read_name(name, DOMAIN, 65535) {
-        Ok(pattern) => said(alloc, write_name(alloc, pattern, DOMAIN)?.as_bytes()),
-        Err(_) => meaning(alloc, name, 65535),
+        Ok(pattern) => written_pattern(alloc, pattern),
+        Err(fault) => fault_text(alloc, fault),
     }
 }
 
@@ -48,34 +57,47 @@ fn means(name: &[u8], line: u16) -> bool {
     }
 }
 
-// A table of so many hosts: `h00` at 127.0.0.0, `h01` at 127.0.0.1, and so on; none where it doesn't take one of them.
+// The host at a place: `h00` at 127.0.0.0, `h01` at 127.0.0.1, and so on; whether the table takes it.
+fn add_host(alloc: Global, table: &mut Table, place: u16) -> io::Result<bool> {
+    let name = format!(in alloc; "h{place:02}")?;
+    let [_, octet] = place.to_be_bytes();
+    let added = table.add(name.as_str().as_bytes(), Ipv4Addr::new(127, 0, 0, octet));
+    Ok(added.is_ok())
+}
+
+// A table of so many hosts; none where it doesn't take one of them.
 fn hosts(alloc: Global, count: u16) -> io::Result<Option<Table>> {
     let mut table = Table::new();
     for place in 0..count {
-        let name = format!(in alloc; "h{place:02}")?;
-        let [_, octet] = place.to_be_bytes();
-        let address = Ipv4Addr::new(127, 0, 0, octet);
-        if table.add(name.as_str().as_bytes(), address).is_err() {
+        if !add_host(alloc, &mut table, place)? {
             return Ok(None);
         }
     }
     Ok(Some(table))
 }
 
-// What becomes of a host that is added to a table of so many.
-fn added(alloc: Global, name: &[u8], count: u16) -> io::Result<String> {
-    let Some(mut table) = hosts(alloc, count)? else {
-        return Ok("no such table".to_string(alloc)?);
-    };
-    let Err(fault) = table.add(name, Ipv4Addr::LOCALHOST) else {
-        return Ok("taken".to_string(alloc)?);
-    };
+fn table_fault_text(alloc: Global, fault: TableFault) -> io::Result<String> {
     let text = match fault {
         TableFault::NotADomain => "no domain",
         TableFault::Twice => "twice",
         TableFault::Full => "full",
     };
     Ok(format!(in alloc; "{} {text}", fault as u8)?)
+}
+
+fn added_to(alloc: Global, table: &mut Table, name: &[u8]) -> io::Result<String> {
+    match table.add(name, Ipv4Addr::LOCALHOST) {
+        Ok(()) => said(alloc, b"taken"),
+        Err(fault) => table_fault_text(alloc, fault),
+    }
+}
+
+// What becomes of a host that is added to a table of so many.
+fn added(alloc: Global, name: &[u8], count: u16) -> io::Result<String> {
+    match hosts(alloc, count)? {
+        Some(mut table) => added_to(alloc, &mut table, name),
+        None => said(alloc, b"no such table"),
+    }
 }
 
 fn address_among(alloc: Global, name: &[u8], count: u16) -> io::Result<String> {
@@ -104,16 +126,17 @@ fn place_with_host(alloc: Global, text: &[u8]) -> io::Result<String> {
 }
 
 /// What a call gives; nothing where there is no such call here.
-pub fn answer(alloc: Global, call: &str, value: &[u8]) -> io::Result<Option<String>> {
-    Ok(Some(match numbered(call) {
-        ("name of", lines) => meaning(alloc, value, lines)?,
-        ("written name", _) => written(alloc, value)?,
-        ("means line", line) => yes_or_no(means(value, line)).to_string(alloc)?,
-        ("domain", _) => yes_or_no(is_domain(value)).to_string(alloc)?,
-        ("host added to", count) => added(alloc, value, count)?,
-        ("host among", count) => address_among(alloc, value, count)?,
-        ("entity", _) => place_with_host(alloc, value)?,
-        ("entity without hosts", _) => place_of(alloc, value, &Table::new())?,
-        _ => return Ok(None),
-    }))
+pub fn answer(alloc: Global, call: &str, value: &[u8]) -> Option<io::Result<String>> {
+    let (call, number) = numbered(call);
+    Some(match call {
+        "name of" => meaning(alloc, value, number),
+        "written name" => written(alloc, value),
+        "means line" => judged(alloc, means(value, number)),
+        "domain" => judged(alloc, is_domain(value)),
+        "host added to" => added(alloc, value, number),
+        "host among" => address_among(alloc, value, number),
+        "entity" => place_with_host(alloc, value),
+        "entity without hosts" => place_of(alloc, value, &Table::new()),
+        _ => return None,
+    })
 }

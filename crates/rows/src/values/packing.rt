@@ -3,20 +3,21 @@ ghost use Rattle.std.specs.Prelude.{◌≡◌};
 ghost use Rattle.std.specs.List.{list_all};
 ghost use Rattle.piggyback.specs.Packing.{is_joinable};
 
+use crate::texts::judged;
 use crate::values::numbered;
 use mg_bytes::Text;
 use piggyback::{is_joinable, join, parts};
 use std::alloc::Global;
 use std::io;
-use tales::{put_piece, said, yes_or_no};
+use tales::{put_piece, said};
 
 // Each part of a datagram, with a `|` behind it.
-fn parts_in(alloc: Global, datagram: &[u8]) -> io::Result<Vec<u8>> {
+fn parts_in(alloc: Global, datagram: &[u8]) -> io::Result<String> {
     let mut out = Vec::new(alloc);
     for part in parts(datagram) {
         put_piece(&mut out, part)?;
     }
-    Ok(out)
+    said(alloc, &out)
 }
 
 // The texts of a value, each of which has a `|` behind it.
@@ -63,14 +64,14 @@ fn lengths(alloc: Global, value: &[u8], max: usize) -> io::Result<String> {
 }
 
 /// What a call gives; nothing where there is no such call here.
-pub fn answer(alloc: Global, call: &str, value: &[u8]) -> io::Result<Option<String>> {
-    let (name, max) = numbered(call);
+pub fn answer(alloc: Global, call: &str, value: &[u8]) -> Option<io::Result<String>> {
+    let (call, max) = numbered(call);
     let max = usize::from(max);
-    Ok(Some(match name {
-        "parts" => said(alloc, &parts_in(alloc, value)?)?,
-        "joinable in" => yes_or_no(is_joinable(value, max)).to_string(alloc)?,
-        "joined in" => joined(alloc, value, max)?,
-        "lengths in" => lengths(alloc, value, max)?,
-        _ => return Ok(None),
-    }))
+    Some(match call {
+        "parts" => parts_in(alloc, value),
+        "joinable in" => judged(alloc, is_joinable(value, max)),
+        "joined in" => joined(alloc, value, max),
+        "lengths in" => lengths(alloc, value, max),
+        _ => return None,
+    })
 }

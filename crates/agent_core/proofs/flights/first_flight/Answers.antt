@@ -1,4 +1,4 @@
-use Rattle.std.proofs.Common.{◌∙◌, sym, refl}
+use Rattle.std.proofs.Common.{◌∙◌, sym}
 use Rattle.agent_core.proofs.FlightTable.{first_next, first_end}
 use Rattle.agent_core.proofs.flights.first_flight.Goals as goal
 

@@ -1,4 +1,4 @@
-use Rattle.std.proofs.Common.{refl, sym, rules}
+use Rattle.std.proofs.Common.{rules}
 use Rattle.agent_core.proofs.PassLemmas.{flew_again, flew_up}
 use Rattle.agent_core.proofs.ticking.fly_on.Goals as goal
 

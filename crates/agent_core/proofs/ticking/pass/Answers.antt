@@ -1,6 +1,6 @@
-use Rattle.std.proofs.Common.{◌≡◌, ◌+◌, ◌-◌, ◌*◌, suc, length, refl, ◌∙◌, arith, rules, Some, None}
+use Rattle.std.proofs.Common.{◌≡◌, ◌+◌, ◌-◌, ◌*◌, suc, length, refl, ◌∙◌, arith, rules, Some}
 use Rattle.agent_core.specs.Flying.{if_due, first_flight}
-use Rattle.agent_core.proofs.PassLemmas.{flew_step, flew_no_more, flew_out, flew_whole, due_before}
+use Rattle.agent_core.proofs.PassLemmas.{flew_step, flew_no_more, flew_out, flew_whole}
 use Rattle.agent_core.proofs.ticking.pass.Goals as goal
 
 pub loop-init : goal.loop-init

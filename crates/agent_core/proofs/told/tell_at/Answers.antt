@@ -1,4 +1,4 @@
-use Rattle.std.proofs.Common.{◌≡◌, ◌<◌, length, arith}
+use Rattle.std.proofs.Common.{◌<◌, length, arith}
 use Rattle.agent_core.proofs.TellingLemmas.{one_told}
 use Rattle.agent_core.proofs.told.tell_at.Goals as goal
 

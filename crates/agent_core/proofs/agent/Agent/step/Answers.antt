@@ -1,5 +1,5 @@
-use Rattle.std.proofs.Common.{refl, sym}
-use Rattle.agent_core.proofs.StandLemmas.{stepped, step_refused, ends_so}
+use Rattle.std.proofs.Common.{refl}
+use Rattle.agent_core.proofs.StandLemmas.{stepped}
 use Rattle.agent_core.proofs.agent.Agent.step.Goals as goal
 
 pub returns-clause-ok : goal.returns-clause-ok

@@ -1,4 +1,4 @@
-use Rattle.std.proofs.Common.{refl, sym, ◌∙◌, ap, rules}
+use Rattle.std.proofs.Common.{refl, sym, rules}
 use Rattle.agent_core.proofs.FlightTable.{untouched, exchanged_done, exchanged_undone}
 use Rattle.agent_core.proofs.flights.Flights.exchange.Goals as goal
 

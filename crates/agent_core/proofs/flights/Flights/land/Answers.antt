@@ -1,4 +1,3 @@
-use Rattle.std.proofs.Common.{None}
 use Rattle.agent_core.proofs.FlightTable.{exchanged_without}
 use Rattle.agent_core.proofs.flights.Flights.land.Goals as goal
 

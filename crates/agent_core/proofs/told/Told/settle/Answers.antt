@@ -1,4 +1,4 @@
-use Rattle.std.proofs.Common.{◌≡◌, ◌<◌, ◌≤◌, length, sym, arith}
+use Rattle.std.proofs.Common.{◌<◌, ◌≤◌, length, sym, arith}
 use Rattle.agent_core.specs.Growing.{settled}
 use Rattle.agent_core.proofs.TellingLemmas.{changed_next, settled_whole}
 use Rattle.agent_core.proofs.told.Told.settle.Goals as goal

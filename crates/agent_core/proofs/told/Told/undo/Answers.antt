@@ -1,4 +1,4 @@
-use Rattle.std.proofs.Common.{◌≡◌, ◌<◌, ◌≤◌, length, sym, arith}
+use Rattle.std.proofs.Common.{◌<◌, ◌≤◌, length, sym, arith}
 use Rattle.agent_core.specs.Growing.{undone}
 use Rattle.agent_core.proofs.TellingLemmas.{changed_next, undone_whole}
 use Rattle.agent_core.proofs.told.Told.undo.Goals as goal

@@ -1,0 +1,97 @@
+-- A request asks for all where each event by itself is notified.
+use Rattle.std.proofs.Common.{◌≡◌, Bool, true, false, List, [], ◌∷◌, refl, ap}
+use Rattle.std.specs.List.{list_all}
+use Rattle.mg_bytes.specs.declared.letter.Letter.{Letter}
+use Rattle.mg_bytes.specs.declared.letter.Letter.TheVariants as letters
+use Rattle.mg_packages.specs.declared.event.Event.{Event}
+use Rattle.mg_packages.specs.declared.event.Event.TheVariants as events
+use Rattle.event_syntax.specs.declared.request.Action.TheVariants.{Notify, Accumulate, Dial, Ignore}
+use Rattle.event_syntax.specs.declared.request.RequestedEvent.{RequestedEvent}
+use Rattle.event_syntax.specs.declared.request.Response.{Response}
+use Rattle.event_syntax.specs.declared.request.Response.TheVariants.{Plain, Embed, AccumulateAndEmbed}
+use Rattle.event_requests.specs.Choice.{chosen}
+use Rattle.line_isolation.proofs.EachTests.{each_passes}
+use Rattle.machine_laws.proofs.EachLemmas.{Each}
+use Rattle.dialled_once.specs.Keeping.{is_of_phone, is_bare, NotifiesAll}
+
+abbrev is_notify : Response → Bool
+is_notify (Plain Notify) = true
+is_notify (Plain Accumulate) = false
+is_notify (Plain Dial) = false
+is_notify (Plain Ignore) = false
+is_notify (Embed request) = false
+is_notify (AccumulateAndEmbed request) = false
+
+is_plain : (response : Response) → is_notify response ≡ true → response ≡ Plain Notify
+is_plain (Plain Notify) e = refl
+is_plain (Plain Accumulate) e = absurd cc
+is_plain (Plain Dial) e = absurd cc
+is_plain (Plain Ignore) e = absurd cc
+is_plain (Embed request) e = absurd cc
+is_plain (AccumulateAndEmbed request) e = absurd cc
+
+-- what a telephone does, and what it doesn't
+abbrev of_phone : List Event
+of_phone =
+    events.OffHook ∷ events.OnHook ∷ events.Flash ∷ events.Letter letters.Zero ∷ events.Letter letters.One ∷ events.Letter letters.Two ∷ events.Letter letters.Three ∷ events.Letter letters.Four ∷ events.Letter letters.Five ∷ events.Letter letters.Six ∷ events.Letter letters.Seven ∷ events.Letter letters.Eight ∷ events.Letter letters.Nine ∷ events.Letter letters.Star ∷ events.Letter letters.Hash ∷ events.Letter letters.A ∷ events.Letter letters.B ∷ events.Letter letters.C ∷ events.Letter letters.D ∷ []
+
+abbrev of_none : List Event
+of_none = events.LineComplete ∷ events.GenericComplete ∷ events.Letter letters.Timer ∷ []
+
+pub notifies_each : (requested : List RequestedEvent) → list_all (λ (event : Event). is_notify (chosen requested event).response) of_phone ≡ true
+    → list_all (λ (event : Event). is_bare (chosen requested event).response) of_none ≡ true → NotifiesAll requested
+notifies_each requested phone others = record { phone = by_event each; bare = λ event. by_bare each also event } where
+  each : Each (λ (event : Event). is_notify (chosen requested event).response ≡ true) of_phone
+  each = each_passes (λ (event : Event). is_notify (chosen requested event).response) of_phone phone
+
+  also : Each (λ (event : Event). is_bare (chosen requested event).response ≡ true) of_none
+  also = each_passes (λ (event : Event). is_bare (chosen requested event).response) of_none others
+
+  by_event : Each (λ (event : Event). is_notify (chosen requested event).response ≡ true) of_phone → (event : Event) → is_of_phone event ≡ true → (chosen requested event).response ≡ Plain Notify
+  by_event each events.OffHook is = is_plain (chosen requested events.OffHook).response each.0
+  by_event each events.OnHook is = is_plain (chosen requested events.OnHook).response each.1.0
+  by_event each events.Flash is = is_plain (chosen requested events.Flash).response each.1.1.0
+  by_event each (events.Letter letters.Zero) is = is_plain (chosen requested (events.Letter letters.Zero)).response each.1.1.1.0
+  by_event each (events.Letter letters.One) is = is_plain (chosen requested (events.Letter letters.One)).response each.1.1.1.1.0
+  by_event each (events.Letter letters.Two) is = is_plain (chosen requested (events.Letter letters.Two)).response each.1.1.1.1.1.0
+  by_event each (events.Letter letters.Three) is = is_plain (chosen requested (events.Letter letters.Three)).response each.1.1.1.1.1.1.0
+  by_event each (events.Letter letters.Four) is = is_plain (chosen requested (events.Letter letters.Four)).response each.1.1.1.1.1.1.1.0
+  by_event each (events.Letter letters.Five) is = is_plain (chosen requested (events.Letter letters.Five)).response each.1.1.1.1.1.1.1.1.0
+  by_event each (events.Letter letters.Six) is = is_plain (chosen requested (events.Letter letters.Six)).response each.1.1.1.1.1.1.1.1.1.0
+  by_event each (events.Letter letters.Seven) is = is_plain (chosen requested (events.Letter letters.Seven)).response each.1.1.1.1.1.1.1.1.1.1.0
+  by_event each (events.Letter letters.Eight) is = is_plain (chosen requested (events.Letter letters.Eight)).response each.1.1.1.1.1.1.1.1.1.1.1.0
+  by_event each (events.Letter letters.Nine) is = is_plain (chosen requested (events.Letter letters.Nine)).response each.1.1.1.1.1.1.1.1.1.1.1.1.0
+  by_event each (events.Letter letters.Star) is = is_plain (chosen requested (events.Letter letters.Star)).response each.1.1.1.1.1.1.1.1.1.1.1.1.1.0
+  by_event each (events.Letter letters.Hash) is = is_plain (chosen requested (events.Letter letters.Hash)).response each.1.1.1.1.1.1.1.1.1.1.1.1.1.1.0
+  by_event each (events.Letter letters.A) is = is_plain (chosen requested (events.Letter letters.A)).response each.1.1.1.1.1.1.1.1.1.1.1.1.1.1.1.0
+  by_event each (events.Letter letters.B) is = is_plain (chosen requested (events.Letter letters.B)).response each.1.1.1.1.1.1.1.1.1.1.1.1.1.1.1.1.0
+  by_event each (events.Letter letters.C) is = is_plain (chosen requested (events.Letter letters.C)).response each.1.1.1.1.1.1.1.1.1.1.1.1.1.1.1.1.1.0
+  by_event each (events.Letter letters.D) is = is_plain (chosen requested (events.Letter letters.D)).response each.1.1.1.1.1.1.1.1.1.1.1.1.1.1.1.1.1.1.0
+  by_event each events.LineComplete is = absurd cc
+  by_event each events.GenericComplete is = absurd cc
+  by_event each (events.Letter letters.Timer) is = absurd cc
+
+  by_bare : Each (λ (event : Event). is_notify (chosen requested event).response ≡ true) of_phone → Each (λ (event : Event). is_bare (chosen requested event).response ≡ true) of_none
+      → (event : Event) → is_bare (chosen requested event).response ≡ true
+  by_bare each also events.OffHook = ap is_bare (is_plain (chosen requested events.OffHook).response each.0)
+  by_bare each also events.OnHook = ap is_bare (is_plain (chosen requested events.OnHook).response each.1.0)
+  by_bare each also events.Flash = ap is_bare (is_plain (chosen requested events.Flash).response each.1.1.0)
+  by_bare each also (events.Letter letters.Zero) = ap is_bare (is_plain (chosen requested (events.Letter letters.Zero)).response each.1.1.1.0)
+  by_bare each also (events.Letter letters.One) = ap is_bare (is_plain (chosen requested (events.Letter letters.One)).response each.1.1.1.1.0)
+  by_bare each also (events.Letter letters.Two) = ap is_bare (is_plain (chosen requested (events.Letter letters.Two)).response each.1.1.1.1.1.0)
+  by_bare each also (events.Letter letters.Three) = ap is_bare (is_plain (chosen requested (events.Letter letters.Three)).response each.1.1.1.1.1.1.0)
+  by_bare each also (events.Letter letters.Four) = ap is_bare (is_plain (chosen requested (events.Letter letters.Four)).response each.1.1.1.1.1.1.1.0)
+  by_bare each also (events.Letter letters.Five) = ap is_bare (is_plain (chosen requested (events.Letter letters.Five)).response each.1.1.1.1.1.1.1.1.0)
+  by_bare each also (events.Letter letters.Six) = ap is_bare (is_plain (chosen requested (events.Letter letters.Six)).response each.1.1.1.1.1.1.1.1.1.0)
+  by_bare each also (events.Letter letters.Seven) = ap is_bare (is_plain (chosen requested (events.Letter letters.Seven)).response each.1.1.1.1.1.1.1.1.1.1.0)
+  by_bare each also (events.Letter letters.Eight) = ap is_bare (is_plain (chosen requested (events.Letter letters.Eight)).response each.1.1.1.1.1.1.1.1.1.1.1.0)
+  by_bare each also (events.Letter letters.Nine) = ap is_bare (is_plain (chosen requested (events.Letter letters.Nine)).response each.1.1.1.1.1.1.1.1.1.1.1.1.0)
+  by_bare each also (events.Letter letters.Star) = ap is_bare (is_plain (chosen requested (events.Letter letters.Star)).response each.1.1.1.1.1.1.1.1.1.1.1.1.1.0)
+  by_bare each also (events.Letter letters.Hash) = ap is_bare (is_plain (chosen requested (events.Letter letters.Hash)).response each.1.1.1.1.1.1.1.1.1.1.1.1.1.1.0)
+  by_bare each also (events.Letter letters.A) = ap is_bare (is_plain (chosen requested (events.Letter letters.A)).response each.1.1.1.1.1.1.1.1.1.1.1.1.1.1.1.0)
+  by_bare each also (events.Letter letters.B) = ap is_bare (is_plain (chosen requested (events.Letter letters.B)).response each.1.1.1.1.1.1.1.1.1.1.1.1.1.1.1.1.0)
+  by_bare each also (events.Letter letters.C) = ap is_bare (is_plain (chosen requested (events.Letter letters.C)).response each.1.1.1.1.1.1.1.1.1.1.1.1.1.1.1.1.1.0)
+  by_bare each also (events.Letter letters.D) = ap is_bare (is_plain (chosen requested (events.Letter letters.D)).response each.1.1.1.1.1.1.1.1.1.1.1.1.1.1.1.1.1.1.0)
+  by_bare each also events.LineComplete = also.0
+  by_bare each also events.GenericComplete = also.1.0
+  by_bare each also (events.Letter letters.Timer) = also.1.1.0

@@ -1,0 +1,10 @@
+pub mod KeepingLemmas
+pub mod FollowingLemmas
+pub mod ReadingLemmas
+pub mod StationLemmas
+pub mod CourseLemmas
+pub mod CountLemmas
+pub mod DialledLemmas
+pub mod OverLists
+pub mod AskingLemmas
+pub mod Computing

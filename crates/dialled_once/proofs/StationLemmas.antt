@@ -1,0 +1,203 @@
+-- What each turn of a station adds to the course of its line.
+use Rattle.std.proofs.Common.{◌≡◌, ℕ, Bool, true, false, if◌then◌else◌, List, [], ◌∷◌, ◌++◌, Option, Some, None, Result, Ok, Err, inl, inr, refl, sym, ap, subst, ◌∙◌, append-nil}
+use Rattle.std.specs.Prelude.{◌⊎◌, codes, flat_map, IfSome}
+use Rattle.mgcp_text.specs.Message.{param_at}
+use Rattle.endpoint_names.specs.declared.entity.Entity.{Entity}
+use Rattle.event_values.specs.declared.observed.Observed.{Observed}
+use Rattle.event_values.specs.Observed.{observed_of, observed_text}
+use Rattle.mg_line.specs.declared.due.Due.{Due as LineDue}
+use Rattle.mg_line.specs.declared.phone.Act.{Act}
+use Rattle.mg_line.specs.declared.request.Request.{Request}
+use Rattle.mg_line.specs.Line.{LineState, Notice, LineDone}
+use Rattle.mg_line.specs.Acting.{phoned}
+use Rattle.mg_line.specs.Requesting.{asked}
+use Rattle.mg_line.specs.Answering.{answered}
+use Rattle.mg_line.specs.Opening.{opened}
+use Rattle.mg_line.specs.Falling.{due_of, fired}
+use Rattle.outbound.specs.declared.repeat.Repeat.{Repeat}
+use Rattle.outbound.specs.declared.repeat.Repeat.TheVariants.{Sent as SentAgain, GivenUp}
+use Rattle.outbound.specs.Flight.{InFlight, repeat_of}
+use Rattle.restart.specs.declared.restart.Restart.{Restart}
+use Rattle.restart.specs.declared.restart.Restart.TheVariants.{Waiting, Announced, Serving}
+use Rattle.restart.specs.declared.heard.Heard.{Heard}
+use Rattle.restart.specs.declared.heard.Heard.TheVariants.{Nothing, PutOff, Redirected, Answered}
+use Rattle.plain_machine.specs.declared.due_item.Due.{Due}
+use Rattle.plain_machine.specs.declared.due_item.Due.TheVariants.{OfLine, Resend, Announce}
+use Rattle.plain_machine.specs.declared.due_item.DueItem.{DueItem}
+use Rattle.plain_machine.specs.declared.line_deed.LineDeed.{LineDeed}
+use Rattle.plain_machine.specs.declared.post.Post.{Post}
+use Rattle.plain_machine.specs.declared.response.Response.{Response}
+use Rattle.plain_machine.specs.declared.setup.Setup.{Setup}
+use Rattle.plain_machine.specs.declared.station.Station.{Station}
+use Rattle.plain_machine.specs.Message.{Sent}
+use Rattle.plain_machine.specs.Posting.{id_on, repeated_as, resent_by, resent_on}
+use Rattle.plain_machine.specs.Announcing.{announcement, announced, announced_by, announced_on, heard_on, replied}
+use Rattle.plain_machine.specs.Notifying.{Turn, silent, posted, notification, with_notice, noted}
+use Rattle.plain_machine.specs.Acting.{acted_on}
+use Rattle.plain_machine.specs.Requesting.{with_entity, with_connections, asked_if, deed_on}
+use Rattle.plain_machine.specs.Responding.{responded_as, responded_on, redirected_on, opened_on}
+use Rattle.plain_machine.specs.Falling.{due_on, post_due, line_item, command_item, announcement_item, happened_on}
+use Rattle.plain_machine.proofs.FirstLemmas.{OfItsCommand, OfItsAnnouncement, OfItsLine, post_cases, due_cases}
+use Rattle.dialled_once.specs.Course.{Step, acts, accepts, notifies, observed_or_none, notified_by, accepted}
+use Rattle.dialled_once.proofs.ReadingLemmas.{CanBeTold, read_again, IsReadable, TellsReadable, phoned_readable, asked_readable, answered_readable, opened_readable, fired_readable}
+use Rattle.machine_laws.proofs.EachLemmas.{Each}
+
+-- what a line tells, as its course has it
+abbrev pub steps_of : Option Notice → List Step
+steps_of None = []
+steps_of (Some notice) = notifies notice.identifier notice.observed ∷ []
+
+-- the same of what a line sends
+abbrev pub steps_in : List Sent → List Step
+steps_in sent = flat_map (λ (one : Sent). notified_by one.said) sent
+
+-- What each call of a line keeps beside the course so far, before the gateway serves and while it does
+pub record Calls (Q : Bool → List Step → LineState → Type 0) : Type 0 where
+  pub act : (serving : Bool) (course : List Step) (line : LineState) (act : Act) (moment : ℕ) → Q serving course line
+      → Q serving ((course ++ acts act ∷ []) ++ steps_of (phoned line act moment).notice) (phoned line act moment).line
+  pub request : (course : List Step) (line : LineState) (request : Request) (moment : ℕ) → Q true course line
+      → Q true ((course ++ accepts request ∷ []) ++ steps_of (asked line request moment).notice) (asked line request moment).line
+  pub answering : (serving : Bool) (course : List Step) (line : LineState) (moment : ℕ) → Q serving course line
+      → Q serving (course ++ steps_of (answered line moment).notice) (answered line moment).line
+  pub serving : (course : List Step) (line : LineState) (moment : ℕ) → Q false course line
+      → Q true (course ++ steps_of (opened line moment).notice) (opened line moment).line
+  pub firing : (serving : Bool) (course : List Step) (line : LineState) (at : ℕ) (due : LineDue) (moment : ℕ) → due_of line ≡ Some (at, due)
+      → Q serving course line → Q serving (course ++ steps_of (fired line due moment).notice) (fired line due moment).line
+
+module _ (setup : Setup) (Q : Bool → List Step → LineState → Type 0) where
+  -- the line of a station, beside its course
+  pub record Goes (serving : Bool) (course : List Step) (station : Station) : Type 0 where
+    pub readable : IsReadable station.line
+    pub holds : Q serving course station.line
+
+  -- and after a turn
+  abbrev pub TurnGoes : Bool → List Step → Turn → Type 0
+  TurnGoes serving course turn = Goes serving (course ++ steps_in turn.sent) turn.station
+
+  pub same_goes : (serving : Bool) (course : List Step) (station other : Station) → other.line ≡ station.line → Goes serving course station → Goes serving course other
+  same_goes serving course station other same goes =
+      record { readable = subst IsReadable (sym same) goes.readable; holds = subst (λ (line : LineState). Q serving course line) (sym same) goes.holds }
+
+  -- a turn that leaves the line, and notifies nothing
+  pub still_goes : (serving : Bool) (course : List Step) (station : Station) (turn : Turn) → turn.station.line ≡ station.line → steps_in turn.sent ≡ []
+      → Goes serving course station → TurnGoes serving course turn
+  still_goes serving course station turn same none goes =
+      subst (λ (c : List Step). Goes serving c turn.station) (sym (ap (λ (x : List Step). course ++ x) none ∙ append-nil course))
+      (same_goes serving course station turn.station same goes)
+
+  notice_steps : (line moment : ℕ) (station : Station) (notice : Option Notice) → IfSome notice (λ (n : Notice). Each CanBeTold n.observed)
+      → steps_in (with_notice setup line moment station notice).sent ≡ steps_of notice
+  unfolding notification
+  notice_steps line moment station None told = refl
+  notice_steps line moment station (Some notice) told =
+      ap (λ (read : Result (List Observed) ℕ). notifies notice.identifier (observed_or_none read) ∷ []) (read_again notice.observed told)
+
+  notice_line : (line moment : ℕ) (station : Station) (notice : Option Notice) → (with_notice setup line moment station notice).station.line ≡ station.line
+  notice_line line moment station None = refl
+  notice_line line moment station (Some notice) = refl
+
+  noted_goes : (serving : Bool) (course : List Step) (line moment : ℕ) (station : Station) (done : LineDone) → TellsReadable done
+      → Q serving (course ++ steps_of done.notice) done.line → TurnGoes serving course (noted setup line moment station done)
+  unfolding noted
+  noted_goes serving course line moment station done tells holds =
+      let to : Station = record station { line = done.line } in
+      let same : (with_notice setup line moment to done.notice).station.line ≡ done.line = notice_line line moment to done.notice in
+      record {
+        readable = subst IsReadable (sym same) tells.line;
+        holds = subst (λ (x : List Step). Q serving (course ++ x) (with_notice setup line moment to done.notice).station.line)
+            (sym (notice_steps line moment to done.notice tells.told))
+            (subst (λ (l : LineState). Q serving (course ++ steps_of done.notice) l) (sym same) holds);
+      }
+
+  module _ (calls : Calls Q) where
+    pub act_goes : (serving : Bool) (course : List Step) (line moment : ℕ) (act : Act) (station : Station) → Goes serving course station
+        → TurnGoes serving (course ++ acts act ∷ []) (acted_on setup line moment act station)
+    act_goes serving course line moment act station goes =
+        noted_goes serving (course ++ acts act ∷ []) line moment station (phoned station.line act moment) (phoned_readable station.line act moment goes.readable)
+        (calls.act serving course station.line act moment goes.holds)
+
+    pub deed_goes : (course : List Step) (deed : LineDeed) (moment line : ℕ) (station : Station) → Goes true course station
+        → TurnGoes true (course ++ accepted deed.request) (deed_on setup deed moment line station)
+    unfolding deed_on
+    deed_goes course deed moment line station goes = by_request deed.request where
+      to : Station
+      to = with_connections deed (with_entity deed.entity station)
+
+      by_request : (request : Option Request) → TurnGoes true (course ++ accepted request) (noted setup line moment to (asked_if request station.line moment))
+      by_request None =
+          noted_goes true (course ++ []) line moment to (record { line = station.line; notice = None }) (record { line = goes.readable; told = tt })
+          (subst (λ (c : List Step). Q true c station.line) (sym (append-nil (course ++ []) ∙ append-nil course)) goes.holds)
+      by_request (Some request) =
+          noted_goes true (course ++ accepts request ∷ []) line moment to (asked station.line request moment) (asked_readable station.line request moment goes.readable)
+          (calls.request course station.line request moment goes.holds)
+
+    pub opened_goes : (course : List Step) (agent : Option Entity) (moment line : ℕ) (station : Station) → Goes false course station
+        → TurnGoes true course (opened_on agent setup moment line station)
+    unfolding opened_on
+    opened_goes course agent moment line station goes =
+        noted_goes true course line moment (with_entity agent station) (opened station.line moment) (opened_readable station.line moment goes.readable)
+        (calls.serving course station.line moment goes.holds)
+
+    pub redirected_goes : (serving : Bool) (course : List Step) (agent : Entity) (line : ℕ) (station : Station) → Goes serving course station
+        → TurnGoes serving course (redirected_on agent line station)
+    unfolding redirected_on
+    redirected_goes serving course agent line station goes = still_goes serving course station (silent (with_entity (Some agent) station)) refl refl goes
+
+    pub response_goes : (serving : Bool) (course : List Step) (line moment : ℕ) (response : Response) (station : Station) → Goes serving course station
+        → TurnGoes serving course (responded_on setup line moment response station)
+    unfolding responded_on replied announced announcement
+    response_goes serving course line moment response station goes = by_heard (heard_on station.post response) where
+      by_heard : (heard : Heard) → TurnGoes serving course (responded_as heard setup line moment response station)
+      by_heard Nothing = still_goes serving course station (silent station) refl refl goes
+      by_heard PutOff = still_goes serving course station (posted station (replied PutOff setup line moment response station.post)) refl refl goes
+      by_heard (Redirected agent) = still_goes serving course station (posted station (replied (Redirected agent) setup line moment response station.post)) refl refl goes
+      by_heard (Answered agent) =
+          noted_goes serving course line moment (posted station (replied (Answered agent) setup line moment response station.post)).station (answered station.line moment)
+          (answered_readable station.line moment goes.readable) (calls.answering serving course station.line moment goes.holds)
+
+    resent_steps : (line moment : ℕ) (post : Post) → steps_in (resent_on setup line moment post).sent ≡ []
+    resent_steps line moment post = by_pending post.pending where
+      by_repeat : (flight : InFlight) (repeat : Repeat) → steps_in (repeated_as repeat setup line moment post flight).sent ≡ []
+      by_repeat flight SentAgain = refl
+      by_repeat flight GivenUp = refl
+
+      by_pending : (pending : Option InFlight) → steps_in (resent_by pending setup line moment post).sent ≡ []
+      by_pending None = refl
+      by_pending (Some flight) = by_repeat flight (repeat_of flight moment)
+
+    announced_steps : (line moment : ℕ) (post : Post) → steps_in (announced_on setup line moment post).sent ≡ []
+    unfolding announced announcement
+    announced_steps line moment post = by_restart post.restart where
+      by_restart : (restart : Restart) → steps_in (announced_by restart setup line moment post).sent ≡ []
+      by_restart (Waiting until) = refl
+      by_restart Announced = refl
+      by_restart Serving = refl
+
+    -- what falls due of the line itself is what the line says
+    of_the_line : (line : ℕ) (station : Station) (item : DueItem) (due : LineDue) → due_on (line, station) ≡ Some item → item.due ≡ OfLine due
+        → (at : ℕ) × (due_of station.line ≡ Some (at, due))
+    of_the_line line station item due is kind = by_case (due_cases line station item is) where
+      of_post : OfItsCommand line station.post item ⊎ OfItsAnnouncement line station.post item → (at : ℕ) × (due_of station.line ≡ Some (at, due))
+      of_post (inl of) = let clash : Resend ≡ OfLine due = ap (λ (i : DueItem). i.due) of.same ∙ kind in absurd cc
+      of_post (inr of) = let clash : Announce ≡ OfLine due = ap (λ (i : DueItem). i.due) of.same ∙ kind in absurd cc
+
+      by_case : OfItsLine line station item ⊎ (post_due line station.post ≡ Some item) → (at : ℕ) × (due_of station.line ≡ Some (at, due))
+      by_case (inl of) =
+          let same : OfLine of.found.1 ≡ OfLine due = ap (λ (i : DueItem). i.due) of.same ∙ kind in
+          let equal : of.found.1 ≡ due = cc in
+          (of.found.0, of.due ∙ ap (λ (d : LineDue). Some (of.found.0, d)) equal)
+      by_case (inr of) = of_post (post_cases line station.post item of)
+
+    pub happened_goes : (serving : Bool) (course : List Step) (line : ℕ) (item : DueItem) (station : Station) → due_on (line, station) ≡ Some item
+        → Goes serving course station → TurnGoes serving course (happened_on item.due setup line item.moment station)
+    unfolding happened_on
+    happened_goes serving course line item station is goes = by_due item.due refl where
+      by_due : (due : Due) → item.due ≡ due → TurnGoes serving course (happened_on due setup line item.moment station)
+      by_due (OfLine due) kind =
+          let of = of_the_line line station item due is kind in
+          noted_goes serving course line item.moment station (fired station.line due item.moment) (fired_readable station.line due item.moment goes.readable)
+          (calls.firing serving course station.line of.0 due item.moment of.1 goes.holds)
+      by_due Resend kind =
+          still_goes serving course station (posted station (resent_on setup line item.moment station.post)) refl (resent_steps line item.moment station.post) goes
+      by_due Announce kind =
+          still_goes serving course station (posted station (announced_on setup line item.moment station.post)) refl (announced_steps line item.moment station.post) goes

@@ -1,0 +1,5 @@
+pub mod Course
+pub mod Keeping
+pub mod Following
+pub mod Dialled
+pub mod Example

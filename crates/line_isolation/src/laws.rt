@@ -1,0 +1,38 @@
+//! Laws of a line and of the others.
+ghost use Rattle.std.specs.Prelude.{◌≡◌, ◌≤◌, ℕ, List, Option};
+ghost use Rattle.plain_machine.specs.declared.due_item.DueItem.{DueItem};
+ghost use Rattle.plain_machine.specs.declared.own.Own.{Own};
+ghost use Rattle.plain_machine.specs.declared.setup.Setup.{Setup};
+ghost use Rattle.plain_machine.specs.declared.station.Station.{Station};
+ghost use Rattle.plain_machine.specs.Event.{GatewayEvent};
+ghost use Rattle.plain_machine.specs.Falling.{own_due, pass};
+ghost use Rattle.plain_machine.specs.Machine.{Endpoints, station_at};
+ghost use Rattle.line_isolation.specs.Apart.{LinesKeepApart};
+ghost use Rattle.line_isolation.specs.Belonging.{of_line};
+ghost use Rattle.line_isolation.specs.Isolation.{AsUnderItsOwn};
+ghost use Rattle.line_isolation.specs.Passing.{Turned, turned, PassesAlone, line_due, line_happens, own_happens};
+
+/// Where lines keep apart, each is as it is under its own events alone: its hook state, its signals, its connections and
+/// what it lost, the answers to its commands and its own messages, each with its address and its moment. Of line 0, which
+/// is the gateway itself, these are its own messages.
+pub fn lines_that_keep_apart_are_isolated()
+    ensures { (setup : Setup) (line : ℕ) (events : List GatewayEvent) → LinesKeepApart setup events →
+        AsUnderItsOwn setup line events }
+{}
+
+/// What a tick makes of a line, and what the line sends in it, is the line's own, whatever is due on others; and so it is
+/// of the gateway itself. There is only one outcome of that.
+pub fn each_line_passes_alone()
+    ensures line { (setup : Setup) (endpoints : Endpoints) (line moment : ℕ) → 1 ≤ line →
+        PassesAlone (line_due line) (line_happens setup line) moment (station_at endpoints line)
+        (turned (station_at (pass setup endpoints moment).endpoints line) (of_line line (pass setup endpoints moment).sent)) }
+    ensures own { (setup : Setup) (endpoints : Endpoints) (moment : ℕ) →
+        PassesAlone own_due (own_happens setup) moment endpoints.own
+        (turned (pass setup endpoints moment).endpoints.own (of_line 0 (pass setup endpoints moment).sent)) }
+    ensures line_once { (setup : Setup) (line moment : ℕ) (was : Option Station) (one other : Turned (Option Station)) →
+        PassesAlone (line_due line) (line_happens setup line) moment was one →
+        PassesAlone (line_due line) (line_happens setup line) moment was other → one ≡ other }
+    ensures own_once { (setup : Setup) (moment : ℕ) (was : Own) (one other : Turned Own) →
+        PassesAlone own_due (own_happens setup) moment was one →
+        PassesAlone own_due (own_happens setup) moment was other → one ≡ other }
+{}
