@@ -1,18 +1,16 @@
 -- How an agent takes the commands of a gateway (RFC 3435, 2.3.4, 2.3.12 and 3.5.1).
-use Rattle.std.specs.Prelude.{ℕ, ◌-◌, codes, List, [], ◌∷◌, ◌++◌, fold, Option, Some, None, Result, Ok, Err}
+use Rattle.std.specs.Prelude.{ℕ, ◌-◌, List, [], ◌∷◌, ◌++◌, fold, Option, Some, None}
 use Rattle.std.specs.declared.net.socket_addr.SocketAddrV4.{SocketAddrV4}
 use Rattle.mgcp_text.specs.declared.message.Param.{Param}
 use Rattle.mgcp_text.specs.declared.message.Verb.{Verb}
 use Rattle.mgcp_text.specs.declared.message.Verb.TheVariants.{Epcf, Rqnt, Ntfy, Crcx, Mdcx, Dlcx, Auep, Aucx, Rsip, Other}
 use Rattle.mgcp_text.specs.declared.message.Message.TheVariants as messages
-use Rattle.mgcp_text.specs.Message.{param_at}
 use Rattle.mgcp_text.specs.Confirmation.{k_of}
 use Rattle.mgcp_text.specs.Reading.{Outcome, message, no_header, bad_version, bad_body}
 use Rattle.mgcp_text.specs.Writing.{written}
 use Rattle.mgcp_text.specs.Answer.{plain_code, response_of}
 use Rattle.endpoint_names.specs.Name.{name_of}
 use Rattle.event_values.specs.declared.observed.Observed.{Observed}
-use Rattle.event_values.specs.Observed.{observed_of}
 use Rattle.history.specs.declared.span.IdSpan.{IdSpan}
 use Rattle.history.specs.declared.entry.Entry.TheVariants.{Confirmation}
 use Rattle.history.specs.Memory.{most_firsts}
@@ -20,6 +18,7 @@ use Rattle.history.specs.Kept.{first_entry}
 use Rattle.history.specs.Looking.{Told as Looked, new, repeat, confirmed, full, look_of}
 use Rattle.transmission.specs.Confirming.{spans_of}
 use Rattle.plain_machine.specs.Answering.{line_meant}
+use Rattle.machine_laws.specs.Notified.{observed_with}
 use Rattle.transmission.specs.Transacting.{message_to}
 use Rattle.agent_core.specs.Growing.{told_at}
 use Rattle.agent_core.specs.declared.setup.AgentSetup.{AgentSetup}
@@ -46,18 +45,9 @@ code_for Auep = 504
 code_for Aucx = 504
 code_for Other = 504
 
-abbrev pub observed_or_none : Result (List Observed) ℕ → List Observed
-observed_or_none (Ok observed) = observed
-observed_or_none (Err code) = []
-
--- what its first O tells; nothing where it has none, or one that can't be read
-abbrev pub observed_in : Option Param → List Observed
-observed_in None = []
-observed_in (Some param) = observed_or_none (observed_of param.value)
-
 abbrev pub taken_on : Option ℕ → List Param → List Taken
 taken_on None params = []
-taken_on (Some line) params = (record { line = line; observed = observed_in (param_at (codes "O") params) }) ∷ []
+taken_on (Some line) params = (record { line = line; observed = observed_with params }) ∷ []
 
 -- of a notification of a line; that of no line is answered, and taken for none
 abbrev pub taken_of : AgentSetup → Verb → List ℕ → List Param → List Taken

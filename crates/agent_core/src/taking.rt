@@ -1,12 +1,13 @@
 //! How an agent takes the commands of a gateway (RFC 3435, 2.3.4, 2.3.12 and 3.5.1).
-ghost use Rattle.std.specs.Prelude.{◌≡◌, ◌≤◌, [], codes, fold, IfOk, OnOk, OnErr};
+ghost use Rattle.std.specs.Prelude.{◌≡◌, ◌≤◌, [], fold, IfOk, OnOk, OnErr};
 ghost use Rattle.std.specs.List.{cons_option};
-ghost use Rattle.mgcp_text.specs.Message.{params_in, param_at};
+ghost use Rattle.mgcp_text.specs.Message.{params_in};
 ghost use Rattle.mgcp_text.specs.Confirmation.{k_of};
 ghost use Rattle.endpoint_names.specs.Name.{name_of};
 ghost use Rattle.transmission.specs.Confirming.{spans_of};
 ghost use Rattle.plain_machine.specs.Answering.{line_meant};
-ghost use Rattle.agent_core.specs.Taking.{code_for, observed_in, taken_on, taken_of, with_taken, executed, transacted};
+ghost use Rattle.machine_laws.specs.Notified.{observed_with};
+ghost use Rattle.agent_core.specs.Taking.{code_for, taken_on, taken_of, with_taken, executed, transacted};
 ghost use Rattle.agent_core.specs.State.{kept_in, Does};
 
 use crate::state::{Context, State};
@@ -47,8 +48,8 @@ fn code_for(verb: Verb) -> u16
 }
 
 // What the first O tells; nothing where there is none, or one that can't be read.
-fn observed_in(alloc: Global, params: &[Param<'_>]) -> Result<Sequence<Observed>, OutOfMemory>
-    ensures { IfOk result (λ observed. observed ≡ observed_in (param_at (codes "O") params.now)) }
+fn observed_with(alloc: Global, params: &[Param<'_>]) -> Result<Sequence<Observed>, OutOfMemory>
+    ensures { IfOk result (λ observed. observed ≡ observed_with params.now) }
 {
     let Some(param) = param_at(b"O", params) else {
         return Ok(Sequence::new(alloc));
@@ -94,7 +95,7 @@ fn taken_on(
 {
     match read_name(name, context.setup.domain.as_bytes(), context.setup.lines) {
         Ok(Pattern::One(line)) => {
-            let observed = observed_in(context.alloc, params)?;
+            let observed = observed_with(context.alloc, params)?;
             Ok(Some(Taken { line, observed }))
         }
         Ok(Pattern::All | Pattern::Any) | Err(_) => Ok(None),

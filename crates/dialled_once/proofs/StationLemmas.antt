@@ -38,7 +38,8 @@ use Rattle.plain_machine.specs.Requesting.{with_entity, with_connections, asked_
 use Rattle.plain_machine.specs.Responding.{responded_as, responded_on, redirected_on, opened_on}
 use Rattle.plain_machine.specs.Falling.{due_on, post_due, line_item, command_item, announcement_item, happened_on}
 use Rattle.plain_machine.proofs.FirstLemmas.{OfItsCommand, OfItsAnnouncement, OfItsLine, post_cases, due_cases}
-use Rattle.dialled_once.specs.Course.{Step, acts, accepts, notifies, observed_or_none, notified_by, accepted}
+use Rattle.machine_laws.specs.Notified.{observed_or_none}
+use Rattle.dialled_once.specs.Course.{Step, acts, accepts, notifies, notified_by, accepted}
 use Rattle.dialled_once.proofs.ReadingLemmas.{CanBeTold, read_again, IsReadable, TellsReadable, phoned_readable, asked_readable, answered_readable, opened_readable, fired_readable}
 use Rattle.machine_laws.proofs.EachLemmas.{Each}
 

@@ -3,14 +3,12 @@
 use Rattle.std.specs.Prelude.{ℕ, ◌==◌, ◌&&◌, is_none, if◌then◌else◌, codes, List, [], ◌∷◌, ◌++◌, flat_map, Option, Some, None, Result, Ok, Err}
 use Rattle.std.specs.declared.net.socket_addr.SocketAddrV4.{SocketAddrV4}
 use Rattle.mgcp_text.specs.Confirmation.{k_of}
-use Rattle.mgcp_text.specs.Message.{param_at}
 use Rattle.mgcp_text.specs.Reading.{Outcome, message, no_header, bad_version, bad_body, read_text}
 use Rattle.mgcp_text.specs.declared.message.Message.TheVariants as messages
 use Rattle.mgcp_text.specs.declared.message.Param.{Param}
 use Rattle.mgcp_text.specs.declared.message.Verb.{Verb}
 use Rattle.mgcp_text.specs.declared.message.Verb.TheVariants.{Epcf, Rqnt, Ntfy, Crcx, Mdcx, Dlcx, Auep, Aucx, Rsip, Other}
 use Rattle.event_values.specs.declared.observed.Observed.{Observed}
-use Rattle.event_values.specs.Observed.{observed_of}
 use Rattle.history.specs.Looking.{look_of}
 use Rattle.history.specs.Memory.{most_firsts}
 use Rattle.transmission.specs.Texts.{texts_of}
@@ -21,6 +19,7 @@ use Rattle.command_forms.specs.declared.forms.Target.{Target}
 use Rattle.command_forms.specs.declared.forms.Target.TheVariants.{One, All, Any}
 use Rattle.command_forms.specs.Meaning.{is_for}
 use Rattle.command_forms.specs.Order.{form_while}
+use Rattle.command_forms.specs.Params.{value_at}
 use Rattle.mg_line.specs.declared.phone.Act.{Act}
 use Rattle.mg_line.specs.declared.request.Request.{Request}
 use Rattle.plain_machine.specs.declared.line_deed.LineDeed.{LineDeed}
@@ -32,6 +31,7 @@ use Rattle.plain_machine.specs.Happening.{effect}
 use Rattle.plain_machine.specs.Machine.{Machine, Endpoints, opening, serves}
 use Rattle.plain_machine.specs.Message.{Said, answer, again, command, resent, acknowledgement, Sent}
 use Rattle.plain_machine.specs.Requesting.{refused_by, line_with_place}
+use Rattle.machine_laws.specs.Notified.{observed_with}
 use Rattle.line_isolation.specs.Belonging.{of_line}
 
 pub data Step : Type 0 where
@@ -41,19 +41,10 @@ pub data Step : Type 0 where
 
 -- What a line notifies
 
-abbrev pub value_in : Option Param → List ℕ
-value_in None = []
-value_in (Some param) = param.value
-
-abbrev pub observed_or_none : Result (List Observed) ℕ → List Observed
-observed_or_none (Ok observed) = observed
-observed_or_none (Err code) = []
-
 -- X and O of a notification, as they are read
 abbrev pub notified_with : Verb → List Param → List Step
 notified_with Ntfy params =
-    notifies (value_in (param_at (codes "X") params))
-    (observed_or_none (observed_of (value_in (param_at (codes "O") params)))) ∷ []
+    notifies (value_at (codes "X") params) (observed_with params) ∷ []
 notified_with Epcf params = []
 notified_with Rqnt params = []
 notified_with Crcx params = []

@@ -4,3 +4,4 @@ pub mod Owning
 pub mod Waiting
 pub mod Saying
 pub mod Example
+pub mod Notified
