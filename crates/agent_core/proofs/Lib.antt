@@ -8,6 +8,7 @@ mod FirstLaws
 mod AgentFirsts
 mod LinkLaws
 mod TakenLaws
+mod ToldLaws
 pub mod FlightTable
 pub mod TellingLemmas
 pub mod PassLemmas

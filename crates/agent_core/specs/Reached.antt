@@ -1,5 +1,5 @@
 -- The firsts among all that arrived, each with what it was read as, and the commands that an end began (RFC 3435, 3.5.1).
-use Rattle.std.specs.Prelude.{ℕ, List, [], ◌∷◌, ◌++◌, map, flat_map, fold, Option, Some, None}
+use Rattle.std.specs.Prelude.{ℕ, ◌==◌, if◌then◌else◌, List, [], ◌∷◌, ◌++◌, map, flat_map, fold, Option, Some, None}
 use Rattle.history.specs.declared.entry.First.{First as KeptFirst}
 use Rattle.history.specs.Arrival.{Arrival}
 use Rattle.history.specs.Memory.{most_firsts}
@@ -11,6 +11,7 @@ use Rattle.plain_machine.specs.Arriving.{Arrival as TextArrival, arrivals_of}
 use Rattle.plain_machine.specs.Lists.{sent_of}
 use Rattle.plain_machine.specs.Transactions.{Asked, asked}
 use Rattle.machine_laws.specs.Saying.{Issued, begun_in}
+use Rattle.event_values.specs.declared.observed.Observed.{Observed}
 use Rattle.agent_core.specs.declared.setup.AgentSetup.{AgentSetup}
 use Rattle.agent_core.specs.declared.taking.Taken.{Taken}
 use Rattle.agent_core.specs.Agent.{agent_opening}
@@ -52,6 +53,10 @@ taken_of_command (Some one) = one.taken
 
 abbrev pub taken_with : AgentSetup → Reached → List Taken
 taken_with setup one = taken_of_command (command_of setup one.outcome)
+
+-- what is taken of a line
+abbrev pub told_of : ℕ → Taken → List Observed
+told_of line told = if told.line == line then told.observed else []
 
 -- by which id, and when
 

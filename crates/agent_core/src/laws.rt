@@ -17,7 +17,7 @@ ghost use Rattle.plain_machine.specs.Machine.{opening};
 ghost use Rattle.plain_machine.specs.Lists.{are_taken, plain, sent_of};
 ghost use Rattle.machine_laws.specs.Saying.{HasNumbersLeft, IsAnswerTo, Issued, Tells, begun_in};
 ghost use Rattle.agent_core.specs.declared.setup.AgentSetup.{AgentSetup};
-ghost use Rattle.agent_core.specs.Agent.{AgentMachine, FinalAnswer, nothing_taken};
+ghost use Rattle.agent_core.specs.Agent.{AgentMachine, FinalAnswer, nothing_taken, observed_on};
 ghost use Rattle.agent_core.specs.Taking.{with_taken};
 ghost use Rattle.agent_core.specs.Flying.{has_id};
 ghost use Rattle.agent_core.specs.Hearing.{AgentEvent, agent_effect, agent_refusal, handled, agent_after, plain_agent};
@@ -29,7 +29,7 @@ ghost use Rattle.agent_core.specs.declared.step.WorldStopped.{WorldStopped};
 ghost use Rattle.agent_core.specs.AgentStands.{AgentStands};
 ghost use Rattle.agent_core.specs.WorldStands.{WorldState, WorldStands, WorldTook, WorldStoppedAt, StepEnds, step_of, steps_before};
 ghost use Rattle.gateway_core.specs.Stands.{Stands};
-ghost use Rattle.agent_core.specs.Reached.{Reached, taken_with, key_kept, key_reached, issued_in, executed_in, own_in, taken_in};
+ghost use Rattle.agent_core.specs.Reached.{Reached, taken_with, told_of, key_kept, key_reached, issued_in, executed_in, own_in, taken_in};
 
 /// Whatever the network does, the gateway executes each command that the agent issued once at most, as it was issued, and
 /// no other; and no id is issued twice.
@@ -73,12 +73,15 @@ pub fn each_notification_is_taken_once()
         (arrivals_of (plain_world setup steps).gateway_took) }
 {}
 
-/// What the agent has taken is what its firsts told, in their order; and at each end the firsts that are kept are those of all
-/// that arrived.
+/// What the agent has taken is what its firsts told, in their order, and what it was told of a line is what they told of that
+/// line; and at each end the firsts that are kept are those of all that arrived.
 pub fn what_is_taken_is_what_firsts_told()
     ensures taken { (setup : Setup) (steps : List WorldStep) → IsSetUp setup → steps_are_taken setup world_opening steps ≡ true →
         (agent_in setup (plain_world setup steps)).taken
         ≡ fold with_taken (nothing_taken (agent_of setup)) (flat_map (taken_with (agent_of setup)) (taken_in (plain_world setup steps))) }
+    ensures of_a_line { (setup : Setup) (steps : List WorldStep) (line : ℕ) → IsSetUp setup → steps_are_taken setup world_opening steps ≡ true →
+        observed_on line (agent_in setup (plain_world setup steps))
+        ≡ flat_map (told_of line) (flat_map (taken_with (agent_of setup)) (taken_in (plain_world setup steps))) }
     ensures agent { (setup : Setup) (steps : List WorldStep) → IsSetUp setup → steps_are_taken setup world_opening steps ≡ true →
         map key_kept (firsts_in (agent_in setup (plain_world setup steps)).history)
         ≡ map key_reached (taken_in (plain_world setup steps)) }

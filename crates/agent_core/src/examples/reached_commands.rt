@@ -14,7 +14,7 @@ ghost use Rattle.history.specs.Firsts.{lost};
 ghost use Rattle.plain_machine.specs.Example.{two_lines, agent, audit, from_agent, other_agent};
 ghost use Rattle.machine_laws.specs.Saying.{count_of};
 ghost use Rattle.agent_core.specs.World.{agent_of, gateway_address, issuing, dialling, ticking, delivering};
-ghost use Rattle.agent_core.specs.Reached.{added_by, executed_of, key_kept, key_reached, taken_with, issued_in, executed_in, heard_in, taken_in, own_in};
+ghost use Rattle.agent_core.specs.Reached.{added_by, executed_of, key_kept, key_reached, taken_with, told_of, issued_in, executed_in, heard_in, taken_in, own_in};
 ghost use Rattle.agent_core.specs.Example.{world, announced, audits, audited, lifted};
 
 /// Of the commands that arrive those are executed that are firsts, each as it was read, under its id and at its moment.
@@ -45,6 +45,8 @@ pub fn both_ends_take_each_command_once()
     ensures executed { map key_reached (executed_in (world lifted)) ≡ (1, 1) ∷ [] }
     ensures taken { map key_reached (taken_in (world lifted)) ≡ (1, 1) ∷ (10000000, 1) ∷ [] }
     ensures told { flat_map (taken_with (agent_of two_lines)) (taken_in (world lifted)) ≡ (record { line = 1; observed = Happened events.OffHook ∷ [] }) ∷ [] }
+    ensures told_of_line_1 { flat_map (told_of 1) (flat_map (taken_with (agent_of two_lines)) (taken_in (world lifted))) ≡ Happened events.OffHook ∷ [] }
+    ensures told_of_line_2 { flat_map (told_of 2) (flat_map (taken_with (agent_of two_lines)) (taken_in (world lifted))) ≡ [] }
     ensures not_yet { executed_in (world (announced ++ audits ∷ [])) ≡ [] }
 {}
 

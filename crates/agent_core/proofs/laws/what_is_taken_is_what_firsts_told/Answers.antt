@@ -1,4 +1,5 @@
 use Rattle.agent_core.proofs.TakenLaws.{taken_is, agent_keys, gateway_keys}
+use Rattle.agent_core.proofs.ToldLaws.{told_is}
 use Rattle.agent_core.proofs.laws.what_is_taken_is_what_firsts_told.Goals as goal
 
 pub returns-clause-taken : goal.returns-clause-taken
@@ -9,3 +10,6 @@ returns-clause-agent c = agent_keys
 
 pub returns-clause-gateway : goal.returns-clause-gateway
 returns-clause-gateway c = gateway_keys
+
+pub returns-clause-of_a_line : goal.returns-clause-of_a_line
+returns-clause-of_a_line c = told_is
