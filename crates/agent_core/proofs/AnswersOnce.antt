@@ -28,7 +28,7 @@ use Rattle.agent_core.specs.Responding.{replied, responded, responded_to}
 use Rattle.agent_core.specs.Flying.{has_id}
 use Rattle.agent_core.proofs.AgentLaws.{with_each, without_each, first_is, due_is}
 
-abbrev Apart : List InFlight → Type 0
+abbrev pub Apart : List InFlight → Type 0
 Apart [] = Unit {0}
 Apart (f ∷ fs) = Each (λ (g : InFlight). f.id ≢ g.id) fs × Apart fs
 
@@ -36,7 +36,7 @@ apart_push : (fs : List InFlight) (added : InFlight) → Each (λ (f : InFlight)
 apart_push [] added each apart = (tt, tt)
 apart_push (f ∷ fs) added each apart = (each_push (λ (g : InFlight). f.id ≢ g.id) fs added apart.0 each.0, apart_push fs added each.1 apart.1)
 
-apart_with : (now : InFlight) (fs : List InFlight) → Apart fs → Apart (with_flight now fs)
+pub apart_with : (now : InFlight) (fs : List InFlight) → Apart fs → Apart (with_flight now fs)
 unfolding with_flight
 apart_with now [] apart = tt
 apart_with now (f ∷ fs) apart = by_test (f.id == now.id) refl (apart_with now fs apart.1) where
@@ -47,7 +47,7 @@ apart_with now (f ∷ fs) apart = by_test (f.id == now.id) refl (apart_with now 
   by_test true same rest = (each_weaker (λ (g : InFlight). f.id ≢ g.id) (λ (g : InFlight). now.id ≢ g.id) (λ g far. λ e. far (eqb-true f.id now.id same ∙ e)) fs apart.0, apart.1)
   by_test false other rest = (step other, rest)
 
-apart_without : (id : ℕ) (fs : List InFlight) → Apart fs → Apart (without_flight id fs)
+pub apart_without : (id : ℕ) (fs : List InFlight) → Apart fs → Apart (without_flight id fs)
 unfolding without_flight
 apart_without id [] apart = tt
 apart_without id (f ∷ fs) apart = by_test (f.id == id) (apart_without id fs apart.1) where
@@ -68,8 +68,8 @@ gone id (f ∷ fs) apart = by_test (f.id == id) refl (gone id fs apart.1) where
 abbrev Free : List InFlight → FinalAnswer → Type 0
 Free flights one = Each (λ (f : InFlight). f.id ≢ one.id) flights
 
-record Single (m : AgentMachine) : Type 0 where
-  apart : Apart m.flights
+pub record Single (m : AgentMachine) : Type 0 where
+  pub apart : Apart m.flights
   free : Each (Free m.flights) m.answers
   flying : Each (λ (f : InFlight). f.id < m.next) m.flights
   answered : Each (λ (a : FinalAnswer). a.id < m.next) m.answers
@@ -135,8 +135,8 @@ found_in P id (f ∷ fs) all = by_test (has_id id f) (found_in P id fs all.1) wh
   by_test false rest = rest
 
 -- it goes on with one answer more, or with none
-record GoesOn (m n : AgentMachine) : Type 0 where
-  single : Single n
+pub record GoesOn (m n : AgentMachine) : Type 0 where
+  pub single : Single n
   more : List FinalAnswer
   grown : n.answers ≡ m.answers ++ more
 
@@ -221,7 +221,7 @@ event_on setup m (hears (phone line act)) s = record { single = s; more = []; gr
 event_on setup m (hears (tick moment)) s =
     record { single = changed m (pass m.flights moment).flights _ (pass_changes m.flights moment) refl refl refl s; more = []; grown = sym (append-nil m.answers) }
 
-events_on : (setup : AgentSetup) (m : AgentMachine) (events : List AgentEvent) → Single m → GoesOn m (agent_after setup m events)
+pub events_on : (setup : AgentSetup) (m : AgentMachine) (events : List AgentEvent) → Single m → GoesOn m (agent_after setup m events)
 unfolding agent_after
 events_on setup m [] s = record { single = s; more = []; grown = sym (append-nil m.answers) }
 events_on setup m (e ∷ es) s =
@@ -229,7 +229,7 @@ events_on setup m (e ∷ es) s =
     let rest = events_on setup (agent_effect setup m e).machine es one.single in
     record { single = rest.single; more = one.more ++ rest.more; grown = rest.grown ∙ ap (λ (x : List FinalAnswer). x ++ rest.more) one.grown ∙ append_assoc m.answers one.more rest.more }
 
-opening_single : (setup : AgentSetup) → Single (agent_opening setup)
+pub opening_single : (setup : AgentSetup) → Single (agent_opening setup)
 opening_single setup = record { apart = tt; free = tt; flying = tt; answered = tt; once = λ i j d less none. absurd (omega arith) }
 
 -- one answer to each command at most

@@ -8,7 +8,9 @@ mod FirstLaws
 mod AgentFirsts
 mod LinkLaws
 mod TakenLaws
+mod LandingLaws
 mod ToldLaws
+mod PassLaws
 pub mod FlightTable
 pub mod TellingLemmas
 pub mod PassLemmas

@@ -8,8 +8,9 @@ use Rattle.plain_machine.specs.Event.{datagram, tick}
 use Rattle.plain_machine.specs.Example.{two_lines, other_agent}
 use Rattle.transmission.specs.declared.output.OutDatagram.{OutDatagram}
 use Rattle.agent_core.specs.declared.setup.AgentSetup.{AgentSetup}
-use Rattle.agent_core.specs.Agent.{AgentMachine, answer_for, observed_on}
+use Rattle.agent_core.specs.Agent.{AgentMachine, FinalAnswer, agent_opening, answer_for, observed_on}
 use Rattle.agent_core.specs.Hearing.{AgentEvent, issues, hears, AgentRefusal, agent_effect, agent_refusal, plain_agent}
+use Rattle.agent_core.specs.Landing.{landing_from}
 use Rattle.agent_core.specs.World.{World, WorldStep, issuing, dialling, ticking, delivering, WorldRefusal, agent_of, plain_world, agent_in, step_refusal, gateway_address}
 
 abbrev pub world : List WorldStep → World
@@ -122,3 +123,7 @@ by_verb verb = from_gateway (said verb 5 (codes "aaln/1@rgw.example.net") (codes
 -- all that it was told of line 1 after these events
 abbrev pub told_then : List AgentEvent → List Observed
 told_then events = observed_on 1 (agent_then events)
+
+-- the final responses that come to it with these events while their commands are in flight
+abbrev pub landings_then : List AgentEvent → List FinalAnswer
+landings_then events = landing_from (agent_from 1) (agent_opening (agent_from 1)) events

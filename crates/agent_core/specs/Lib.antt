@@ -6,6 +6,7 @@ pub mod Flights
 pub mod Responding
 pub mod Taking
 pub mod Hearing
+pub mod Landing
 pub mod World
 pub mod Reached
 pub mod AgentAlike

@@ -3,6 +3,7 @@
 pub mod agent_commands;
 pub mod agent_firsts;
 pub mod agents;
+pub mod final_responses;
 pub mod networks;
 pub mod reached_commands;
 pub mod refused_steps;

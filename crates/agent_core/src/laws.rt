@@ -1,5 +1,5 @@
 //! Laws of an agent, and of a world: two ends over a bad network.
-ghost use Rattle.std.specs.Prelude.{◌≡◌, ◌≢◌, ◌≤◌, ℕ, List, length, ◌<◌, map, flat_map, fold, find, None, Some, ◌++◌, ◌∷◌, [], All, Any, AllPairs, true, false, IfSome, slice_get};
+ghost use Rattle.std.specs.Prelude.{◌≡◌, ◌≢◌, ◌≤◌, ◌==◌, ℕ, List, length, ◌<◌, map, flat_map, fold, find, None, Some, ◌++◌, ◌∷◌, [], All, Any, AllPairs, true, false, IfSome, slice_get};
 ghost use Rattle.std.specs.declared.net.socket_addr.SocketAddrV4.{SocketAddrV4};
 ghost use Rattle.mgcp_text.specs.declared.message.Message.TheVariants as messages;
 ghost use Rattle.mgcp_text.specs.declared.message.Param.{Param};
@@ -7,7 +7,7 @@ ghost use Rattle.mgcp_text.specs.Reading.{message, read_text};
 ghost use Rattle.history.specs.declared.entry.First.{First as KeptFirst};
 ghost use Rattle.history.specs.Kept.{firsts_in};
 ghost use Rattle.outbound.specs.declared.reply.Reply.TheVariants.{Answered};
-ghost use Rattle.outbound.specs.Flight.{InFlight, reply_of};
+ghost use Rattle.outbound.specs.Flight.{InFlight, repeat_of, reply_of};
 ghost use Rattle.plain_machine.specs.declared.setup.Setup.{Setup};
 ghost use Rattle.plain_machine.specs.Setup.{IsSetUp};
 ghost use Rattle.plain_machine.specs.Event.{GatewayEvent};
@@ -17,9 +17,10 @@ ghost use Rattle.plain_machine.specs.Machine.{opening};
 ghost use Rattle.plain_machine.specs.Lists.{are_taken, plain, sent_of};
 ghost use Rattle.machine_laws.specs.Saying.{HasNumbersLeft, IsAnswerTo, Issued, Tells, begun_in};
 ghost use Rattle.agent_core.specs.declared.setup.AgentSetup.{AgentSetup};
-ghost use Rattle.agent_core.specs.Agent.{AgentMachine, FinalAnswer, nothing_taken, observed_on};
+ghost use Rattle.agent_core.specs.Agent.{AgentMachine, FinalAnswer, agent_opening, answer_for, nothing_taken, observed_on};
 ghost use Rattle.agent_core.specs.Taking.{with_taken};
-ghost use Rattle.agent_core.specs.Flying.{has_id};
+ghost use Rattle.agent_core.specs.Flying.{has_id, afterwards, first_flight, flown_on, if_due, pass};
+ghost use Rattle.agent_core.specs.Landing.{landing_from};
 ghost use Rattle.agent_core.specs.Hearing.{AgentEvent, agent_effect, agent_refusal, handled, agent_after, plain_agent};
 ghost use Rattle.agent_core.specs.AgentAlike.{AgentAlike, AgentGoesAlike};
 ghost use Rattle.agent_core.specs.World.{WorldStep, agent_of, world_opening, steps_are_taken, step_refusal, plain_world, gateway_in, agent_in};
@@ -106,6 +107,31 @@ pub fn an_agent_has_one_answer_to_a_command()
         reply_of flight id code ≢ Answered) → (handled setup m source text).machine.answers ≡ m.answers }
     ensures stays { (setup : AgentSetup) (before events : List AgentEvent) → (more : List FinalAnswer)
         × ((agent_after setup (plain_agent setup before) events).answers ≡ (plain_agent setup before).answers ++ more) }
+{}
+
+/// The answers that an agent has are the final responses that came while their commands were in flight, in the order in which
+/// they came; so the answer to a command is the first of those with its id.
+pub fn an_answer_is_the_first_final_response_in_flight()
+    ensures all { (setup : AgentSetup) (events : List AgentEvent) →
+        (plain_agent setup events).answers ≡ landing_from setup (agent_opening setup) events }
+    ensures first { (setup : AgentSetup) (events : List AgentEvent) (id : ℕ) → answer_for id (plain_agent setup events)
+        ≡ find (λ (one : FinalAnswer). one.id == id) (landing_from setup (agent_opening setup) events) }
+{}
+
+/// Up to a moment what falls due first of an agent's commands happens first, at its own moment, until nothing is due any more.
+pub fn what_is_due_of_commands_happens_in_its_order()
+    ensures first { (setup : AgentSetup) (events : List AgentEvent) (moment : ℕ) (flight : InFlight) →
+        if_due moment (first_flight (plain_agent setup events).flights) ≡ Some flight →
+        pass (plain_agent setup events).flights moment
+        ≡ afterwards (flown_on (repeat_of flight flight.due) (plain_agent setup events).flights flight) (λ next. pass next moment) }
+    ensures end { (setup : AgentSetup) (events : List AgentEvent) (moment : ℕ) →
+        if_due moment (first_flight (pass (plain_agent setup events).flights moment).flights) ≡ None }
+{}
+
+/// Both ends of a world have one clock.
+pub fn both_ends_have_one_clock()
+    ensures { (setup : Setup) (steps : List WorldStep) → steps_are_taken setup world_opening steps ≡ true →
+        (agent_in setup (plain_world setup steps)).now ≡ (gateway_in setup (plain_world setup steps)).now }
 {}
 
 /// What an agent keeps goes on as the plain agent, and sends the same, at each event that isn't refused.
