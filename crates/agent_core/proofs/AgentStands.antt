@@ -24,7 +24,7 @@ use Rattle.agent_core.specs.Hearing.{AgentEvent, agent_effect, agent_refusal, ha
 use Rattle.agent_core.specs.Taking.{GatewayCommand, answer_to, command_of, transacted_by}
 use Rattle.agent_core.specs.Responding.{replied, responded, responded_to}
 use Rattle.agent_core.specs.Flying.{has_id}
-use Rattle.agent_core.proofs.AgentLaws.{forward, agent_clock}
+use Rattle.agent_core.proofs.EventLemmas.{forward, agent_clock}
 
 -- the plain one does what the kept one does, with a history of its own
 record Both (now : ℕ) (kept plain : AgentEffect) : Type 0 where

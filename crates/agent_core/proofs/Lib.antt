@@ -1,16 +1,5 @@
-pub mod Computing
-mod ReachedLaws
-mod AgentLaws
-mod WorldLaws
-mod AnswersOnce
-mod AgentStands
-mod FirstLaws
-mod AgentFirsts
-mod LinkLaws
-mod TakenLaws
-mod LandingLaws
-mod ToldLaws
-mod PassLaws
+pub mod EventLemmas
+pub mod AgentStands
 pub mod FlightTable
 pub mod TellingLemmas
 pub mod PassLemmas

@@ -23,7 +23,7 @@ use Rattle.agent_core.specs.Hearing.{AgentEvent, issues, hears, agent_after, age
 use Rattle.agent_core.specs.AgentAlike.{AgentAlike}
 use Rattle.agent_core.specs.State.{final_of, answer_in, answered_with, kept_in, purged_in, AllOr, GoesOnAs}
 use Rattle.agent_core.specs.AgentStands.{AgentState, agent_takes, AgentStands, AgentTook, AgentStays, IsAgentSound}
-use Rattle.agent_core.proofs.AgentLaws.{after_on}
+use Rattle.agent_core.proofs.EventLemmas.{after_on}
 use Rattle.agent_core.proofs.AgentStands.{effect_alike}
 use Rattle.agent_core.proofs.HearingLemmas.{texts_stay}
 

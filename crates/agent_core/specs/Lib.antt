@@ -6,9 +6,7 @@ pub mod Flights
 pub mod Responding
 pub mod Taking
 pub mod Hearing
-pub mod Landing
 pub mod World
-pub mod Reached
 pub mod AgentAlike
 pub mod State
 pub mod AgentStands
@@ -17,4 +15,3 @@ pub mod WorldStands
 pub mod WorldWork
 pub mod WorldTicks
 pub mod Delivering
-pub mod Example

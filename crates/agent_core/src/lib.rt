@@ -3,12 +3,10 @@
 
 mod agent;
 mod ends;
-pub mod examples;
 mod flights;
 mod growing;
 mod hearing;
 mod issuing;
-pub mod laws;
 mod packet;
 mod responding;
 mod setup;

@@ -1,5 +1,0 @@
-use Rattle.agent_core.proofs.AgentStands.{effect_alike}
-use Rattle.agent_core.proofs.laws.an_agent_goes_on_as_the_plain_one.Goals as goal
-
-pub returns : goal.returns
-returns c = effect_alike

@@ -1,5 +1,0 @@
-use Rattle.agent_core.proofs.WorldLaws.{world_sound}
-use Rattle.agent_core.proofs.laws.both_ends_have_one_clock.Goals as goal
-
-pub returns : goal.returns
-returns c = λ setup steps taken. (world_sound setup steps taken).clock

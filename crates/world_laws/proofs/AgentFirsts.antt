@@ -1,0 +1,183 @@
+-- The agent keeps the firsts of all commands that arrived, and what it has taken is what these told.
+use Rattle.std.proofs.Common.{◌≡◌, ℕ, Bool, true, false, if◌then◌else◌, List, [], ◌∷◌, ◌++◌, map, Option, Some, None, refl, sym, ap, ◌∙◌, subst, arith, append-nil, append_assoc}
+use Rattle.std.specs.Prelude.{fold, find, flat_map}
+use Rattle.std.proofs.lemmas.List.{map-append}
+use Rattle.std.proofs.lemmas.List.Sums.{fold-append}
+use Rattle.std.proofs.lemmas.Grind.{flat_map-append}
+use Rattle.std.specs.declared.net.socket_addr.SocketAddrV4.{SocketAddrV4}
+use Rattle.mgcp_text.specs.declared.message.Param.{Param}
+use Rattle.mgcp_text.specs.declared.message.Message.TheVariants as messages
+use Rattle.mgcp_text.specs.Reading.{Outcome, message, no_header, bad_version, bad_body, read_text}
+use Rattle.history.specs.declared.entry.Entry.{Entry}
+use Rattle.history.specs.Arrival.{Arrival, unanswered}
+use Rattle.history.specs.Memory.{most_firsts}
+use Rattle.history.specs.Firsts.{Kind, a_first, a_repeat, lost, kind_of, added, firsts_of}
+use Rattle.history.specs.Answers.{is_confirmed}
+use Rattle.history.specs.Kept.{entries_of, entries_of_first}
+use Rattle.history.specs.Looking.{Told as Looked, new, repeat, confirmed, full, look_of, told_as}
+use Rattle.history.specs.Recalling.{Remembers}
+use Rattle.history.proofs.RecallLaws.{recalls_itself}
+use Rattle.history.proofs.EntryLaws.{remembers_tells}
+use Rattle.outbound.specs.declared.reply.Reply.{Reply}
+use Rattle.outbound.specs.declared.reply.Reply.TheVariants.{Answered, Provisional, Stranger}
+use Rattle.outbound.specs.Flight.{InFlight, reply_of, heard}
+use Rattle.plain_machine.specs.Event.{datagram, phone, tick}
+use Rattle.transmission.specs.Texts.{texts_of}
+use Rattle.plain_machine.specs.Arriving.{arrival}
+use Rattle.plain_machine.specs.Transactions.{asked_as}
+use Rattle.plain_machine.proofs.TransactionLaws.{one_more}
+use Rattle.agent_core.specs.Hearing.{AgentEvent, agent_effect, handled, handled_as, hears, issues, took_all}
+use Rattle.agent_core.specs.declared.setup.AgentSetup.{AgentSetup}
+use Rattle.agent_core.specs.declared.taking.Taken.{Taken}
+use Rattle.agent_core.specs.Agent.{AgentMachine, nothing_taken}
+use Rattle.agent_core.specs.Taking.{GatewayCommand, answer_to, command_of, transacted_by, with_taken}
+use Rattle.event_values.specs.declared.observed.Observed.{Observed}
+use Rattle.world_laws.specs.Reached.{Reached, added_by, as_arrival, executed_with, reached, reached_as, taken_with}
+use Rattle.agent_core.specs.Responding.{replied, responded, responded_to}
+use Rattle.agent_core.specs.Flying.{has_id}
+use Rattle.world_laws.proofs.ReachedLaws.{executed_is}
+use Rattle.history.proofs.BareLaws.{bare_kind, kind_bare, firsts_bare}
+use Rattle.world_laws.proofs.LinkLaws.{arrives_with}
+
+-- all commands that arrived so far, as these
+pub record KeepsSo (setup : AgentSetup) (m : AgentMachine) (ones : List Reached) : Type 0 where
+  pub earlier : List Arrival
+  pub keeps : m.history ≡ entries_of (firsts_of most_firsts earlier)
+  pub same : map as_arrival ones ≡ map unanswered earlier
+  pub taken : m.taken ≡ fold with_taken (nothing_taken setup) (flat_map (taken_with setup) (fold executed_with [] ones))
+
+abbrev as_it_arrives : ℕ → GatewayCommand → Arrival
+as_it_arrives now command = record { id = command.id; moment = now; confirms = command.confirms; answer = answer_to command }
+
+history_by : (kind : Kind) (m : AgentMachine) (source : SocketAddrV4) (command : GatewayCommand) (firsts : List Arrival) → m.history ≡ entries_of firsts
+    → (transacted_by (told_as command.id kind) m source command).machine.history ≡ entries_of (added kind firsts (as_it_arrives m.now command))
+history_by a_first m source command firsts keeps =
+    append_assoc m.history _ _
+    ∙ ap (λ (x : List Entry). x ++ entries_of_first (as_it_arrives m.now command)) keeps
+    ∙ sym (flat_map-append entries_of_first firsts (as_it_arrives m.now command ∷ []))
+history_by (a_repeat copied) m source command firsts keeps = by_confirmed (is_confirmed command.id copied.after) ∙ keeps where
+  by_confirmed : (b : Bool) → (transacted_by (if b then confirmed else repeat copied.original.answer) m source command).machine.history ≡ m.history
+  by_confirmed true = refl
+  by_confirmed false = refl
+history_by lost m source command firsts keeps = keeps
+
+taken_by : (kind : Kind) (setup : AgentSetup) (m : AgentMachine) (source : SocketAddrV4) (command : GatewayCommand) (firsts : List Reached) (one : Reached) → taken_with setup one ≡ command.taken
+    → m.taken ≡ fold with_taken (nothing_taken setup) (flat_map (taken_with setup) firsts)
+    → (transacted_by (told_as command.id kind) m source command).machine.taken ≡ fold with_taken (nothing_taken setup) (flat_map (taken_with setup) (added_by (bare_kind kind) firsts one))
+taken_by a_first setup m source command firsts one takes is =
+    ap (λ (x : List (List Observed)). fold with_taken x command.taken) is
+    ∙ sym (fold-append with_taken (nothing_taken setup) (flat_map (taken_with setup) firsts) command.taken)
+    ∙ ap (λ (x : List Taken). fold with_taken (nothing_taken setup) (flat_map (taken_with setup) firsts ++ x)) (sym takes ∙ sym (append-nil (taken_with setup one)))
+    ∙ ap (fold with_taken (nothing_taken setup)) (sym (flat_map-append (taken_with setup) firsts (one ∷ [])))
+taken_by (a_repeat copied) setup m source command firsts one takes is = by_confirmed (is_confirmed command.id copied.after) ∙ is where
+  by_confirmed : (b : Bool) → (transacted_by (if b then confirmed else repeat copied.original.answer) m source command).machine.taken ≡ m.taken
+  by_confirmed true = refl
+  by_confirmed false = refl
+taken_by lost setup m source command firsts one takes is = is
+
+executed_more : (ones : List Reached) (one : Reached) → fold executed_with [] (ones ++ one ∷ []) ≡ added_by (kind_of most_firsts (map as_arrival (fold executed_with [] ones)) (as_arrival one)) (fold executed_with [] ones) one
+unfolding executed_with
+executed_more ones one = fold-append executed_with [] ones (one ∷ [])
+
+-- one command more
+command_on : (setup : AgentSetup) (m : AgentMachine) (source : SocketAddrV4) (command : GatewayCommand) (ones : List Reached) (one : Reached) → KeepsSo setup m ones
+    → as_arrival one ≡ unanswered (as_it_arrives m.now command) → taken_with setup one ≡ command.taken
+    → KeepsSo setup (transacted_by (look_of most_firsts m.history command.id m.now) m source command).machine (ones ++ one ∷ [])
+command_on setup m source command ones one k is takes =
+    let a = as_it_arrives m.now command in
+    let firsts = firsts_of most_firsts k.earlier in
+    let kind = kind_of most_firsts firsts a in
+    let remembers : Remembers m.history k.earlier 0 = rw (← k.keeps) (recalls_itself m.history) in
+    let looked : look_of most_firsts m.history command.id m.now ≡ told_as command.id kind = remembers_tells m.history k.earlier a 0 remembers (omega arith) in
+    let executed = fold executed_with [] ones in
+    let before : map as_arrival executed ≡ map unanswered firsts = executed_is ones ∙ ap (firsts_of most_firsts) k.same ∙ firsts_bare most_firsts k.earlier in
+    let same_kind : kind_of most_firsts (map as_arrival executed) (as_arrival one) ≡ bare_kind kind =
+    ap (λ (x : List Arrival). kind_of most_firsts x (as_arrival one)) before ∙ ap (kind_of most_firsts (map unanswered firsts)) is ∙ kind_bare most_firsts firsts a in
+    record {
+      earlier = k.earlier ++ a ∷ [];
+      keeps = ap (λ (told : Looked). (transacted_by told m source command).machine.history) looked ∙ history_by kind m source command firsts k.keeps ∙ ap entries_of (sym (one_more k.earlier a));
+      same = map-append as_arrival ones (one ∷ []) ∙ ap (λ (x : List Arrival). x ++ as_arrival one ∷ []) k.same ∙ ap (λ (x : Arrival). map unanswered k.earlier ++ x ∷ []) is ∙ sym (map-append unanswered k.earlier (a ∷ []));
+      taken = ap (λ (told : Looked). (transacted_by told m source command).machine.taken) looked ∙ taken_by kind setup m source command executed one takes k.taken
+          ∙ ap (λ (x : Kind). fold with_taken (nothing_taken setup) (flat_map (taken_with setup) (added_by x executed one))) (sym same_kind)
+          ∙ ap (λ (x : List Reached). fold with_taken (nothing_taken setup) (flat_map (taken_with setup) x)) (sym (executed_more ones one));
+    }
+
+same_machine : (setup : AgentSetup) (m n : AgentMachine) (ones : List Reached) → n.history ≡ m.history → n.taken ≡ m.taken → KeepsSo setup m ones → KeepsSo setup n ones
+same_machine setup m n ones history taken k = record { earlier = k.earlier; keeps = history ∙ k.keeps; same = k.same; taken = taken ∙ k.taken }
+
+none_more : (setup : AgentSetup) (m : AgentMachine) (ones : List Reached) → KeepsSo setup m ones → KeepsSo setup m (ones ++ [])
+none_more setup m ones k = subst (KeepsSo setup m) (sym (append-nil ones)) k
+
+replied_history : (reply : Reply) (m : AgentMachine) (heard : InFlight) (code : ℕ) (text : List ℕ) → (replied reply m heard code text).history ≡ m.history
+replied_history Answered m heard code text = refl
+replied_history Provisional m heard code text = refl
+replied_history Stranger m heard code text = refl
+
+replied_taken : (reply : Reply) (m : AgentMachine) (heard : InFlight) (code : ℕ) (text : List ℕ) → (replied reply m heard code text).taken ≡ m.taken
+replied_taken Answered m heard code text = refl
+replied_taken Provisional m heard code text = refl
+replied_taken Stranger m heard code text = refl
+
+replied_time : (reply : Reply) (m : AgentMachine) (heard : InFlight) (code : ℕ) (text : List ℕ) → (replied reply m heard code text).now ≡ m.now
+replied_time Answered m heard code text = refl
+replied_time Provisional m heard code text = refl
+replied_time Stranger m heard code text = refl
+
+-- what a response leaves
+record Leaves (m n : AgentMachine) : Type 0 where
+  history : n.history ≡ m.history
+  taken : n.taken ≡ m.taken
+  time : n.now ≡ m.now
+
+responded_leaves : (m : AgentMachine) (source : SocketAddrV4) (code id : ℕ) (params : List Param) (text : List ℕ) → Leaves m (responded m source code id params text).machine
+unfolding responded
+responded_leaves m source code id params text = by_found (find (has_id id) m.flights) where
+  by_found : (found : Option InFlight) → Leaves m (responded_to found m code id text)
+  by_found None = record { history = refl; taken = refl; time = refl }
+  by_found (Some flight) = record {
+    history = replied_history (reply_of flight id code) m (heard flight id code m.now) code text;
+    taken = replied_taken (reply_of flight id code) m (heard flight id code m.now) code text;
+    time = replied_time (reply_of flight id code) m (heard flight id code m.now) code text;
+  }
+
+transacted_time : (looked : Looked) (m : AgentMachine) (source : SocketAddrV4) (command : GatewayCommand) → (transacted_by looked m source command).machine.now ≡ m.now
+transacted_time new m source command = refl
+transacted_time (repeat text) m source command = refl
+transacted_time confirmed m source command = refl
+transacted_time full m source command = refl
+
+-- a text
+record TextKeeps (setup : AgentSetup) (m n : AgentMachine) (ones more : List Reached) : Type 0 where
+  so : KeepsSo setup n (ones ++ more)
+  time : n.now ≡ m.now
+
+text_on : (setup : AgentSetup) (m : AgentMachine) (source : SocketAddrV4) (text : List ℕ) (ones : List Reached) (outcome : Outcome) → KeepsSo setup m ones
+    → TextKeeps setup m (handled_as (command_of setup outcome) outcome m source text).machine ones (map (reached_as outcome) (asked_as source m.now outcome))
+text_on setup m source text ones no_header k = record { so = none_more setup m ones k; time = refl }
+text_on setup m source text ones (bad_version id) k = record { so = command_on setup m source _ ones _ k refl refl; time = transacted_time (look_of most_firsts m.history id m.now) m source _ }
+text_on setup m source text ones (bad_body id) k = record { so = command_on setup m source _ ones _ k refl refl; time = transacted_time (look_of most_firsts m.history id m.now) m source _ }
+text_on setup m source text ones (message (messages.Command verb id name params body)) k =
+    record { so = command_on setup m source _ ones _ k refl refl; time = transacted_time (look_of most_firsts m.history id m.now) m source _ }
+text_on setup m source text ones (message (messages.Response code id params body)) k =
+    let leaves = responded_leaves m source code id params text in
+    record { so = none_more setup _ ones (same_machine setup m _ ones leaves.history leaves.taken k); time = leaves.time }
+
+texts_on : (setup : AgentSetup) (m : AgentMachine) (source : SocketAddrV4) (texts : List (List ℕ)) (ones : List Reached) → KeepsSo setup m ones
+    → KeepsSo setup (took_all setup m source texts).machine (ones ++ flat_map reached (map (arrival m.now source) texts))
+unfolding took_all handled
+texts_on setup m source [] ones k = none_more setup m ones k
+texts_on setup m source (text ∷ texts) ones k =
+    let one = text_on setup m source text ones (read_text text) k in
+    let here = reached (arrival m.now source text) in
+    let next = (handled setup m source text).machine in
+    let rest = texts_on setup next source texts (ones ++ here) one.so in
+    subst (KeepsSo setup (took_all setup next source texts).machine)
+    (ap (λ (now : ℕ). (ones ++ here) ++ flat_map reached (map (arrival now source) texts)) one.time ∙ append_assoc ones here (flat_map reached (map (arrival m.now source) texts))) rest
+
+pub keeps_on : (setup : AgentSetup) (m : AgentMachine) (event : AgentEvent) (ones : List Reached) → KeepsSo setup m ones
+    → KeepsSo setup (agent_effect setup m event).machine (ones ++ flat_map reached (arrives_with m.now event))
+unfolding agent_effect
+keeps_on setup m (issues verb name rest) ones k = none_more setup _ ones (same_machine setup m _ ones refl refl k)
+keeps_on setup m (hears (datagram source bytes)) ones k = texts_on setup m source (texts_of bytes) ones k
+keeps_on setup m (hears (phone line act)) ones k = none_more setup m ones k
+keeps_on setup m (hears (tick moment)) ones k = none_more setup _ ones (same_machine setup m _ ones refl refl k)

@@ -1,0 +1,12 @@
+pub mod ReachedLaws
+pub mod AgentLaws
+pub mod WorldLaws
+pub mod AnswersOnce
+pub mod FirstLaws
+pub mod AgentFirsts
+pub mod LinkLaws
+pub mod TakenLaws
+pub mod LandingLaws
+pub mod ToldLaws
+pub mod PassLaws
+pub mod Computing

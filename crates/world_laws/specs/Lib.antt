@@ -1,0 +1,3 @@
+pub mod Landing
+pub mod Reached
+pub mod Example

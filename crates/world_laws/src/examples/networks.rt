@@ -1,0 +1,122 @@
+//! What stands between the ends of a world, as theorems: packets with their addresses, which end is first, what is lost, and
+//! what is refused.
+#![tactic(auto, unfolding(crate::proofs::Computing::on_examples))]
+
+ghost use Rattle.std.specs.Prelude.{◌≡◌, ◌++◌, codes, [], ◌∷◌, true, false, None, Some};
+ghost use Rattle.std.specs.Borrow.{Bor};
+ghost use Rattle.std.specs.Prelude.{ℕ, List};
+ghost use Rattle.mg_packages.specs.declared.event.Event.TheVariants as events;
+ghost use Rattle.mg_line.specs.declared.phone.Act.TheVariants as acts;
+ghost use Rattle.event_values.specs.declared.observed.Observed.TheVariants.{Happened};
+ghost use Rattle.plain_machine.specs.Example.{two_lines, agent, local_host, other_host, other_agent};
+ghost use Rattle.agent_core.specs.declared.packet.End.TheVariants.{GatewayEnd, AgentEnd};
+ghost use Rattle.agent_core.specs.declared.step.Step.TheVariants as steps;
+ghost use Rattle.agent_core.specs.Agent.{observed_on};
+ghost use Rattle.agent_core.specs.Issuing.{bad_command};
+ghost use Rattle.agent_core.specs.Hearing.{as_issue};
+ghost use Rattle.agent_core.specs.World.{world_opening, steps_are_taken, gateway_address, agent_of, gateway_in, delivered_from, issuing, dialling, ticking, delivering, by_agent};
+ghost use Rattle.agent_core.specs.WorldStands.{step_of, steps_before};
+ghost use Rattle.world_laws.specs.Example.{world, agent_after_steps, texts_in, texts_with, shared_address, code_in, refused_after, announced, audits};
+
+/// A gateway has its media address and the port 2427; its agent is the one that it reports to, and begins with the id 1.
+pub fn both_ends_are_of_one_configuration()
+    ensures gateway { gateway_address (record two_lines { media_address = other_host }) ≡ record { ip = other_host; port = 2427 } }
+    ensures agent { agent_of (record two_lines { media_address = other_host })
+        ≡ record { own = agent; gateway = record { ip = other_host; port = 2427 }; domain = codes "rgw.example.net"; lines = 2; first = 1 } }
+{}
+
+/// A packet has its moment, the address of its sender, that to which it goes, and its bytes.
+pub fn packets_have_their_addresses()
+    ensures of_gateway { (world (ticking 1 ∷ [])).posted ≡ (record {
+      end = GatewayEnd;
+      packet = record {
+        moment = 1;
+        sender = record { ip = local_host; port = 2427 };
+        to = record { ip = local_host; port = 2727 };
+        bytes = codes "RSIP 1 *@rgw.example.net MGCP 1.0\r\nRM: restart\r\n";
+      };
+    }) ∷ [] }
+    ensures of_agent { (world (audits ∷ [])).posted ≡ (record {
+      end = AgentEnd;
+      packet = record {
+        moment = 0;
+        sender = record { ip = local_host; port = 2727 };
+        to = record { ip = local_host; port = 2427 };
+        bytes = codes "AUEP 1 aaln/1@rgw.example.net MGCP 1.0\r\n";
+      };
+    }) ∷ [] }
+{}
+
+/// The clock of both ends goes on at once; the gateway is first.
+pub fn at_a_tick_the_gateway_is_first()
+    ensures order { texts_in (announced ++ audits ∷ dialling 1 acts.OffHook ∷ ticking 501 ∷ []) ≡ texts_in announced
+        ++ codes "AUEP 1 aaln/1@rgw.example.net MGCP 1.0\r\n"
+        ∷ codes "NTFY 10000000 aaln/1@rgw.example.net MGCP 1.0\r\nX: 0\r\nO: L/hd\r\n"
+        ∷ codes "NTFY 10000000 aaln/1@rgw.example.net MGCP 1.0\r\nX: 0\r\nO: L/hd\r\n"
+        ∷ codes "AUEP 1 aaln/1@rgw.example.net MGCP 1.0\r\n" ∷ [] }
+    ensures gateway { (gateway_in two_lines (world (announced ++ ticking 700 ∷ []))).now ≡ 700 }
+    ensures agent { (agent_after_steps (announced ++ ticking 700 ∷ [])).now ≡ 700 }
+{}
+
+/// What an end sends to one address at one moment shares a packet.
+pub fn messages_of_one_moment_share_a_packet()
+    ensures packets { texts_in (announced ++ audits ∷ audits ∷ ticking 501 ∷ delivering 4 ∷ []) ≡ texts_in announced
+        ++ codes "AUEP 1 aaln/1@rgw.example.net MGCP 1.0\r\n" ∷ codes "AUEP 2 aaln/1@rgw.example.net MGCP 1.0\r\n"
+        ∷ codes "AUEP 1 aaln/1@rgw.example.net MGCP 1.0\r\n.\r\nAUEP 2 aaln/1@rgw.example.net MGCP 1.0\r\n"
+        ∷ codes "200 1 OK\r\n.\r\n200 2 OK\r\n" ∷ [] }
+    ensures first { code_in 1 (announced ++ audits ∷ audits ∷ ticking 501 ∷ delivering 4 ∷ delivering 5 ∷ []) ≡ Some 200 }
+    ensures second { code_in 2 (announced ++ audits ∷ audits ∷ ticking 501 ∷ delivering 4 ∷ delivering 5 ∷ []) ≡ Some 200 }
+{}
+
+/// A packet goes to the end that didn't send it, where that has its address; else it is lost.
+pub fn what_no_end_has_for_an_address_is_lost()
+    ensures to_agent { delivered_from AgentEnd two_lines (world announced)
+        (record { moment = 1; sender = agent; to = agent; bytes = codes "AUEP 1 aaln/1@rgw.example.net MGCP 1.0\r\n" }) ≡ world announced }
+    ensures to_another { delivered_from AgentEnd two_lines (world announced)
+        (record { moment = 1; sender = agent; to = other_agent; bytes = codes "AUEP 1 aaln/1@rgw.example.net MGCP 1.0\r\n" }) ≡ world announced }
+    ensures to_gateway { delivered_from GatewayEnd two_lines (world announced)
+        (record { moment = 1; sender = gateway_address two_lines; to = gateway_address two_lines; bytes = codes "RSIP 1 *@rgw.example.net MGCP 1.0\r\n" })
+        ≡ world announced }
+{}
+
+/// Where both ends have one address, each still gets what the other sent.
+pub fn ends_may_share_an_address()
+    ensures { texts_with shared_address (announced ++ issuing (codes "RQNT") (codes "aaln/1@rgw.example.net") (codes "X: 1\r\n") ∷ delivering 2 ∷ [])
+        ≡ codes "RSIP 1 *@rgw.example.net MGCP 1.0\r\nRM: restart\r\n" ∷ codes "200 1 OK\r\n"
+        ∷ codes "RQNT 1 aaln/1@rgw.example.net MGCP 1.0\r\nX: 1\r\n" ∷ codes "200 1 OK\r\n" ∷ [] }
+{}
+
+/// A notification of the last line reaches the agent, and so does one that comes late, behind a later one.
+pub fn notifications_come_in_any_order()
+    ensures last_line { observed_on 2 (agent_after_steps (announced ++ dialling 2 acts.OffHook ∷ delivering 2 ∷ [])) ≡ Happened events.OffHook ∷ [] }
+    ensures first_line { observed_on 1 (agent_after_steps (announced ++ dialling 1 acts.OffHook ∷ dialling 2 acts.OffHook ∷ delivering 3 ∷ delivering 2 ∷ []))
+        ≡ Happened events.OffHook ∷ [] }
+    ensures lost { observed_on 1 (agent_after_steps (announced ++ dialling 1 acts.OffHook ∷ [])) ≡ [] }
+{}
+
+/// What the agent refuses to issue a world refuses.
+pub fn the_agent_judges_what_is_issued()
+    ensures bad { refused_after [] (issuing (codes "AUEPX") (codes "aaln/1@rgw.example.net") []) ≡ Some (by_agent (as_issue bad_command)) }
+    ensures good { refused_after [] audits ≡ None }
+    ensures tick { refused_after [] (ticking 1000) ≡ None }
+    ensures act { refused_after announced (dialling 2 acts.OffHook) ≡ None }
+{}
+
+/// Steps are taken where none is refused, each after those before it.
+pub fn a_list_of_steps_is_taken_step_by_step()
+    ensures none { steps_are_taken two_lines world_opening [] ≡ true }
+    ensures first { steps_are_taken two_lines world_opening (ticking 1001 ∷ ticking 1000 ∷ []) ≡ false }
+    ensures last { steps_are_taken two_lines world_opening (ticking 1000 ∷ ticking 2001 ∷ []) ≡ false }
+    ensures not_yet { steps_are_taken two_lines world_opening (announced ++ delivering 2 ∷ audits ∷ []) ≡ false }
+    ensures there { steps_are_taken two_lines world_opening (announced ++ audits ∷ delivering 2 ∷ []) ≡ true }
+{}
+
+/// A step as it is given is the step of the definitions.
+pub fn steps_are_as_they_are_given()
+    ensures issue { (verb name rest : Bor (List ℕ)) → step_of (steps.Issue verb name rest) ≡ issuing verb.now name.now rest.now }
+    ensures dial { step_of (steps.Dial 2 acts.Flash) ≡ dialling 2 acts.Flash }
+    ensures tick { step_of (steps.Tick 7) ≡ ticking 7 }
+    ensures deliver { step_of (steps.Deliver 7) ≡ delivering 7 }
+    ensures before { steps_before (steps.Tick 7 ∷ steps.Deliver 0 ∷ []) 1 ≡ ticking 7 ∷ [] }
+    ensures before_the_first { steps_before (steps.Tick 7 ∷ []) 0 ≡ [] }
+{}
