@@ -67,6 +67,20 @@ fn least_text(alloc: Global, due: &Due) -> io::Result<String> {
     }
 }
 
+// How many fall due one behind the other, of so many at most; these are cleared.
+fn fallen(due: &mut Due, most: u32) -> u32 {
+    let mut last = None;
+    for count in 0..most {
+        let least = due.least();
+        match least {
+            Some(entry) if last < least => due.clear(entry.line, entry.kind),
+            _ => return count,
+        }
+        last = least;
+    }
+    most
+}
+
 /// A table, and as it was kept.
 #[derive(Drop)]
 pub struct DueTale {
@@ -96,23 +110,13 @@ impl DueTale {
         Ok(None)
     }
 
-    // How many fall due one behind the other, of so many at most.
-    fn fallen(&mut self, most: u32) -> u32 {
-        let mut last = None;
-        for count in 0..most {
-            let least = self.due.least();
-            match least {
-                Some(entry) if last < least => self.due.clear(entry.line, entry.kind),
-                _ => return count,
-            }
-            last = least;
-        }
-        most
-    }
-
+    // What falls is cleared in a copy, since text can still be refused.
     fn falls(&mut self, alloc: Global, count: &str) -> io::Result<Option<String>> {
         let most = count.parse::<u32>().unwrap_or(0);
-        unless_number(alloc, u64::from(self.fallen(most)), count)
+        let mut due = self.due.try_copy()?;
+        let unlike = unless_number(alloc, u64::from(fallen(&mut due, most)), count)?;
+        self.due = due;
+        Ok(unlike)
     }
 
     fn keep(&mut self) -> io::Result<Option<String>> {
