@@ -68,6 +68,11 @@ read_command line id confirms =
 abbrev pub both_call : List GatewayEvent
 both_call = ready ++ crcx 1 (codes "aaln/1") [] ∷ crcx 2 (codes "aaln/2") [] ∷ []
 
+-- line 1 has four connections, as many as there may be, and then one is created on any one line
+abbrev pub chosen_among_lines : List GatewayEvent
+chosen_among_lines = ready ++ crcx 1 (codes "aaln/1") [] ∷ crcx 2 (codes "aaln/1") [] ∷ crcx 3 (codes "aaln/1") []
+    ∷ crcx 4 (codes "aaln/1") [] ∷ crcx 5 (codes "$") [] ∷ []
+
 -- the numbers of the connections of a line then
 abbrev pub numbers_at : ℕ → List GatewayEvent → Option (List ℕ)
 numbers_at line events = option_map numbers_in (connections_of (plain two_lines events) line)

@@ -15,7 +15,7 @@ ghost use Rattle.plain_machine.specs.Message.{answer_of, own_of, of_none, answer
 ghost use Rattle.line_isolation.specs.Apart.{is_for_one, keeps_apart, none_lost, commands_read, LinesKeepApart};
 ghost use Rattle.line_isolation.specs.Belonging.{is_of, of_line};
 ghost use Rattle.line_isolation.specs.OwnEvents.{line_read, own_part, own_events};
-ghost use Rattle.line_isolation.specs.Example.{both_dial, one_dials, audit_text, under_one_id, all_are_to_ring, confirmed_by_another, sent_at, sent_alone, signals_at, read_command, both_call, numbers_at, lifted_early};
+ghost use Rattle.line_isolation.specs.Example.{both_dial, one_dials, audit_text, under_one_id, all_are_to_ring, confirmed_by_another, sent_at, sent_alone, signals_at, read_command, both_call, chosen_among_lines, numbers_at, lifted_early};
 
 /// To a line belong the answers to its commands, and its own commands.
 pub fn messages_belong_to_lines()
@@ -153,6 +153,14 @@ pub fn lines_of_one_command_do_not_keep_apart()
     ensures apart { ¬ LinesKeepApart two_lines all_are_to_ring }
     ensures signals { signals_at 1 all_are_to_ring ≡ Some [] }
     ensures alone { signals_at 1 (own_events two_lines 1 all_are_to_ring) ≡ Some (until tones.Ringing 181000 ∷ []) }
+{}
+
+/// A connection on any one line is created on the first that has a place for it: where line 1 is full on line 2, which alone
+/// gets none, since line 1 has a place there.
+pub fn lines_of_which_one_is_chosen_do_not_keep_apart()
+    ensures apart { ¬ LinesKeepApart two_lines chosen_among_lines }
+    ensures numbers { numbers_at 2 chosen_among_lines ≡ Some (1 ∷ []) }
+    ensures alone { numbers_at 2 (own_events two_lines 2 chosen_among_lines) ≡ Some [] }
 {}
 
 /// A command to one line that confirms the answer of another silences the repeat there.
