@@ -1,5 +1,5 @@
 -- What comes to the gateway of the worked examples, which has two lines.
-use Rattle.std.specs.Prelude.{ℕ, List, [], ◌∷◌, ◌++◌, map, codes, Option, option_map}
+use Rattle.std.specs.Prelude.{ℕ, List, [], ◌∷◌, ◌++◌, map, replicate, codes, Option, option_map}
 use Rattle.std.specs.Option.{unwrap_or}
 use Rattle.event_values.specs.declared.observed.Observed.{Observed}
 use Rattle.event_values.specs.declared.observed.Observed.TheVariants.{Happened}
@@ -37,6 +37,20 @@ asks_for_all id local =
 -- line 1 is lifted, dials 5 and 6, and is hung up; the first notification is answered between these
 abbrev pub dials : List GatewayEvent
 dials = phone 1 OffHook ∷ phone 1 (Key Five) ∷ response 200 10000000 ∷ phone 1 (Key Six) ∷ phone 1 OnHook ∷ []
+
+-- a request in which a flash brings another into force, and is not notified
+abbrev pub flash_embeds : GatewayEvent
+flash_embeds = rqnt 7 (codes "aaln/1")
+    (codes "X: 1\r\nR: L/hd(N),L/hu(N),L/hf(E(R(L/hu(N)))),D/[0-9*#ABCD](N)\r\nQ: loop\r\n")
+
+-- one in which keys are collected by a digit map, up to two of them
+abbrev pub keys_are_collected : GatewayEvent
+keys_are_collected = rqnt 7 (codes "aaln/1")
+    (codes "X: 1\r\nR: L/hd(N),L/hu(N),L/hf(N),D/[0-9*#ABCD](D)\r\nD: (xx)\r\nQ: loop\r\n")
+
+-- line 1 is asked for all, and lifted; while its notification is out a key is pressed 65 times
+abbrev pub asked_and_full : List GatewayEvent
+asked_and_full = asks_for_all 7 (codes "aaln/1") ∷ phone 1 OffHook ∷ replicate 65 (phone 1 (Key Five))
 
 -- the course of line 1, where the gateway serves before these events
 abbrev pub course_then : List GatewayEvent → List Step

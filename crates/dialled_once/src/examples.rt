@@ -1,7 +1,7 @@
 //! Worked examples of the definitions, as theorems: each sentence of a definition has one that a slip in it breaks.
 #![tactic(auto, unfolding(crate::proofs::Computing::on_examples))]
 
-ghost use Rattle.std.specs.Prelude.{◌≡◌, ◌++◌, codes, [], ◌∷◌, true, false, Some, None};
+ghost use Rattle.std.specs.Prelude.{◌≡◌, ◌++◌, codes, [], ◌∷◌, length, true, false, Some, None, option_map};
 ghost use Rattle.event_values.specs.declared.observed.Observed.TheVariants.{Happened, Ended};
 ghost use Rattle.mg_line.specs.declared.phone.Act.TheVariants as acts;
 ghost use Rattle.mg_line.specs.declared.phone.Key.TheVariants as keys;
@@ -14,7 +14,7 @@ ghost use Rattle.mg_line.specs.Story.{requests, with_handling};
 ghost use Rattle.dialled_once.specs.Course.{acts as does, accepts, notifies};
 ghost use Rattle.dialled_once.specs.Following.{Follow, AreInStep, OnceForEach, OnceFrom};
 ghost use Rattle.dialled_once.specs.Keeping.{happened_in, is_of_phone};
-ghost use Rattle.dialled_once.specs.Example.{lifted, hung_up, five, six, asks_for_all, dials, course_then, done_then, told_then, left_then, accepted_then, AskedForAll};
+ghost use Rattle.dialled_once.specs.Example.{lifted, hung_up, five, six, asks_for_all, dials, flash_embeds, keys_are_collected, asked_and_full, course_then, done_then, told_then, left_then, accepted_then, AskedForAll};
 
 /// A course has the acts of its line and its notifications, in their order, each notification where it is first sent, by
 /// what its X and its O say.
@@ -94,6 +94,28 @@ pub fn else_something_may_be_skipped()
         ∷ rqnt 8 (codes "aaln/1") (codes "X: 2\r\nR: L/hd(A)\r\n") ∷ []) ≡ [] }
     ensures accumulated_left { left_then (rqnt 7 (codes "aaln/1") (codes "X: 1\r\nR: L/hd(A)\r\n") ∷ phone 1 acts.OffHook
         ∷ rqnt 8 (codes "aaln/1") (codes "X: 2\r\nR: L/hd(A)\r\n") ∷ []) ≡ Some [] }
+{}
+
+/// So is what was accumulated before the line was asked for all; an event that brings an embedded request into force; and a
+/// digit that is collected by a digit map which more digits have to complete.
+pub fn else_an_act_may_be_skipped()
+    ensures before { told_then (rqnt 6 (codes "aaln/1") (codes "X: 1\r\nR: L/hd(A)\r\n") ∷ phone 1 acts.OffHook
+        ∷ asks_for_all 7 (codes "aaln/1") ∷ []) ≡ [] }
+    ensures before_left { left_then (rqnt 6 (codes "aaln/1") (codes "X: 1\r\nR: L/hd(A)\r\n") ∷ phone 1 acts.OffHook
+        ∷ asks_for_all 7 (codes "aaln/1") ∷ []) ≡ Some [] }
+    ensures embedded { told_then (flash_embeds ∷ phone 1 acts.OffHook ∷ response 200 10000000 ∷ phone 1 acts.Flash ∷ []) ≡ lifted ∷ [] }
+    ensures embedded_left { left_then (flash_embeds ∷ phone 1 acts.OffHook ∷ response 200 10000000 ∷ phone 1 acts.Flash ∷ []) ≡ Some [] }
+    ensures collected { told_then (keys_are_collected ∷ phone 1 acts.OffHook ∷ response 200 10000000 ∷ phone 1 (acts.Key keys.Five) ∷ [])
+        ≡ lifted ∷ [] }
+    ensures collected_left { left_then (keys_are_collected ∷ phone 1 acts.OffHook ∷ response 200 10000000 ∷ phone 1 (acts.Key keys.Five) ∷ [])
+        ≡ Some [] }
+{}
+
+/// The 65th event that waits behind a notification is lost: of 66 acts one is told, and 64 wait.
+pub fn else_an_act_may_be_lost()
+    ensures done { length (done_then asked_and_full) ≡ 66 }
+    ensures told { told_then asked_and_full ≡ lifted ∷ [] }
+    ensures left { option_map length (left_then asked_and_full) ≡ Some 64 }
 {}
 
 /// A notification follows the latest request that was accepted before it, and `0` before any.
