@@ -1,0 +1,448 @@
+-- The command in flight of a line that gave nothing up is the last one that it began, and all before it were answered.
+use Rattle.std.proofs.Common.{◌≡◌, ℕ, ◌≤◌, Bool, true, false, ◌==◌, ◌&&◌, ◌||◌, if◌then◌else◌, List, [], ◌∷◌, ◌++◌, Option, Some, None, inl, inr, refl, sym, ap, subst, ◌∙◌, append-nil}
+use Rattle.std.specs.Prelude.{◌⊎◌, IfSome, not, nat_le, option_map}
+use Rattle.std.specs.Option.{unwrap_or}
+use Rattle.std.specs.List.{list_any}
+use Rattle.std.proofs.lemmas.Bool.{eqb-true, leb-true}
+use Rattle.std.proofs.lemmas.Grind.{flat_map-append}
+use Rattle.std.proofs.lemmas.Option.{none-some}
+use Rattle.endpoint_names.specs.declared.entity.Entity.{Entity}
+use Rattle.mg_line.specs.declared.request.Request.{Request}
+use Rattle.mg_line.specs.declared.state.State.{State}
+use Rattle.mg_line.specs.declared.state.State.TheVariants.{Notification}
+use Rattle.mg_line.specs.Line.{LineState, LineDone, Notice}
+use Rattle.mg_line.specs.Acting.{phoned}
+use Rattle.mg_line.specs.Answering.{answered}
+use Rattle.mg_line.specs.Opening.{opened}
+use Rattle.mg_line.specs.Falling.{fired}
+use Rattle.mg_line.specs.Laws.{AwaitsIfNotified}
+use Rattle.mg_line.proofs.OnceLemmas.{notifies_once}
+use Rattle.outbound.specs.declared.repeat.Repeat.{Repeat}
+use Rattle.outbound.specs.declared.repeat.Repeat.TheVariants.{Sent as SentAgain, GivenUp}
+use Rattle.outbound.specs.declared.reply.Reply.{Reply}
+use Rattle.outbound.specs.declared.reply.Reply.TheVariants as replies
+use Rattle.outbound.specs.declared.reply.Reply.TheVariants.{Provisional, Stranger}
+use Rattle.outbound.specs.Flight.{InFlight, repeat_of, repeated, reply_by, reply_of, heard}
+use Rattle.outbound.proofs.LifeLaws.{repeat_same, reply_same}
+use Rattle.restart.specs.declared.restart.Restart.{Restart}
+use Rattle.restart.specs.declared.restart.Restart.TheVariants.{Waiting, Announced, Serving}
+use Rattle.restart.specs.declared.heard.Heard.{Heard}
+use Rattle.restart.specs.declared.heard.Heard.TheVariants.{Nothing, PutOff, Redirected, Answered}
+use Rattle.restart.specs.Restarting.{is_serving, heard_of}
+use Rattle.plain_machine.specs.declared.due_item.Due.{Due}
+use Rattle.plain_machine.specs.declared.due_item.Due.TheVariants.{OfLine, Resend, Announce}
+use Rattle.plain_machine.specs.declared.line_deed.LineDeed.{LineDeed}
+use Rattle.plain_machine.specs.declared.post.Post.{Post}
+use Rattle.plain_machine.specs.declared.response.Response.{Response}
+use Rattle.plain_machine.specs.declared.setup.Setup.{Setup}
+use Rattle.plain_machine.specs.declared.station.Station.{Station}
+use Rattle.plain_machine.specs.Announcing.{announcement, announced, announced_by, announced_on, heard_by, heard_on, replied}
+use Rattle.plain_machine.specs.Falling.{happened_on}
+use Rattle.plain_machine.specs.Flights.{IsClosed}
+use Rattle.plain_machine.specs.Message.{Said, answer, again, command, resent, acknowledgement, is_answer, Sent}
+use Rattle.plain_machine.specs.Notifying.{Turn, silent, posted, notification, with_notice, noted}
+use Rattle.plain_machine.specs.Posting.{repeated_as, resent_by, resent_on}
+use Rattle.plain_machine.specs.Requesting.{with_entity, with_connections, asked_if, deed_on}
+use Rattle.plain_machine.specs.Responding.{responded_as, responded_on, redirected_on, opened_on}
+use Rattle.plain_machine.proofs.FlightLaws.{WaitsOn, phoned_waits, fired_waits, asked_waits, redirected_announced}
+use Rattle.machine_laws.specs.Saying.{Issued, begun_at, begun_in}
+use Rattle.machine_laws.proofs.EachLemmas.{Each, each_push}
+use Rattle.dialled_end_to_end.specs.GivenUp.{announces, has_given_up}
+use Rattle.dialled_end_to_end.proofs.AloneLemmas.{TurnKeeps, StationTurns}
+
+-- what is in flight, as what began
+abbrev pub flying : Option InFlight → List Issued
+flying None = []
+flying (Some flight) = (record { id = flight.id; moment = flight.first; text = flight.text }) ∷ []
+
+abbrev is_waiting : Restart → Bool
+is_waiting (Waiting until) = true
+is_waiting Announced = false
+is_waiting Serving = false
+
+-- while an announcement waits nothing is in flight; while something is in flight the line waits
+abbrev Rests : Restart → Option InFlight → State → Type 0
+Rests (Waiting until) pending state = (pending ≡ None) × (state ≡ Notification)
+Rests Announced pending state = state ≡ Notification
+Rests Serving pending state = IfSome pending (λ flight. state ≡ Notification)
+
+rests_is : (restart : Restart) (pending : Option InFlight) (state : State) → Rests restart pending state → (state ≡ Notification) ⊎ ((restart ≡ Serving) × (pending ≡ None))
+rests_is (Waiting until) pending state rests = inl rests.1
+rests_is Announced pending state rests = inl rests
+rests_is Serving None state rests = inr (refl, refl)
+rests_is Serving (Some flight) state rests = inl rests
+
+rests_on : (restart : Restart) (pending : Option InFlight) (was is : State) → Rests restart pending was → is ≡ Notification → Rests restart pending is
+rests_on (Waiting until) pending was is rests waits = (rests.0, waits)
+rests_on Announced pending was is rests waits = waits
+rests_on Serving None was is rests waits = tt
+rests_on Serving (Some flight) was is rests waits = waits
+
+-- another send of what is in flight
+rests_again : (restart : Restart) (flight other : InFlight) (state : State) → Rests restart (Some flight) state → Rests restart (Some other) state
+rests_again (Waiting until) flight other state rests = absurd (none-some flight (sym rests.0))
+rests_again Announced flight other state rests = rests
+rests_again Serving flight other state rests = rests
+
+flight_waits : (restart : Restart) (flight : InFlight) (state : State) → Rests restart (Some flight) state → state ≡ Notification
+flight_waits (Waiting until) flight state rests = rests.1
+flight_waits Announced flight state rests = rests
+flight_waits Serving flight state rests = rests
+
+abbrev has_announced : List Sent → Bool
+has_announced sent = list_any (λ one. announces one.said) sent
+
+announced_before : (sent more : List Sent) → has_announced sent ≡ true → has_announced (sent ++ more) ≡ true
+announced_before [] more is = absurd cc
+announced_before (one ∷ sent) more is = by_test (announces one.said) is (announced_before sent more) where
+  by_test : (b : Bool) → (b || has_announced sent) ≡ true → (has_announced sent ≡ true → has_announced (sent ++ more) ≡ true) → (b || has_announced (sent ++ more)) ≡ true
+  by_test true is rest = refl
+  by_test false is rest = rest is
+
+announced_last : (sent : List Sent) (one : Sent) → announces one.said ≡ true → has_announced (sent ++ one ∷ []) ≡ true
+announced_last [] one is = ap (λ (b : Bool). b || false) is
+announced_last (other ∷ sent) one is = by_test (announces other.said) (announced_last sent one is) where
+  by_test : (b : Bool) → has_announced (sent ++ one ∷ []) ≡ true → (b || has_announced (sent ++ one ∷ [])) ≡ true
+  by_test true rest = refl
+  by_test false rest = rest
+
+-- something was given up: the line announced itself, or an announcement waits
+abbrev Gone : List Sent → Restart → Type 0
+Gone sent restart = (has_announced sent ≡ true) ⊎ (is_waiting restart ≡ true)
+
+gone_on : (sent more : List Sent) (restart : Restart) → Gone sent restart → Gone (sent ++ more) restart
+gone_on sent more restart (inl is) = inl (announced_before sent more is)
+gone_on sent more restart (inr is) = inr is
+
+gone_is : (sent : List Sent) (post : Post) → Gone sent post.restart → has_given_up sent post ≡ true
+gone_is sent post (inl is) = ap (λ (b : Bool). b || not (is_serving post.restart)) is
+gone_is sent post (inr is) = by_restart post.restart is where
+  or_true : (b : Bool) → (b || true) ≡ true
+  or_true true = refl
+  or_true false = refl
+
+  by_restart : (restart : Restart) → is_waiting restart ≡ true → (has_announced sent || not (is_serving restart)) ≡ true
+  by_restart (Waiting until) e = or_true (has_announced sent)
+  by_restart Announced e = absurd cc
+  by_restart Serving e = absurd cc
+
+-- a final response to what is in flight
+final_is : (flight : InFlight) (id code : ℕ) → reply_of flight id code ≡ replies.Answered → (flight.id ≡ id) × (200 ≤ code)
+final_is flight id code is = by_id (flight.id == id) refl is where
+  by_high : (a b : Bool) → nat_le 200 code ≡ a → (if (a && b) then replies.Answered else Stranger) ≡ replies.Answered → 200 ≤ code
+  by_high true b high e = leb-true 200 code high
+  by_high false b high e = absurd cc
+
+  by_low : (b : Bool) → (if b then Provisional else (if nat_le 200 code && nat_le code 999 then replies.Answered else Stranger)) ≡ replies.Answered → 200 ≤ code
+  by_low true e = absurd cc
+  by_low false e = by_high (nat_le 200 code) (nat_le code 999) refl e
+
+  by_id : (b : Bool) → (flight.id == id) ≡ b → (if b then reply_by code else Stranger) ≡ replies.Answered → (flight.id ≡ id) × (200 ≤ code)
+  by_id true same e = (eqb-true flight.id id same, by_low (nat_le 100 code && nat_le code 199) e)
+  by_id false other e = absurd cc
+
+-- A holds of the ids of final responses; B holds as long as nothing was given up
+module _ (A : ℕ → Type 0) (B : Type 0) where
+  -- nothing was given up: all that began was answered, but for what is in flight
+  pub record Fine (sent : List Sent) (restart : Restart) (pending : Option InFlight) : Type 0 where
+    pub still : B
+    pub serving : restart ≡ Serving
+    pub settled : List Issued
+    pub split : begun_in sent ≡ settled ++ flying pending
+    pub answered : Each (λ (b : Issued). A b.id) settled
+
+  pub record Flies (sent : List Sent) (station : Station) : Type 0 where
+    rests : Rests station.post.restart station.post.pending station.line.state
+    either : Fine sent station.post.restart station.post.pending ⊎ Gone sent station.post.restart
+
+  begun_both : (some more : List Sent) → begun_in (some ++ more) ≡ begun_in some ++ begun_in more
+  begun_both some more = flat_map-append begun_at some more
+
+  -- what is sent begins nothing
+  fine_on : (sent more : List Sent) (restart : Restart) (pending : Option InFlight) → begun_in more ≡ [] → Fine sent restart pending → Fine (sent ++ more) restart pending
+  fine_on sent more restart pending none f = record {
+    still = f.still;
+    serving = f.serving;
+    settled = f.settled;
+    split = begun_both sent more ∙ ap (λ (x : List Issued). begun_in sent ++ x) none ∙ append-nil (begun_in sent) ∙ f.split;
+    answered = f.answered;
+  }
+
+  either_on : (sent more : List Sent) (restart : Restart) (pending : Option InFlight) → begun_in more ≡ [] → Fine sent restart pending ⊎ Gone sent restart
+      → Fine (sent ++ more) restart pending ⊎ Gone (sent ++ more) restart
+  either_on sent more restart pending none (inl f) = inl (fine_on sent more restart pending none f)
+  either_on sent more restart pending none (inr g) = inr (gone_on sent more restart g)
+
+  -- What a line tells
+
+  noted_silent : (setup : Setup) (line moment : ℕ) (station : Station) (done : LineDone) → done.notice ≡ None → noted setup line moment station done ≡ silent (record station { line = done.line })
+  unfolding noted
+  noted_silent setup line moment station done none = ap (with_notice setup line moment (record station { line = done.line })) none
+
+  -- nothing
+  waits_flies : (setup : Setup) (sent : List Sent) (line moment : ℕ) (station : Station) (done : LineDone) → WaitsOn done → Flies sent station
+      → TurnKeeps Flies sent (noted setup line moment station done)
+  waits_flies setup sent line moment station done on f =
+      let still : TurnKeeps Flies sent (silent (record station { line = done.line })) = record {
+        rests = rests_on station.post.restart station.post.pending station.line.state done.line.state f.rests on.state;
+        either = either_on sent [] station.post.restart station.post.pending refl f.either;
+      } in
+      subst (λ (t : Turn). TurnKeeps Flies sent t) (sym (noted_silent setup line moment station done on.silent)) still
+
+  -- something, where nothing is in flight
+  begins_fine : (setup : Setup) (sent : List Sent) (line moment : ℕ) (station : Station) (done : LineDone) (notice : Notice)
+      → Fine sent station.post.restart None → Fine (sent ++ (with_notice setup line moment (record station { line = done.line }) (Some notice)).sent) station.post.restart
+      (with_notice setup line moment (record station { line = done.line }) (Some notice)).station.post.pending
+  unfolding notification
+  begins_fine setup sent line moment station done notice f =
+      let turn : Turn = with_notice setup line moment (record station { line = done.line }) (Some notice) in
+      record {
+        still = f.still;
+        serving = f.serving;
+        settled = f.settled;
+        split = begun_both sent turn.sent ∙ ap (λ (x : List Issued). x ++ begun_in turn.sent) (f.split ∙ append-nil f.settled);
+        answered = f.answered;
+      }
+
+  free_flies : (setup : Setup) (sent : List Sent) (line moment : ℕ) (station : Station) (done : LineDone) → station.post.restart ≡ Serving → station.post.pending ≡ None → AwaitsIfNotified done
+      → Fine sent station.post.restart station.post.pending ⊎ Gone sent station.post.restart → TurnKeeps Flies sent (noted setup line moment station done)
+  unfolding noted
+  free_flies setup sent line moment station done serving none awaits either = by_notice done.notice awaits where
+    free : Fine sent station.post.restart None ⊎ Gone sent station.post.restart
+    free = subst (λ (p : Option InFlight). Fine sent station.post.restart p ⊎ Gone sent station.post.restart) none either
+
+    by_either : (notice : Notice) → Fine sent station.post.restart None ⊎ Gone sent station.post.restart
+        → Fine (sent ++ (with_notice setup line moment (record station { line = done.line }) (Some notice)).sent) station.post.restart
+        (with_notice setup line moment (record station { line = done.line }) (Some notice)).station.post.pending
+        ⊎ Gone (sent ++ (with_notice setup line moment (record station { line = done.line }) (Some notice)).sent) station.post.restart
+    by_either notice (inl f) = inl (begins_fine setup sent line moment station done notice f)
+    by_either notice (inr g) = inr (gone_on sent (with_notice setup line moment (record station { line = done.line }) (Some notice)).sent station.post.restart g)
+
+    by_notice : (notice : Option Notice) → AwaitsIfNotified (record { line = done.line; notice = notice })
+        → TurnKeeps Flies sent (with_notice setup line moment (record station { line = done.line }) notice)
+    by_notice None awaits = record {
+      rests = subst (λ (r : Restart). Rests r station.post.pending done.line.state) (sym serving) (subst (λ (p : Option InFlight). Rests Serving p done.line.state) (sym none) tt);
+      either = either_on sent [] station.post.restart station.post.pending refl either;
+    }
+    by_notice (Some notice) awaits = record {
+      rests = subst (λ (r : Restart). Rests r (with_notice setup line moment (record station { line = done.line }) (Some notice)).station.post.pending done.line.state) (sym serving) awaits.state;
+      either = by_either notice free;
+    }
+
+  noted_flies : (setup : Setup) (sent : List Sent) (line moment : ℕ) (station : Station) (done : LineDone) → AwaitsIfNotified done → (station.line.state ≡ Notification → WaitsOn done)
+      → Flies sent station → TurnKeeps Flies sent (noted setup line moment station done)
+  noted_flies setup sent line moment station done awaits waits f = by_rests (rests_is station.post.restart station.post.pending station.line.state f.rests) where
+    by_rests : (station.line.state ≡ Notification) ⊎ ((station.post.restart ≡ Serving) × (station.post.pending ≡ None)) → TurnKeeps Flies sent (noted setup line moment station done)
+    by_rests (inl is) = waits_flies setup sent line moment station done (waits is) f
+    by_rests (inr free) = free_flies setup sent line moment station done free.0 free.1 awaits f.either
+
+  asked_awaits : (request : Option Request) (line : LineState) (moment : ℕ) → AwaitsIfNotified (asked_if request line moment)
+  asked_awaits None line moment = tt
+  asked_awaits (Some request) line moment = notifies_once.request line request moment
+
+  deed_flies : (setup : Setup) (sent : List Sent) (deed : LineDeed) (moment line : ℕ) (station : Station) → Flies sent station → TurnKeeps Flies sent (deed_on setup deed moment line station)
+  unfolding deed_on
+  deed_flies setup sent deed moment line station f =
+      noted_flies setup sent line moment (with_connections deed (with_entity deed.entity station)) (asked_if deed.request station.line moment)
+      (asked_awaits deed.request station.line moment) (asked_waits deed.request station.line moment) (record { rests = f.rests; either = f.either })
+
+  opened_flies : (setup : Setup) (sent : List Sent) (agent : Option Entity) (moment line : ℕ) (station : Station) → IsClosed station → Flies sent station
+      → TurnKeeps Flies sent (opened_on agent setup moment line station)
+  unfolding opened_on
+  opened_flies setup sent agent moment line station closed f =
+      free_flies setup sent line moment (with_entity agent station) (opened station.line moment) closed.restart closed.pending (notifies_once.serving station.line moment) f.either
+
+  redirected_flies : (sent : List Sent) (agent : Entity) (line : ℕ) (station : Station) → Flies sent station → TurnKeeps Flies sent (redirected_on agent line station)
+  unfolding redirected_on
+  redirected_flies sent agent line station f =
+      record { rests = f.rests; either = either_on sent [] station.post.restart station.post.pending refl f.either }
+
+  -- What falls due of a post
+
+  -- the same message, sent once more or put off
+  same_flying : (flight other : InFlight) → other.id ≡ flight.id → other.text ≡ flight.text → other.first ≡ flight.first → flying (Some other) ≡ flying (Some flight)
+  same_flying flight other id text first =
+      ap (λ (i : ℕ). (record { id = i; moment = other.first; text = other.text }) ∷ []) id
+      ∙ ap (λ (m : ℕ). (record { id = flight.id; moment = m; text = other.text }) ∷ []) first
+      ∙ ap (λ (t : List ℕ). (record { id = flight.id; moment = flight.first; text = t }) ∷ []) text
+
+  either_again : (sent more : List Sent) (restart : Restart) (flight other : InFlight) → begun_in more ≡ [] → flying (Some other) ≡ flying (Some flight)
+      → Fine sent restart (Some flight) ⊎ Gone sent restart → Fine (sent ++ more) restart (Some other) ⊎ Gone (sent ++ more) restart
+  either_again sent more restart flight other none same (inr g) = inr (gone_on sent more restart g)
+  either_again sent more restart flight other none same (inl f) =
+      let on = fine_on sent more restart (Some flight) none f in
+      inl (record {
+        still = on.still;
+        serving = on.serving;
+        settled = on.settled;
+        split = on.split ∙ ap (λ (x : List Issued). on.settled ++ x) (sym same);
+        answered = on.answered;
+      })
+
+  resent_flies : (setup : Setup) (sent : List Sent) (line moment : ℕ) (station : Station) → Flies sent station → TurnKeeps Flies sent (posted station (resent_on setup line moment station.post))
+  resent_flies setup sent line moment station f = by_pending station.post.pending f.rests f.either where
+    by_repeat : (flight : InFlight) (repeat : Repeat) → Rests station.post.restart (Some flight) station.line.state
+        → Fine sent station.post.restart (Some flight) ⊎ Gone sent station.post.restart
+        → TurnKeeps Flies sent (posted station (repeated_as repeat setup line moment station.post flight))
+    by_repeat flight SentAgain rests either =
+        let same = repeat_same flight moment in
+        record {
+          rests = rests_again station.post.restart flight (repeated flight moment) station.line.state rests;
+          either = either_again sent _ station.post.restart flight (repeated flight moment) refl (same_flying flight (repeated flight moment) same.same_id same.same_text same.same_start) either;
+        }
+    by_repeat flight GivenUp rests either = record { rests = (refl, flight_waits station.post.restart flight station.line.state rests); either = inr (inr refl) }
+
+    by_pending : (pending : Option InFlight) → Rests station.post.restart pending station.line.state → Fine sent station.post.restart pending ⊎ Gone sent station.post.restart
+        → TurnKeeps Flies sent (posted station (resent_by pending setup line moment station.post))
+    by_pending None rests either = record { rests = f.rests; either = either_on sent [] station.post.restart station.post.pending refl f.either }
+    by_pending (Some flight) rests either = by_repeat flight (repeat_of flight moment) rests either
+
+  -- An announcement
+
+  announced_flies : (setup : Setup) (sent : List Sent) (line moment : ℕ) (station : Station) (post : Post) → station.line.state ≡ Notification
+      → TurnKeeps Flies sent (posted station (announced setup line moment post))
+  unfolding announced announcement
+  announced_flies setup sent line moment station post waits = record { rests = waits; either = inr (inl (announced_last sent _ refl)) }
+
+  announced_on_flies : (setup : Setup) (sent : List Sent) (line moment : ℕ) (station : Station) → Flies sent station → TurnKeeps Flies sent (posted station (announced_on setup line moment station.post))
+  announced_on_flies setup sent line moment station f = by_restart station.post.restart f.rests where
+    same : TurnKeeps Flies sent (silent station)
+    same = record { rests = f.rests; either = either_on sent [] station.post.restart station.post.pending refl f.either }
+
+    by_restart : (restart : Restart) → Rests restart station.post.pending station.line.state → TurnKeeps Flies sent (posted station (announced_by restart setup line moment station.post))
+    by_restart (Waiting until) rests = announced_flies setup sent line moment station station.post rests.1
+    by_restart Announced rests = same
+    by_restart Serving rests = same
+
+  happened_flies : (setup : Setup) (sent : List Sent) (due : Due) (line moment : ℕ) (station : Station) → Flies sent station → TurnKeeps Flies sent (happened_on due setup line moment station)
+  unfolding happened_on
+  happened_flies setup sent (OfLine due) line moment station f =
+      noted_flies setup sent line moment station (fired station.line due moment) (notifies_once.firing station.line due moment) (fired_waits station.line due moment) f
+  happened_flies setup sent Resend line moment station f = resent_flies setup sent line moment station f
+  happened_flies setup sent Announce line moment station f = announced_on_flies setup sent line moment station f
+
+  -- A response
+
+  -- the answer: of what is in flight, by a final response with its id
+  record IsAnswered (post : Post) (response : Response) : Type 0 where
+    flight : InFlight
+    flies : post.pending ≡ Some flight
+    same : flight.id ≡ response.id
+    final : 200 ≤ response.code
+
+  answered_is : (post : Post) (response : Response) (agent : Option Entity) → heard_on post response ≡ Answered agent → IsAnswered post response
+  answered_is post response agent e = by_pending post.pending refl e where
+    by_reply : (flight : InFlight) → post.pending ≡ Some flight → (reply : Reply) → reply_of flight response.id response.code ≡ reply
+        → heard_of post.restart reply response.code response.entity ≡ Answered agent → IsAnswered post response
+    by_reply flight at Stranger is e = absurd cc
+    by_reply flight at Provisional is e = absurd cc
+    by_reply flight at replies.Answered is e =
+        let final = final_is flight response.id response.code is in
+        record { flight = flight; flies = at; same = final.0; final = final.1 }
+
+    by_pending : (pending : Option InFlight) → post.pending ≡ pending → heard_by pending post.restart response ≡ Answered agent → IsAnswered post response
+    by_pending None at e = absurd cc
+    by_pending (Some flight) at e = by_reply flight at (reply_of flight response.id response.code) refl e
+
+  put_off_flies : (sent : List Sent) (response : Response) (moment : ℕ) (restart : Restart) (pending : Option InFlight) (state : State) → Rests restart pending state
+      → Fine sent restart pending ⊎ Gone sent restart
+      → Rests restart (option_map (λ (flight : InFlight). heard flight response.id response.code moment) pending) state
+      × (Fine (sent ++ []) restart (option_map (λ (flight : InFlight). heard flight response.id response.code moment) pending) ⊎ Gone (sent ++ []) restart)
+  put_off_flies sent response moment restart None state rests either = (rests, either_on sent [] restart None refl either)
+  put_off_flies sent response moment restart (Some flight) state rests either =
+      let same = reply_same flight response.id response.code moment in
+      let other = heard flight response.id response.code moment in
+      (rests_again restart flight other state rests, either_again sent [] restart flight other refl (same_flying flight other same.same_id same.same_text same.same_start) either)
+
+  -- what was in flight is settled
+  settles : (sent : List Sent) (restart : Restart) (pending : Option InFlight) (flight : InFlight) (state : State) → pending ≡ Some flight → A flight.id → Rests restart pending state
+      → Fine sent restart pending ⊎ Gone sent restart → Fine sent Serving None ⊎ Gone sent Serving
+  settles sent restart pending flight state at holds rests (inl f) = inl (record {
+    still = f.still;
+    serving = refl;
+    settled = f.settled ++ flying (Some flight);
+    split = f.split ∙ ap (λ (p : Option InFlight). f.settled ++ flying p) at ∙ sym (append-nil (f.settled ++ flying (Some flight)));
+    answered = each_push (λ (b : Issued). A b.id) f.settled (record { id = flight.id; moment = flight.first; text = flight.text }) f.answered holds;
+  })
+  settles sent restart pending flight state at holds rests (inr (inl is)) = inr (inl is)
+  settles sent (Waiting until) pending flight state at holds rests (inr (inr is)) = absurd (none-some flight (sym rests.0 ∙ at))
+  settles sent Announced pending flight state at holds rests (inr (inr is)) = absurd cc
+  settles sent Serving pending flight state at holds rests (inr (inr is)) = absurd cc
+
+  responded_flies : (setup : Setup) (sent : List Sent) (line moment : ℕ) (response : Response) (station : Station) → (200 ≤ response.code → A response.id) → Flies sent station
+      → TurnKeeps Flies sent (responded_on setup line moment response station)
+  unfolding responded_on replied
+  responded_flies setup sent line moment response station holds f = by_heard (heard_on station.post response) refl where
+    by_heard : (heard : Heard) → heard_on station.post response ≡ heard → TurnKeeps Flies sent (responded_as heard setup line moment response station)
+    by_heard Nothing e = record { rests = f.rests; either = either_on sent [] station.post.restart station.post.pending refl f.either }
+    by_heard PutOff e =
+        let both = put_off_flies sent response moment station.post.restart station.post.pending station.line.state f.rests f.either in
+        record { rests = both.0; either = both.1 }
+    by_heard (Redirected agent) e =
+        let rests : Rests Announced station.post.pending station.line.state =
+        subst (λ (r : Restart). Rests r station.post.pending station.line.state) (redirected_announced station.post response agent e) f.rests in
+        announced_flies setup sent line moment station (record station.post { entity = agent }) rests
+    by_heard (Answered agent) e =
+        let is = answered_is station.post response agent e in
+        let to : Station = record station { post = record station.post { entity = unwrap_or agent station.post.entity; pending = None; restart = Serving } } in
+        free_flies setup sent line moment to (answered station.line moment) refl refl (notifies_once.answering station.line moment)
+        (settles sent station.post.restart station.post.pending is.flight station.line.state is.flies (subst A (sym is.same) (holds is.final)) f.rests f.either)
+
+  -- an answer to a command goes out
+  answer_begins : (one : Sent) → is_answer one.said ≡ true → begun_in (one ∷ []) ≡ []
+  answer_begins one is = by_said one.said is where
+    by_said : (said : Said) → is_answer said ≡ true → begun_in ((record one { said = said }) ∷ []) ≡ []
+    by_said (answer response) e = refl
+    by_said (again text) e = refl
+    by_said (command said) e = absurd cc
+    by_said (resent text) e = absurd cc
+    by_said (acknowledgement response) e = absurd cc
+
+  pub flight_turns : (setup : Setup) → StationTurns setup (λ (response : Response). 200 ≤ response.code → A response.id) Flies
+  flight_turns setup = record {
+    act = λ sent line moment act station f.
+        noted_flies setup sent line moment station (phoned station.line act moment) (notifies_once.act station.line act moment) (phoned_waits station.line act moment) f;
+    deed = deed_flies setup;
+    response = responded_flies setup;
+    happening = happened_flies setup;
+    redirecting = redirected_flies;
+    opening = opened_flies setup;
+    answering = λ sent one station is f. record { rests = f.rests; either = either_on sent (one ∷ []) station.post.restart station.post.pending (answer_begins one is) f.either };
+  }
+
+  -- a line that is as it opens
+  pub opening_flies : (station : Station) → B → station.post.restart ≡ Serving → station.post.pending ≡ None → Flies [] station
+  opening_flies station still serving none = record {
+    rests = subst (λ (r : Restart). Rests r station.post.pending station.line.state) (sym serving) (subst (λ (p : Option InFlight). Rests Serving p station.line.state) (sym none) tt);
+    either = inl (record { still = still; serving = serving; settled = []; split = sym (ap flying none); answered = tt });
+  }
+
+  -- by what it sent and its post
+
+  pub gave_nothing_up : (sent : List Sent) (station : Station) → Flies sent station → has_given_up sent station.post ≡ false → Fine sent station.post.restart station.post.pending
+  gave_nothing_up sent station f none = by_either f.either where
+    by_either : Fine sent station.post.restart station.post.pending ⊎ Gone sent station.post.restart → Fine sent station.post.restart station.post.pending
+    by_either (inl fine) = fine
+    by_either (inr gone) = absurd (let clash : true ≡ false = sym (gone_is sent station.post gone) ∙ none in cc)
+
+-- What was given up stays so
+
+gone_from : (A : ℕ → Type 0) (B : Type 0) (sent : List Sent) (station : Station) → Flies A B sent station → has_given_up sent station.post ≡ true → Gone sent station.post.restart
+gone_from A B sent station f given = by_either f.either where
+  or_false : (b : Bool) → (b || false) ≡ true → b ≡ true
+  or_false true e = refl
+  or_false false e = absurd cc
+
+  by_either : Fine A B sent station.post.restart station.post.pending ⊎ Gone sent station.post.restart → Gone sent station.post.restart
+  by_either (inl fine) = inl (or_false (has_announced sent) (sym (ap (λ (r : Restart). has_announced sent || not (is_serving r)) fine.serving) ∙ given))
+  by_either (inr gone) = gone
+
+pub starts_gone : (A : ℕ → Type 0) (B : Type 0) (sent : List Sent) (station : Station) → Flies A B sent station → has_given_up sent station.post ≡ true
+    → Flies (λ (id : ℕ). Unit {0}) ⊥ sent station
+starts_gone A B sent station f given = record { rests = f.rests; either = inr (gone_from A B sent station f given) }
+
+pub stays_gone : (sent : List Sent) (station : Station) → Flies (λ (id : ℕ). Unit {0}) ⊥ sent station → has_given_up sent station.post ≡ true
+stays_gone sent station f = by_either f.either where
+  by_either : Fine (λ (id : ℕ). Unit {0}) ⊥ sent station.post.restart station.post.pending ⊎ Gone sent station.post.restart → has_given_up sent station.post ≡ true
+  by_either (inl fine) = absurd fine.still
+  by_either (inr gone) = gone_is sent station.post gone

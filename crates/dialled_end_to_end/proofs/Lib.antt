@@ -1,0 +1,3 @@
+pub mod AloneLemmas
+pub mod FlightLemmas
+pub mod WellLemmas
