@@ -1,1 +1,2 @@
 pub mod GivenUp
+pub mod Telling
