@@ -3,3 +3,7 @@ pub mod FlightLemmas
 pub mod WellLemmas
 pub mod ToldLemmas
 pub mod MatchLemmas
+pub mod TakenLemmas
+pub mod MoveLemmas
+pub mod WorldLemmas
+pub mod EndLemmas

@@ -17,7 +17,7 @@ Apart (id ∷ ids) = Each (λ (other : ℕ). id ≢ other) ids × Apart ids
 abbrev pub In : ℕ → List ℕ → Type 0
 In id ids = OneOf (λ (other : ℕ). other ≡ id) ids
 
-apart_front : (some more : List ℕ) → Apart (some ++ more) → Apart some
+pub apart_front : (some more : List ℕ) → Apart (some ++ more) → Apart some
 apart_front [] more apart = tt
 apart_front (id ∷ some) more apart = (each_front (λ (other : ℕ). id ≢ other) some more apart.0, apart_front some more apart.1)
 
@@ -74,7 +74,7 @@ module _ {X : Type 0} (f : X → ℕ) where
   one_with id (x ∷ xs) (inl same) = inl same
   one_with id (x ∷ xs) (inr one) = inr (one_with id xs one)
 
-  each_in : (xs : List X) → Each (λ (x : X). In (f x) (map f xs)) xs
+  pub each_in : (xs : List X) → Each (λ (x : X). In (f x) (map f xs)) xs
   each_in [] = tt
   each_in (x ∷ xs) = (inl refl, each_weaker (λ (y : X). In (f y) (map f xs)) (λ (y : X). In (f y) (f x ∷ map f xs)) (λ y one. inr one) xs (each_in xs))
 
@@ -126,7 +126,7 @@ in_either id last (other ∷ ids) (inr one) = by_rest (in_either id last ids one
   by_rest (inl one) = inl (inr one)
   by_rest (inr same) = inr same
 
-in_of_each : (P : ℕ → Type 0) (id : ℕ) (ids : List ℕ) → Each P ids → In id ids → P id
+pub in_of_each : (P : ℕ → Type 0) (id : ℕ) (ids : List ℕ) → Each P ids → In id ids → P id
 in_of_each P id [] each one = absurd one
 in_of_each P id (other ∷ ids) each (inl same) = subst P same each.0
 in_of_each P id (other ∷ ids) each (inr one) = in_of_each P id ids each.1 one
@@ -192,7 +192,7 @@ begun_one begun (id ∷ []) taken settled last (inr one) apart each is answered 
 
 -- What they tell
 
-each_two : {X : Type 0} (P Q : X → Type 0) (xs : List X) → Each P xs → Each Q xs → Each (λ (x : X). P x × Q x) xs
+pub each_two : {X : Type 0} (P Q : X → Type 0) (xs : List X) → Each P xs → Each Q xs → Each (λ (x : X). P x × Q x) xs
 each_two P Q [] one two = tt
 each_two P Q (x ∷ xs) one two = ((one.0, two.0), each_two P Q xs one.1 two.1)
 

@@ -1,2 +1,3 @@
 pub mod GivenUp
 pub mod Telling
+pub mod Untaken
