@@ -1,10 +1,10 @@
 -- What is dialled at a line is what the agent took of it, what is on its way, and what is quarantined.
-use Rattle.std.proofs.Common.{◌≡◌, ◌≢◌, ℕ, ◌≤◌, Bool, true, false, ◌==◌, ◌||◌, if◌then◌else◌, List, [], ◌∷◌, ◌++◌, map, Option, Some, None, inl, inr, refl, sym, ap, ◌∙◌, subst, append-nil, append_assoc}
-use Rattle.std.specs.Prelude.{◌⊎◌, All, Any, flat_map, filter}
+use Rattle.std.proofs.Common.{◌≡◌, ℕ, Bool, true, false, ◌==◌, ◌||◌, if◌then◌else◌, List, [], ◌∷◌, ◌++◌, Option, Some, None, inl, inr, refl, sym, ap, ◌∙◌, subst, append-nil, append_assoc}
+use Rattle.std.specs.Prelude.{Any, flat_map}
 use Rattle.std.proofs.lemmas.Bool.{eq-eqb, eqb-true}
 use Rattle.std.proofs.lemmas.Grind.{flat_map-append}
 use Rattle.std.proofs.lemmas.List.{map-append}
-use Rattle.mgcp_text.specs.Reading.{Outcome, read_text}
+use Rattle.mgcp_text.specs.Reading.{read_text}
 use Rattle.event_values.specs.declared.observed.Observed.{Observed}
 use Rattle.outbound.specs.Flight.{InFlight}
 use Rattle.plain_machine.specs.declared.setup.Setup.{Setup}
@@ -12,32 +12,30 @@ use Rattle.plain_machine.specs.declared.station.Station.{Station}
 use Rattle.plain_machine.specs.Event.{GatewayEvent}
 use Rattle.plain_machine.specs.Lists.{plain, sent_of}
 use Rattle.plain_machine.specs.Machine.{opening, station_at}
-use Rattle.plain_machine.specs.Message.{Sent}
 use Rattle.plain_machine.specs.Posting.{line_of_id}
 use Rattle.plain_machine.specs.Setup.{IsSetUp}
-use Rattle.machine_laws.specs.Saying.{HasNumbersLeft, Issued, OneOf, begun_in}
+use Rattle.machine_laws.specs.Saying.{HasNumbersLeft, Issued, OneOf}
 use Rattle.machine_laws.proofs.EachLemmas.{Each, each_back, each_front, each_from_all, each_weaker, one_from_any, one_weaker}
 use Rattle.machine_laws.proofs.LineLemmas.{place_of}
-use Rattle.line_isolation.specs.Belonging.{of_line}
-use Rattle.dialled_once.specs.Course.{Step, course_from, course_of}
+use Rattle.dialled_once.specs.Course.{course_from, course_of}
 use Rattle.dialled_once.specs.Dialled.{done_in, told_in, IsAskedForAll, IsToldOnce}
 use Rattle.dialled_once.specs.Keeping.{happened_in}
 use Rattle.dialled_once.proofs.KeepingLemmas.{happened_both}
 use Rattle.dialled_once.proofs.OverLists.{course_told}
 use Rattle.agent_core.specs.Agent.{observed_on}
-use Rattle.agent_core.specs.World.{World, WorldStep, agent_in, agent_of, gateway_in, plain_world, steps_are_taken, world_opening}
-use Rattle.agent_core.specs.Reached.{Reached, own_in, taken_in, taken_with, told_of}
+use Rattle.agent_core.specs.World.{World, WorldStep, agent_in, gateway_in, plain_world, steps_are_taken, world_opening}
+use Rattle.agent_core.specs.Reached.{Reached, own_in, taken_in}
 use Rattle.agent_core.proofs.LinkLaws.{taken_as_sent}
 use Rattle.agent_core.proofs.ToldLaws.{told_is}
 use Rattle.dialled_end_to_end.specs.GivenUp.{has_given_up}
 use Rattle.dialled_end_to_end.specs.Telling.{told_as}
 use Rattle.dialled_end_to_end.specs.Untaken.{has_taken, untaken}
-use Rattle.dialled_end_to_end.proofs.FlightLemmas.{Fine, flying, gave_nothing_up}
+use Rattle.dialled_end_to_end.proofs.FlightLemmas.{flying, gave_nothing_up}
 use Rattle.dialled_end_to_end.proofs.WellLemmas.{IsWell, sent_well}
 use Rattle.dialled_end_to_end.proofs.ToldLemmas.{begun_tell, course_tells, told_by}
-use Rattle.dialled_end_to_end.proofs.MatchLemmas.{Apart, In, Last, Matches, OneMore, TellsAs, apart_clash, apart_front, each_in, each_two, ends_same, in_mapped, in_of_each, last_in, last_of, one_with, tell_same}
+use Rattle.dialled_end_to_end.proofs.MatchLemmas.{Apart, In, Last, Matches, TellsAs, apart_clash, apart_front, each_in, each_two, ends_same, in_of_each, last_in, last_of, one_with, tell_same}
 use Rattle.dialled_end_to_end.proofs.TakenLemmas.{IsAsSent, is_of_line, taken_tells, told_taken}
-use Rattle.dialled_end_to_end.proofs.WorldLemmas.{Known, WasTaken, begun_ids, known, line_begun, line_sent, line_taken, settled_taken, taken_ids, taken_mine, world_matches}
+use Rattle.dialled_end_to_end.proofs.WorldLemmas.{WasTaken, begun_ids, known, line_begun, line_sent, line_taken, settled_taken, taken_ids, taken_mine, world_matches}
 
 -- Whether a command was taken
 

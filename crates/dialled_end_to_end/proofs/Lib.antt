@@ -7,3 +7,4 @@ pub mod TakenLemmas
 pub mod MoveLemmas
 pub mod WorldLemmas
 pub mod EndLemmas
+pub mod Computing

@@ -1,11 +1,9 @@
 -- Two lists of ids: the one is the other, or has one more at its end.
-use Rattle.std.proofs.Common.{◌≡◌, ◌≢◌, ℕ, zero, suc, ◌<◌, Bool, true, false, ◌==◌, ◌||◌, if◌then◌else◌, List, [], ◌∷◌, ◌++◌, map, length, inl, inr, refl, sym, ap, ◌∙◌, subst, append-nil, append_assoc, arith}
+use Rattle.std.proofs.Common.{◌≡◌, ◌≢◌, ℕ, zero, suc, ◌<◌, Bool, true, false, if◌then◌else◌, List, [], ◌∷◌, ◌++◌, map, length, inl, inr, refl, sym, ap, ◌∙◌, subst, append-nil, arith}
 use Rattle.std.specs.Prelude.{◌⊎◌, AllPairs, filter, flat_map}
-use Rattle.std.specs.List.{list_any, slice_index_or}
-use Rattle.std.proofs.lemmas.Bool.{eq-eqb, eqb-true}
-use Rattle.std.proofs.lemmas.List.{map-append}
+use Rattle.std.specs.List.{slice_index_or}
 use Rattle.machine_laws.specs.Saying.{OneOf}
-use Rattle.machine_laws.proofs.EachLemmas.{Each, each_front, each_back, each_weaker, one_before, one_to}
+use Rattle.machine_laws.proofs.EachLemmas.{Each, each_front, each_back, each_weaker}
 
 -- Ids of which no two are equal
 

@@ -1,22 +1,22 @@
 -- What an agent takes of a line is what the commands of that line tell.
-use Rattle.std.proofs.Common.{◌≡◌, ℕ, ◌≤◌, Bool, true, false, ◌==◌, if◌then◌else◌, List, [], ◌∷◌, ◌++◌, Option, Some, None, Result, Ok, inl, inr, refl, sym, ap, ◌∙◌, subst, append-nil, arith}
+use Rattle.std.proofs.Common.{◌≡◌, ℕ, ◌≤◌, Bool, true, false, ◌==◌, if◌then◌else◌, List, [], ◌∷◌, ◌++◌, Result, inl, inr, refl, sym, ap, ◌∙◌, subst, arith}
 use Rattle.std.specs.Prelude.{◌⊎◌, flat_map, filter}
 use Rattle.std.proofs.lemmas.Grind.{flat_map-append}
 use Rattle.mgcp_text.specs.declared.message.Message.TheVariants as messages
 use Rattle.mgcp_text.specs.declared.message.Param.{Param}
 use Rattle.mgcp_text.specs.declared.message.Verb.{Verb}
 use Rattle.mgcp_text.specs.declared.message.Verb.TheVariants.{Ntfy, Rsip}
-use Rattle.mgcp_text.specs.Reading.{Outcome, message, read_text}
+use Rattle.mgcp_text.specs.Reading.{Outcome, read_text}
 use Rattle.mgcp_text.proofs.RoundLaws.{read_again}
 use Rattle.endpoint_names.specs.declared.name.NameFault.{NameFault}
 use Rattle.endpoint_names.specs.declared.name.Pattern.{Pattern}
 use Rattle.endpoint_names.specs.declared.name.Pattern.TheVariants.{One}
-use Rattle.endpoint_names.specs.Name.{name_of, name_text}
+use Rattle.endpoint_names.specs.Name.{name_text}
 use Rattle.endpoint_names.proofs.WrittenLemmas.{line_read}
 use Rattle.event_values.specs.declared.observed.Observed.{Observed}
 use Rattle.plain_machine.specs.declared.setup.Setup.{Setup}
 use Rattle.plain_machine.specs.Answering.{line_meant}
-use Rattle.plain_machine.specs.Message.{Owner, own_of, Said, answer, again, command, resent, acknowledgement, Sent}
+use Rattle.plain_machine.specs.Message.{Owner, Said, answer, again, command, resent, acknowledgement, Sent}
 use Rattle.plain_machine.specs.Posting.{line_of_id}
 use Rattle.plain_machine.specs.Setup.{IsSetUp}
 use Rattle.machine_laws.specs.Notified.{observed_with}

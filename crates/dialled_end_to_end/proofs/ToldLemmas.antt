@@ -1,14 +1,12 @@
 -- What the course of a line tells is what the commands tell that the line began.
-use Rattle.std.proofs.Common.{◌≡◌, ℕ, Bool, true, false, ◌==◌, ◌&&◌, if◌then◌else◌, List, [], ◌∷◌, ◌++◌, Option, Some, None, Result, Ok, Err, inl, inr, refl, sym, ap, ◌∙◌, subst, append-nil, arith}
+use Rattle.std.proofs.Common.{◌≡◌, ℕ, Bool, true, false, ◌==◌, ◌&&◌, if◌then◌else◌, List, [], ◌∷◌, ◌++◌, Option, Some, None, Result, Ok, Err, refl, sym, ap, ◌∙◌, append-nil}
 use Rattle.std.specs.Prelude.{is_none, flat_map, filter}
-use Rattle.std.proofs.lemmas.Bool.{eq-eqb, eqb-true, ne_eqb}
 use Rattle.std.proofs.lemmas.Grind.{flat_map-append}
 use Rattle.std.proofs.lemmas.List.Elements.{filter-append}
 use Rattle.std.specs.declared.net.socket_addr.SocketAddrV4.{SocketAddrV4}
 use Rattle.mgcp_text.specs.Confirmation.{k_of}
 use Rattle.mgcp_text.specs.declared.message.Message.TheVariants as messages
 use Rattle.mgcp_text.specs.Reading.{Outcome, message, no_header, bad_version, bad_body, read_text}
-use Rattle.mgcp_text.specs.Writing.{written}
 use Rattle.mgcp_text.proofs.RoundLaws.{read_again}
 use Rattle.event_values.specs.declared.observed.Observed.{Observed}
 use Rattle.history.specs.Looking.{look_of}
@@ -30,7 +28,7 @@ use Rattle.plain_machine.specs.Event.{GatewayEvent, datagram, phone, tick}
 use Rattle.plain_machine.specs.Happening.{effect}
 use Rattle.plain_machine.specs.Lists.{sent_from}
 use Rattle.plain_machine.specs.Machine.{Machine, Effect, Endpoints, serves}
-use Rattle.plain_machine.specs.Message.{Owner, own_of, Said, answer, again, command, resent, acknowledgement, Sent}
+use Rattle.plain_machine.specs.Message.{Owner, Said, answer, again, command, resent, acknowledgement, Sent}
 use Rattle.plain_machine.specs.Posting.{line_of_id}
 use Rattle.plain_machine.specs.Requesting.{refused_by, line_with_place}
 use Rattle.machine_laws.specs.Saying.{Issued, begun_by, begun_at, begun_in}
@@ -38,11 +36,11 @@ use Rattle.machine_laws.proofs.EachLemmas.{Each}
 use Rattle.line_isolation.specs.Belonging.{is_of, of_line}
 use Rattle.line_isolation.proofs.OwningLemmas.{of_both}
 use Rattle.dialled_once.specs.Course.{Step, acts, notified_by, notified_in, accepted, accepted_by, accepted_there, accepted_for, accepted_of, accepted_at, course_in, course_at, course_from, acted_on}
-use Rattle.dialled_once.specs.Dialled.{told_at, told_in}
+use Rattle.dialled_once.specs.Dialled.{told_in}
 use Rattle.dialled_once.proofs.DialledLemmas.{told_both}
 use Rattle.mg_line.specs.declared.phone.Act.{Act}
 use Rattle.dialled_end_to_end.specs.Telling.{told_as}
-use Rattle.dialled_end_to_end.proofs.WellLemmas.{IsOwn, SaysWell, IsWell}
+use Rattle.dialled_end_to_end.proofs.WellLemmas.{SaysWell, IsWell}
 
 -- What is accepted tells nothing
 

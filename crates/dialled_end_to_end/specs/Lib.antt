@@ -1,3 +1,4 @@
 pub mod GivenUp
 pub mod Telling
 pub mod Untaken
+pub mod Example

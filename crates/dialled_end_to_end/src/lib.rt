@@ -5,4 +5,5 @@
 //! of the plain world. `specs/` says what is on its way, and which line gave nothing up.
 #![tactic(auto)]
 
+pub mod examples;
 pub mod laws;

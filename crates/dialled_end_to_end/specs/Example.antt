@@ -1,0 +1,97 @@
+-- The worlds of the worked examples: two lines, and the agent that they report to.
+use Rattle.std.specs.Prelude.{ℕ, ◌++◌, codes, List, [], ◌∷◌, Bool, decimal}
+use Rattle.std.specs.Option.{unwrap_or}
+use Rattle.event_values.specs.declared.observed.Observed.{Observed}
+use Rattle.mgcp_text.specs.Reading.{read_text}
+use Rattle.mg_line.specs.declared.phone.Act.TheVariants.{OffHook, Key}
+use Rattle.mg_line.specs.declared.phone.Key.TheVariants.{Five}
+use Rattle.outbound.specs.Flight.{InFlight, begun}
+use Rattle.plain_machine.specs.declared.station.Station.{Station}
+use Rattle.plain_machine.specs.Event.{GatewayEvent, phone}
+use Rattle.plain_machine.specs.Example.{agent, two_lines, ready}
+use Rattle.plain_machine.specs.Lists.{plain, sent_of}
+use Rattle.plain_machine.specs.Machine.{opening_station, station_at}
+use Rattle.line_isolation.specs.Belonging.{of_line}
+use Rattle.dialled_once.specs.Course.{course_of}
+use Rattle.dialled_once.specs.Dialled.{done_in}
+use Rattle.dialled_once.specs.Keeping.{happened_in}
+use Rattle.agent_core.specs.Agent.{observed_on}
+use Rattle.agent_core.specs.World.{World, WorldStep, issuing, dialling, ticking, delivering, agent_in, gateway_in, plain_world}
+use Rattle.agent_core.specs.Reached.{Reached, taken_in}
+use Rattle.dialled_end_to_end.specs.GivenUp.{has_given_up}
+use Rattle.dialled_end_to_end.specs.Telling.{told_as}
+use Rattle.dialled_end_to_end.specs.Untaken.{untaken}
+
+-- what a text tells
+abbrev pub told_by : List ℕ → List Observed
+told_by text = told_as (read_text text)
+
+-- a command of line 1 with this verb under this id, which reports L/hd
+abbrev pub reporting : List ℕ → ℕ → List ℕ
+reporting verb id = verb ++ codes " " ++ decimal id ++ codes " aaln/1@rgw.example.net MGCP 1.0\r\nX: 0\r\nO: L/hd\r\n"
+
+-- the notification with this id, in flight, and as it was taken
+abbrev pub flying : ℕ → InFlight
+flying id = begun id agent (reporting (codes "NTFY") id) 1000
+
+abbrev pub taken_as : ℕ → Reached
+taken_as id = record {
+  asked = record { source = agent; moment = 1000; id = id; confirms = [] };
+  outcome = read_text (reporting (codes "NTFY") id);
+}
+
+-- Who gave something up
+
+abbrev pub station_in : ℕ → List GatewayEvent → Station
+station_in line events = unwrap_or (station_at (plain two_lines events).endpoints line) (opening_station two_lines line)
+
+-- whether a line did at these events, which begin where the gateway serves
+abbrev pub given_up_at : ℕ → List GatewayEvent → Bool
+given_up_at line events = has_given_up (of_line line (sent_of two_lines (ready ++ events))) (station_in line (ready ++ events)).post
+
+-- line 1 is lifted, and its notification gets no answer; so it announces itself after its wait
+abbrev pub lifted : List GatewayEvent
+lifted = phone 1 OffHook ∷ []
+
+-- A world
+
+-- the gateway announces itself, packet 0, and is answered; then line 1 is asked for all that its telephone does, packet 2,
+-- and accepts that, packet 3
+abbrev pub asked : List WorldStep
+asked = ticking 1 ∷ delivering 0 ∷ delivering 1
+    ∷ issuing (codes "RQNT") (codes "aaln/1@rgw.example.net") (codes "X: C2\r\nR: L/hd(N),L/hu(N),L/hf(N),D/[0-9*#ABCD](N)\r\nQ: loop,process\r\n")
+    ∷ delivering 2 ∷ delivering 3 ∷ []
+
+-- it is lifted, packet 4, and dials 5
+abbrev pub dialled : List WorldStep
+dialled = asked ++ dialling 1 OffHook ∷ dialling 1 (Key Five) ∷ []
+
+-- the notification arrives, twice, and the answers, packets 5 and 6, are on their way
+abbrev pub taken : List WorldStep
+taken = dialled ++ delivering 4 ∷ delivering 4 ∷ []
+
+-- the first of these arrives, and the key is notified, packet 7
+abbrev pub answered : List WorldStep
+answered = taken ++ delivering 5 ∷ []
+
+abbrev pub world : List WorldStep → World
+world steps = plain_world two_lines steps
+
+-- what the telephone of line 1 did in such a world
+abbrev pub done_then : List WorldStep → List Observed
+done_then steps = done_in (course_of two_lines 1 (world steps).gateway_took)
+
+-- what the agent was told of line 1
+abbrev pub told_then : List WorldStep → List Observed
+told_then steps = observed_on 1 (agent_in two_lines (world steps))
+
+abbrev pub station_then : List WorldStep → Station
+station_then steps = unwrap_or (station_at (gateway_in two_lines (world steps)).endpoints 1) (opening_station two_lines 1)
+
+-- what is on its way
+abbrev pub untaken_then : List WorldStep → List Observed
+untaken_then steps = untaken (taken_in (world steps)) (station_then steps).post.pending
+
+-- what is quarantined
+abbrev pub left_then : List WorldStep → List Observed
+left_then steps = happened_in (station_then steps).line.quarantined.events

@@ -1,0 +1,60 @@
+//! Worked examples of the definitions, as theorems: each sentence of a definition has one that a slip in it breaks.
+#![tactic(auto, unfolding(crate::proofs::Computing::on_examples))]
+
+ghost use Rattle.std.specs.Prelude.{◌≡◌, ◌++◌, codes, [], ◌∷◌, true, false, Some, None};
+ghost use Rattle.plain_machine.specs.Event.{tick};
+ghost use Rattle.plain_machine.specs.Example.{response};
+ghost use Rattle.agent_core.specs.World.{world_opening, steps_are_taken};
+ghost use Rattle.plain_machine.specs.Example.{two_lines};
+ghost use Rattle.dialled_once.specs.Example.{lifted as off_hook, five};
+ghost use Rattle.dialled_end_to_end.specs.Untaken.{has_taken, untaken};
+ghost use Rattle.dialled_end_to_end.specs.Example.{told_by, reporting, flying, taken_as, given_up_at, lifted, dialled, taken, answered, done_then, told_then, untaken_then, left_then};
+
+/// A notification tells what its O says, and no other text tells anything.
+pub fn notifications_alone_tell()
+    ensures notification { told_by (reporting (codes "NTFY") 5) ≡ off_hook ∷ [] }
+    ensures no_o { told_by (codes "NTFY 5 aaln/1@rgw.example.net MGCP 1.0\r\nX: 0\r\n") ≡ [] }
+    ensures announcement { told_by (reporting (codes "RSIP") 5) ≡ [] }
+    ensures request { told_by (reporting (codes "RQNT") 5) ≡ [] }
+    ensures response { told_by (codes "200 5 OK\r\nO: L/hd\r\n") ≡ [] }
+    ensures version { told_by (codes "NTFY 5 aaln/1@rgw.example.net MGCP 0.1\r\nO: L/hd\r\n") ≡ [] }
+    ensures nothing { told_by (codes "O: L/hd\r\n") ≡ [] }
+{}
+
+/// What is in flight is on its way until a command with its id is taken.
+pub fn what_is_in_flight_is_on_its_way()
+    ensures none { untaken [] None ≡ [] }
+    ensures on_its_way { untaken [] (Some (flying 10000000)) ≡ off_hook ∷ [] }
+    ensures taken { untaken (taken_as 10000000 ∷ []) (Some (flying 10000000)) ≡ [] }
+    ensures before { untaken (taken_as 10000000 ∷ []) (Some (flying 10000001)) ≡ off_hook ∷ [] }
+    ensures later { untaken (taken_as 10000000 ∷ taken_as 10000001 ∷ []) (Some (flying 10000001)) ≡ [] }
+    ensures by_id { has_taken 10000001 (taken_as 10000000 ∷ []) ≡ false }
+{}
+
+/// A line gave something up from the moment at which it did on: while its announcement waits, while that is in flight, and
+/// once it was answered. Repeats give nothing up, and no line does so for another.
+pub fn what_is_given_up_stays_so()
+    ensures opening { given_up_at 1 [] ≡ false }
+    ensures notified { given_up_at 1 lifted ≡ false }
+    ensures repeated { given_up_at 1 (lifted ++ tick 15500 ∷ []) ≡ false }
+    ensures answered { given_up_at 1 (lifted ++ response 200 10000000 ∷ []) ≡ false }
+    ensures given_up { given_up_at 1 (lifted ++ tick 24500 ∷ []) ≡ true }
+    ensures announced { given_up_at 1 (lifted ++ tick 24500 ∷ tick 29500 ∷ []) ≡ true }
+    ensures served { given_up_at 1 (lifted ++ tick 24500 ∷ tick 29500 ∷ response 200 10000001 ∷ []) ≡ true }
+    ensures another { given_up_at 2 (lifted ++ tick 24500 ∷ tick 29500 ∷ []) ≡ false }
+{}
+
+/// What was dialled is on its way, and then with the agent, once, though it arrives twice; what comes meanwhile is quarantined.
+pub fn what_is_dialled_goes_on_its_way()
+    ensures steps { steps_are_taken two_lines world_opening answered ≡ true }
+    ensures done { done_then answered ≡ off_hook ∷ five ∷ [] }
+    ensures told_first { told_then dialled ≡ [] }
+    ensures sent { untaken_then dialled ≡ off_hook ∷ [] }
+    ensures left { left_then dialled ≡ five ∷ [] }
+    ensures told { told_then taken ≡ off_hook ∷ [] }
+    ensures none_sent { untaken_then taken ≡ [] }
+    ensures left_still { left_then taken ≡ five ∷ [] }
+    ensures told_last { told_then answered ≡ off_hook ∷ [] }
+    ensures sent_last { untaken_then answered ≡ five ∷ [] }
+    ensures none_left { left_then answered ≡ [] }
+{}
