@@ -11,7 +11,7 @@ use Rattle.plain_machine.specs.declared.setup.Setup.{Setup}
 use Rattle.plain_machine.specs.declared.station.Station.{Station}
 use Rattle.plain_machine.specs.Event.{GatewayEvent}
 use Rattle.plain_machine.specs.Lists.{plain, sent_of}
-use Rattle.plain_machine.specs.Machine.{opening, station_at}
+use Rattle.plain_machine.specs.Machine.{station_at}
 use Rattle.plain_machine.specs.Posting.{line_of_id}
 use Rattle.plain_machine.specs.Setup.{IsSetUp}
 use Rattle.machine_laws.specs.Saying.{HasNumbersLeft, Issued, OneOf}
@@ -161,9 +161,10 @@ module _ (setup : Setup) (steps : List WorldStep) (line : ℕ) (set_up : IsSetUp
       (λ one any. one_from_any (IsAsSent one) (own_in setup w) any) (taken_in w)
       (each_from_all (λ (one : Reached). Any (λ (b : Issued). (b.id ≡ one.asked.id) × (one.outcome ≡ read_text b.text)) (own_in setup w)) (taken_in w) (taken_as_sent setup steps set_up taken)))
 
-  course_is : told_in (course_of setup line w.gateway_took) ≡ flat_map told_by (line_begun setup line w.gateway_took)
-  course_is =
-      course_tells setup (opening setup) line w.gateway_took
+  course_is : (station : Station) → station_at (gateway_in setup w).endpoints line ≡ Some station
+      → told_in (course_of setup line w.gateway_took) ≡ flat_map told_by (line_begun setup line w.gateway_took)
+  course_is station at =
+      course_tells setup line (place_of (gateway_in setup w).endpoints line station at).0 w.gateway_took station at
       ∙ begun_tell setup line (sent_of setup w.gateway_took) (each_from_all (IsWell setup) (sent_of setup w.gateway_took) (sent_well setup set_up w.gateway_took))
 
   told_through : (station : Station) → station_at (gateway_in setup w).endpoints line ≡ Some station → has_given_up (line_sent setup line w.gateway_took) station.post ≡ false
@@ -172,7 +173,7 @@ module _ (setup : Setup) (steps : List WorldStep) (line : ℕ) (set_up : IsSetUp
       let some = (place_of (gateway_in setup w).endpoints line station at).0 in
       let k = known setup line some steps set_up taken few in
       let fine = gave_nothing_up (WasTaken (taken_in w)) (Unit {0}) (line_sent setup line w.gateway_took) station (k.flies station at) none in
-      course_is
+      course_is station at
       ∙ told_so line (line_begun setup line w.gateway_took) fine.settled (taken_in w) k.apart k.mine k.as_sent fine.answered station.post.pending fine.split
       (world_matches setup line some set_up steps taken few station at none)
       ∙ ap (λ (x : List Observed). x ++ untaken (taken_in w) station.post.pending) (sym observed_is)

@@ -48,7 +48,8 @@ use Rattle.plain_machine.proofs.FlightLaws.{WaitsOn, phoned_waits, fired_waits, 
 use Rattle.machine_laws.specs.Saying.{Issued, begun_at, begun_in}
 use Rattle.machine_laws.proofs.EachLemmas.{Each, each_push}
 use Rattle.dialled_end_to_end.specs.GivenUp.{announces, has_given_up}
-use Rattle.dialled_end_to_end.proofs.AloneLemmas.{TurnKeeps, StationTurns}
+use Rattle.dialled_once.specs.Course.{Step}
+use Rattle.dialled_once.proofs.CourseLemmas.{StationTurns}
 
 -- what is in flight, as what began
 abbrev pub flying : Option InFlight → List Issued
@@ -155,6 +156,10 @@ module _ (A : ℕ → Type 0) (B : Type 0) where
     rests : Rests station.post.restart station.post.pending station.line.state
     either : Fine sent station.post.restart station.post.pending ⊎ Gone sent station.post.restart
 
+  -- after a turn
+  abbrev FliesOn : List Sent → Turn → Type 0
+  FliesOn sent turn = Flies (sent ++ turn.sent) turn.station
+
   begun_both : (some more : List Sent) → begun_in (some ++ more) ≡ begun_in some ++ begun_in more
   begun_both some more = flat_map-append begun_at some more
 
@@ -181,13 +186,13 @@ module _ (A : ℕ → Type 0) (B : Type 0) where
 
   -- nothing
   waits_flies : (setup : Setup) (sent : List Sent) (line moment : ℕ) (station : Station) (done : LineDone) → WaitsOn done → Flies sent station
-      → TurnKeeps Flies sent (noted setup line moment station done)
+      → FliesOn sent (noted setup line moment station done)
   waits_flies setup sent line moment station done on f =
-      let still : TurnKeeps Flies sent (silent (record station { line = done.line })) = record {
+      let still : FliesOn sent (silent (record station { line = done.line })) = record {
         rests = rests_on station.post.restart station.post.pending station.line.state done.line.state f.rests on.state;
         either = either_on sent [] station.post.restart station.post.pending refl f.either;
       } in
-      subst (λ (t : Turn). TurnKeeps Flies sent t) (sym (noted_silent setup line moment station done on.silent)) still
+      subst (λ (t : Turn). FliesOn sent t) (sym (noted_silent setup line moment station done on.silent)) still
 
   -- something, where nothing is in flight
   begins_fine : (setup : Setup) (sent : List Sent) (line moment : ℕ) (station : Station) (done : LineDone) (notice : Notice)
@@ -205,7 +210,7 @@ module _ (A : ℕ → Type 0) (B : Type 0) where
       }
 
   free_flies : (setup : Setup) (sent : List Sent) (line moment : ℕ) (station : Station) (done : LineDone) → station.post.restart ≡ Serving → station.post.pending ≡ None → AwaitsIfNotified done
-      → Fine sent station.post.restart station.post.pending ⊎ Gone sent station.post.restart → TurnKeeps Flies sent (noted setup line moment station done)
+      → Fine sent station.post.restart station.post.pending ⊎ Gone sent station.post.restart → FliesOn sent (noted setup line moment station done)
   unfolding noted
   free_flies setup sent line moment station done serving none awaits either = by_notice done.notice awaits where
     free : Fine sent station.post.restart None ⊎ Gone sent station.post.restart
@@ -219,7 +224,7 @@ module _ (A : ℕ → Type 0) (B : Type 0) where
     by_either notice (inr g) = inr (gone_on sent (with_notice setup line moment (record station { line = done.line }) (Some notice)).sent station.post.restart g)
 
     by_notice : (notice : Option Notice) → AwaitsIfNotified (record { line = done.line; notice = notice })
-        → TurnKeeps Flies sent (with_notice setup line moment (record station { line = done.line }) notice)
+        → FliesOn sent (with_notice setup line moment (record station { line = done.line }) notice)
     by_notice None awaits = record {
       rests = subst (λ (r : Restart). Rests r station.post.pending done.line.state) (sym serving) (subst (λ (p : Option InFlight). Rests Serving p done.line.state) (sym none) tt);
       either = either_on sent [] station.post.restart station.post.pending refl either;
@@ -230,9 +235,9 @@ module _ (A : ℕ → Type 0) (B : Type 0) where
     }
 
   noted_flies : (setup : Setup) (sent : List Sent) (line moment : ℕ) (station : Station) (done : LineDone) → AwaitsIfNotified done → (station.line.state ≡ Notification → WaitsOn done)
-      → Flies sent station → TurnKeeps Flies sent (noted setup line moment station done)
+      → Flies sent station → FliesOn sent (noted setup line moment station done)
   noted_flies setup sent line moment station done awaits waits f = by_rests (rests_is station.post.restart station.post.pending station.line.state f.rests) where
-    by_rests : (station.line.state ≡ Notification) ⊎ ((station.post.restart ≡ Serving) × (station.post.pending ≡ None)) → TurnKeeps Flies sent (noted setup line moment station done)
+    by_rests : (station.line.state ≡ Notification) ⊎ ((station.post.restart ≡ Serving) × (station.post.pending ≡ None)) → FliesOn sent (noted setup line moment station done)
     by_rests (inl is) = waits_flies setup sent line moment station done (waits is) f
     by_rests (inr free) = free_flies setup sent line moment station done free.0 free.1 awaits f.either
 
@@ -240,19 +245,19 @@ module _ (A : ℕ → Type 0) (B : Type 0) where
   asked_awaits None line moment = tt
   asked_awaits (Some request) line moment = notifies_once.request line request moment
 
-  deed_flies : (setup : Setup) (sent : List Sent) (deed : LineDeed) (moment line : ℕ) (station : Station) → Flies sent station → TurnKeeps Flies sent (deed_on setup deed moment line station)
+  deed_flies : (setup : Setup) (sent : List Sent) (deed : LineDeed) (moment line : ℕ) (station : Station) → Flies sent station → FliesOn sent (deed_on setup deed moment line station)
   unfolding deed_on
   deed_flies setup sent deed moment line station f =
       noted_flies setup sent line moment (with_connections deed (with_entity deed.entity station)) (asked_if deed.request station.line moment)
       (asked_awaits deed.request station.line moment) (asked_waits deed.request station.line moment) (record { rests = f.rests; either = f.either })
 
   opened_flies : (setup : Setup) (sent : List Sent) (agent : Option Entity) (moment line : ℕ) (station : Station) → IsClosed station → Flies sent station
-      → TurnKeeps Flies sent (opened_on agent setup moment line station)
+      → FliesOn sent (opened_on agent setup moment line station)
   unfolding opened_on
   opened_flies setup sent agent moment line station closed f =
       free_flies setup sent line moment (with_entity agent station) (opened station.line moment) closed.restart closed.pending (notifies_once.serving station.line moment) f.either
 
-  redirected_flies : (sent : List Sent) (agent : Entity) (line : ℕ) (station : Station) → Flies sent station → TurnKeeps Flies sent (redirected_on agent line station)
+  redirected_flies : (sent : List Sent) (agent : Entity) (line : ℕ) (station : Station) → Flies sent station → FliesOn sent (redirected_on agent line station)
   unfolding redirected_on
   redirected_flies sent agent line station f =
       record { rests = f.rests; either = either_on sent [] station.post.restart station.post.pending refl f.either }
@@ -279,11 +284,11 @@ module _ (A : ℕ → Type 0) (B : Type 0) where
         answered = on.answered;
       })
 
-  resent_flies : (setup : Setup) (sent : List Sent) (line moment : ℕ) (station : Station) → Flies sent station → TurnKeeps Flies sent (posted station (resent_on setup line moment station.post))
+  resent_flies : (setup : Setup) (sent : List Sent) (line moment : ℕ) (station : Station) → Flies sent station → FliesOn sent (posted station (resent_on setup line moment station.post))
   resent_flies setup sent line moment station f = by_pending station.post.pending f.rests f.either where
     by_repeat : (flight : InFlight) (repeat : Repeat) → Rests station.post.restart (Some flight) station.line.state
         → Fine sent station.post.restart (Some flight) ⊎ Gone sent station.post.restart
-        → TurnKeeps Flies sent (posted station (repeated_as repeat setup line moment station.post flight))
+        → FliesOn sent (posted station (repeated_as repeat setup line moment station.post flight))
     by_repeat flight SentAgain rests either =
         let same = repeat_same flight moment in
         record {
@@ -293,28 +298,28 @@ module _ (A : ℕ → Type 0) (B : Type 0) where
     by_repeat flight GivenUp rests either = record { rests = (refl, flight_waits station.post.restart flight station.line.state rests); either = inr (inr refl) }
 
     by_pending : (pending : Option InFlight) → Rests station.post.restart pending station.line.state → Fine sent station.post.restart pending ⊎ Gone sent station.post.restart
-        → TurnKeeps Flies sent (posted station (resent_by pending setup line moment station.post))
+        → FliesOn sent (posted station (resent_by pending setup line moment station.post))
     by_pending None rests either = record { rests = f.rests; either = either_on sent [] station.post.restart station.post.pending refl f.either }
     by_pending (Some flight) rests either = by_repeat flight (repeat_of flight moment) rests either
 
   -- An announcement
 
   announced_flies : (setup : Setup) (sent : List Sent) (line moment : ℕ) (station : Station) (post : Post) → station.line.state ≡ Notification
-      → TurnKeeps Flies sent (posted station (announced setup line moment post))
+      → FliesOn sent (posted station (announced setup line moment post))
   unfolding announced announcement
   announced_flies setup sent line moment station post waits = record { rests = waits; either = inr (inl (announced_last sent _ refl)) }
 
-  announced_on_flies : (setup : Setup) (sent : List Sent) (line moment : ℕ) (station : Station) → Flies sent station → TurnKeeps Flies sent (posted station (announced_on setup line moment station.post))
+  announced_on_flies : (setup : Setup) (sent : List Sent) (line moment : ℕ) (station : Station) → Flies sent station → FliesOn sent (posted station (announced_on setup line moment station.post))
   announced_on_flies setup sent line moment station f = by_restart station.post.restart f.rests where
-    same : TurnKeeps Flies sent (silent station)
+    same : FliesOn sent (silent station)
     same = record { rests = f.rests; either = either_on sent [] station.post.restart station.post.pending refl f.either }
 
-    by_restart : (restart : Restart) → Rests restart station.post.pending station.line.state → TurnKeeps Flies sent (posted station (announced_by restart setup line moment station.post))
+    by_restart : (restart : Restart) → Rests restart station.post.pending station.line.state → FliesOn sent (posted station (announced_by restart setup line moment station.post))
     by_restart (Waiting until) rests = announced_flies setup sent line moment station station.post rests.1
     by_restart Announced rests = same
     by_restart Serving rests = same
 
-  happened_flies : (setup : Setup) (sent : List Sent) (due : Due) (line moment : ℕ) (station : Station) → Flies sent station → TurnKeeps Flies sent (happened_on due setup line moment station)
+  happened_flies : (setup : Setup) (sent : List Sent) (due : Due) (line moment : ℕ) (station : Station) → Flies sent station → FliesOn sent (happened_on due setup line moment station)
   unfolding happened_on
   happened_flies setup sent (OfLine due) line moment station f =
       noted_flies setup sent line moment station (fired station.line due moment) (notifies_once.firing station.line due moment) (fired_waits station.line due moment) f
@@ -370,10 +375,10 @@ module _ (A : ℕ → Type 0) (B : Type 0) where
   settles sent Serving pending flight state at holds rests (inr (inr is)) = absurd cc
 
   responded_flies : (setup : Setup) (sent : List Sent) (line moment : ℕ) (response : Response) (station : Station) → (200 ≤ response.code → A response.id) → Flies sent station
-      → TurnKeeps Flies sent (responded_on setup line moment response station)
+      → FliesOn sent (responded_on setup line moment response station)
   unfolding responded_on replied
   responded_flies setup sent line moment response station holds f = by_heard (heard_on station.post response) refl where
-    by_heard : (heard : Heard) → heard_on station.post response ≡ heard → TurnKeeps Flies sent (responded_as heard setup line moment response station)
+    by_heard : (heard : Heard) → heard_on station.post response ≡ heard → FliesOn sent (responded_as heard setup line moment response station)
     by_heard Nothing e = record { rests = f.rests; either = either_on sent [] station.post.restart station.post.pending refl f.either }
     by_heard PutOff e =
         let both = put_off_flies sent response moment station.post.restart station.post.pending station.line.state f.rests f.either in
@@ -398,16 +403,20 @@ module _ (A : ℕ → Type 0) (B : Type 0) where
     by_said (resent text) e = absurd cc
     by_said (acknowledgement response) e = absurd cc
 
-  pub flight_turns : (setup : Setup) → StationTurns setup (λ (response : Response). 200 ≤ response.code → A response.id) Flies
+  -- it is so whatever the course
+  abbrev pub FliesBeside : Bool → List Step → List Sent → Station → Type 0
+  FliesBeside serving course sent station = Flies sent station
+
+  pub flight_turns : (setup : Setup) → StationTurns setup (λ (response : Response). 200 ≤ response.code → A response.id) FliesBeside
   flight_turns setup = record {
-    act = λ sent line moment act station f.
+    act = λ serving course sent line moment act station f.
         noted_flies setup sent line moment station (phoned station.line act moment) (notifies_once.act station.line act moment) (phoned_waits station.line act moment) f;
-    deed = deed_flies setup;
-    response = responded_flies setup;
-    happening = happened_flies setup;
-    redirecting = redirected_flies;
-    opening = opened_flies setup;
-    answering = λ sent one station is f. record { rests = f.rests; either = either_on sent (one ∷ []) station.post.restart station.post.pending (answer_begins one is) f.either };
+    deed = λ course sent deed moment line station f. deed_flies setup sent deed moment line station f;
+    response = λ serving course sent line moment response station final f. responded_flies setup sent line moment response station final f;
+    happening = λ serving course sent line item station is f. happened_flies setup sent item.due line item.moment station f;
+    redirecting = λ serving course sent agent line station f. redirected_flies sent agent line station f;
+    opening = λ course sent agent moment line station closed f. opened_flies setup sent agent moment line station closed f;
+    answering = λ serving course sent one station is f. record { rests = f.rests; either = either_on sent (one ∷ []) station.post.restart station.post.pending (answer_begins one is) f.either };
   }
 
   -- a line that is as it opens

@@ -1,4 +1,3 @@
-pub mod AloneLemmas
 pub mod FlightLemmas
 pub mod WellLemmas
 pub mod ToldLemmas

@@ -33,9 +33,10 @@ use Rattle.agent_core.specs.World.{World, WorldStep, gateway_in, plain_world, st
 use Rattle.agent_core.specs.Reached.{Reached, own_in, taken_in}
 use Rattle.agent_core.proofs.LinkLaws.{taken_once, taken_as_sent, world_linked}
 use Rattle.agent_core.proofs.TakenLaws.{heard_was_taken}
+use Rattle.dialled_once.specs.Course.{Step}
 use Rattle.dialled_end_to_end.specs.GivenUp.{has_given_up}
-use Rattle.dialled_end_to_end.proofs.AloneLemmas.{Hears, AllHear, StationTurns, Stands, events_stand}
-use Rattle.dialled_end_to_end.proofs.FlightLemmas.{Fine, Flies, flight_turns, flying, gave_nothing_up, opening_flies, starts_gone, stays_gone}
+use Rattle.dialled_once.proofs.CourseLemmas.{AllHear, AnyResponse, Hears, Stands, StationTurns, events_stand, hear_all}
+use Rattle.dialled_end_to_end.proofs.FlightLemmas.{Fine, Flies, FliesBeside, flight_turns, flying, gave_nothing_up, opening_flies, starts_gone, stays_gone}
 use Rattle.dialled_end_to_end.proofs.WellLemmas.{IsWell, sent_well}
 use Rattle.dialled_end_to_end.proofs.ToldLemmas.{is_mine, mine_is}
 use Rattle.dialled_end_to_end.proofs.MatchLemmas.{Apart, In, Matches, apart_filtered, apart_from, begun_free, begun_one, in_mapped, taken_matches}
@@ -74,17 +75,6 @@ sent_more : (setup : Setup) (line : ℕ) (took : List GatewayEvent) (event : Gat
     → line_sent setup line (took ++ event ∷ []) ≡ line_sent setup line took ++ of_line line (sent_from setup (plain setup took) (event ∷ []))
 sent_more setup line took event =
     ap (of_line line) (sent_on setup (opening setup) took (event ∷ [])) ∙ of_both line (sent_of setup took) (sent_from setup (plain setup took) (event ∷ []))
-
--- what is heard may be anything
-hear_all : (setup : Setup) (H : Response → Type 0) → ((response : Response) → H response) → (arrivals : List Arrival) → AllHear setup H arrivals
-hear_all setup H any [] = tt
-hear_all setup H any (a ∷ arrivals) = (by_outcome a.outcome, hear_all setup H any arrivals) where
-  by_outcome : (outcome : Outcome) → Hears setup H outcome
-  by_outcome no_header = tt
-  by_outcome (bad_version id) = tt
-  by_outcome (bad_body id) = tt
-  by_outcome (message (messages.Command verb id name params body)) = tt
-  by_outcome (message (messages.Response code id params body)) = any _
 
 -- What is known of a line in each world
 
@@ -162,7 +152,7 @@ hear_finals setup A (a ∷ arrivals) each = (by_outcome a.outcome each.0, hear_f
   by_outcome (message (messages.Command verb id name params body)) all = tt
   by_outcome (message (messages.Response code id params body)) all = λ high. all code id params body refl high
 
-opening_stands : (setup : Setup) (A : ℕ → Type 0) (line : ℕ) (some : 1 ≤ line) → Stands setup (IsFinal A) (Flies A (Unit {0})) (flight_turns A (Unit {0}) setup) line some [] (opening setup)
+opening_stands : (setup : Setup) (A : ℕ → Type 0) (line : ℕ) (some : 1 ≤ line) → Stands setup (IsFinal A) (FliesBeside A (Unit {0})) (flight_turns A (Unit {0}) setup) line some [] [] (opening setup)
 opening_stands setup A line some = record {
   order = opening_waits setup;
   holds = λ s at.
@@ -195,7 +185,7 @@ known setup line some steps set_up taken few =
           (apart_from (λ (one : Reached). one.asked.id) (taken_in w) (taken_once setup steps set_up taken few));
       mine = subst (Each (λ (b : Issued). line_of_id b.id ≡ line)) mine (mine_each line (own_in setup w));
       as_sent = subst (λ (x : List Issued). Each (λ (one : Reached). OneOf (IsAsSent one) x) (line_taken line (taken_in w))) mine (taken_each line (own_in setup w) (taken_in w) sent);
-      flies = (events_stand setup (IsFinal A) (Flies A (Unit {0})) (flight_turns A (Unit {0}) setup) line some (opening setup) [] 0 w.gateway_took finals
+      flies = (events_stand setup (IsFinal A) (FliesBeside A (Unit {0})) (flight_turns A (Unit {0}) setup) line some (opening setup) [] [] 0 w.gateway_took finals
           (opening_stands setup A line some)).holds;
     }
 
@@ -211,23 +201,26 @@ MatchesBy setup line took taken = (s : Station) → station_at (plain setup took
     → Matches (begun_ids (line_begun setup line took)) (taken_ids (line_taken line taken))
 
 -- no line comes from nowhere
-none_turns : (setup : Setup) → StationTurns setup (λ response. Unit {0}) (λ sent station. ⊥)
+abbrev NoStation : Bool → List Step → List Sent → Station → Type 0
+NoStation serving course sent station = ⊥
+
+none_turns : (setup : Setup) → StationTurns setup AnyResponse NoStation
 none_turns setup = record {
-  act = λ sent line moment act station none. absurd none;
-  deed = λ sent deed moment line station none. absurd none;
-  response = λ sent line moment response station any none. absurd none;
-  happening = λ sent due line moment station none. absurd none;
-  redirecting = λ sent agent line station none. absurd none;
-  opening = λ sent agent moment line station closed none. absurd none;
-  answering = λ sent one station is none. absurd none;
+  act = λ serving course sent line moment act station none. absurd none;
+  deed = λ course sent deed moment line station none. absurd none;
+  response = λ serving course sent line moment response station any none. absurd none;
+  happening = λ serving course sent line item station is none. absurd none;
+  redirecting = λ serving course sent agent line station none. absurd none;
+  opening = λ course sent agent moment line station closed none. absurd none;
+  answering = λ serving course sent one station is none. absurd none;
 }
 
 module _ (setup : Setup) (line : ℕ) (some : 1 ≤ line) where
   none_comes : (took : List GatewayEvent) (event : GatewayEvent) (s : Station) → station_at (plain setup took).endpoints line ≡ None
       → station_at (machine_after setup (plain setup took) (event ∷ [])).endpoints line ≡ Some s → ⊥
   none_comes took event s none at =
-      (events_stand setup (λ response. Unit {0}) (λ sent station. ⊥) (none_turns setup) line some (plain setup took) [] 0 (event ∷ [])
-      (hear_all setup (λ response. Unit {0}) (λ response. tt) (arrivals_from 0 (event ∷ [])))
+      (events_stand setup AnyResponse NoStation (none_turns setup) line some (plain setup took) [] [] 0 (event ∷ [])
+      (hear_all setup AnyResponse (λ response. tt) (arrivals_from 0 (event ∷ [])))
       (record { order = events_wait setup took; holds = λ x here. absurd (none-some x (sym none ∙ here)) })).holds s at
 
   abbrev AnyId : ℕ → Type 0
@@ -239,7 +232,7 @@ module _ (setup : Setup) (line : ℕ) (some : 1 ≤ line) where
       → has_given_up (line_sent setup line took ++ of_line line (sent_from setup (plain setup took) (event ∷ []))) s'.post ≡ true
   stays_up took event s s' here there gone =
       stays_gone _ s'
-      ((events_stand setup (IsFinal AnyId) (Flies AnyId ⊥) (flight_turns AnyId ⊥ setup) line some (plain setup took) (line_sent setup line took) 0 (event ∷ [])
+      ((events_stand setup (IsFinal AnyId) (FliesBeside AnyId ⊥) (flight_turns AnyId ⊥ setup) line some (plain setup took) [] (line_sent setup line took) 0 (event ∷ [])
       (hear_all setup (IsFinal AnyId) (λ response. λ high. tt) (arrivals_from 0 (event ∷ [])))
       (record {
         order = events_wait setup took;

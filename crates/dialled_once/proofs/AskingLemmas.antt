@@ -1,7 +1,6 @@
 -- A request asks for all where each event by itself is notified.
 use Rattle.std.proofs.Common.{◌≡◌, Bool, true, false, List, [], ◌∷◌, refl, ap}
 use Rattle.std.specs.List.{list_all}
-use Rattle.mg_bytes.specs.declared.letter.Letter.{Letter}
 use Rattle.mg_bytes.specs.declared.letter.Letter.TheVariants as letters
 use Rattle.mg_packages.specs.declared.event.Event.{Event}
 use Rattle.mg_packages.specs.declared.event.Event.TheVariants as events

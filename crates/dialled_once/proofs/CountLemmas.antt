@@ -1,5 +1,5 @@
 -- The count of lost events stays within its greatest value.
-use Rattle.std.proofs.Common.{rules, ◌≡◌, ℕ, ◌+◌, ◌≤◌, Bool, true, false, if◌then◌else◌, List, length, None, sym, ap, subst, arith}
+use Rattle.std.proofs.Common.{rules, ℕ, ◌+◌, ◌≤◌, Bool, true, false, if◌then◌else◌, length, None, sym, subst}
 use Rattle.std.specs.Prelude.{nat_lt, min}
 use Rattle.mg_bytes.specs.declared.letter.Letter.TheVariants as letters
 use Rattle.mg_packages.specs.declared.event.Event.TheVariants as events
@@ -21,8 +21,7 @@ use Rattle.mg_line.specs.declared.state.State.TheVariants.{Normal, Notification,
 use Rattle.mg_line.specs.Acting.{hooked, observed_at, phoned}
 use Rattle.mg_line.specs.Detecting.{quarantining, detected_in, detected}
 use Rattle.mg_line.specs.Falling.{ended_by, fired}
-use Rattle.mg_line.specs.Line.{LineState, LineDone}
-use Rattle.mg_line.specs.Occurring.{occurred}
+use Rattle.mg_line.specs.Line.{LineState}
 use Rattle.mg_line.proofs.DrainLemmas.{occurred_keeps}
 
 abbrev pub IsCounted : LineState → Type 0

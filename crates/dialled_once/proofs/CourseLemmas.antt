@@ -1,7 +1,7 @@
 -- What each call of a line keeps beside its course is so after every list of events.
-use Rattle.std.proofs.Common.{◌≡◌, ◌≢◌, ℕ, ◌≤◌, Bool, true, false, ◌==◌, ◌&&◌, if◌then◌else◌, List, [], ◌∷◌, ◌++◌, Option, Some, None, Result, Ok, Err, refl, sym, ap, subst, ◌∙◌, append-nil, append_assoc, arith}
-use Rattle.std.specs.Prelude.{is_none, flat_map, option_map, nat_le, unwrap_or}
-use Rattle.std.proofs.lemmas.Bool.Decides.{Decides-eqb}
+use Rattle.std.proofs.Common.{◌≡◌, ◌≢◌, ℕ, ◌≤◌, Bool, true, false, ◌==◌, ◌&&◌, if◌then◌else◌, List, [], ◌∷◌, ◌++◌, map, Option, Some, None, Result, Ok, Err, refl, sym, ap, subst, ◌∙◌, append-nil, append_assoc, arith}
+use Rattle.std.specs.Prelude.{is_none, option_map, nat_le, unwrap_or}
+use Rattle.std.proofs.lemmas.Bool.{ne_eqb}
 use Rattle.std.proofs.lemmas.Grind.{flat_map-append}
 use Rattle.std.proofs.lemmas.Option.{none-some}
 use Rattle.std.specs.declared.net.socket_addr.SocketAddrV4.{SocketAddrV4}
@@ -17,6 +17,7 @@ use Rattle.history.specs.Memory.{most_firsts}
 use Rattle.transmission.specs.Confirming.{spans_of}
 use Rattle.transmission.specs.Texts.{texts_of}
 use Rattle.transmission.specs.Transacting.{is_new}
+use Rattle.endpoint_names.specs.declared.entity.Entity.{Entity}
 use Rattle.command_forms.specs.Command.{Command}
 use Rattle.command_forms.specs.Meaning.{is_for}
 use Rattle.command_forms.specs.Order.{form_while}
@@ -27,7 +28,7 @@ use Rattle.command_forms.specs.declared.forms.Target.{Target}
 use Rattle.command_forms.specs.declared.forms.Target.TheVariants.{One, All, Any}
 use Rattle.command_forms.proofs.RestartLemmas.{while_none}
 use Rattle.mg_line.specs.declared.phone.Act.{Act}
-use Rattle.mg_line.specs.Line.{LineState, opening_line}
+use Rattle.mg_line.specs.Line.{LineState}
 use Rattle.outbound.specs.declared.repeat.Repeat.{Repeat}
 use Rattle.outbound.specs.declared.repeat.Repeat.TheVariants.{Sent as SentAgain, GivenUp}
 use Rattle.outbound.specs.Flight.{InFlight, repeat_of}
@@ -46,15 +47,17 @@ use Rattle.plain_machine.specs.declared.setup.Setup.{Setup}
 use Rattle.plain_machine.specs.declared.station.Station.{Station}
 use Rattle.plain_machine.specs.Acting.{acted_on, acted}
 use Rattle.plain_machine.specs.Announcing.{announcement, announced, announced_by, heard_by, heard_on, replied}
-use Rattle.plain_machine.specs.Answering.{line_of_name, Transaction, transaction, executed, transacted_by, handled, took_all}
+use Rattle.plain_machine.specs.Answering.{line_of_name, transaction, executed, transacted_by, handled, took_all}
+use Rattle.plain_machine.specs.Arriving.{Arrival, arrival, arrivals_at, arrivals_from, clock_after}
 use Rattle.plain_machine.specs.Commanding.{line_deed, done_by, commanded}
 use Rattle.plain_machine.specs.Done.{Done, only_answer}
 use Rattle.plain_machine.specs.Event.{GatewayEvent, datagram, phone, tick}
 use Rattle.plain_machine.specs.Falling.{due_on, own_due, if_by, happened_on, own_happened, pass}
+use Rattle.plain_machine.specs.Flights.{IsClosed, InOrderWhile}
 use Rattle.plain_machine.specs.Happening.{effect}
-use Rattle.plain_machine.specs.Lists.{machine_after, plain}
-use Rattle.plain_machine.specs.Machine.{Endpoints, Machine, Effect, OwnTurn, Told, told, told_in, serves, opening, opening_station, station_at, with_own, own_posted, on_line, on_own, afterwards}
-use Rattle.plain_machine.specs.Message.{answer_of, own_of, answer, again, command as own_command, Sent}
+use Rattle.plain_machine.specs.Lists.{machine_after, sent_from}
+use Rattle.plain_machine.specs.Machine.{Endpoints, Machine, Effect, OwnTurn, Told, told, told_in, serves, station_at, with_own, own_posted, on_line, afterwards}
+use Rattle.plain_machine.specs.Message.{Owner, answer_of, own_of, Said, answer, again, command as own_command, resent, acknowledgement, is_answer, Sent}
 use Rattle.plain_machine.specs.Notifying.{Turn, silent}
 use Rattle.plain_machine.specs.Posting.{id_on, line_of_id, repeated_as, resent_by}
 use Rattle.plain_machine.specs.Requesting.{refused_by, lines_meant, deed_on, deed_on_all, shown_of, answer_with, unless_refused, deed_done, line_with_place, done_there, done_for}
@@ -62,16 +65,16 @@ use Rattle.plain_machine.specs.Responding.{response_with, responded_on, own_resp
 use Rattle.plain_machine.proofs.FlightLaws.{own_free}
 use Rattle.plain_machine.proofs.TurnLemmas.{IsFree, happening_serves}
 use Rattle.machine_laws.specs.Waiting.{KeepOrder}
+use Rattle.machine_laws.proofs.EachLemmas.{Each, each_back, each_front}
 use Rattle.machine_laws.proofs.LineLemmas.{own_stays_on, own_stays}
-use Rattle.machine_laws.proofs.WaitLaws.{opening_waits, acts_wait, pass_waits, text_waits}
+use Rattle.machine_laws.proofs.WaitLaws.{acts_wait, pass_waits, text_waits}
 use Rattle.line_isolation.specs.Belonging.{is_of, of_line}
 use Rattle.line_isolation.specs.Passing.{Turned, turned, PassesAlone, rests, goes_on, line_due, line_happens, own_happens}
 use Rattle.line_isolation.proofs.AlikeLemmas.{behind_acknowledged}
 use Rattle.line_isolation.proofs.OwningLemmas.{of_both, turn_if, sent_by, LineTurns, on_one_line, on_many_lines, acted_owned, deed_owned, responded_owned, redirected_owned, opened_owned}
 use Rattle.line_isolation.proofs.PassLemmas.{line_passes, own_passes}
-use Rattle.dialled_once.specs.Course.{Step, acts, notified_by, notified_in, accepted, accepted_by, accepted_there, accepted_for, accepted_of, accepted_at, course_in, course_at, course_from, course_of, acted_on as act_steps}
-use Rattle.dialled_once.proofs.ReadingLemmas.{opening_readable}
-use Rattle.dialled_once.proofs.StationLemmas.{steps_in, Calls, Goes, TurnGoes, still_goes, act_goes, deed_goes, opened_goes, redirected_goes, response_goes, happened_goes}
+use Rattle.dialled_once.specs.Course.{Step, acts, notified_by, notified_in, accepted, accepted_by, accepted_there, accepted_for, accepted_of, accepted_at, course_in, course_at, course_from, acted_on as act_steps}
+use Rattle.dialled_once.proofs.StationLemmas.{steps_in, Calls, Goes, act_goes, deed_goes, opened_goes, redirected_goes, response_goes, happened_goes}
 
 -- The gateway itself serves on, or not yet
 
@@ -119,91 +122,145 @@ by_is moment (Some other) item e = by_test (nat_le other.moment moment) e where
 some_same : (a b : Station) → Some a ≡ Some b → a ≡ b
 some_same a b e = ap (λ (o : Option Station). unwrap_or o a) e
 
-notified_both : (line : ℕ) (some more : List Sent) → notified_in line (some ++ more) ≡ notified_in line some ++ notified_in line more
-notified_both line some more =
-    ap (λ (sent : List Sent). steps_in sent) (of_both line some more)
-    ∙ flat_map-append (λ (one : Sent). notified_by one.said) (of_line line some) (of_line line more)
+-- A turn of a station, beside the course of its line and what the line sent so far
+abbrev pub TurnKeeps : (Bool → List Step → List Sent → Station → Type 0) → Bool → List Step → List Sent → Turn → Type 0
+TurnKeeps G serving course sent turn = G serving (course ++ steps_in turn.sent) (sent ++ turn.sent) turn.station
 
-module _ (setup : Setup) (Q : Bool → List Step → LineState → Type 0) (calls : Calls Q) (line : ℕ) (some : 1 ≤ line) where
-  -- the station of the line, beside its course
-  abbrev pub Holds : List Step → Endpoints → Type 0
-  Holds course endpoints = (s : Station) → station_at endpoints line ≡ Some s → Goes setup Q (serves endpoints) course s
+-- what each turn keeps, before the gateway serves and while it does, where H holds of the responses
+pub record StationTurns (setup : Setup) (H : Response → Type 0) (G : Bool → List Step → List Sent → Station → Type 0) : Type 0 where
+  pub act : (serving : Bool) (course : List Step) (sent : List Sent) (line moment : ℕ) (act : Act) (station : Station) → G serving course sent station
+      → TurnKeeps G serving (course ++ acts act ∷ []) sent (acted_on setup line moment act station)
+  pub deed : (course : List Step) (sent : List Sent) (deed : LineDeed) (moment line : ℕ) (station : Station) → G true course sent station
+      → TurnKeeps G true (course ++ accepted deed.request) sent (deed_on setup deed moment line station)
+  pub response : (serving : Bool) (course : List Step) (sent : List Sent) (line moment : ℕ) (response : Response) (station : Station) → H response → G serving course sent station
+      → TurnKeeps G serving course sent (responded_on setup line moment response station)
+  pub happening : (serving : Bool) (course : List Step) (sent : List Sent) (line : ℕ) (item : DueItem) (station : Station) → due_on (line, station) ≡ Some item → G serving course sent station
+      → TurnKeeps G serving course sent (happened_on item.due setup line item.moment station)
+  pub redirecting : (serving : Bool) (course : List Step) (sent : List Sent) (agent : Entity) (line : ℕ) (station : Station) → G serving course sent station
+      → TurnKeeps G serving course sent (redirected_on agent line station)
+  pub opening : (course : List Step) (sent : List Sent) (agent : Option Entity) (moment line : ℕ) (station : Station) → IsClosed station → G false course sent station
+      → TurnKeeps G true course sent (opened_on agent setup moment line station)
+  pub answering : (serving : Bool) (course : List Step) (sent : List Sent) (one : Sent) (station : Station) → is_answer one.said ≡ true → G serving course sent station
+      → G serving course (sent ++ one ∷ []) station
+
+-- the responses that arrive
+abbrev pub Hears : Setup → (Response → Type 0) → Outcome → Type 0
+Hears setup H no_header = Unit {0}
+Hears setup H (bad_version id) = Unit {0}
+Hears setup H (bad_body id) = Unit {0}
+Hears setup H (message (messages.Command verb id name params body)) = Unit {0}
+Hears setup H (message (messages.Response code id params body)) = H (response_with setup id code params)
+
+abbrev pub AllHear : Setup → (Response → Type 0) → List Arrival → Type 0
+AllHear setup H arrivals = Each (λ (a : Arrival). Hears setup H a.outcome) arrivals
+
+-- where it holds of all
+pub hear_all : (setup : Setup) (H : Response → Type 0) → ((response : Response) → H response) → (arrivals : List Arrival) → AllHear setup H arrivals
+hear_all setup H all [] = tt
+hear_all setup H all (a ∷ arrivals) = (by_outcome a.outcome, hear_all setup H all arrivals) where
+  by_outcome : (outcome : Outcome) → Hears setup H outcome
+  by_outcome no_header = tt
+  by_outcome (bad_version id) = tt
+  by_outcome (bad_body id) = tt
+  by_outcome (message (messages.Command verb id name params body)) = tt
+  by_outcome (message (messages.Response code id params body)) = all _
+
+pub answer_notifies : (said : Said) → is_answer said ≡ true → notified_by said ≡ []
+answer_notifies (answer response) is = refl
+answer_notifies (again text) is = refl
+answer_notifies (own_command said) is = absurd cc
+answer_notifies (resent text) is = absurd cc
+answer_notifies (acknowledgement response) is = absurd cc
+
+module _ (setup : Setup) (H : Response → Type 0) (G : Bool → List Step → List Sent → Station → Type 0) (turns : StationTurns setup H G) (line : ℕ) (some : 1 ≤ line) where
+  -- the station of the line, beside its course and what it sent
+  abbrev pub Holds : List Step → List Sent → Endpoints → Type 0
+  Holds course sent endpoints = (s : Station) → station_at endpoints line ≡ Some s → G (serves endpoints) course sent s
+
+  -- it goes on so, beside what the line notifies and sends
+  abbrev GoesOn : List Step → List Sent → Told → Type 0
+  GoesOn course sent is = Holds (course ++ notified_in line is.sent) (sent ++ of_line line is.sent) is.endpoints
+
+  both_padded : (serving : Bool) (course : List Step) (sent : List Sent) (s : Station) → G serving course sent s → G serving (course ++ []) (sent ++ []) s
+  both_padded serving course sent s g =
+      subst (λ (c : List Step). G serving c (sent ++ []) s) (sym (append-nil course)) (subst (λ (x : List Sent). G serving course x s) (sym (append-nil sent)) g)
+
+  padded : (endpoints : Endpoints) (course : List Step) (sent : List Sent) → Holds course sent endpoints → Holds (course ++ []) (sent ++ []) endpoints
+  padded endpoints course sent holds = λ s at. both_padded (serves endpoints) course sent s (holds s at)
+
+  -- nothing is accepted
+  course_padded : (endpoints : Endpoints) (course : List Step) (sent : List Sent) → Holds course sent endpoints → Holds (course ++ []) sent endpoints
+  course_padded endpoints course sent holds = subst (λ (c : List Step). Holds c sent endpoints) (sym (append-nil course)) holds
 
   -- its own turn
-  turns_hold : (endpoints : Endpoints) (course : List Step) (turn : Station → Turn) (is : Told) → LineTurns line endpoints turn is
-      → ((s : Station) → station_at endpoints line ≡ Some s → TurnGoes setup Q (serves is.endpoints) course (turn s))
-      → Holds (course ++ notified_in line is.sent) is.endpoints
-  turns_hold endpoints course turn is turns goes s at = by_station (station_at endpoints line) refl where
-    by_station : (found : Option Station) → station_at endpoints line ≡ found → Goes setup Q (serves is.endpoints) (course ++ notified_in line is.sent) s
-    by_station None none = absurd (none-some s (sym (turns.station ∙ ap (option_map (λ (x : Station). (turn x).station)) none) ∙ at))
+  turns_hold : (endpoints : Endpoints) (course : List Step) (sent : List Sent) (turn : Station → Turn) (is : Told) → LineTurns line endpoints turn is
+      → ((s : Station) → station_at endpoints line ≡ Some s → TurnKeeps G (serves is.endpoints) course sent (turn s)) → GoesOn course sent is
+  turns_hold endpoints course sent turn is turned goes s at = by_station (station_at endpoints line) refl where
+    by_station : (found : Option Station) → station_at endpoints line ≡ found → G (serves is.endpoints) (course ++ notified_in line is.sent) (sent ++ of_line line is.sent) s
+    by_station None none = absurd (none-some s (sym (turned.station ∙ ap (option_map (λ (x : Station). (turn x).station)) none) ∙ at))
     by_station (Some was) here =
-        let same : (turn was).station ≡ s = some_same (turn was).station s (sym (turns.station ∙ ap (option_map (λ (x : Station). (turn x).station)) here) ∙ at) in
-        let sent : of_line line is.sent ≡ (turn was).sent = turns.sent ∙ ap (sent_by turn) here in
-        subst (λ (x : List Sent). Goes setup Q (serves is.endpoints) (course ++ steps_in x) s) (sym sent)
-        (subst (λ (x : Station). Goes setup Q (serves is.endpoints) (course ++ steps_in (turn was).sent) x) same (goes was here))
-
-  silent_turn : (serving : Bool) (course : List Step) (s : Station) → Goes setup Q serving course s → TurnGoes setup Q serving (course ++ []) (silent s)
-  silent_turn serving course s goes =
-      still_goes setup Q serving (course ++ []) s (silent s) refl refl (subst (λ (c : List Step). Goes setup Q serving c s) (sym (append-nil course)) goes)
-
-  padded : (endpoints : Endpoints) (course : List Step) → Holds course endpoints → Holds (course ++ []) endpoints
-  padded endpoints course holds = subst (λ (c : List Step). Holds c endpoints) (sym (append-nil course)) holds
+        let same : (turn was).station ≡ s = some_same (turn was).station s (sym (turned.station ∙ ap (option_map (λ (x : Station). (turn x).station)) here) ∙ at) in
+        let out : of_line line is.sent ≡ (turn was).sent = turned.sent ∙ ap (sent_by turn) here in
+        subst (λ (x : List Sent). G (serves is.endpoints) (course ++ steps_in x) (sent ++ x) s) (sym out)
+        (subst (λ (x : Station). G (serves is.endpoints) (course ++ steps_in (turn was).sent) (sent ++ (turn was).sent) x) same (goes was here))
 
   -- An act
 
-  act_holds : (endpoints : Endpoints) (course : List Step) (n moment : ℕ) (act : Act) → Holds course endpoints
-      → Holds ((course ++ act_steps line n act) ++ notified_in line (acted setup endpoints n moment act).sent) (acted setup endpoints n moment act).endpoints
-  act_holds endpoints course n moment act holds = by_line (n == line) (on_one_line endpoints line n (acted_on setup n moment act) (acted_owned setup n moment act)) where
+  act_holds : (endpoints : Endpoints) (course : List Step) (sent : List Sent) (n moment : ℕ) (act : Act) → Holds course sent endpoints
+      → GoesOn (course ++ act_steps line n act) sent (acted setup endpoints n moment act)
+  act_holds endpoints course sent n moment act holds = by_line (n == line) (on_one_line endpoints line n (acted_on setup n moment act) (acted_owned setup n moment act)) where
     is : Told
     is = acted setup endpoints n moment act
 
     served : serves is.endpoints ≡ serves endpoints
     served = ap (λ (own : Own). is_serving own.post.restart) (own_stays_on endpoints n (acted_on setup n moment act))
 
-    goes : (s : Station) → station_at endpoints line ≡ Some s → Goes setup Q (serves is.endpoints) course s
-    goes s at = subst (λ (b : Bool). Goes setup Q b course s) (sym served) (holds s at)
+    goes : (s : Station) → station_at endpoints line ≡ Some s → G (serves is.endpoints) course sent s
+    goes s at = subst (λ (b : Bool). G b course sent s) (sym served) (holds s at)
 
-    by_line : (b : Bool) → LineTurns line endpoints (turn_if b (acted_on setup n moment act)) is
-        → Holds ((course ++ (if b then acts act ∷ [] else [])) ++ notified_in line is.sent) is.endpoints
-    by_line true turns =
-        turns_hold endpoints (course ++ acts act ∷ []) (acted_on setup n moment act) is turns
-        (λ s at. act_goes setup Q calls (serves is.endpoints) course n moment act s (goes s at))
-    by_line false turns = turns_hold endpoints (course ++ []) silent is turns (λ s at. silent_turn (serves is.endpoints) course s (goes s at))
+    by_line : (b : Bool) → LineTurns line endpoints (turn_if b (acted_on setup n moment act)) is → GoesOn (course ++ (if b then acts act ∷ [] else [])) sent is
+    by_line true turned =
+        turns_hold endpoints (course ++ acts act ∷ []) sent (acted_on setup n moment act) is turned
+        (λ s at. turns.act (serves is.endpoints) course sent n moment act s (goes s at))
+    by_line false turned =
+        turns_hold endpoints (course ++ []) sent silent is turned
+        (λ s at. both_padded (serves is.endpoints) (course ++ []) sent s (subst (λ (c : List Step). G (serves is.endpoints) c sent s) (sym (append-nil course)) (goes s at)))
 
   -- A tick
 
   line_passed : (serving : Bool) (moment : ℕ) (was : Option Station) (is : Turned (Option Station)) → PassesAlone (line_due line) (line_happens setup line) moment was is
-      → (course : List Step) → ((s : Station) → was ≡ Some s → Goes setup Q serving course s)
-      → (s : Station) → is.becomes ≡ Some s → Goes setup Q serving (course ++ steps_in is.sends) s
-  line_passed serving moment was is (rests w t none same) course goes s at =
-      subst (λ (x : List Sent). Goes setup Q serving (course ++ steps_in x) s) (sym (ap (λ (t : Turned (Option Station)). t.sends) same))
-      (subst (λ (c : List Step). Goes setup Q serving c s) (sym (append-nil course)) (goes s (sym (ap (λ (t : Turned (Option Station)). t.becomes) same) ∙ at)))
-  line_passed serving moment None is (goes_on w item rest t first own same) course goes s at = absurd (none-some item first)
-  line_passed serving moment (Some was) is (goes_on w item rest t first own same) course goes s at =
+      → (course : List Step) (sent : List Sent) → ((s : Station) → was ≡ Some s → G serving course sent s)
+      → (s : Station) → is.becomes ≡ Some s → G serving (course ++ steps_in is.sends) (sent ++ is.sends) s
+  line_passed serving moment was is (rests w t none same) course sent goes s at =
+      subst (λ (x : List Sent). G serving (course ++ steps_in x) (sent ++ x) s) (sym (ap (λ (t : Turned (Option Station)). t.sends) same))
+      (both_padded serving course sent s (goes s (sym (ap (λ (t : Turned (Option Station)). t.becomes) same) ∙ at)))
+  line_passed serving moment None is (goes_on w item rest t first own same) course sent goes s at = absurd (none-some item first)
+  line_passed serving moment (Some was) is (goes_on w item rest t first own same) course sent goes s at =
       let turn : Turn = happened_on item.due setup line item.moment was in
-      let here = happened_goes setup Q calls serving course line item was (by_is moment (due_on (line, was)) item first) (goes was refl) in
-      let after = line_passed serving moment (Some turn.station) rest own (course ++ steps_in turn.sent)
-      (λ x e. subst (λ (y : Station). Goes setup Q serving (course ++ steps_in turn.sent) y) (some_same turn.station x e) here)
+      let here = turns.happening serving course sent line item was (by_is moment (due_on (line, was)) item first) (goes was refl) in
+      let after = line_passed serving moment (Some turn.station) rest own (course ++ steps_in turn.sent) (sent ++ turn.sent)
+      (λ x e. subst (λ (y : Station). G serving (course ++ steps_in turn.sent) (sent ++ turn.sent) y) (some_same turn.station x e) here)
       s (sym (ap (λ (t : Turned (Option Station)). t.becomes) same) ∙ at) in
-      subst (λ (c : List Step). Goes setup Q serving c s)
+      subst (λ (x : List Sent). G serving (course ++ steps_in x) (sent ++ x) s) (ap (λ (t : Turned (Option Station)). t.sends) (sym same))
+      (subst (λ (c : List Step). G serving c (sent ++ (turn.sent ++ rest.sends)) s)
       (append_assoc course (steps_in turn.sent) (steps_in rest.sends)
-      ∙ ap (λ (x : List Step). course ++ x) (sym (flat_map-append (λ (one : Sent). notified_by one.said) turn.sent rest.sends))
-      ∙ ap (λ (t : Turned (Option Station)). course ++ steps_in t.sends) (sym same)) after
+      ∙ ap (λ (x : List Step). course ++ x) (sym (flat_map-append (λ (one : Sent). notified_by one.said) turn.sent rest.sends)))
+      (subst (λ (x : List Sent). G serving ((course ++ steps_in turn.sent) ++ steps_in rest.sends) x s) (append_assoc sent turn.sent rest.sends) after))
 
-  pass_holds : (endpoints : Endpoints) (course : List Step) (moment : ℕ) → IsFree endpoints.own → Holds course endpoints
-      → Holds (course ++ notified_in line (pass setup endpoints moment).sent) (pass setup endpoints moment).endpoints
-  pass_holds endpoints course moment free holds s at =
-      subst (λ (b : Bool). Goes setup Q b (course ++ notified_in line (pass setup endpoints moment).sent) s) (sym (pass_serves setup endpoints moment free))
-      (line_passed (serves endpoints) moment (station_at endpoints line) _ (line_passes setup line moment some endpoints) course holds s at)
+  pass_holds : (endpoints : Endpoints) (course : List Step) (sent : List Sent) (moment : ℕ) → IsFree endpoints.own → Holds course sent endpoints
+      → GoesOn course sent (pass setup endpoints moment)
+  pass_holds endpoints course sent moment free holds s at =
+      subst (λ (b : Bool). G b (course ++ notified_in line (pass setup endpoints moment).sent) (sent ++ of_line line (pass setup endpoints moment).sent) s) (sym (pass_serves setup endpoints moment free))
+      (line_passed (serves endpoints) moment (station_at endpoints line) _ (line_passes setup line moment some endpoints) course sent holds s at)
 
   -- A response
 
-  all_hold : (endpoints : Endpoints) (course : List Step) (serving : Bool) (turn : ℕ → Station → Turn)
-      → ((s : Station) → station_at endpoints line ≡ Some s → TurnGoes setup Q serving course (turn line s)) → LineTurns line endpoints (turn line) (on_all endpoints turn)
-      → serves endpoints ≡ serving → Holds (course ++ notified_in line (on_all endpoints turn).sent) (on_all endpoints turn).endpoints
-  all_hold endpoints course serving turn goes turns served =
-      turns_hold endpoints course (turn line) (on_all endpoints turn) turns
-      (λ s at. subst (λ (b : Bool). TurnGoes setup Q b course (turn line s))
+  all_hold : (endpoints : Endpoints) (course : List Step) (sent : List Sent) (serving : Bool) (turn : ℕ → Station → Turn)
+      → ((s : Station) → station_at endpoints line ≡ Some s → TurnKeeps G serving course sent (turn line s)) → LineTurns line endpoints (turn line) (on_all endpoints turn)
+      → serves endpoints ≡ serving → GoesOn course sent (on_all endpoints turn)
+  all_hold endpoints course sent serving turn goes turned served =
+      turns_hold endpoints course sent (turn line) (on_all endpoints turn) turned
+      (λ s at. subst (λ (b : Bool). TurnKeeps G b course sent (turn line s))
       (sym (ap (λ (own : Own). is_serving own.post.restart) (own_stays (lines_meant endpoints All) endpoints turn) ∙ served)) (goes s at))
 
   abbrev OwnAs : Heard → Endpoints → ℕ → Response → OwnTurn
@@ -215,78 +272,79 @@ module _ (setup : Setup) (Q : Bool → List Step → LineState → Type 0) (call
   abbrev HeardAs : Heard → Endpoints → ℕ → Response → Told
   HeardAs heard endpoints moment response = afterwards (FirstAs heard endpoints moment response) (λ next. lines_told heard setup moment next)
 
-  -- what the gateway itself sends is no notification of the line
-  behind_own : (one : Sent) (sent : List Sent) → notified_by one.said ≡ [] → notified_in line (one ∷ sent) ≡ notified_in line sent
-  behind_own one sent none = by_test (is_of line one.owner) where
-    by_test : (b : Bool) → steps_in (if b then one ∷ of_line line sent else of_line line sent) ≡ steps_in (of_line line sent)
-    by_test true = ap (λ (x : List Step). x ++ steps_in (of_line line sent)) none
-    by_test false = refl
+  -- what the gateway itself sends is not the line's
+  behind_own : (one : Sent) (sent : List Sent) → one.owner ≡ own_of 0 → of_line line (one ∷ sent) ≡ of_line line sent
+  behind_own one sent own =
+      ap (λ (owner : Owner). if is_of line owner then one ∷ of_line line sent else of_line line sent) own
+      ∙ ap (λ (b : Bool). if b then one ∷ of_line line sent else of_line line sent) (ne_eqb 0 line (λ same. absurd (omega (arith, some, same))))
 
-  own_heard_holds : (endpoints : Endpoints) (course : List Step) (moment : ℕ) (response : Response) → IsFree endpoints.own → Holds course endpoints
-      → Holds (course ++ notified_in line (own_heard setup endpoints moment response).sent) (own_heard setup endpoints moment response).endpoints
+  own_heard_holds : (endpoints : Endpoints) (course : List Step) (sent : List Sent) (moment : ℕ) (response : Response) → KeepOrder endpoints → Holds course sent endpoints
+      → GoesOn course sent (own_heard setup endpoints moment response)
   unfolding own_responded replied announced announcement
-  own_heard_holds endpoints course moment response free holds = by_heard (heard_on endpoints.own.post response) refl where
+  own_heard_holds endpoints course sent moment response order holds = by_heard (heard_on endpoints.own.post response) refl where
     -- where it serves nothing is in flight
-    closed : (heard : Heard) → heard_on endpoints.own.post response ≡ heard → heard ≢ Nothing → (s : Station) → station_at endpoints line ≡ Some s → Goes setup Q false course s
-    closed heard e apart s at = subst (λ (b : Bool). Goes setup Q b course s) (by_serving (serves endpoints) refl) (holds s at) where
+    not_serving : (heard : Heard) → heard_on endpoints.own.post response ≡ heard → heard ≢ Nothing → serves endpoints ≡ false
+    not_serving heard e apart = by_serving (serves endpoints) refl where
       by_serving : (b : Bool) → serves endpoints ≡ b → b ≡ false
-      by_serving true is = absurd (apart (sym e ∙ ap (λ (pending : Option InFlight). heard_by pending endpoints.own.post.restart response) (free is)))
+      by_serving true is = absurd (apart (sym e ∙ ap (λ (pending : Option InFlight). heard_by pending endpoints.own.post.restart response) (own_free endpoints.own order.order.own is)))
       by_serving false is = refl
 
-    by_heard : (heard : Heard) → heard_on endpoints.own.post response ≡ heard
-        → Holds (course ++ notified_in line (HeardAs heard endpoints moment response).sent) (HeardAs heard endpoints moment response).endpoints
-    by_heard Nothing e = λ s at. subst (λ (c : List Step). Goes setup Q (serves endpoints) c s) (sym (append-nil course)) (holds s at)
-    by_heard PutOff e = λ s at. subst (λ (c : List Step). Goes setup Q (serves endpoints) c s) (sym (append-nil course)) (holds s at)
+    closed : (heard : Heard) → heard_on endpoints.own.post response ≡ heard → heard ≢ Nothing → (s : Station) → station_at endpoints line ≡ Some s → G false course sent s
+    closed heard e apart s at = subst (λ (b : Bool). G b course sent s) (not_serving heard e apart) (holds s at)
+
+    waiting : (heard : Heard) → heard_on endpoints.own.post response ≡ heard → heard ≢ Nothing → (s : Station) → station_at endpoints line ≡ Some s → IsClosed s
+    waiting heard e apart s at = subst (λ (b : Bool). InOrderWhile b line s) (not_serving heard e apart) (order.order.lines line s at)
+
+    by_heard : (heard : Heard) → heard_on endpoints.own.post response ≡ heard → GoesOn course sent (HeardAs heard endpoints moment response)
+    by_heard Nothing e = padded endpoints course sent holds
+    by_heard PutOff e = padded endpoints course sent holds
     by_heard (Redirected agent) e =
         let first : Told = FirstAs (Redirected agent) endpoints moment response in
         let next : Told = on_all first.endpoints (redirected_on agent) in
         let apart : Redirected agent ≢ Nothing = λ same. absurd cc in
         let out : Sent = record { to = agent.address; moment = moment; owner = own_of 0; said = own_command (announcement setup 0 (id_on 0 endpoints.own.post.number)) } in
-        subst (λ (x : List Step). Holds (course ++ x) next.endpoints) (sym (behind_own out next.sent refl))
-        (all_hold first.endpoints course false (redirected_on agent)
-        (λ s at. redirected_goes setup Q calls false course agent line s (closed (Redirected agent) e apart s at))
+        subst (λ (x : List Sent). Holds (course ++ steps_in x) (sent ++ x) next.endpoints) (sym (behind_own out next.sent refl))
+        (all_hold first.endpoints course sent false (redirected_on agent)
+        (λ s at. turns.redirecting false course sent agent line s (closed (Redirected agent) e apart s at))
         (on_many_lines (is_for All) (redirected_on agent) (redirected_owned agent) first.endpoints line) refl)
     by_heard (Answered agent) e =
         let first : Told = FirstAs (Answered agent) endpoints moment response in
         let apart : Answered agent ≢ Nothing = λ same. absurd cc in
-        all_hold first.endpoints course true (opened_on agent setup moment)
-        (λ s at. opened_goes setup Q calls course agent moment line s (closed (Answered agent) e apart s at))
+        all_hold first.endpoints course sent true (opened_on agent setup moment)
+        (λ s at. turns.opening course sent agent moment line s (waiting (Answered agent) e apart s at) (closed (Answered agent) e apart s at))
         (on_many_lines (is_for All) (opened_on agent setup moment) (opened_owned agent setup moment) first.endpoints line) refl
 
-  one_heard_holds : (endpoints : Endpoints) (course : List Step) (n moment : ℕ) (response : Response) → Holds course endpoints
-      → Holds (course ++ notified_in line (on_line endpoints n (responded_on setup n moment response)).sent) (on_line endpoints n (responded_on setup n moment response)).endpoints
-  one_heard_holds endpoints course n moment response holds =
+  one_heard_holds : (endpoints : Endpoints) (course : List Step) (sent : List Sent) (n moment : ℕ) (response : Response) → H response → Holds course sent endpoints
+      → GoesOn course sent (on_line endpoints n (responded_on setup n moment response))
+  one_heard_holds endpoints course sent n moment response hears holds =
       by_line (n == line) (on_one_line endpoints line n (responded_on setup n moment response) (responded_owned setup n moment response)) where
         is : Told
         is = on_line endpoints n (responded_on setup n moment response)
 
-        goes : (s : Station) → station_at endpoints line ≡ Some s → Goes setup Q (serves is.endpoints) course s
+        goes : (s : Station) → station_at endpoints line ≡ Some s → G (serves is.endpoints) course sent s
         goes s at =
-            subst (λ (b : Bool). Goes setup Q b course s)
+            subst (λ (b : Bool). G b course sent s)
             (sym (ap (λ (own : Own). is_serving own.post.restart) (own_stays_on endpoints n (responded_on setup n moment response)))) (holds s at)
 
-        by_line : (b : Bool) → LineTurns line endpoints (turn_if b (responded_on setup n moment response)) is → Holds (course ++ notified_in line is.sent) is.endpoints
-        by_line true turns =
-            turns_hold endpoints course (responded_on setup n moment response) is turns
-            (λ s at. response_goes setup Q calls (serves is.endpoints) course n moment response s (goes s at))
-        by_line false turns =
-            turns_hold endpoints course silent is turns (λ s at. still_goes setup Q (serves is.endpoints) course s (silent s) refl refl (goes s at))
+        by_line : (b : Bool) → LineTurns line endpoints (turn_if b (responded_on setup n moment response)) is → GoesOn course sent is
+        by_line true turned =
+            turns_hold endpoints course sent (responded_on setup n moment response) is turned
+            (λ s at. turns.response (serves is.endpoints) course sent n moment response s hears (goes s at))
+        by_line false turned = turns_hold endpoints course sent silent is turned (λ s at. both_padded (serves is.endpoints) course sent s (goes s at))
 
-  heard_holds : (endpoints : Endpoints) (course : List Step) (moment : ℕ) (source : SocketAddrV4) (code id : ℕ) (params : List Param) → IsFree endpoints.own → Holds course endpoints
-      → Holds (course ++ notified_in line (heard_from setup endpoints moment source code id params).sent) (heard_from setup endpoints moment source code id params).endpoints
-  heard_holds endpoints course moment source code id params free holds =
-      subst (λ (x : List Sent). Holds (course ++ steps_in x) is.endpoints) (sym (behind_acknowledged setup line moment source code id params is.sent)) (by_test (line_of_id id == 0)) where
+  heard_holds : (endpoints : Endpoints) (course : List Step) (sent : List Sent) (moment : ℕ) (source : SocketAddrV4) (code id : ℕ) (params : List Param) → KeepOrder endpoints
+      → H (response_with setup id code params) → Holds course sent endpoints → GoesOn course sent (heard_from setup endpoints moment source code id params)
+  heard_holds endpoints course sent moment source code id params order hears holds =
+      subst (λ (x : List Sent). Holds (course ++ steps_in x) (sent ++ x) is.endpoints) (sym (behind_acknowledged setup line moment source code id params is.sent)) (by_test (line_of_id id == 0)) where
         response : Response
         response = response_with setup id code params
 
         is : Told
         is = responded setup endpoints moment response
 
-        by_test : (b : Bool)
-            → Holds (course ++ notified_in line (if b then own_heard setup endpoints moment response else on_line endpoints (line_of_id id) (responded_on setup (line_of_id id) moment response)).sent)
-            (if b then own_heard setup endpoints moment response else on_line endpoints (line_of_id id) (responded_on setup (line_of_id id) moment response)).endpoints
-        by_test true = own_heard_holds endpoints course moment response free holds
-        by_test false = one_heard_holds endpoints course (line_of_id id) moment response holds
+        by_test : (b : Bool) → GoesOn course sent (if b then own_heard setup endpoints moment response else on_line endpoints (line_of_id id) (responded_on setup (line_of_id id) moment response))
+        by_test true = own_heard_holds endpoints course sent moment response order holds
+        by_test false = one_heard_holds endpoints course sent (line_of_id id) moment response hears holds
 
   -- A command
 
@@ -294,81 +352,92 @@ module _ (setup : Setup) (Q : Bool → List Step → LineState → Type 0) (call
   none_accepted true request = refl
   none_accepted false request = refl
 
-  deed_holds : (endpoints : Endpoints) (course : List Step) (target : Target) (more : List Param) (deed : LineDeed) (moment : ℕ) → serves endpoints ≡ true → Holds course endpoints
-      → Holds ((course ++ accepted_by endpoints line target deed) ++ notified_in line (deed_done setup endpoints target more deed moment).told.sent)
-      (deed_done setup endpoints target more deed moment).told.endpoints
-  deed_holds endpoints course target more deed moment serving holds = by_refusal (refused_by endpoints target deed) where
+  deed_holds : (endpoints : Endpoints) (course : List Step) (sent : List Sent) (target : Target) (more : List Param) (deed : LineDeed) (moment : ℕ) → serves endpoints ≡ true
+      → Holds course sent endpoints → GoesOn (course ++ accepted_by endpoints line target deed) sent (deed_done setup endpoints target more deed moment).told
+  deed_holds endpoints course sent target more deed moment serving holds = by_refusal (refused_by endpoints target deed) where
     whole : Done
     whole = record { told = deed_on_all setup endpoints target deed moment; answer = answer_with more deed (shown_of endpoints target deed) }
 
-    goes : (s : Station) → station_at endpoints line ≡ Some s → Goes setup Q true course s
-    goes s at = subst (λ (b : Bool). Goes setup Q b course s) serving (holds s at)
+    goes : (s : Station) → station_at endpoints line ≡ Some s → G true course sent s
+    goes s at = subst (λ (b : Bool). G b course sent s) serving (holds s at)
 
     served : serves whole.told.endpoints ≡ true
     served = ap (λ (own : Own). is_serving own.post.restart) (own_stays (lines_meant endpoints target) endpoints (deed_on setup deed moment)) ∙ serving
 
     by_meant : (b : Bool) → LineTurns line endpoints (turn_if b (deed_on setup deed moment line)) whole.told
-        → Holds ((course ++ (if b && true then accepted deed.request else [])) ++ notified_in line whole.told.sent) whole.told.endpoints
-    by_meant true turns =
-        turns_hold endpoints (course ++ accepted deed.request) (deed_on setup deed moment line) whole.told turns
-        (λ s at. subst (λ (b : Bool). TurnGoes setup Q b (course ++ accepted deed.request) (deed_on setup deed moment line s)) (sym served)
-        (deed_goes setup Q calls course deed moment line s (goes s at)))
-    by_meant false turns =
-        turns_hold endpoints (course ++ []) silent whole.told turns
-        (λ s at. subst (λ (b : Bool). TurnGoes setup Q b (course ++ []) (silent s)) (sym served) (silent_turn true course s (goes s at)))
+        → GoesOn (course ++ (if b && true then accepted deed.request else [])) sent whole.told
+    by_meant true turned =
+        turns_hold endpoints (course ++ accepted deed.request) sent (deed_on setup deed moment line) whole.told turned
+        (λ s at. subst (λ (b : Bool). TurnKeeps G b (course ++ accepted deed.request) sent (deed_on setup deed moment line s)) (sym served)
+        (turns.deed course sent deed moment line s (goes s at)))
+    by_meant false turned =
+        turns_hold endpoints (course ++ []) sent silent whole.told turned
+        (λ s at. both_padded (serves whole.told.endpoints) (course ++ []) sent s
+        (subst (λ (c : List Step). G (serves whole.told.endpoints) c sent s) (sym (append-nil course)) (subst (λ (b : Bool). G b course sent s) (sym served) (goes s at))))
 
     by_refusal : (found : Option ℕ)
-        → Holds ((course ++ (if is_for target line && is_none found then accepted deed.request else [])) ++ notified_in line (unless_refused found endpoints whole).told.sent)
-        (unless_refused found endpoints whole).told.endpoints
+        → GoesOn (course ++ (if is_for target line && is_none found then accepted deed.request else [])) sent (unless_refused found endpoints whole).told
     by_refusal None = by_meant (is_for target line) (on_many_lines (is_for target) (deed_on setup deed moment) (deed_owned setup deed moment) endpoints line)
     by_refusal (Some code) =
-        subst (λ (x : List Step). Holds ((course ++ x) ++ []) endpoints) (sym (none_accepted (is_for target line) (accepted deed.request)))
-        (padded endpoints (course ++ []) (padded endpoints course holds))
+        subst (λ (x : List Step). Holds ((course ++ x) ++ []) (sent ++ []) endpoints) (sym (none_accepted (is_for target line) (accepted deed.request)))
+        (padded endpoints (course ++ []) sent (course_padded endpoints course sent holds))
 
-  target_holds : (endpoints : Endpoints) (course : List Step) (target : Target) (deed : LineDeed) (moment : ℕ) → serves endpoints ≡ true → Holds course endpoints
-      → Holds ((course ++ accepted_for endpoints line target deed) ++ notified_in line (done_for setup endpoints target deed moment).told.sent)
-      (done_for setup endpoints target deed moment).told.endpoints
-  target_holds endpoints course (One n) deed moment serving holds = deed_holds endpoints course (One n) [] deed moment serving holds
-  target_holds endpoints course All deed moment serving holds = deed_holds endpoints course All [] deed moment serving holds
-  target_holds endpoints course Any deed moment serving holds = by_place (line_with_place endpoints) where
-    by_place : (found : Option ℕ)
-        → Holds ((course ++ accepted_there found endpoints line deed) ++ notified_in line (done_there found setup endpoints deed moment).told.sent)
-        (done_there found setup endpoints deed moment).told.endpoints
-    by_place None = padded endpoints (course ++ []) (padded endpoints course holds)
-    by_place (Some n) = deed_holds endpoints course (One n) _ deed moment serving holds
+  target_holds : (endpoints : Endpoints) (course : List Step) (sent : List Sent) (target : Target) (deed : LineDeed) (moment : ℕ) → serves endpoints ≡ true → Holds course sent endpoints
+      → GoesOn (course ++ accepted_for endpoints line target deed) sent (done_for setup endpoints target deed moment).told
+  target_holds endpoints course sent (One n) deed moment serving holds = deed_holds endpoints course sent (One n) [] deed moment serving holds
+  target_holds endpoints course sent All deed moment serving holds = deed_holds endpoints course sent All [] deed moment serving holds
+  target_holds endpoints course sent Any deed moment serving holds = by_place (line_with_place endpoints) where
+    by_place : (found : Option ℕ) → GoesOn (course ++ accepted_there found endpoints line deed) sent (done_there found setup endpoints deed moment).told
+    by_place None = padded endpoints (course ++ []) sent (course_padded endpoints course sent holds)
+    by_place (Some n) = deed_holds endpoints course sent (One n) _ deed moment serving holds
 
-  asks_hold : (endpoints : Endpoints) (course : List Step) (asks : Result Asks ℕ) (moment id : ℕ) → ((target : Target) (deed : Deed) → asks ≡ Ok (Does target deed) → serves endpoints ≡ true)
-      → Holds course endpoints
-      → Holds ((course ++ accepted_of endpoints line asks) ++ notified_in line (done_by asks setup endpoints moment id).told.sent) (done_by asks setup endpoints moment id).told.endpoints
-  asks_hold endpoints course (Err code) moment id serving holds = padded endpoints (course ++ []) (padded endpoints course holds)
-  asks_hold endpoints course (Ok (Reports target audit)) moment id serving holds = padded endpoints (course ++ []) (padded endpoints course holds)
-  asks_hold endpoints course (Ok (Does target deed)) moment id serving holds = target_holds endpoints course target (line_deed deed) moment (serving target deed refl) holds
+  asks_hold : (endpoints : Endpoints) (course : List Step) (sent : List Sent) (asks : Result Asks ℕ) (moment id : ℕ)
+      → ((target : Target) (deed : Deed) → asks ≡ Ok (Does target deed) → serves endpoints ≡ true) → Holds course sent endpoints
+      → GoesOn (course ++ accepted_of endpoints line asks) sent (done_by asks setup endpoints moment id).told
+  asks_hold endpoints course sent (Err code) moment id serving holds = padded endpoints (course ++ []) sent (course_padded endpoints course sent holds)
+  asks_hold endpoints course sent (Ok (Reports target audit)) moment id serving holds = padded endpoints (course ++ []) sent (course_padded endpoints course sent holds)
+  asks_hold endpoints course sent (Ok (Does target deed)) moment id serving holds = target_holds endpoints course sent target (line_deed deed) moment (serving target deed refl) holds
 
   -- A text
 
-  transacted_holds : (looked : Looked) (m : Machine) (source : SocketAddrV4) (id : ℕ) (who : Option ℕ) (confirms : List IdSpan) (done : Done) (course added : List Step)
-      → Holds course m.endpoints → Holds ((course ++ added) ++ notified_in line done.told.sent) done.told.endpoints
+  -- an answer goes out before what lines send because of it, and notifies nothing
+  answered_first : (endpoints : Endpoints) (course added : List Step) (sent : List Sent) (one : Sent) (more : List Sent) (becomes : Endpoints) → is_answer one.said ≡ true
+      → Holds course sent endpoints
+      → ((before : List Sent) → Holds course before endpoints → Holds ((course ++ added) ++ notified_in line more) (before ++ of_line line more) becomes)
+      → Holds (course ++ (added ++ notified_in line (one ∷ more))) (sent ++ of_line line (one ∷ more)) becomes
+  answered_first endpoints course added sent one more becomes answers holds goes = by_test (is_of line one.owner) where
+    by_test : (b : Bool) → Holds (course ++ (added ++ steps_in (if b then one ∷ of_line line more else of_line line more))) (sent ++ (if b then one ∷ of_line line more else of_line line more)) becomes
+    by_test true =
+        subst (λ (x : List Sent). Holds (course ++ (added ++ steps_in (one ∷ of_line line more))) x becomes) (append_assoc sent (one ∷ []) (of_line line more))
+        (subst (λ (c : List Step). Holds c ((sent ++ one ∷ []) ++ of_line line more) becomes)
+        (append_assoc course added (notified_in line more) ∙ ap (λ (x : List Step). course ++ (added ++ (x ++ notified_in line more))) (sym (answer_notifies one.said answers)))
+        (goes (sent ++ one ∷ []) (λ s at. turns.answering (serves endpoints) course sent one s answers (holds s at))))
+    by_test false = subst (λ (c : List Step). Holds c (sent ++ of_line line more) becomes) (append_assoc course added (notified_in line more)) (goes sent holds)
+
+  transacted_holds : (looked : Looked) (m : Machine) (source : SocketAddrV4) (id : ℕ) (who : Option ℕ) (confirms : List IdSpan) (done : Done) (course added : List Step) (sent : List Sent)
+      → Holds course sent m.endpoints → ((before : List Sent) → Holds course before m.endpoints → GoesOn (course ++ added) before done.told)
       → Holds (course ++ ((if is_new looked then added else []) ++ notified_in line (transacted_by looked m source (transaction id who confirms done)).sent))
+      (sent ++ of_line line (transacted_by looked m source (transaction id who confirms done)).sent)
       (transacted_by looked m source (transaction id who confirms done)).machine.endpoints
   unfolding executed
-  transacted_holds new m source id who confirms done course added holds after =
-      let out : Sent = record { to = source; moment = m.now; owner = answer_of who; said = answer (response_of id done.answer) } in
-      subst (λ (c : List Step). Holds c done.told.endpoints)
-      (append_assoc course added (notified_in line done.told.sent)
-      ∙ ap (λ (x : List Step). course ++ (added ++ x)) (sym (behind_own out done.told.sent refl))) after
-  transacted_holds (repeat text) m source id who confirms done course added holds after =
-      let out : Sent = record { to = source; moment = m.now; owner = answer_of who; said = again text } in
-      subst (λ (x : List Step). Holds (course ++ x) m.endpoints) (sym (behind_own out [] refl)) (padded m.endpoints course holds)
-  transacted_holds confirmed m source id who confirms done course added holds after = padded m.endpoints course holds
-  transacted_holds full m source id who confirms done course added holds after = padded m.endpoints course holds
+  transacted_holds new m source id who confirms done course added sent holds after =
+      answered_first m.endpoints course added sent (record { to = source; moment = m.now; owner = answer_of who; said = answer (response_of id done.answer) }) done.told.sent
+      done.told.endpoints refl holds after
+  transacted_holds (repeat text) m source id who confirms done course added sent holds after =
+      answered_first m.endpoints course [] sent (record { to = source; moment = m.now; owner = answer_of who; said = again text }) [] m.endpoints refl holds
+      (λ before h. padded m.endpoints (course ++ []) before (course_padded m.endpoints course before h))
+  transacted_holds confirmed m source id who confirms done course added sent holds after = padded m.endpoints course sent holds
+  transacted_holds full m source id who confirms done course added sent holds after = padded m.endpoints course sent holds
 
-  refused_holds : (looked : Looked) (m : Machine) (course : List Step) (source : SocketAddrV4) (id code : ℕ) → Holds course m.endpoints
+  refused_holds : (looked : Looked) (m : Machine) (course : List Step) (sent : List Sent) (source : SocketAddrV4) (id code : ℕ) → Holds course sent m.endpoints
       → Holds (course ++ notified_in line (transacted_by looked m source (transaction id None [] (only_answer m.endpoints (plain_code code)))).sent)
+      (sent ++ of_line line (transacted_by looked m source (transaction id None [] (only_answer m.endpoints (plain_code code)))).sent)
       (transacted_by looked m source (transaction id None [] (only_answer m.endpoints (plain_code code)))).machine.endpoints
-  refused_holds looked m course source id code holds =
+  refused_holds looked m course sent source id code holds =
       let is : Effect = transacted_by looked m source (transaction id None [] (only_answer m.endpoints (plain_code code))) in
-      subst (λ (x : List Step). Holds (course ++ (x ++ notified_in line is.sent)) is.machine.endpoints) (either_way (is_new looked) [])
-      (transacted_holds looked m source id None [] (only_answer m.endpoints (plain_code code)) course [] holds (padded m.endpoints (course ++ []) (padded m.endpoints course holds))) where
+      subst (λ (x : List Step). Holds (course ++ (x ++ notified_in line is.sent)) (sent ++ of_line line is.sent) is.machine.endpoints) (either_way (is_new looked) [])
+      (transacted_holds looked m source id None [] (only_answer m.endpoints (plain_code code)) course [] sent holds
+      (λ before h. padded m.endpoints (course ++ []) before (course_padded m.endpoints course before h))) where
         either_way : (b : Bool) (steps : List Step) → (if b then steps else steps) ≡ steps
         either_way true steps = refl
         either_way false steps = refl
@@ -381,59 +450,93 @@ module _ (setup : Setup) (Q : Bool → List Step → LineState → Type 0) (call
     by_serving true e = refl
     by_serving false e = absurd (while_none command confirms setup.names target deed e)
 
-  handled_holds : (m : Machine) (course : List Step) (source : SocketAddrV4) (outcome : Outcome) → IsFree m.endpoints.own → Holds course m.endpoints
-      → Holds (course ++ (accepted_at setup m line outcome ++ notified_in line (handled setup m source outcome).sent)) (handled setup m source outcome).machine.endpoints
+  handled_holds : (m : Machine) (course : List Step) (sent : List Sent) (source : SocketAddrV4) (outcome : Outcome) → KeepOrder m.endpoints → Hears setup H outcome → Holds course sent m.endpoints
+      → Holds (course ++ (accepted_at setup m line outcome ++ notified_in line (handled setup m source outcome).sent)) (sent ++ of_line line (handled setup m source outcome).sent)
+      (handled setup m source outcome).machine.endpoints
   unfolding handled
-  handled_holds m course source no_header free holds = padded m.endpoints course holds
-  handled_holds m course source (bad_version id) free holds = refused_holds (look_of most_firsts m.history id m.now) m course source id 528 holds
-  handled_holds m course source (bad_body id) free holds = refused_holds (look_of most_firsts m.history id m.now) m course source id 510 holds
-  handled_holds m course source (message (messages.Response code id params body)) free holds =
-      heard_holds m.endpoints course m.now source code id params free holds
-  handled_holds m course source (message (messages.Command verb id name params body)) free holds =
+  handled_holds m course sent source no_header order hears holds = padded m.endpoints course sent holds
+  handled_holds m course sent source (bad_version id) order hears holds = refused_holds (look_of most_firsts m.history id m.now) m course sent source id 528 holds
+  handled_holds m course sent source (bad_body id) order hears holds = refused_holds (look_of most_firsts m.history id m.now) m course sent source id 510 holds
+  handled_holds m course sent source (message (messages.Response code id params body)) order hears holds =
+      heard_holds m.endpoints course sent m.now source code id params order hears holds
+  handled_holds m course sent source (message (messages.Command verb id name params body)) order hears holds =
       let command : Command = record { verb = verb; name = name; params = params; body = body } in
       let form : Result Asks ℕ = form_while (serves m.endpoints) command (k_of params) setup.names in
       transacted_holds (look_of most_firsts m.history id m.now) m source id (line_of_name setup name) (spans_of (k_of params))
-      (commanded setup m.endpoints m.now id command (k_of params)) course (accepted_of m.endpoints line form) holds
-      (asks_hold m.endpoints course form m.now id (λ target deed e. must_serve m.endpoints command (k_of params) target deed e) holds)
+      (commanded setup m.endpoints m.now id command (k_of params)) course (accepted_of m.endpoints line form) sent holds
+      (λ before h. asks_hold m.endpoints course before form m.now id (λ target deed e. must_serve m.endpoints command (k_of params) target deed e) h)
 
   -- Events
 
-  -- the machine beside the course of the line
-  pub record Stands (course : List Step) (m : Machine) : Type 0 where
+  -- the machine beside the course of the line and what it sent
+  pub record Stands (course : List Step) (sent : List Sent) (m : Machine) : Type 0 where
     pub order : KeepOrder m.endpoints
-    pub holds : Holds course m.endpoints
+    pub holds : Holds course sent m.endpoints
 
   is_free : (m : Machine) → KeepOrder m.endpoints → IsFree m.endpoints.own
   is_free m order = own_free m.endpoints.own order.order.own
 
-  texts_stand : (m : Machine) (course : List Step) (source : SocketAddrV4) (texts : List (List ℕ)) → Stands course m
-      → Stands (course ++ course_in setup m line source texts) (took_all setup m source texts).machine
+  -- one thing behind another
+  both_stand : (course here next : List Step) (sent some more : List Sent) (m : Machine) → Stands ((course ++ here) ++ next) ((sent ++ of_line line some) ++ of_line line more) m
+      → Stands (course ++ (here ++ next)) (sent ++ of_line line (some ++ more)) m
+  both_stand course here next sent some more m s =
+      subst (λ (c : List Step). Stands c (sent ++ of_line line (some ++ more)) m) (append_assoc course here next)
+      (subst (λ (x : List Sent). Stands ((course ++ here) ++ next) x m)
+      (append_assoc sent (of_line line some) (of_line line more) ∙ ap (λ (x : List Sent). sent ++ x) (sym (of_both line some more))) s)
+
+  texts_stand : (m : Machine) (course : List Step) (sent : List Sent) (now : ℕ) (source : SocketAddrV4) (texts : List (List ℕ)) → AllHear setup H (map (arrival now source) texts)
+      → Stands course sent m → Stands (course ++ course_in setup m line source texts) (sent ++ of_line line (took_all setup m source texts).sent) (took_all setup m source texts).machine
   unfolding took_all course_in
-  texts_stand m course source [] s = record { order = s.order; holds = padded m.endpoints course s.holds }
-  texts_stand m course source (text ∷ texts) s =
-      let next : Machine = (handled setup m source (read_text text)).machine in
-      let here : List Step = accepted_at setup m line (read_text text) ++ notified_in line (handled setup m source (read_text text)).sent in
-      subst (λ (c : List Step). Stands c (took_all setup next source texts).machine) (append_assoc course here (course_in setup next line source texts))
-      (texts_stand next (course ++ here) source texts (record {
+  texts_stand m course sent now source [] hears s = record { order = s.order; holds = padded m.endpoints course sent s.holds }
+  texts_stand m course sent now source (text ∷ texts) hears s =
+      let one : Effect = handled setup m source (read_text text) in
+      let here : List Step = accepted_at setup m line (read_text text) ++ notified_in line one.sent in
+      both_stand course here (course_in setup one.machine line source texts) sent one.sent (took_all setup one.machine source texts).sent (took_all setup one.machine source texts).machine
+      (texts_stand one.machine (course ++ here) (sent ++ of_line line one.sent) now source texts hears.1 (record {
         order = text_waits setup m source (read_text text) s.order;
-        holds = handled_holds m course source (read_text text) (is_free m s.order) s.holds;
+        holds = handled_holds m course sent source (read_text text) s.order hears.0 s.holds;
       }))
 
-  event_stands : (m : Machine) (course : List Step) (event : GatewayEvent) → Stands course m → Stands (course ++ course_at setup m line event) (effect setup m event).machine
+  event_stands : (m : Machine) (course : List Step) (sent : List Sent) (now : ℕ) (event : GatewayEvent) → AllHear setup H (arrivals_at now event) → Stands course sent m
+      → Stands (course ++ course_at setup m line event) (sent ++ of_line line (effect setup m event).sent) (effect setup m event).machine
   unfolding effect
-  event_stands m course (datagram source bytes) s = texts_stand m course source (texts_of bytes) s
-  event_stands m course (phone n act) s =
-      let sent : List Sent = (acted setup m.endpoints n m.now act).sent in
-      subst (λ (c : List Step). Stands c (told_in m (acted setup m.endpoints n m.now act)).machine) (append_assoc course (act_steps line n act) (notified_in line sent))
-      (record { order = acts_wait setup m.endpoints n m.now act s.order; holds = act_holds m.endpoints course n m.now act s.holds })
-  event_stands m course (tick moment) s =
-      record { order = pass_waits setup m.endpoints moment s.order; holds = pass_holds m.endpoints course moment (is_free m s.order) s.holds }
+  event_stands m course sent now (datagram source bytes) hears s = texts_stand m course sent now source (texts_of bytes) hears s
+  event_stands m course sent now (phone n act) hears s =
+      let out : List Sent = (acted setup m.endpoints n m.now act).sent in
+      subst (λ (c : List Step). Stands c (sent ++ of_line line out) (told_in m (acted setup m.endpoints n m.now act)).machine) (append_assoc course (act_steps line n act) (notified_in line out))
+      (record { order = acts_wait setup m.endpoints n m.now act s.order; holds = act_holds m.endpoints course sent n m.now act s.holds })
+  event_stands m course sent now (tick moment) hears s =
+      record { order = pass_waits setup m.endpoints moment s.order; holds = pass_holds m.endpoints course sent moment (is_free m s.order) s.holds }
 
-  pub events_stand : (m : Machine) (course : List Step) (events : List GatewayEvent) → Stands course m
-      → Stands (course ++ course_from setup m line events) (machine_after setup m events)
-  unfolding machine_after course_from
-  events_stand m course [] s = record { order = s.order; holds = padded m.endpoints course s.holds }
-  events_stand m course (event ∷ events) s =
+  -- whatever arrives at which moment
+  pub events_stand : (m : Machine) (course : List Step) (sent : List Sent) (now : ℕ) (events : List GatewayEvent) → AllHear setup H (arrivals_from now events) → Stands course sent m
+      → Stands (course ++ course_from setup m line events) (sent ++ of_line line (sent_from setup m events)) (machine_after setup m events)
+  unfolding machine_after course_from sent_from arrivals_from
+  events_stand m course sent now [] hears s = record { order = s.order; holds = padded m.endpoints course sent s.holds }
+  events_stand m course sent now (event ∷ events) hears s =
       let next : Machine = (effect setup m event).machine in
-      subst (λ (c : List Step). Stands c (machine_after setup next events)) (append_assoc course (course_at setup m line event) (course_from setup next line events))
-      (events_stand next (course ++ course_at setup m line event) events (event_stands m course event s))
+      let Q : Arrival → Type 0 = λ a. Hears setup H a.outcome in
+      both_stand course (course_at setup m line event) (course_from setup next line events) sent (effect setup m event).sent (sent_from setup next events) (machine_after setup next events)
+      (events_stand next (course ++ course_at setup m line event) (sent ++ of_line line (effect setup m event).sent) (clock_after now event) events
+      (each_back Q (arrivals_at now event) (arrivals_from (clock_after now event) events) hears)
+      (event_stands m course sent now event (each_front Q (arrivals_at now event) (arrivals_from (clock_after now event) events) hears) s))
+
+-- What each call of a line keeps, each turn of its station keeps
+
+-- of any response
+abbrev pub AnyResponse : Response → Type 0
+AnyResponse response = Unit {0}
+
+abbrev pub LineGoes : Setup → (Bool → List Step → LineState → Type 0) → Bool → List Step → List Sent → Station → Type 0
+LineGoes setup Q serving course sent station = Goes setup Q serving course station
+
+pub call_turns : (setup : Setup) (Q : Bool → List Step → LineState → Type 0) → Calls Q → StationTurns setup AnyResponse (LineGoes setup Q)
+call_turns setup Q calls = record {
+  act = λ serving course sent line moment act station g. act_goes setup Q calls serving course line moment act station g;
+  deed = λ course sent deed moment line station g. deed_goes setup Q calls course deed moment line station g;
+  response = λ serving course sent line moment response station any g. response_goes setup Q calls serving course line moment response station g;
+  happening = λ serving course sent line item station is g. happened_goes setup Q calls serving course line item station is g;
+  redirecting = λ serving course sent agent line station g. redirected_goes setup Q calls serving course agent line station g;
+  opening = λ course sent agent moment line station closed g. opened_goes setup Q calls course agent moment line station g;
+  answering = λ serving course sent one station is g. g;
+}

@@ -1,20 +1,16 @@
 -- What a line follows, how often it notifies, and what it keeps of what is dialled, over a whole course.
-use Rattle.std.proofs.Common.{◌≡◌, ◌≢◌, ℕ, ◌≤◌, Bool, true, false, List, [], ◌∷◌, ◌++◌, Option, Some, None, refl, sym, ap, subst, ◌∙◌, append-nil, append_assoc, arith}
-use Rattle.std.specs.Prelude.{flat_map, codes, IfSome, zero}
+use Rattle.std.proofs.Common.{◌≡◌, ℕ, ◌≤◌, Bool, true, false, List, [], ◌∷◌, ◌++◌, Option, Some, None, refl, sym, ap, subst, ◌∙◌, append-nil, append_assoc, arith}
+use Rattle.std.specs.Prelude.{IfSome}
 use Rattle.std.proofs.lemmas.Grind.{flat_map-append}
 use Rattle.event_values.specs.declared.handling.Handling.{Handling}
 use Rattle.event_values.specs.declared.handling.Notifying.TheVariants.{Step as InStep}
 use Rattle.event_values.specs.declared.observed.Observed.{Observed}
-use Rattle.event_values.specs.declared.observed.Observed.TheVariants.{Happened, Ended}
-use Rattle.quarantine.specs.Held.{Held, most_lost}
-use Rattle.mg_line.specs.declared.due.Due.{Due}
+use Rattle.quarantine.specs.Held.{most_lost}
 use Rattle.mg_line.specs.declared.phone.Act.{Act}
-use Rattle.mg_line.specs.declared.phone.Act.TheVariants.{OffHook, OnHook, Flash, Key}
 use Rattle.mg_line.specs.declared.request.Request.{Request}
 use Rattle.mg_line.specs.Acting.{observed_at, phoned}
 use Rattle.mg_line.specs.Answering.{answered}
-use Rattle.mg_line.specs.Falling.{due_of, fired}
-use Rattle.mg_line.specs.Laws.{LosesWhenFull}
+use Rattle.mg_line.specs.Falling.{fired}
 use Rattle.mg_line.specs.Line.{LineState, Notice, LineDone, opening_line}
 use Rattle.mg_line.specs.Opening.{opened}
 use Rattle.mg_line.specs.Requesting.{asked}
@@ -22,7 +18,7 @@ use Rattle.mg_line.proofs.LoseLemmas.{lost_only_grows}
 use Rattle.dialled_once.specs.Course.{Step, acts, accepts, notifies}
 use Rattle.dialled_once.specs.Dialled.{done_at, done_in, told_at, told_in, AskForAll, latest_from, AsksIfAny}
 use Rattle.dialled_once.specs.Following.{FollowFrom, AreInStep, OnceFrom, Follows, IsResting, StaysResting}
-use Rattle.dialled_once.specs.Keeping.{happened_in, told_of, AsksForAll, IsUntouched, KeepsAll, Conserves, StaysUntouched}
+use Rattle.dialled_once.specs.Keeping.{happened_in, told_of, IsUntouched, KeepsAll, Conserves, StaysUntouched}
 use Rattle.dialled_once.proofs.CountLemmas.{IsCounted, acts_count, fires_count}
 use Rattle.dialled_once.proofs.FollowingLemmas.{follows_the_latest, rests_until_asked, rests_once_notified}
 use Rattle.dialled_once.proofs.KeepingLemmas.{happened_both, nothing_is_skipped, nothing_is_made_up}

@@ -38,7 +38,7 @@ use Rattle.mg_line.specs.Falling.{ended_by, fired}
 use Rattle.mg_line.specs.Laws.{IsWaiting, Awaits}
 use Rattle.mg_line.proofs.OnceLemmas.{notifies_once}
 use Rattle.mg_line.proofs.TellLemmas.{waits_in_silence, steps_wait}
-use Rattle.dialled_once.specs.Following.{Follows, FollowsTheLatest, IsResting, StaysResting, RestsUntilAsked, RestsIfNotified, RestsOnceNotified}
+use Rattle.dialled_once.specs.Following.{Follows, FollowsTheLatest, IsResting, StaysResting, RestsUntilAsked, RestsOnceNotified}
 
 abbrev Same : LineState → LineDone → Type 0
 Same line done = Follows line.identifier line.handling done

@@ -1,8 +1,7 @@
 -- What a line keeps of what its telephone does.
-use Rattle.std.proofs.Common.{◌≡◌, ℕ, Bool, true, false, not, List, [], ◌∷◌, ◌++◌, length, refl, sym, ap, subst, ◌∙◌, arith, append-nil}
-use Rattle.std.specs.Prelude.{Option, Some, None, IfSome, IfNone, ◌||◌, ◌+◌, nat_lt, nat_le, option_map, if◌then◌else◌}
+use Rattle.std.proofs.Common.{◌≡◌, ℕ, Bool, true, false, List, [], ◌∷◌, ◌++◌, length, refl, sym, ap, subst, ◌∙◌, arith, append-nil}
+use Rattle.std.specs.Prelude.{Option, Some, None, IfSome, ◌||◌, nat_lt, option_map, if◌then◌else◌}
 use Rattle.mg_bytes.specs.declared.letter.Letter.{Letter}
-use Rattle.mg_bytes.specs.declared.letter.Letter.TheVariants as letters
 use Rattle.mg_packages.specs.declared.event.Event.{Event}
 use Rattle.mg_packages.specs.declared.event.Event.TheVariants as events
 use Rattle.mg_packages.specs.declared.signal.Kind.{Kind}
@@ -11,11 +10,9 @@ use Rattle.mg_packages.specs.declared.signal.Signal.{Signal}
 use Rattle.mg_packages.specs.Looking.{kind_of, is_persistent}
 use Rattle.event_values.specs.declared.handling.Quarantined.{Quarantined}
 use Rattle.event_values.specs.declared.handling.Quarantined.TheVariants.{Process, Discard}
-use Rattle.event_values.specs.declared.handling.Notifying.{Notifying}
 use Rattle.event_values.specs.declared.observed.Observed.{Observed}
 use Rattle.event_values.specs.declared.observed.Observed.TheVariants.{Happened, Ended}
 use Rattle.event_syntax.specs.declared.request.Action.TheVariants.{Notify, Accumulate, Dial, Ignore}
-use Rattle.event_syntax.specs.declared.request.RequestedEvent.{RequestedEvent}
 use Rattle.event_syntax.specs.declared.request.Response.{Response}
 use Rattle.event_syntax.specs.declared.request.Response.TheVariants.{Plain, Embed, AccumulateAndEmbed}
 use Rattle.event_requests.specs.Choice.{Chosen, chosen, is_requested, is_detected, is_kept}
@@ -33,7 +30,7 @@ use Rattle.mg_line.specs.declared.request.Request.{Request}
 use Rattle.mg_line.specs.declared.state.State.{State}
 use Rattle.mg_line.specs.declared.state.State.TheVariants.{Normal, Notification, Lockstep}
 use Rattle.mg_line.specs.Line.{LineState, Notice, LineDone, still}
-use Rattle.mg_line.specs.Occurring.{notified, notified_if_full, with_event, letter_of, dialled_by, embedded, acted, acted_by, signals_after, occurred, is_timer}
+use Rattle.mg_line.specs.Occurring.{notified, notified_if_full, with_event, dialled_by, embedded, acted, signals_after, occurred}
 use Rattle.mg_line.specs.Detecting.{quarantining, detected_in, detected, with_quarantined, unless_notified, drained_of, drained, resumed}
 use Rattle.mg_line.specs.Acting.{letter_at, hooked, observed_at, phoned}
 use Rattle.mg_line.specs.Requesting.{quarantined_after, replaced, resumed_in, asked}

@@ -1,5 +1,5 @@
 -- The laws of whole courses, from the opening on.
-use Rattle.std.proofs.Common.{◌≡◌, ◌≢◌, ℕ, zero, suc, ◌+◌, ◌-◌, ◌<◌, ◌≤◌, ◌==◌, Bool, true, false, if◌then◌else◌, List, [], ◌∷◌, ◌++◌, length, Option, Some, None, refl, sym, ap, subst, ◌∙◌, append_assoc, arith}
+use Rattle.std.proofs.Common.{◌≡◌, ◌≢◌, ℕ, zero, suc, ◌+◌, ◌-◌, ◌<◌, ◌≤◌, ◌==◌, Bool, true, false, if◌then◌else◌, List, [], ◌∷◌, ◌++◌, length, Some, None, refl, sym, ap, subst, ◌∙◌, append_assoc, arith}
 use Rattle.std.specs.Prelude.{codes, slice_get}
 use Rattle.std.proofs.lemmas.Bool.Decides.{Decides-eqb}
 use Rattle.event_values.specs.declared.observed.Observed.{Observed}
@@ -8,10 +8,12 @@ use Rattle.plain_machine.specs.declared.setup.Setup.{Setup}
 use Rattle.plain_machine.specs.declared.station.Station.{Station}
 use Rattle.plain_machine.specs.Event.{GatewayEvent}
 use Rattle.plain_machine.specs.Happening.{effect}
-use Rattle.plain_machine.specs.Lists.{machine_after, plain}
+use Rattle.plain_machine.specs.Lists.{machine_after, plain, sent_of}
+use Rattle.plain_machine.specs.Message.{Sent}
+use Rattle.plain_machine.specs.Arriving.{arrivals_from, arrivals_of}
+use Rattle.line_isolation.specs.Belonging.{of_line}
 use Rattle.plain_machine.specs.Machine.{Machine, serves, opening, opening_station, station_at}
-use Rattle.plain_machine.proofs.AllLemmas.{OnAll}
-use Rattle.plain_machine.proofs.TurnLemmas.{on_made, of_line}
+use Rattle.plain_machine.proofs.TurnLemmas.{on_made, of_line as of_its_line}
 use Rattle.plain_machine.proofs.ListLaws.{machine_on, lines_after}
 use Rattle.machine_laws.proofs.LineLemmas.{place_of}
 use Rattle.machine_laws.proofs.WaitLaws.{opening_waits}
@@ -20,21 +22,24 @@ use Rattle.dialled_once.specs.Dialled.{done_in, told_in, IsAskedForAll, IsToldOn
 use Rattle.dialled_once.specs.Keeping.{happened_in}
 use Rattle.dialled_once.specs.Following.{Follow, AreInStep, OnceFrom, OnceForEach}
 use Rattle.dialled_once.proofs.CountLemmas.{IsCounted}
-use Rattle.dialled_once.proofs.CourseLemmas.{Stands, events_stand}
+use Rattle.dialled_once.proofs.CourseLemmas.{AnyResponse, LineGoes, Stands, call_turns, events_stand, hear_all}
 use Rattle.dialled_once.proofs.DialledLemmas.{Followed, calls_follow, OnceInStep, calls_once, opening_once, BeginsUntouched, calls_begin, opening_begins, calls_count, Told, calls_told, told_from, done_both, told_both}
 use Rattle.dialled_once.proofs.KeepingLemmas.{happened_both}
 use Rattle.dialled_once.proofs.ReadingLemmas.{IsReadable, opening_readable}
-use Rattle.dialled_once.proofs.StationLemmas.{Calls, Goes}
+use Rattle.dialled_once.proofs.StationLemmas.{Calls}
 
 abbrev IsOpening : ℕ → Station → Type 0
 IsOpening line station = station.line ≡ opening_line
 
 opens : (setup : Setup) (line : ℕ) (station : Station) → station_at (opening setup).endpoints line ≡ Some station → station.line ≡ opening_line
 opens setup line station at =
-    of_line IsOpening (opening setup).endpoints line station (on_made IsOpening (opening_station setup) 1 setup.names.lines (λ i low high. refl)) at
+    of_its_line IsOpening (opening setup).endpoints line station (on_made IsOpening (opening_station setup) 1 setup.names.lines (λ i low high. refl)) at
+
+abbrev line_sent_of : Setup → ℕ → List GatewayEvent → List Sent
+line_sent_of setup line events = of_line line (sent_of setup events)
 
 module _ (setup : Setup) (Q : Bool → List Step → LineState → Type 0) (calls : Calls Q) (line : ℕ) (some : 1 ≤ line) (begins : Q false [] opening_line) where
-  opening_stands : Stands setup Q calls line some [] (opening setup)
+  opening_stands : Stands setup AnyResponse (LineGoes setup Q) (call_turns setup Q calls) line some [] [] (opening setup)
   opening_stands = record {
     order = opening_waits setup;
     holds = λ s at. record {
@@ -43,8 +48,10 @@ module _ (setup : Setup) (Q : Bool → List Step → LineState → Type 0) (call
     };
   }
 
-  pub always : (events : List GatewayEvent) → Stands setup Q calls line some (course_of setup line events) (plain setup events)
-  always events = events_stand setup Q calls line some (opening setup) [] events opening_stands
+  pub always : (events : List GatewayEvent)
+      → Stands setup AnyResponse (LineGoes setup Q) (call_turns setup Q calls) line some (course_of setup line events) (line_sent_of setup line events) (plain setup events)
+  always events =
+      events_stand setup AnyResponse (LineGoes setup Q) (call_turns setup Q calls) line some (opening setup) [] [] 0 events (hear_all setup AnyResponse (λ response. tt) (arrivals_of events)) opening_stands
 
 -- a line that there is has a number from 1 on
 numbered : (m : Machine) (line : ℕ) (station : Station) → station_at m.endpoints line ≡ Some station → 1 ≤ line
@@ -132,7 +139,7 @@ course_told setup line before after station at asked =
     let course : List Step = course_from setup m line after in
     let begun = always setup BeginsUntouched calls_begin line some opening_begins before in
     let counted = always setup (λ serving course l. IsCounted l) calls_count line some zero_count before in
-    let from : Stands setup Told calls_told line some [] m = record {
+    let from : Stands setup AnyResponse (LineGoes setup Told) (call_turns setup Told calls_told) line some [] [] m = record {
       order = begun.order;
       holds = λ s here.
           let b = (begun.holds s here).holds asked.undone in
@@ -141,7 +148,7 @@ course_told setup line before after station at asked =
             holds = told_from (serves m.endpoints) s.line b.untouched (b.keeps asked.asked) (counted.holds s here).holds;
           };
     } in
-    let to = events_stand setup Told calls_told line some m [] after from in
+    let to = events_stand setup AnyResponse (LineGoes setup Told) (call_turns setup Told calls_told) line some m [] [] 0 after (hear_all setup AnyResponse (λ response. tt) (arrivals_from 0 after)) from in
     let there : station_at (machine_after setup m after).endpoints line ≡ Some station =
     ap (λ (n : Machine). station_at n.endpoints line) (sym (machine_on setup (opening setup) before after)) ∙ at in
     let told = ((to.holds station there).holds.once asked.since asked.none_lost).whole in

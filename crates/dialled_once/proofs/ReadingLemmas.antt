@@ -1,5 +1,5 @@
 -- What a line tells can be read again, whatever came before.
-use Rattle.std.proofs.Common.{◌≡◌, ℕ, Bool, true, false, ◌&&◌, if◌then◌else◌, List, [], ◌∷◌, ◌++◌, length, Option, Some, None, refl, sym, ap, subst, ◌∙◌}
+use Rattle.std.proofs.Common.{◌≡◌, ℕ, Bool, true, false, ◌&&◌, if◌then◌else◌, List, [], ◌∷◌, ◌++◌, length, Option, Some, None, refl, ap, ◌∙◌}
 use Rattle.std.specs.Prelude.{IfSome, ◌||◌, nat_lt, Ok}
 use Rattle.mg_bytes.specs.declared.letter.Letter.{Letter}
 use Rattle.mg_bytes.specs.declared.letter.Letter.TheVariants as letters
@@ -41,7 +41,6 @@ use Rattle.mg_line.specs.Requesting.{quarantined_after, replaced, resumed_in, as
 use Rattle.mg_line.specs.Answering.{is_loop, answered}
 use Rattle.mg_line.specs.Opening.{opened}
 use Rattle.mg_line.specs.Falling.{ended_by, fired}
-use Rattle.mg_line.proofs.DrainLemmas.{occurred_keeps}
 use Rattle.machine_laws.proofs.EachLemmas.{Each, each_push}
 
 abbrev pub CanBeTold : Observed → Type 0

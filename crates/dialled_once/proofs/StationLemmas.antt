@@ -1,10 +1,8 @@
 -- What each turn of a station adds to the course of its line.
-use Rattle.std.proofs.Common.{◌≡◌, ℕ, Bool, true, false, if◌then◌else◌, List, [], ◌∷◌, ◌++◌, Option, Some, None, Result, Ok, Err, inl, inr, refl, sym, ap, subst, ◌∙◌, append-nil}
-use Rattle.std.specs.Prelude.{◌⊎◌, codes, flat_map, IfSome}
-use Rattle.mgcp_text.specs.Message.{param_at}
+use Rattle.std.proofs.Common.{◌≡◌, ℕ, Bool, true, false, List, [], ◌∷◌, ◌++◌, Option, Some, None, Result, inl, inr, refl, sym, ap, subst, ◌∙◌, append-nil}
+use Rattle.std.specs.Prelude.{◌⊎◌, flat_map, IfSome}
 use Rattle.endpoint_names.specs.declared.entity.Entity.{Entity}
 use Rattle.event_values.specs.declared.observed.Observed.{Observed}
-use Rattle.event_values.specs.Observed.{observed_of, observed_text}
 use Rattle.mg_line.specs.declared.due.Due.{Due as LineDue}
 use Rattle.mg_line.specs.declared.phone.Act.{Act}
 use Rattle.mg_line.specs.declared.request.Request.{Request}
@@ -30,13 +28,13 @@ use Rattle.plain_machine.specs.declared.response.Response.{Response}
 use Rattle.plain_machine.specs.declared.setup.Setup.{Setup}
 use Rattle.plain_machine.specs.declared.station.Station.{Station}
 use Rattle.plain_machine.specs.Message.{Sent}
-use Rattle.plain_machine.specs.Posting.{id_on, repeated_as, resent_by, resent_on}
+use Rattle.plain_machine.specs.Posting.{repeated_as, resent_by, resent_on}
 use Rattle.plain_machine.specs.Announcing.{announcement, announced, announced_by, announced_on, heard_on, replied}
 use Rattle.plain_machine.specs.Notifying.{Turn, silent, posted, notification, with_notice, noted}
 use Rattle.plain_machine.specs.Acting.{acted_on}
 use Rattle.plain_machine.specs.Requesting.{with_entity, with_connections, asked_if, deed_on}
 use Rattle.plain_machine.specs.Responding.{responded_as, responded_on, redirected_on, opened_on}
-use Rattle.plain_machine.specs.Falling.{due_on, post_due, line_item, command_item, announcement_item, happened_on}
+use Rattle.plain_machine.specs.Falling.{due_on, post_due, happened_on}
 use Rattle.plain_machine.proofs.FirstLemmas.{OfItsCommand, OfItsAnnouncement, OfItsLine, post_cases, due_cases}
 use Rattle.machine_laws.specs.Notified.{observed_or_none}
 use Rattle.dialled_once.specs.Course.{Step, acts, accepts, notifies, notified_by, accepted}
