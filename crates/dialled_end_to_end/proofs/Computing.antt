@@ -1,6 +1,6 @@
 -- The definitions opened, so that worked examples compute.
 use Rattle.std.specs.Prelude.{⊤}
-use Rattle.agent_core.proofs.Computing.{on_examples as world_examples}
+use Rattle.world_laws.proofs.Computing.{on_examples as world_examples}
 use Rattle.dialled_once.proofs.Computing.{on_examples as course_examples}
 
 unfoldable pub on_examples : ⊤

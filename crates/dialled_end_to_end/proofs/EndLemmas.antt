@@ -24,9 +24,9 @@ use Rattle.dialled_once.proofs.KeepingLemmas.{happened_both}
 use Rattle.dialled_once.proofs.OverLists.{course_told}
 use Rattle.agent_core.specs.Agent.{observed_on}
 use Rattle.agent_core.specs.World.{World, WorldStep, agent_in, gateway_in, plain_world, steps_are_taken, world_opening}
-use Rattle.agent_core.specs.Reached.{Reached, own_in, taken_in}
-use Rattle.agent_core.proofs.LinkLaws.{taken_as_sent}
-use Rattle.agent_core.proofs.ToldLaws.{told_is}
+use Rattle.world_laws.specs.Reached.{Reached, own_in, taken_in}
+use Rattle.world_laws.proofs.LinkLaws.{taken_as_sent}
+use Rattle.world_laws.proofs.ToldLaws.{told_is}
 use Rattle.dialled_end_to_end.specs.GivenUp.{has_given_up}
 use Rattle.dialled_end_to_end.specs.Telling.{told_as}
 use Rattle.dialled_end_to_end.specs.Untaken.{has_taken, untaken}

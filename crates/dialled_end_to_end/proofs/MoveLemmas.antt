@@ -18,7 +18,7 @@ use Rattle.agent_core.specs.declared.packet.Packet.{Packet}
 use Rattle.agent_core.specs.declared.packet.Posted.{Posted}
 use Rattle.agent_core.specs.Hearing.{AgentEvent, issues, hears, heard_with}
 use Rattle.agent_core.specs.World.{World, WorldStep, issuing, dialling, ticking, delivering, delivered, delivered_from, gateway_address, to_agent, to_gateway, went}
-use Rattle.agent_core.specs.Reached.{Reached, added_by, as_arrival, executed_with, executed_of, reached, heard_in, taken_in}
+use Rattle.world_laws.specs.Reached.{Reached, added_by, as_arrival, executed_with, executed_of, reached, heard_in, taken_in}
 
 pub data Move (w w' : World) : Type 0 where
   gateway_took : (event : GatewayEvent) → w'.gateway_took ≡ w.gateway_took ++ event ∷ [] → taken_in w' ≡ taken_in w → Move w w'

@@ -26,7 +26,7 @@ use Rattle.dialled_once.specs.Course.{notified_with}
 use Rattle.dialled_once.specs.Dialled.{told_in}
 use Rattle.agent_core.specs.Taking.{command_of, taken_of, taken_on}
 use Rattle.agent_core.specs.World.{agent_of}
-use Rattle.agent_core.specs.Reached.{Reached, taken_of_command, taken_with, told_of}
+use Rattle.world_laws.specs.Reached.{Reached, taken_of_command, taken_with, told_of}
 use Rattle.dialled_end_to_end.specs.Telling.{told_as}
 use Rattle.dialled_end_to_end.proofs.WellLemmas.{IsNotice, IsOwn, SaysWell, IsWell}
 use Rattle.dialled_end_to_end.proofs.ToldLemmas.{told_by, is_mine}

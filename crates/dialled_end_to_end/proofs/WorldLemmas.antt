@@ -30,9 +30,9 @@ use Rattle.machine_laws.proofs.WaitLaws.{opening_waits, events_wait}
 use Rattle.line_isolation.specs.Belonging.{of_line}
 use Rattle.line_isolation.proofs.OwningLemmas.{of_both}
 use Rattle.agent_core.specs.World.{World, WorldStep, gateway_in, plain_world, steps_are_taken, step_refusal, went, world_after, world_opening}
-use Rattle.agent_core.specs.Reached.{Reached, own_in, taken_in}
-use Rattle.agent_core.proofs.LinkLaws.{taken_once, taken_as_sent, world_linked}
-use Rattle.agent_core.proofs.TakenLaws.{heard_was_taken}
+use Rattle.world_laws.specs.Reached.{Reached, own_in, taken_in}
+use Rattle.world_laws.proofs.LinkLaws.{taken_once, taken_as_sent, world_linked}
+use Rattle.world_laws.proofs.TakenLaws.{heard_was_taken}
 use Rattle.dialled_once.specs.Course.{Step}
 use Rattle.dialled_end_to_end.specs.GivenUp.{has_given_up}
 use Rattle.dialled_once.proofs.CourseLemmas.{AllHear, AnyResponse, Hears, Stands, StationTurns, events_stand, hear_all}

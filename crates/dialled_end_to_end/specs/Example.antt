@@ -17,7 +17,7 @@ use Rattle.dialled_once.specs.Dialled.{done_in}
 use Rattle.dialled_once.specs.Keeping.{happened_in}
 use Rattle.agent_core.specs.Agent.{observed_on}
 use Rattle.agent_core.specs.World.{World, WorldStep, issuing, dialling, ticking, delivering, agent_in, gateway_in, plain_world}
-use Rattle.agent_core.specs.Reached.{Reached, taken_in}
+use Rattle.world_laws.specs.Reached.{Reached, taken_in}
 use Rattle.dialled_end_to_end.specs.GivenUp.{has_given_up}
 use Rattle.dialled_end_to_end.specs.Telling.{told_as}
 use Rattle.dialled_end_to_end.specs.Untaken.{untaken}

@@ -4,7 +4,7 @@ use Rattle.std.specs.List.{list_any}
 use Rattle.mgcp_text.specs.Reading.{read_text}
 use Rattle.event_values.specs.declared.observed.Observed.{Observed}
 use Rattle.outbound.specs.Flight.{InFlight}
-use Rattle.agent_core.specs.Reached.{Reached}
+use Rattle.world_laws.specs.Reached.{Reached}
 use Rattle.dialled_end_to_end.specs.Telling.{told_as}
 
 -- one of these commands has this id
