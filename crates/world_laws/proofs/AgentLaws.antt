@@ -1,8 +1,8 @@
 -- What an agent sends: its commands, each under an id of its own, and again for less than 20,000 ms; and responses.
-use Rattle.std.proofs.Common.{◌≡◌, ◌≢◌, ℕ, zero, suc, ◌+◌, ◌-◌, ◌*◌, ◌^◌, ◌<◌, ◌≤◌, Bool, true, false, ◌||◌, ◌==◌, if◌then◌else◌, List, [], ◌∷◌, ◌++◌, length, codes, Option, Some, None, inl, inr, refl, sym, ap, ◌∙◌, subst, arith, lit<, append-nil, append_assoc}
+use Rattle.std.proofs.Common.{◌≡◌, ◌≢◌, ℕ, zero, suc, ◌+◌, ◌-◌, ◌*◌, ◌<◌, ◌≤◌, Bool, true, false, ◌||◌, ◌==◌, if◌then◌else◌, List, [], ◌∷◌, ◌++◌, length, codes, Option, Some, None, inl, inr, refl, sym, ap, ◌∙◌, subst, arith, lit<, append-nil, append_assoc}
 use Rattle.std.specs.Prelude.{Any, AllPairs, IfSome, nat_lt, nat_le, find}
 use Rattle.std.specs.declared.net.socket_addr.SocketAddrV4.{SocketAddrV4}
-use Rattle.std.proofs.lemmas.Bool.{and_parts, ltb-false, leb-true}
+use Rattle.std.proofs.lemmas.Bool.{and_parts, leb-true}
 use Rattle.std.proofs.lemmas.Option.{none-some}
 use Rattle.std.specs.Fmt.{decimal}
 use Rattle.std.proofs.lemmas.Fmt.{length-decimal-le}
@@ -36,11 +36,9 @@ use Rattle.outbound.specs.declared.reply.Reply.TheVariants.{Answered, Provisiona
 use Rattle.outbound.specs.Flight.{InFlight, begun, repeat_of, repeated, reply_of, heard}
 use Rattle.outbound.proofs.LifeLaws.{repeat_same, reply_same, sent_later, held_later, sent_soon}
 use Rattle.transmission.specs.declared.output.OutDatagram.{OutDatagram}
-use Rattle.plain_machine.specs.declared.refusal.Refusal.TheVariants.{ClockBack, TickTooFar}
 use Rattle.transmission.specs.Acknowledging.{asks_for_acknowledgement, acknowledgement_text, acknowledgements}
 use Rattle.plain_machine.specs.Refusing.{tick_refusal}
 use Rattle.transmission.specs.Texts.{largest_datagram, texts_of}
-use Rattle.plain_machine.specs.Arriving.{clock_after}
 use Rattle.plain_machine.specs.Event.{datagram, phone, tick}
 use Rattle.machine_laws.proofs.EachLemmas.{Each, all_from_each, each_both, each_push, each_weaker, one_before, one_behind, one_from_any, one_of_each, one_to, one_weaker}
 use Rattle.machine_laws.proofs.FlightLemmas.{IsSame}
