@@ -71,3 +71,40 @@ fn a_run_stops_at_a_refusal(rt: HostRuntime) -> Result<(), Fail> {
     );
     Ok(())
 }
+
+// Whether the gateway answers an audit with this id, and sends nothing else then.
+fn is_answered(alloc: Global, gateway: &mut Gateway, id: u32) -> Result<bool, OutOfMemory> {
+    let audit = format!(in alloc; "AUEP {id} aaln/1@rgw.example.net MGCP 1.0\r\n")?;
+    let answer = format!(in alloc; "200 {id} OK\r\n")?;
+    match gateway.step(from_agent(audit.as_bytes())) {
+        Ok(outputs) => match outputs.as_slice() {
+            [one] => Ok(one.bytes.as_bytes() == answer.as_bytes()),
+            _ => Ok(false),
+        },
+        Err(_) => Ok(false),
+    }
+}
+
+// How many of the audits with ids from 1 on are answered, of which one comes every 10 ms.
+fn answered(alloc: Global, gateway: &mut Gateway, audits: u32) -> Result<u32, OutOfMemory> {
+    let mut count = 0_u32;
+    for id in 1..audits.saturating_add(1) {
+        let moment = u64::from(id).saturating_mul(10);
+        if gateway.step(Event::Tick { moment }).is_err() {
+            return Ok(count);
+        }
+        if is_answered(alloc, gateway, id)? {
+            count = count.saturating_add(1);
+        }
+    }
+    Ok(count)
+}
+
+#[test]
+fn twenty_thousand_audits_are_answered(rt: HostRuntime) -> Result<(), Fail> {
+    let Ok(mut gateway) = opened(rt.alloc()) else {
+        return Err("a gateway".into());
+    };
+    assert_eq!(rt; answered(rt.alloc(), &mut gateway, 20_000)?, 20_000);
+    Ok(())
+}
