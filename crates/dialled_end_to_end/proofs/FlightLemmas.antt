@@ -1,9 +1,8 @@
 -- The command in flight of a line that gave nothing up is the last one that it began, and all before it were answered.
-use Rattle.std.proofs.Common.{◌≡◌, ℕ, ◌≤◌, Bool, true, false, ◌==◌, ◌&&◌, ◌||◌, if◌then◌else◌, List, [], ◌∷◌, ◌++◌, Option, Some, None, inl, inr, refl, sym, ap, subst, ◌∙◌, append-nil}
-use Rattle.std.specs.Prelude.{◌⊎◌, IfSome, not, nat_le, option_map}
+use Rattle.std.proofs.Common.{◌≡◌, ℕ, ◌≤◌, Bool, true, false, ◌||◌, List, [], ◌∷◌, ◌++◌, Option, Some, None, inl, inr, refl, sym, ap, subst, ◌∙◌, append-nil}
+use Rattle.std.specs.Prelude.{◌⊎◌, IfSome, not, option_map}
 use Rattle.std.specs.Option.{unwrap_or}
 use Rattle.std.specs.List.{list_any}
-use Rattle.std.proofs.lemmas.Bool.{eqb-true, leb-true}
 use Rattle.std.proofs.lemmas.Grind.{flat_map-append}
 use Rattle.std.proofs.lemmas.Option.{none-some}
 use Rattle.endpoint_names.specs.declared.entity.Entity.{Entity}
@@ -22,7 +21,7 @@ use Rattle.outbound.specs.declared.repeat.Repeat.TheVariants.{Sent as SentAgain,
 use Rattle.outbound.specs.declared.reply.Reply.{Reply}
 use Rattle.outbound.specs.declared.reply.Reply.TheVariants as replies
 use Rattle.outbound.specs.declared.reply.Reply.TheVariants.{Provisional, Stranger}
-use Rattle.outbound.specs.Flight.{InFlight, repeat_of, repeated, reply_by, reply_of, heard}
+use Rattle.outbound.specs.Flight.{InFlight, repeat_of, repeated, reply_of, heard}
 use Rattle.outbound.proofs.LifeLaws.{repeat_same, reply_same}
 use Rattle.restart.specs.declared.restart.Restart.{Restart}
 use Rattle.restart.specs.declared.restart.Restart.TheVariants.{Waiting, Announced, Serving}
@@ -47,6 +46,7 @@ use Rattle.plain_machine.specs.Responding.{responded_as, responded_on, redirecte
 use Rattle.plain_machine.proofs.FlightLaws.{WaitsOn, phoned_waits, fired_waits, asked_waits, redirected_announced}
 use Rattle.machine_laws.specs.Saying.{Issued, begun_at, begun_in}
 use Rattle.machine_laws.proofs.EachLemmas.{Each, each_push}
+use Rattle.world_laws.proofs.LinkLaws.{final_is}
 use Rattle.dialled_end_to_end.specs.GivenUp.{announces, has_given_up}
 use Rattle.dialled_once.specs.Course.{Step}
 use Rattle.dialled_once.proofs.CourseLemmas.{StationTurns}
@@ -126,21 +126,6 @@ gone_is sent post (inr is) = by_restart post.restart is where
   by_restart (Waiting until) e = or_true (has_announced sent)
   by_restart Announced e = absurd cc
   by_restart Serving e = absurd cc
-
--- a final response to what is in flight
-final_is : (flight : InFlight) (id code : ℕ) → reply_of flight id code ≡ replies.Answered → (flight.id ≡ id) × (200 ≤ code)
-final_is flight id code is = by_id (flight.id == id) refl is where
-  by_high : (a b : Bool) → nat_le 200 code ≡ a → (if (a && b) then replies.Answered else Stranger) ≡ replies.Answered → 200 ≤ code
-  by_high true b high e = leb-true 200 code high
-  by_high false b high e = absurd cc
-
-  by_low : (b : Bool) → (if b then Provisional else (if nat_le 200 code && nat_le code 999 then replies.Answered else Stranger)) ≡ replies.Answered → 200 ≤ code
-  by_low true e = absurd cc
-  by_low false e = by_high (nat_le 200 code) (nat_le code 999) refl e
-
-  by_id : (b : Bool) → (flight.id == id) ≡ b → (if b then reply_by code else Stranger) ≡ replies.Answered → (flight.id ≡ id) × (200 ≤ code)
-  by_id true same e = (eqb-true flight.id id same, by_low (nat_le 100 code && nat_le code 199) e)
-  by_id false other e = absurd cc
 
 -- A holds of the ids of final responses; B holds as long as nothing was given up
 module _ (A : ℕ → Type 0) (B : Type 0) where

@@ -16,9 +16,10 @@ use Rattle.agent_core.specs.declared.packet.End.{End}
 use Rattle.agent_core.specs.declared.packet.End.TheVariants.{AgentEnd as agent_end, GatewayEnd as gateway_end}
 use Rattle.agent_core.specs.declared.packet.Packet.{Packet}
 use Rattle.agent_core.specs.declared.packet.Posted.{Posted}
-use Rattle.agent_core.specs.Hearing.{AgentEvent, issues, hears, heard_with}
+use Rattle.agent_core.specs.Hearing.{AgentEvent, issues, hears}
 use Rattle.agent_core.specs.World.{World, WorldStep, issuing, dialling, ticking, delivering, delivered, delivered_from, gateway_address, to_agent, to_gateway, went}
 use Rattle.world_laws.specs.Reached.{Reached, added_by, as_arrival, executed_with, executed_of, reached, heard_in, taken_in}
+use Rattle.world_laws.proofs.LinkLaws.{heard_more}
 
 pub data Move (w w' : World) : Type 0 where
   gateway_took : (event : GatewayEvent) → w'.gateway_took ≡ w.gateway_took ++ event ∷ [] → taken_in w' ≡ taken_in w → Move w w'
@@ -49,9 +50,6 @@ all_grow firsts (one ∷ ones) =
     grows_on firsts (executed_with firsts one) (fold executed_with (executed_with firsts one) ones) (one_grows firsts one) (all_grow (executed_with firsts one) ones)
 
 -- what an agent took with one event more
-heard_more : (setup : Setup) (w : World) (event : AgentEvent) → heard_in (to_agent setup w event) ≡ heard_in w ++ heard_with event
-heard_more setup w event = flat_map-append heard_with w.agent_took (event ∷ []) ∙ ap (λ (x : List GatewayEvent). heard_in w ++ x) (append-nil (heard_with event))
-
 executed_more : (some more : List Arrival) → executed_of (some ++ more) ≡ fold executed_with (executed_of some) (flat_map reached more)
 executed_more some more =
     ap (fold executed_with []) (flat_map-append reached some more)
@@ -60,14 +58,14 @@ executed_more some more =
 taken_hearing : (setup : Setup) (w : World) (event : GatewayEvent)
     → taken_in (to_agent setup w (hears event)) ≡ fold executed_with (taken_in w) (flat_map reached (arrivals_at (plain setup (heard_in w)).now event))
 taken_hearing setup w event =
-    ap (λ (events : List GatewayEvent). executed_of (arrivals_of events)) (heard_more setup w (hears event))
+    ap (λ (events : List GatewayEvent). executed_of (arrivals_of events)) (heard_more w setup (hears event))
     ∙ ap executed_of (arrivals_on setup (opening setup) (heard_in w) event)
     ∙ executed_more (arrivals_of (heard_in w)) (arrivals_at (plain setup (heard_in w)).now event)
 
 agent_moves : (setup : Setup) (w : World) (event : AgentEvent) → Move w (to_agent setup w event)
 agent_moves setup w (issues verb name rest) =
     agent_took [] refl
-    (ap (λ (events : List GatewayEvent). executed_of (arrivals_of events)) (heard_more setup w (issues verb name rest) ∙ append-nil (heard_in w)) ∙ sym (append-nil (taken_in w)))
+    (ap (λ (events : List GatewayEvent). executed_of (arrivals_of events)) (heard_more w setup (issues verb name rest) ∙ append-nil (heard_in w)) ∙ sym (append-nil (taken_in w)))
 agent_moves setup w (hears event) =
     let grows = all_grow (taken_in w) (flat_map reached (arrivals_at (plain setup (heard_in w)).now event)) in
     agent_took grows.more refl (taken_hearing setup w event ∙ grows.is)

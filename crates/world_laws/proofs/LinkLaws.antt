@@ -106,7 +106,7 @@ abbrev pub arrives_with : ℕ → AgentEvent → List TextArrival
 arrives_with now (issues verb name rest) = []
 arrives_with now (hears event) = arrivals_at now event
 
-heard_more : (w : World) (setup : Setup) (event : AgentEvent) → heard_in (to_agent setup w event) ≡ heard_in w ++ heard_with event
+pub heard_more : (w : World) (setup : Setup) (event : AgentEvent) → heard_in (to_agent setup w event) ≡ heard_in w ++ heard_with event
 heard_more w setup event = flat_map-append heard_with w.agent_took (event ∷ []) ∙ ap (λ (x : List GatewayEvent). heard_in w ++ x) (append-nil (heard_with event))
 
 pub agent_arrivals : (w : World) (setup : Setup) (event : AgentEvent) (now : ℕ) → clock_from 0 (heard_in w) ≡ now
@@ -124,7 +124,7 @@ agent_time w setup event now at = ap (clock_from 0) (heard_more w setup event) �
 
 -- The answers of an agent
 
-final_is : (flight : InFlight) (id code : ℕ) → reply_of flight id code ≡ Answered → (flight.id ≡ id) × (200 ≤ code)
+pub final_is : (flight : InFlight) (id code : ℕ) → reply_of flight id code ≡ Answered → (flight.id ≡ id) × (200 ≤ code)
 final_is flight id code is = by_id (flight.id == id) refl is where
   by_high : (a b : Bool) → nat_le 200 code ≡ a → (if (a && b) then Answered else Stranger) ≡ Answered → 200 ≤ code
   by_high true b high e = leb-true 200 code high
