@@ -18,6 +18,7 @@ use Rattle.dialled_once.specs.Keeping.{happened_in}
 use Rattle.agent_core.specs.Agent.{observed_on}
 use Rattle.agent_core.specs.World.{World, WorldStep, issuing, dialling, ticking, delivering, agent_in, gateway_in, plain_world}
 use Rattle.world_laws.specs.Reached.{Reached, taken_in}
+use Rattle.world_laws.specs.Example.{seconds}
 use Rattle.dialled_end_to_end.specs.GivenUp.{has_given_up}
 use Rattle.dialled_end_to_end.specs.Telling.{told_as}
 use Rattle.dialled_end_to_end.specs.Untaken.{untaken}
@@ -73,6 +74,14 @@ taken = dialled ++ delivering 4 ∷ delivering 4 ∷ []
 -- the first of these arrives, and the key is notified, packet 7
 abbrev pub answered : List WorldStep
 answered = taken ++ delivering 5 ∷ []
+
+-- or nothing arrives for 23 seconds, and the notification is repeated seven times
+abbrev pub repeated : List WorldStep
+repeated = dialled ++ seconds 24
+
+-- for one second more, and it is given up
+abbrev pub given_up : List WorldStep
+given_up = dialled ++ seconds 25
 
 abbrev pub world : List WorldStep → World
 world steps = plain_world two_lines steps

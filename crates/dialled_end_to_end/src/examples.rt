@@ -6,9 +6,12 @@ ghost use Rattle.plain_machine.specs.Event.{tick};
 ghost use Rattle.plain_machine.specs.Example.{response};
 ghost use Rattle.agent_core.specs.World.{world_opening, steps_are_taken};
 ghost use Rattle.plain_machine.specs.Example.{two_lines};
+ghost use Rattle.plain_machine.specs.Lists.{sent_of};
+ghost use Rattle.line_isolation.specs.Belonging.{of_line};
+ghost use Rattle.dialled_end_to_end.specs.GivenUp.{has_given_up};
 ghost use Rattle.dialled_once.specs.Example.{lifted as off_hook, five};
 ghost use Rattle.dialled_end_to_end.specs.Untaken.{has_taken, untaken};
-ghost use Rattle.dialled_end_to_end.specs.Example.{told_by, reporting, flying, taken_as, given_up_at, lifted, dialled, taken, answered, done_then, told_then, untaken_then, left_then};
+ghost use Rattle.dialled_end_to_end.specs.Example.{told_by, reporting, flying, taken_as, given_up_at, lifted, dialled, taken, answered, given_up, repeated, world, station_then, done_then, told_then, untaken_then, left_then};
 
 /// A notification tells what its O says, and no other text tells anything.
 pub fn notifications_alone_tell()
@@ -57,4 +60,16 @@ pub fn what_is_dialled_goes_on_its_way()
     ensures told_last { told_then answered ≡ off_hook ∷ [] }
     ensures sent_last { untaken_then answered ≡ five ∷ [] }
     ensures none_left { left_then answered ≡ [] }
+{}
+
+/// Where a line gave its notification up, what that told is skipped: nobody took it, it isn't on its way and isn't quarantined.
+pub fn what_is_given_up_is_skipped()
+    ensures steps { steps_are_taken two_lines world_opening given_up ≡ true }
+    ensures done { done_then given_up ≡ off_hook ∷ five ∷ [] }
+    ensures told { told_then given_up ≡ [] }
+    ensures sent { untaken_then given_up ≡ [] }
+    ensures left { left_then given_up ≡ five ∷ [] }
+    ensures gave_up { has_given_up (of_line 1 (sent_of two_lines (world given_up).gateway_took)) (station_then given_up).post ≡ true }
+    ensures not_yet { has_given_up (of_line 1 (sent_of two_lines (world repeated).gateway_took)) (station_then repeated).post ≡ false }
+    ensures sent_still { untaken_then repeated ≡ off_hook ∷ [] }
 {}
