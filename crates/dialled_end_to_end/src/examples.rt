@@ -3,7 +3,7 @@
 
 ghost use Rattle.std.specs.Prelude.{◌≡◌, ◌++◌, codes, [], ◌∷◌, true, false, Some, None};
 ghost use Rattle.plain_machine.specs.Event.{tick};
-ghost use Rattle.plain_machine.specs.Example.{response};
+ghost use Rattle.plain_machine.specs.Example.{rqnt, response};
 ghost use Rattle.agent_core.specs.World.{world_opening, steps_are_taken};
 ghost use Rattle.plain_machine.specs.Example.{two_lines};
 ghost use Rattle.plain_machine.specs.Lists.{sent_of};
@@ -35,7 +35,7 @@ pub fn what_is_in_flight_is_on_its_way()
 {}
 
 /// A line gave something up from the moment at which it did on: while its announcement waits, while that is in flight, and
-/// once it was answered. Repeats give nothing up, and no line does so for another.
+/// once it was answered. Repeats give nothing up, nor do answers to commands, and no line does so for another.
 pub fn what_is_given_up_stays_so()
     ensures opening { given_up_at 1 [] ≡ false }
     ensures notified { given_up_at 1 lifted ≡ false }
@@ -45,6 +45,8 @@ pub fn what_is_given_up_stays_so()
     ensures announced { given_up_at 1 (lifted ++ tick 24500 ∷ tick 29500 ∷ []) ≡ true }
     ensures served { given_up_at 1 (lifted ++ tick 24500 ∷ tick 29500 ∷ response 200 10000001 ∷ []) ≡ true }
     ensures another { given_up_at 2 (lifted ++ tick 24500 ∷ tick 29500 ∷ []) ≡ false }
+    ensures executed { given_up_at 1 (rqnt 7 (codes "aaln/1") (codes "X: 1\r\n") ∷ []) ≡ false }
+    ensures copied { given_up_at 1 (rqnt 7 (codes "aaln/1") (codes "X: 1\r\n") ∷ rqnt 7 (codes "aaln/1") (codes "X: 1\r\n") ∷ []) ≡ false }
 {}
 
 /// What was dialled is on its way, and then with the agent, once, though it arrives twice; what comes meanwhile is quarantined.
