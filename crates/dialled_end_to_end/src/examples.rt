@@ -1,14 +1,17 @@
 //! Worked examples of the definitions, as theorems: each sentence of a definition has one that a slip in it breaks.
 #![tactic(auto, unfolding(crate::proofs::Computing::on_examples))]
 
-ghost use Rattle.std.specs.Prelude.{◌≡◌, ◌++◌, codes, [], ◌∷◌, true, false, Some, None};
+ghost use Rattle.std.specs.Prelude.{◌≡◌, ◌++◌, codes, [], ◌∷◌, true, false, Some, None, map, replicate};
+ghost use Rattle.mgcp_text.specs.declared.message.Message.TheVariants as messages;
+ghost use Rattle.mgcp_text.specs.declared.message.Verb.TheVariants.{Epcf, Rqnt, Ntfy, Crcx, Mdcx, Dlcx, Auep, Aucx, Rsip, Other};
 ghost use Rattle.plain_machine.specs.Event.{tick};
 ghost use Rattle.plain_machine.specs.Example.{rqnt, response};
 ghost use Rattle.agent_core.specs.World.{world_opening, steps_are_taken};
 ghost use Rattle.plain_machine.specs.Example.{two_lines};
+ghost use Rattle.plain_machine.specs.Message.{answer, again, command, resent, acknowledgement};
 ghost use Rattle.plain_machine.specs.Lists.{sent_of};
 ghost use Rattle.line_isolation.specs.Belonging.{of_line};
-ghost use Rattle.dialled_end_to_end.specs.GivenUp.{has_given_up};
+ghost use Rattle.dialled_end_to_end.specs.GivenUp.{is_restart, announces, has_given_up};
 ghost use Rattle.dialled_once.specs.Example.{lifted as off_hook, five};
 ghost use Rattle.dialled_end_to_end.specs.Untaken.{has_taken, untaken};
 ghost use Rattle.dialled_end_to_end.specs.Example.{told_by, reporting, flying, taken_as, given_up_at, lifted, dialled, taken, answered, given_up, repeated, world, station_then, done_then, told_then, untaken_then, left_then};
@@ -32,6 +35,18 @@ pub fn what_is_in_flight_is_on_its_way()
     ensures before { untaken (taken_as 10000000 ∷ []) (Some (flying 10000001)) ≡ off_hook ∷ [] }
     ensures later { untaken (taken_as 10000000 ∷ taken_as 10000001 ∷ []) (Some (flying 10000001)) ≡ [] }
     ensures by_id { has_taken 10000001 (taken_as 10000000 ∷ []) ≡ false }
+{}
+
+/// RestartInProgress alone announces, where it is sent for the first time.
+pub fn announcements_alone_announce()
+    ensures verb { is_restart Rsip ≡ true }
+    ensures verbs { map is_restart (Epcf ∷ Rqnt ∷ Ntfy ∷ Crcx ∷ Mdcx ∷ Dlcx ∷ Auep ∷ Aucx ∷ Other ∷ []) ≡ replicate 9 false }
+    ensures first { announces (command (messages.Command Rsip 1 [] [] [])) ≡ true }
+    ensures other { announces (command (messages.Response 200 1 [] [])) ≡ false }
+    ensures answer { announces (answer (messages.Command Rsip 1 [] [] [])) ≡ false }
+    ensures again { announces (again (codes "RSIP 1 aaln/1@rgw.example.net MGCP 1.0\r\nRM: disconnected\r\n")) ≡ false }
+    ensures resent { announces (resent (codes "RSIP 1 aaln/1@rgw.example.net MGCP 1.0\r\nRM: disconnected\r\n")) ≡ false }
+    ensures acknowledgement { announces (acknowledgement (messages.Command Rsip 1 [] [] [])) ≡ false }
 {}
 
 /// A line gave something up from the moment at which it did on: while its announcement waits, while that is in flight, and
