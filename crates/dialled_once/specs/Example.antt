@@ -4,16 +4,19 @@ use Rattle.std.specs.Option.{unwrap_or}
 use Rattle.event_values.specs.declared.observed.Observed.{Observed}
 use Rattle.event_values.specs.declared.observed.Observed.TheVariants.{Happened}
 use Rattle.mg_bytes.specs.declared.letter.Letter.TheVariants as letters
+use Rattle.mg_packages.specs.declared.event.Event.{Event}
 use Rattle.mg_packages.specs.declared.event.Event.TheVariants as events
+use Rattle.event_syntax.specs.declared.request.Response.{Response}
+use Rattle.event_requests.specs.Choice.{chosen}
 use Rattle.mg_line.specs.declared.phone.Act.TheVariants.{OffHook, OnHook, Key}
 use Rattle.mg_line.specs.declared.phone.Key.TheVariants.{Five, Six}
 use Rattle.mg_line.specs.Line.{LineState, opening_line}
-use Rattle.plain_machine.specs.Event.{GatewayEvent, phone}
+use Rattle.plain_machine.specs.Event.{GatewayEvent, phone, tick}
 use Rattle.plain_machine.specs.Example.{two_lines, ready, rqnt, response}
 use Rattle.plain_machine.specs.Lists.{plain}
 use Rattle.plain_machine.specs.Machine.{station_at}
 use Rattle.dialled_once.specs.Course.{Step, course_from, course_of, requests_in}
-use Rattle.dialled_once.specs.Dialled.{done_in, told_in, IsAskedForAll}
+use Rattle.dialled_once.specs.Dialled.{done_in, told_in, IsAskedForAll, IsToldOnce}
 use Rattle.dialled_once.specs.Keeping.{happened_in}
 
 -- off hook, on hook, and two keys
@@ -48,6 +51,30 @@ abbrev pub keys_are_collected : GatewayEvent
 keys_are_collected = rqnt 7 (codes "aaln/1")
     (codes "X: 1\r\nR: L/hd(N),L/hu(N),L/hf(N),D/[0-9*#ABCD](D)\r\nD: (xx)\r\nQ: loop\r\n")
 
+-- one for all by which what is quarantined is discarded
+abbrev pub discards : ℕ → GatewayEvent
+discards id = rqnt id (codes "aaln/1") (codes "X: C2\r\nR: L/hd(N),L/hu(N),L/hf(N),D/[0-9*#ABCD](N)\r\nQ: loop,discard\r\n")
+
+-- line 1 is lifted and dials 5; then a request comes, before the notification is answered
+abbrev pub dials_before : GatewayEvent → List GatewayEvent
+dials_before request = phone 1 OffHook ∷ phone 1 (Key Five) ∷ request ∷ []
+
+-- line 1 is asked for all and rings, and this is done where that ends
+abbrev pub rings_and : List ℕ → GatewayEvent
+rings_and action = rqnt 7 (codes "aaln/1") (codes "X: C2\r\nR: L/hd(N),L/hu(N),L/hf(N),D/[0-9*#ABCD](N),L/oc(" ++ action
+    ++ codes ")\r\nS: L/rg(to=300)\r\nQ: loop,process\r\n")
+
+-- it rang; then line 1 is lifted, which is answered, and dials 5
+abbrev pub dials_behind_that : List GatewayEvent
+dials_behind_that = tick 1300 ∷ phone 1 OffHook ∷ response 200 10000000 ∷ phone 1 (Key Five) ∷ []
+
+-- all that a telephone does
+abbrev pub of_a_telephone : List Event
+of_a_telephone =
+    events.OffHook ∷ events.OnHook ∷ events.Flash ∷ map events.Letter (letters.Zero ∷ letters.One ∷ letters.Two ∷ letters.Three
+    ∷ letters.Four ∷ letters.Five ∷ letters.Six ∷ letters.Seven ∷ letters.Eight ∷ letters.Nine ∷ letters.Star ∷ letters.Hash
+    ∷ letters.A ∷ letters.B ∷ letters.C ∷ letters.D ∷ [])
+
 -- line 1 is asked for all, and lifted; while its notification is out a key is pressed 65 times
 abbrev pub asked_and_full : List GatewayEvent
 asked_and_full = asks_for_all 7 (codes "aaln/1") ∷ phone 1 OffHook ∷ replicate 65 (phone 1 (Key Five))
@@ -71,6 +98,14 @@ left_then events =
 abbrev pub line_then : List GatewayEvent → LineState
 line_then events =
     unwrap_or (option_map (λ station. station.line) (station_at (plain two_lines (ready ++ events)).endpoints 1)) opening_line
+
+-- the conclusion of the law: what was done was told once, or is quarantined
+abbrev pub ToldOnce : List GatewayEvent → Type 0
+ToldOnce events = IsToldOnce (course_then events) (line_then events)
+
+-- what is done at each event of a telephone then
+abbrev pub responses_then : List GatewayEvent → List Response
+responses_then events = map (λ event. (chosen (line_then events).requests.requested event).response) of_a_telephone
 
 -- the identifiers of the requests that a line accepts
 abbrev pub accepted_then : ℕ → List GatewayEvent → List (List ℕ)

@@ -1,8 +1,11 @@
 //! Worked examples of the definitions, as theorems: each sentence of a definition has one that a slip in it breaks.
 #![tactic(auto, unfolding(crate::proofs::Computing::on_examples))]
 
-ghost use Rattle.std.specs.Prelude.{◌≡◌, ◌++◌, codes, [], ◌∷◌, length, true, false, Some, None, option_map};
+ghost use Rattle.std.specs.Prelude.{◌≡◌, ◌++◌, codes, [], ◌∷◌, length, replicate, true, false, Some, None, option_map};
+ghost use Rattle.event_values.specs.declared.handling.Quarantined.TheVariants.{Process};
 ghost use Rattle.event_values.specs.declared.observed.Observed.TheVariants.{Happened, Ended};
+ghost use Rattle.event_syntax.specs.declared.request.Action.TheVariants.{Notify};
+ghost use Rattle.event_syntax.specs.declared.request.Response.TheVariants.{Plain};
 ghost use Rattle.mg_line.specs.declared.phone.Act.TheVariants as acts;
 ghost use Rattle.mg_line.specs.declared.phone.Key.TheVariants as keys;
 ghost use Rattle.mg_packages.specs.declared.event.Event.TheVariants as events;
@@ -13,8 +16,9 @@ ghost use Rattle.plain_machine.specs.Example.{ready, rqnt, crcx, dlcx, response}
 ghost use Rattle.mg_line.specs.Story.{requests, with_handling};
 ghost use Rattle.dialled_once.specs.Course.{acts as does, accepts, notifies};
 ghost use Rattle.dialled_once.specs.Following.{Follow, AreInStep, OnceForEach, OnceFrom};
-ghost use Rattle.dialled_once.specs.Keeping.{happened_in, is_of_phone};
-ghost use Rattle.dialled_once.specs.Example.{lifted, hung_up, five, six, asks_for_all, dials, flash_embeds, keys_are_collected, asked_and_full, course_then, done_then, told_then, left_then, accepted_then, AskedForAll};
+ghost use Rattle.dialled_once.specs.Keeping.{NotifiesAll, happened_in, is_of_phone};
+ghost use Rattle.dialled_once.specs.Example.{lifted, hung_up, five, six, asks_for_all, dials, flash_embeds, keys_are_collected, discards, dials_before, rings_and, dials_behind_that, asked_and_full};
+ghost use Rattle.dialled_once.specs.Example.{course_then, done_then, told_then, left_then, line_then, responses_then, accepted_then, AskedForAll, ToldOnce};
 
 /// A course has the acts of its line and its notifications, in their order, each notification where it is first sent, by
 /// what its X and its O say.
@@ -87,13 +91,18 @@ pub fn else_something_may_be_skipped()
         ++ rqnt 8 (codes "aaln/1") (codes "X: 2\r\nR: D/[0-9](N)\r\nQ: discard\r\n") ∷ []) ≡ lifted ∷ [] }
     ensures left { left_then (rqnt 7 (codes "aaln/1") (codes "X: 1\r\nR: D/[0-9](N)\r\n") ∷ dials
         ++ rqnt 8 (codes "aaln/1") (codes "X: 2\r\nR: D/[0-9](N)\r\nQ: discard\r\n") ∷ []) ≡ Some [] }
+    ensures skipped { ¬ ToldOnce (rqnt 7 (codes "aaln/1") (codes "X: 1\r\nR: D/[0-9](N)\r\n") ∷ dials
+        ++ rqnt 8 (codes "aaln/1") (codes "X: 2\r\nR: D/[0-9](N)\r\nQ: discard\r\n") ∷ []) }
     ensures unnamed { told_then (rqnt 7 (codes "aaln/1") (codes "X: 1\r\nR: L/hd(N)\r\n") ∷ dials) ≡ lifted ∷ [] }
     ensures unnamed_left { left_then (rqnt 7 (codes "aaln/1") (codes "X: 1\r\nR: L/hd(N)\r\n") ∷ dials)
         ≡ Some (hung_up ∷ []) }
+    ensures unnamed_skipped { ¬ ToldOnce (rqnt 7 (codes "aaln/1") (codes "X: 1\r\nR: L/hd(N)\r\n") ∷ dials) }
     ensures accumulated { told_then (rqnt 7 (codes "aaln/1") (codes "X: 1\r\nR: L/hd(A)\r\n") ∷ phone 1 acts.OffHook
         ∷ rqnt 8 (codes "aaln/1") (codes "X: 2\r\nR: L/hd(A)\r\n") ∷ []) ≡ [] }
     ensures accumulated_left { left_then (rqnt 7 (codes "aaln/1") (codes "X: 1\r\nR: L/hd(A)\r\n") ∷ phone 1 acts.OffHook
         ∷ rqnt 8 (codes "aaln/1") (codes "X: 2\r\nR: L/hd(A)\r\n") ∷ []) ≡ Some [] }
+    ensures accumulated_skipped { ¬ ToldOnce (rqnt 7 (codes "aaln/1") (codes "X: 1\r\nR: L/hd(A)\r\n") ∷ phone 1 acts.OffHook
+        ∷ rqnt 8 (codes "aaln/1") (codes "X: 2\r\nR: L/hd(A)\r\n") ∷ []) }
 {}
 
 /// So is what was accumulated before the line was asked for all; an event that brings an embedded request into force; and a
@@ -103,12 +112,47 @@ pub fn else_an_act_may_be_skipped()
         ∷ asks_for_all 7 (codes "aaln/1") ∷ []) ≡ [] }
     ensures before_left { left_then (rqnt 6 (codes "aaln/1") (codes "X: 1\r\nR: L/hd(A)\r\n") ∷ phone 1 acts.OffHook
         ∷ asks_for_all 7 (codes "aaln/1") ∷ []) ≡ Some [] }
+    ensures before_skipped { ¬ ToldOnce (rqnt 6 (codes "aaln/1") (codes "X: 1\r\nR: L/hd(A)\r\n") ∷ phone 1 acts.OffHook
+        ∷ asks_for_all 7 (codes "aaln/1") ∷ []) }
     ensures embedded { told_then (flash_embeds ∷ phone 1 acts.OffHook ∷ response 200 10000000 ∷ phone 1 acts.Flash ∷ []) ≡ lifted ∷ [] }
     ensures embedded_left { left_then (flash_embeds ∷ phone 1 acts.OffHook ∷ response 200 10000000 ∷ phone 1 acts.Flash ∷ []) ≡ Some [] }
+    ensures embedded_skipped { ¬ ToldOnce (flash_embeds ∷ phone 1 acts.OffHook ∷ response 200 10000000 ∷ phone 1 acts.Flash ∷ []) }
     ensures collected { told_then (keys_are_collected ∷ phone 1 acts.OffHook ∷ response 200 10000000 ∷ phone 1 (acts.Key keys.Five) ∷ [])
         ≡ lifted ∷ [] }
     ensures collected_left { left_then (keys_are_collected ∷ phone 1 acts.OffHook ∷ response 200 10000000 ∷ phone 1 (acts.Key keys.Five) ∷ [])
         ≡ Some [] }
+    ensures collected_skipped { ¬ ToldOnce (keys_are_collected ∷ phone 1 acts.OffHook ∷ response 200 10000000
+        ∷ phone 1 (acts.Key keys.Five) ∷ []) }
+{}
+
+/// A key that waits is discarded, where a later request discards, though it asks for all as the one before it; where it
+/// processes what waits, nothing is skipped. All else that the condition asks for holds both times.
+pub fn else_a_waiting_key_is_discarded()
+    ensures processed { AskedForAll (asks_for_all 7 (codes "aaln/1") ∷ []) (dials_before (asks_for_all 8 (codes "aaln/1"))) }
+    ensures told_once { ToldOnce (asks_for_all 7 (codes "aaln/1") ∷ dials_before (asks_for_all 8 (codes "aaln/1"))) }
+    ensures discarded { ¬ AskedForAll (asks_for_all 7 (codes "aaln/1") ∷ []) (dials_before (discards 8)) }
+    ensures named { NotifiesAll (line_then (asks_for_all 7 (codes "aaln/1") ∷ dials_before (discards 8))).requests.requested }
+    ensures none_lost { (line_then (asks_for_all 7 (codes "aaln/1") ∷ dials_before (discards 8))).quarantined.lost ≡ 0 }
+    ensures done { done_then (asks_for_all 7 (codes "aaln/1") ∷ dials_before (discards 8)) ≡ lifted ∷ five ∷ [] }
+    ensures told { told_then (asks_for_all 7 (codes "aaln/1") ∷ dials_before (discards 8)) ≡ lifted ∷ [] }
+    ensures left { left_then (asks_for_all 7 (codes "aaln/1") ∷ dials_before (discards 8)) ≡ Some [] }
+    ensures skipped { ¬ ToldOnce (asks_for_all 7 (codes "aaln/1") ∷ dials_before (discards 8)) }
+{}
+
+/// A key is skipped behind the end of a signal that brings another request into force, though all that a telephone does is
+/// notified; where that end is ignored, nothing is. All else that the condition asks for holds both times.
+pub fn else_a_key_behind_an_embedded_request_is_skipped()
+    ensures ignored { AskedForAll (rings_and (codes "I") ∷ []) dials_behind_that }
+    ensures told_once { ToldOnce (rings_and (codes "I") ∷ dials_behind_that) }
+    ensures embedded { ¬ AskedForAll (rings_and (codes "E(R(L/hu(N)))") ∷ []) dials_behind_that }
+    ensures undone { done_then (rings_and (codes "E(R(L/hu(N)))") ∷ []) ≡ [] }
+    ensures named { responses_then (rings_and (codes "E(R(L/hu(N)))") ∷ []) ≡ replicate 19 (Plain Notify) }
+    ensures processed { (line_then (rings_and (codes "E(R(L/hu(N)))") ∷ [])).handling.quarantined ≡ Process }
+    ensures none_lost { (line_then (rings_and (codes "E(R(L/hu(N)))") ∷ dials_behind_that)).quarantined.lost ≡ 0 }
+    ensures done { done_then (rings_and (codes "E(R(L/hu(N)))") ∷ dials_behind_that) ≡ lifted ∷ five ∷ [] }
+    ensures told { told_then (rings_and (codes "E(R(L/hu(N)))") ∷ dials_behind_that) ≡ lifted ∷ [] }
+    ensures left { left_then (rings_and (codes "E(R(L/hu(N)))") ∷ dials_behind_that) ≡ Some [] }
+    ensures skipped { ¬ ToldOnce (rings_and (codes "E(R(L/hu(N)))") ∷ dials_behind_that) }
 {}
 
 /// The 65th event that waits behind a notification is lost: of 66 acts one is told, and 64 wait.
@@ -116,6 +160,7 @@ pub fn else_an_act_may_be_lost()
     ensures done { length (done_then asked_and_full) ≡ 66 }
     ensures told { told_then asked_and_full ≡ lifted ∷ [] }
     ensures left { option_map length (left_then asked_and_full) ≡ Some 64 }
+    ensures skipped { ¬ ToldOnce asked_and_full }
 {}
 
 /// A notification follows the latest request that was accepted before it, and `0` before any.
