@@ -6,4 +6,5 @@ pub mod TakenLemmas
 pub mod MoveLemmas
 pub mod WorldLemmas
 pub mod EndLemmas
+pub mod NumberLemmas
 pub mod Computing

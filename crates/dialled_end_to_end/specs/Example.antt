@@ -1,5 +1,5 @@
 -- The worlds of the worked examples: two lines, and the agent that they report to.
-use Rattle.std.specs.Prelude.{ℕ, ◌++◌, codes, List, [], ◌∷◌, Bool, decimal}
+use Rattle.std.specs.Prelude.{ℕ, ◌++◌, codes, List, [], ◌∷◌, drop, length, Bool, decimal}
 use Rattle.std.specs.Option.{unwrap_or}
 use Rattle.event_values.specs.declared.observed.Observed.{Observed}
 use Rattle.mgcp_text.specs.Reading.{read_text}
@@ -74,6 +74,13 @@ taken = dialled ++ delivering 4 ∷ delivering 4 ∷ []
 -- the first of these arrives, and the key is notified, packet 7
 abbrev pub answered : List WorldStep
 answered = taken ++ delivering 5 ∷ []
+
+-- what the gateway took up to that request, and since
+abbrev pub up_to_the_request : List GatewayEvent
+up_to_the_request = (plain_world two_lines asked).gateway_took
+
+abbrev pub since_the_request : List GatewayEvent
+since_the_request = drop (length up_to_the_request) (plain_world two_lines answered).gateway_took
 
 -- or nothing arrives for 23 seconds, and the notification is repeated seven times
 abbrev pub repeated : List WorldStep

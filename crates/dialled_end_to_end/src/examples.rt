@@ -6,15 +6,22 @@ ghost use Rattle.mgcp_text.specs.declared.message.Message.TheVariants as message
 ghost use Rattle.mgcp_text.specs.declared.message.Verb.TheVariants.{Epcf, Rqnt, Ntfy, Crcx, Mdcx, Dlcx, Auep, Aucx, Rsip, Other};
 ghost use Rattle.plain_machine.specs.Event.{tick};
 ghost use Rattle.plain_machine.specs.Example.{rqnt, response};
-ghost use Rattle.agent_core.specs.World.{world_opening, steps_are_taken};
+ghost use Rattle.agent_core.specs.World.{gateway_in, world_opening, steps_are_taken};
 ghost use Rattle.plain_machine.specs.Example.{two_lines};
 ghost use Rattle.plain_machine.specs.Message.{answer, again, command, resent, acknowledgement};
-ghost use Rattle.plain_machine.specs.Lists.{sent_of};
+ghost use Rattle.plain_machine.specs.Lists.{plain, sent_of};
+ghost use Rattle.plain_machine.specs.Machine.{station_at};
+ghost use Rattle.plain_machine.specs.Setup.{IsSetUp};
+ghost use Rattle.machine_laws.specs.Saying.{HasNumbersLeft};
+ghost use Rattle.world_laws.specs.Reached.{own_in};
 ghost use Rattle.line_isolation.specs.Belonging.{of_line};
+ghost use Rattle.dialled_once.specs.Course.{course_from, course_of};
+ghost use Rattle.dialled_once.specs.Dialled.{IsAskedForAll};
+ghost use Rattle.dialled_once.specs.Keeping.{happened_in};
 ghost use Rattle.dialled_end_to_end.specs.GivenUp.{is_restart, announces, has_given_up};
 ghost use Rattle.dialled_once.specs.Example.{lifted as off_hook, five};
 ghost use Rattle.dialled_end_to_end.specs.Untaken.{has_taken, untaken};
-ghost use Rattle.dialled_end_to_end.specs.Example.{told_by, reporting, flying, taken_as, given_up_at, lifted, dialled, taken, answered, given_up, repeated, world, station_then, done_then, told_then, untaken_then, left_then};
+ghost use Rattle.dialled_end_to_end.specs.Example.{told_by, reporting, flying, taken_as, given_up_at, lifted, dialled, taken, answered, up_to_the_request, since_the_request, given_up, repeated, world, station_then, done_then, told_then, untaken_then, left_then};
 
 /// A notification tells what its O says, and no other text tells anything.
 pub fn notifications_alone_tell()
@@ -77,6 +84,22 @@ pub fn what_is_dialled_goes_on_its_way()
     ensures told_last { told_then answered ≡ off_hook ∷ [] }
     ensures sent_last { untaken_then answered ≡ five ∷ [] }
     ensures none_left { left_then answered ≡ [] }
+{}
+
+/// All that the law asks for holds at once of such a world, and so does what it says: the agent was told the first event, and
+/// the second is on its way to it.
+pub fn all_that_the_law_asks_for_may_hold()
+    ensures set_up { IsSetUp two_lines }
+    ensures steps { steps_are_taken two_lines world_opening answered ≡ true }
+    ensures numbers { HasNumbersLeft (own_in two_lines (world answered)) }
+    ensures events { (world answered).gateway_took ≡ up_to_the_request ++ since_the_request }
+    ensures line { station_at (gateway_in two_lines (world answered)).endpoints 1 ≡ Some (station_then answered) }
+    ensures asked { IsAskedForAll (course_of two_lines 1 up_to_the_request)
+        (course_from two_lines (plain two_lines up_to_the_request) 1 since_the_request) (station_then answered).line }
+    ensures nothing_given_up { has_given_up (of_line 1 (sent_of two_lines (world answered).gateway_took)) (station_then answered).post ≡ false }
+    ensures whole { done_then answered ≡ happened_in (told_then answered) ++ (happened_in (untaken_then answered) ++ left_then answered) }
+    ensures told { told_then answered ≡ off_hook ∷ [] }
+    ensures sent { untaken_then answered ≡ five ∷ [] }
 {}
 
 /// Where a line gave its notification up, what that told is skipped: nobody took it, it isn't on its way and isn't quarantined.
