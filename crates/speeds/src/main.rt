@@ -2,6 +2,7 @@
 //! it. With other words, or none, the program says whether both say the same.
 #![tactic(auto)]
 
+mod depths;
 mod maps;
 mod moments;
 mod quarantines;
@@ -26,7 +27,8 @@ fn alike(rt: &HostRuntime) -> io::Result<()> {
     maps::alike(rt)?;
     quarantines::alike(rt)?;
     transactions::alike(rt)?;
-    moments::alike(rt)
+    moments::alike(rt)?;
+    requests::alike(rt)
 }
 
 fn main(rt: HostRuntime) -> io::Result<()> {

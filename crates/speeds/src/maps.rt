@@ -1,7 +1,7 @@
 //! The matcher of lines, with a bit for each place of its digit map, beside the plain one, which keeps letters alone.
 ghost use Rattle.std.specs.Prelude.{◌≤◌, length};
 
-use crate::work::word;
+use crate::work::{Work, nanoseconds as nanoseconds_each, word};
 use digit_map::{MapText, Matcher, SlowMap, Verdict, read_map};
 use digit_map_bits::Dialling;
 use mg_bytes::{Letter, OutOfMemory};
@@ -53,6 +53,53 @@ fn nanoseconds<M: Matcher>(
     Ok(least)
 }
 
+/// A matcher that can be copied.
+trait Copies: Matcher {
+    /// An equal one.
+    fn try_copy(&self) -> Result<Self, OutOfMemory>;
+    /// How many bytes its map has.
+    fn map_bytes(&self) -> usize;
+}
+
+impl Copies for Dialling {
+    fn try_copy(&self) -> Result<Self, OutOfMemory> {
+        self.try_copy()
+    }
+
+    fn map_bytes(&self) -> usize {
+        self.map().as_bytes().len()
+    }
+}
+
+impl Copies for SlowMap {
+    fn try_copy(&self) -> Result<Self, OutOfMemory> {
+        self.try_copy()
+    }
+
+    fn map_bytes(&self) -> usize {
+        self.map().as_bytes().len()
+    }
+}
+
+// A matcher that was started, of which each turn makes a copy.
+#[derive(Drop)]
+struct Copying<M> {
+    matcher: M,
+}
+
+impl<M: Copies> Work for Copying<M> {
+    fn turn(&mut self, _number: u32) -> Result<u64, OutOfMemory> {
+        let copy = self.matcher.try_copy()?;
+        Ok(copy.map_bytes() as u64)
+    }
+}
+
+// How many ns a copy takes: the least of so many times.
+fn copied<M: Copies>(rt: &HostRuntime, map: &MapText) -> io::Result<u128> {
+    let matcher = M::start(rt.alloc(), map)?;
+    nanoseconds_each(rt, &mut Copying { matcher }, 1000, 40)
+}
+
 // This text so many times, between two others.
 fn repeated(
     alloc: Global,
@@ -80,11 +127,15 @@ fn time(rt: &HostRuntime, name: &str, text: &[u8]) -> io::Result<()> {
     let started = nanoseconds::<Dialling>(rt, &map, &[], 200)?;
     let used = nanoseconds::<Dialling>(rt, &map, &letters, 200)?;
     let plain = nanoseconds::<SlowMap>(rt, &map, &letters, 3)?;
-    println!(rt; "digit map {name}: start {started}; start and 64 letters {used}, {plain}")?;
+    let copy = copied::<Dialling>(rt, &map)?;
+    let plain_copy = copied::<SlowMap>(rt, &map)?;
+    println!(rt;
+        "digit map {name}: start {started}; start and 64 letters {used}, {plain}; copy {copy}, {plain_copy}"
+    )?;
     Ok(())
 }
 
-/// Prints how long it takes to start a matcher, and to start it and to feed it with 64 letters.
+/// Prints how long it takes to start a matcher, to start it and to feed it with 64 letters, and to copy one that was started.
 pub fn times(rt: &HostRuntime) -> io::Result<()> {
     let alloc = rt.alloc();
     time(rt, "of a dial plan", DIAL_PLAN)?;
