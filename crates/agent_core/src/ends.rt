@@ -4,7 +4,6 @@ ghost use Rattle.std.specs.Result.{result_err};
 ghost use Rattle.plain_machine.specs.Event.{GatewayEvent, event_of};
 ghost use Rattle.plain_machine.specs.Refusing.{refusal_of};
 ghost use Rattle.plain_machine.specs.Lists.{plain};
-ghost use Rattle.transmission.specs.Packing.{same_address};
 ghost use Rattle.gateway_core.specs.Stands.{Stands, Took};
 ghost use Rattle.agent_core.specs.declared.packet.End.TheVariants.{GatewayEnd, AgentEnd};
 ghost use Rattle.agent_core.specs.Issuing.{issue_refusal};
@@ -32,13 +31,6 @@ pub(crate) fn gateway_address(setup: &Setup) -> SocketAddrV4
     ensures { result ≡ gateway_address setup.now }
 {
     SocketAddrV4::new(setup.media_address, GATEWAY_PORT)
-}
-
-/// Whether two addresses are the same.
-pub(crate) fn same_address(a: SocketAddrV4, b: SocketAddrV4) -> bool
-    ensures { result ≡ same_address a b }
-{
-    a.ip().octets() == b.ip().octets() && a.port() == b.port()
 }
 
 /// What an end sends.

@@ -15,7 +15,7 @@ ghost use Rattle.plain_machine.specs.Refusing.{refusal_of};
 ghost use Rattle.plain_machine.specs.Lists.{plain};
 
 use crate::agent::Agent;
-use crate::ends::{Sent, at_agent, at_gateway, gateway_address, issued_by, post, same_address};
+use crate::ends::{Sent, at_agent, at_gateway, gateway_address, issued_by, post};
 use crate::packet::{End, Packet, Posted};
 use crate::step::{Step, StepRefusal, WorldStopped};
 use gateway_core::{Config, ConfigFault, Event, Gateway};
@@ -23,6 +23,7 @@ use mg_bytes::Text;
 use mg_line::Act;
 use std::alloc::Global;
 use std::marker::Model;
+use transmission::same_address;
 
 // A packet is handed over while it is so old at most, in ms.
 const OLDEST_PACKET: u64 = 10_000;

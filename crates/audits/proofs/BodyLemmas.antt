@@ -8,10 +8,10 @@ use Rattle.std.specs.Str.{bytes_eq}
 use Rattle.std.proofs.lemmas.List.Folds.{list_any-append}
 use Rattle.std.proofs.lemmas.Slice.Eq.{bytes_eq-Decides}
 use Rattle.mg_bytes.specs.Blanks.{trimmed, trimmed_end}
-use Rattle.mg_bytes.specs.Lines.{cut, line_of, lines_of, is_line_feed, is_dot_line}
+use Rattle.mg_bytes.specs.Lines.{cut, line_of, lines_of, is_line_feed, is_dot_line, crlf, ended}
 use Rattle.mg_bytes.proofs.CutLemmas.{cut_append, cut_ended, ends_append}
 use Rattle.mgcp_text.specs.Reading.{is_empty_line}
-use Rattle.mgcp_text.specs.Writing.{crlf, ended, is_writable_body}
+use Rattle.mgcp_text.specs.Writing.{is_writable_body}
 use Rattle.audits.specs.Writing.{IsDescription}
 
 pub body_writable : (text : List ℕ) → IsDescription text → is_writable_body text ≡ true

@@ -10,7 +10,8 @@ use Rattle.mg_bytes.proofs.DigitLemmas.{both_true}
 use Rattle.mgcp_text.specs.declared.message.Param.{Param}
 use Rattle.mgcp_text.specs.Answer.{Answer, response_of}
 use Rattle.mgcp_text.specs.Message.{has_code, param_at}
-use Rattle.mgcp_text.specs.Writing.{body_text, crlf, written}
+use Rattle.mg_bytes.specs.Lines.{crlf}
+use Rattle.mgcp_text.specs.Writing.{body_text, written}
 use Rattle.sdp_subset.specs.declared.session.Session.{Session}
 use Rattle.sdp_subset.specs.Writing.{session_lines, written as description_text}
 use Rattle.connections.specs.declared.answer.Audited.{Audited}

@@ -6,7 +6,7 @@ use Rattle.std.proofs.lemmas.Bool.{cases_Bool, leb-true}
 use Rattle.std.proofs.lemmas.List.Folds.{list_all-append}
 use Rattle.mg_bytes.specs.Blanks.{is_blank, trimmed, trimmed_end}
 use Rattle.mg_bytes.specs.Checks.{unless, checked, given}
-use Rattle.mg_bytes.specs.Lines.{cut, is_line_feed}
+use Rattle.mg_bytes.specs.Lines.{cut, is_line_feed, crlf}
 use Rattle.mg_bytes.specs.Numbers.{is_hex_text}
 use Rattle.mg_bytes.proofs.DigitLemmas.{both_true}
 use Rattle.mg_bytes.proofs.HexLemmas.{hex_no_blanks, hex_one_line}
@@ -16,7 +16,7 @@ use Rattle.mgcp_text.specs.declared.message.Param.{Param}
 use Rattle.mgcp_text.specs.Answer.{Answer, response_of}
 use Rattle.mgcp_text.specs.Message.{has_code, param_at}
 use Rattle.mgcp_text.specs.Parameter.{is_code}
-use Rattle.mgcp_text.specs.Writing.{written, crlf, is_writable_param, is_writable_body}
+use Rattle.mgcp_text.specs.Writing.{written, is_writable_param, is_writable_body}
 use Rattle.mgcp_text.proofs.ValueLaws.{word_writable}
 use Rattle.event_values.specs.declared.handling.Notifying.{Notifying}
 use Rattle.event_values.specs.declared.handling.Notifying.TheVariants.{Step, Loop}

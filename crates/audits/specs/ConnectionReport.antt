@@ -2,7 +2,7 @@
 use Rattle.std.specs.Prelude.{ℕ, ◌&&◌, if◌then◌else◌, codes, List, [], ◌∷◌, ◌++◌, Option, Some, None, Result, Ok, Err}
 use Rattle.mgcp_text.specs.declared.message.Param.{Param}
 use Rattle.mgcp_text.specs.Answer.{Answer}
-use Rattle.mgcp_text.specs.Writing.{crlf}
+use Rattle.mg_bytes.specs.Lines.{crlf}
 use Rattle.sdp_subset.specs.declared.session.Session.{Session}
 use Rattle.sdp_subset.specs.Writing.{written}
 use Rattle.connections.specs.declared.answer.Audited.{Audited}

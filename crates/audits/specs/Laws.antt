@@ -2,7 +2,7 @@
 use Rattle.std.specs.Prelude.{ℕ, Bool, true, ◌&&◌, not, is_some, if◌then◌else◌, List, [], ◌∷◌, ◌++◌}
 use Rattle.mgcp_text.specs.declared.message.Param.{Param}
 use Rattle.mgcp_text.specs.Message.{param_at}
-use Rattle.mgcp_text.specs.Writing.{crlf}
+use Rattle.mg_bytes.specs.Lines.{crlf}
 
 -- no code stands twice, in whatever case
 abbrev pub are_distinct : List Param → Bool

@@ -1,7 +1,8 @@
 //! The descriptions of a connection.
 ghost use Rattle.std.specs.Prelude.{◌≡◌, ◌++◌, true, IfOk};
 ghost use Rattle.mg_bytes.specs.Items.{items_of};
-ghost use Rattle.mgcp_text.specs.Writing.{crlf, is_writable_body};
+ghost use Rattle.mg_bytes.specs.Lines.{crlf};
+ghost use Rattle.mgcp_text.specs.Writing.{is_writable_body};
 ghost use Rattle.sdp_subset.specs.Writing.{written};
 ghost use Rattle.audits.specs.ConnectionReport.{remote_text, descriptions_text};
 ghost use Rattle.audits.specs.Writing.{IsDescription};

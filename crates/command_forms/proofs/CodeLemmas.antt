@@ -25,7 +25,8 @@ use Rattle.command_forms.specs.declared.verbs.Reporting.{Reporting}
 use Rattle.command_forms.specs.declared.verbs.Reporting.TheVariants.{Endpoint, Connection}
 use Rattle.command_forms.specs.declared.verbs.VerbRow.{VerbRow}
 use Rattle.command_forms.specs.Command.{Command}
-use Rattle.command_forms.specs.Refusing.{letter_k, refusal, absence, fault_at, placed, coded, ◌>>=◌}
+use Rattle.mg_bytes.specs.Steps.{◌>>=◌}
+use Rattle.command_forms.specs.Refusing.{letter_k, refusal, absence, fault_at, placed, coded}
 use Rattle.command_forms.specs.Params.{param_fault, params_fault, value_at}
 use Rattle.command_forms.specs.Meaning.{meant}
 use Rattle.command_forms.specs.Values.{is_readable, said_at, entity_at, encoding_from, identifier_from, mode_from, handling_at, change_at, remote_of}

@@ -50,9 +50,11 @@ use Rattle.command_forms.specs.declared.verbs.VerbRow.{VerbRow}
 use Rattle.command_forms.specs.declared.verbs.Wildcard.{Wildcard}
 use Rattle.command_forms.specs.Verbs.{row_of}
 use Rattle.command_forms.specs.Command.{Command}
-use Rattle.command_forms.specs.Refusing.{letter_c, letter_i, letter_k, letter_x, refusal, absence, coded, ◌>>=◌}
+use Rattle.mg_bytes.specs.Steps.{◌>>=◌}
+use Rattle.command_forms.specs.Refusing.{letter_c, letter_i, letter_k, letter_x, refusal, absence, coded}
 use Rattle.command_forms.specs.Params.{has, missing_letter, params_fault, value_in, value_at}
-use Rattle.command_forms.specs.Meaning.{is_empty, takes_all, takes_any, meant}
+use Rattle.mg_bytes.specs.Lists.{is_empty}
+use Rattle.command_forms.specs.Meaning.{takes_all, takes_any, meant}
 use Rattle.command_forms.specs.Values.{is_readable, said_at, entity_at, encoding_from, identifier_from, mode_from, handling_at, change_at, remote_of}
 use Rattle.command_forms.specs.Deeds.{request_of, request_at, creation_of, modification_of, deletion_by, deletion_of, connected_by, with_remote, deed_of}
 use Rattle.command_forms.specs.Order.{audit_of, names_call, are_requested as are_of_request, absent_letter, counted, asked_for, asked, judged_while, form_while, form_of}

@@ -7,7 +7,8 @@ use Rattle.mgcp_text.specs.declared.message.Message.TheVariants as messages
 use Rattle.endpoint_names.specs.declared.names.Names.{Names}
 use Rattle.command_forms.specs.declared.refused.Place.{Place}
 use Rattle.command_forms.specs.declared.refused.Refused.{Refused}
-use Rattle.command_forms.specs.Refusing.{placed, coded, ◌>>=◌}
+use Rattle.mg_bytes.specs.Steps.{◌>>=◌}
+use Rattle.command_forms.specs.Refusing.{placed, coded}
 use Rattle.command_forms.specs.Order.{judged_while_in, form_while, form_while_in}
 
 -- what holds of each value that a next step gives holds of what both give

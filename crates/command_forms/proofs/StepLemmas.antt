@@ -1,7 +1,7 @@
 -- What holds of what is read, and of steps that may end with a code, one after the other.
 use Rattle.std.proofs.Common.{◌≡◌, ℕ, Ok, Err}
 use Rattle.std.specs.Prelude.{Result, IfOk, IfErr}
-use Rattle.event_cuts.specs.Faults.{◌>>=◌}
+use Rattle.mg_bytes.specs.Steps.{◌>>=◌}
 
 pub is_ok : {A F : Type 0} (P : A → Type 0) (read : Result A F) (value : A) → IfOk read P → read ≡ Ok value → P value
 is_ok P read value here is = rw is at here

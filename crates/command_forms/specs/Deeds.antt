@@ -22,7 +22,8 @@ use Rattle.command_forms.specs.declared.refused.Refused.{Refused}
 use Rattle.command_forms.specs.declared.verbs.Connecting.{Connecting}
 use Rattle.command_forms.specs.declared.verbs.Connecting.TheVariants.{Keeps, Creates, Modifies, Deletes}
 use Rattle.command_forms.specs.Refusing.{letter_b, letter_c, letter_d, letter_i, letter_l, letter_m, letter_n, letter_q}
-use Rattle.command_forms.specs.Refusing.{letter_r, letter_s, letter_t, letter_x, placed, ◌>>=◌}
+use Rattle.mg_bytes.specs.Steps.{◌>>=◌}
+use Rattle.command_forms.specs.Refusing.{letter_r, letter_s, letter_t, letter_x, placed}
 use Rattle.command_forms.specs.Params.{value_at}
 use Rattle.command_forms.specs.Values.{said_at, entity_at, encoding_from, identifier_from, mode_from, handling_at}
 use Rattle.command_forms.specs.Values.{change_at, remote_of}

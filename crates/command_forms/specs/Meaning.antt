@@ -1,7 +1,8 @@
 -- What the verb and the name of a command mean: they are judged before all else, by 504, 500 and 503 (RFC 3435, 2.3,
 -- 2.4 and 3.2.1; the order is this gateway's profile).
-use Rattle.std.specs.Prelude.{ℕ, Bool, true, false, ◌==◌, ◌||◌, not, codes, List, [], ◌∷◌, Result, Ok, Err}
+use Rattle.std.specs.Prelude.{ℕ, Bool, true, false, ◌==◌, ◌||◌, not, codes, List, Result, Ok, Err}
 use Rattle.std.specs.Option.{ok_or}
+use Rattle.mg_bytes.specs.Lists.{is_empty}
 use Rattle.mg_bytes.specs.Checks.{unless, checked, given}
 use Rattle.mgcp_text.specs.declared.message.Param.{Param}
 use Rattle.mgcp_text.specs.declared.message.Message.{Message}
@@ -19,7 +20,8 @@ use Rattle.command_forms.specs.declared.verbs.Meant.{Meant}
 use Rattle.command_forms.specs.declared.verbs.Wildcard.{Wildcard}
 use Rattle.command_forms.specs.declared.verbs.Wildcard.TheVariants as wildcards
 use Rattle.command_forms.specs.Command.{Command, command_in}
-use Rattle.command_forms.specs.Refusing.{refusal, placed, ◌>>=◌}
+use Rattle.mg_bytes.specs.Steps.{◌>>=◌}
+use Rattle.command_forms.specs.Refusing.{refusal, placed}
 use Rattle.command_forms.specs.Verbs.{row_of}
 use Rattle.command_forms.specs.Params.{has, value_at}
 
@@ -28,10 +30,6 @@ abbrev pub named : Result Pattern NameFault → Result Pattern ℕ
 named (Ok pattern) = Ok pattern
 named (Err Unknown) = Err 500
 named (Err TooComplicated) = Err 503
-
-abbrev pub is_empty : List ℕ → Bool
-is_empty [] = true
-is_empty (b ∷ bs) = false
 
 -- whether a command with these parameters may be for all lines
 abbrev pub takes_all : Wildcard → List Param → Bool

@@ -21,7 +21,8 @@ use Rattle.command_forms.specs.declared.verbs.Reporting.{Reporting}
 use Rattle.command_forms.specs.declared.verbs.Reporting.TheVariants.{Endpoint, Connection}
 use Rattle.command_forms.specs.declared.verbs.VerbRow.{VerbRow}
 use Rattle.command_forms.specs.Command.{Command, command_in}
-use Rattle.command_forms.specs.Refusing.{letter_c, letter_i, letter_k, letter_x, refusal, absence, placed, coded, ◌>>=◌}
+use Rattle.mg_bytes.specs.Steps.{◌>>=◌}
+use Rattle.command_forms.specs.Refusing.{letter_c, letter_i, letter_k, letter_x, refusal, absence, placed, coded}
 use Rattle.command_forms.specs.Meaning.{meant}
 use Rattle.command_forms.specs.Params.{params_fault, missing_letter, has, has_none, value_at}
 use Rattle.command_forms.specs.Values.{is_readable, identifier_from}

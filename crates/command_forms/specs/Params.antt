@@ -1,7 +1,7 @@
 -- The parameters of a command, each by its code (RFC 3435, 3.2.2; the order of the checks is this gateway's profile).
 use Rattle.std.specs.Prelude.{ℕ, ◌+◌, Bool, false, ◌&&◌, ◌||◌, ◌==◌, not, codes, List, [], ◌∷◌, ◌++◌, find, Option, Some, None, is_some, is_none}
 use Rattle.std.specs.List.{list_any, list_all}
-use Rattle.mg_bytes.specs.Bytes.{plus, hyphen, slash}
+use Rattle.mg_bytes.specs.Bytes.{plus, hyphen, is_slash}
 use Rattle.mg_bytes.specs.Case.{same_but_case}
 use Rattle.mg_bytes.specs.Checks.{unless, first_fault}
 use Rattle.mgcp_text.specs.declared.message.Param.{Param}
@@ -10,9 +10,6 @@ use Rattle.command_forms.specs.declared.refused.Place.TheVariants.{Line}
 use Rattle.command_forms.specs.declared.refused.Refused.{Refused}
 use Rattle.command_forms.specs.declared.verbs.VerbRow.{VerbRow}
 use Rattle.command_forms.specs.Refusing.{fault_at}
-
-abbrev pub is_slash : ℕ → Bool
-is_slash b = b == slash
 
 -- `X`, in either case, and then this byte
 abbrev pub begins_x : ℕ → List ℕ → Bool

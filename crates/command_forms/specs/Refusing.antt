@@ -66,12 +66,6 @@ abbrev pub placed : {A : Type 0} → Place → Result A ℕ → Result A Refused
 placed place (Ok value) = Ok value
 placed place (Err code) = Err (refusal place code)
 
--- steps that may end with a refusal, one after the other
-infixl 10 ◌>>=◌
-abbrev pub ◌>>=◌ : {A B : Type 0} → Result A Refused → (A → Result B Refused) → Result B Refused
-(Ok x) >>= f = f x
-(Err refused) >>= f = Err refused
-
 -- the return code alone
 abbrev pub coded : {A : Type 0} → Result A Refused → Result A ℕ
 coded (Ok value) = Ok value

@@ -21,7 +21,7 @@ use Rattle.digit_map.specs.Change.{change_of}
 use Rattle.event_values.specs.declared.handling.Handling.{Handling}
 use Rattle.event_values.specs.declared.handling.Notifying.TheVariants.{Step}
 use Rattle.event_values.specs.declared.handling.Quarantined.TheVariants.{Process}
-use Rattle.event_cuts.specs.Faults.{◌>>=◌}
+use Rattle.mg_bytes.specs.Steps.{◌>>=◌}
 use Rattle.event_values.specs.Handling.{handling_of}
 
 -- K, what is confirmed (RFC 3435, 3.2.2.1): whether it can be read

@@ -2,7 +2,8 @@
 ghost use Rattle.std.specs.Prelude.{◌≡◌, ◌≤◌, ◌∷◌, [], IfSome};
 ghost use Rattle.std.specs.List.{list_any};
 ghost use Rattle.mgcp_text.specs.Message.{param_at};
-ghost use Rattle.command_forms.specs.Params.{is_slash, begins_x, is_critical, is_ignored, is_among, is_taken, param_fault, params_fault, has, missing_letter, has_none, value_at};
+ghost use Rattle.mg_bytes.specs.Bytes.{is_slash};
+ghost use Rattle.command_forms.specs.Params.{begins_x, is_critical, is_ignored, is_among, is_taken, param_fault, params_fault, has, missing_letter, has_none, value_at};
 
 use crate::refused::{Place, Refused};
 use crate::verbs::VerbRow;

@@ -2,18 +2,12 @@
 use Rattle.std.specs.Prelude.{ℕ, ◌-◌, Bool, true, false, ◌&&◌, not, ◌==◌, if◌then◌else◌, List, [], ◌∷◌, length, take, slice_index, Option, Some, None}
 use Rattle.std.specs.List.{onto_first, slice_split}
 use Rattle.std.specs.Borrow.{Bor}
-use Rattle.mg_bytes.specs.Bytes.{full_stop, hyphen, left_bracket, right_bracket}
+use Rattle.mg_bytes.specs.Bytes.{full_stop, hyphen, left_bracket, right_bracket, left_parenthesis, right_parenthesis}
 use Rattle.mg_bytes.specs.Words.{split_once}
 use Rattle.digit_map.specs.declared.part.Part.{Part}
 use Rattle.digit_map.specs.declared.part.Part.TheVariants.{Single, Span}
 
--- `(`, `)` and `|`
-abbrev pub left_parenthesis : ℕ
-left_parenthesis = 40
-
-abbrev pub right_parenthesis : ℕ
-right_parenthesis = 41
-
+-- `|`
 abbrev pub bar : ℕ
 bar = 124
 

@@ -47,8 +47,8 @@ or_code (Err fault) = Err (map_code fault)
 -- a fault of a call as it is answered: with its code, or as want of memory
 abbrev pub code_fault_of : MapFault → CodeFault
 code_fault_of OutOfMemory = code_faults.OutOfMemory
-code_fault_of Syntax = code_faults.Code 510
-code_fault_of TooLarge = code_faults.Code 502
+code_fault_of Syntax = code_faults.Code (map_code Syntax)
+code_fault_of TooLarge = code_faults.Code (map_code TooLarge)
 
 -- a fault's number, from 1
 abbrev pub map_fault_number : MapFault → ℕ

@@ -2,6 +2,7 @@
 use Rattle.std.specs.Prelude.{◌≡◌, ℕ, nat_le, Bool, true, false, ◌&&◌, ◌||◌, ◌==◌, if◌then◌else◌, List, [], ◌∷◌, Any}
 use Rattle.std.specs.Char.{to_ascii_uppercase}
 use Rattle.std.specs.List.{list_any}
+use Rattle.mg_bytes.specs.Lists.{is_empty}
 use Rattle.mg_bytes.specs.Bytes.{full_stop}
 use Rattle.mg_bytes.specs.declared.letter.Letter.{Letter}
 use Rattle.mg_bytes.specs.Letter.{byte_of}
@@ -57,10 +58,6 @@ abbrev pub letters_again : (Letter → Bool) → (List Letter → Bool) → List
 letters_again is_letter rest [] = rest []
 letters_again is_letter rest (letter ∷ word) =
     rest (letter ∷ word) || (is_letter letter && letters_again is_letter rest word)
-
-abbrev pub is_empty : List Letter → Bool
-is_empty [] = true
-is_empty (letter ∷ word) = false
 
 abbrev pub spells_from : Bool → List ℕ → (List Letter → Bool) → List Letter → Bool
 spells_from begun position rest word =

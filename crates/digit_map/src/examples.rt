@@ -3,7 +3,8 @@
 
 ghost use Rattle.std.specs.Prelude.{◌≡◌, ℕ, List, codes, true, false, [], ◌∷◌, ◌++◌, Some, None, Ok, Err};
 ghost use Rattle.std.specs.List.{list_all};
-ghost use Rattle.digit_map.specs.Cuts.{left_parenthesis, right_parenthesis, bar, strings_of, positions_of, set_of, parts_of};
+ghost use Rattle.mg_bytes.specs.Bytes.{left_parenthesis, right_parenthesis};
+ghost use Rattle.digit_map.specs.Cuts.{bar, strings_of, positions_of, set_of, parts_of};
 ghost use Rattle.digit_map.specs.Spelling.{is_position, is_map};
 ghost use Rattle.digit_map.specs.Reading.{map_of, or_code, map_code, code_fault_of, map_fault_number, AnswersAs};
 ghost use Rattle.digit_map.specs.Change.{change_of};

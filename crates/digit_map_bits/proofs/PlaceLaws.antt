@@ -2,7 +2,8 @@
 use Rattle.std.proofs.Common.{◌≡◌, ℕ, Bool, true, false, ◌&&◌, ◌||◌, List, [], ◌∷◌, ◌++◌, Option, Some, None, refl, sym, ap, ◌∙◌, ⊎_elim}
 use Rattle.std.proofs.lemmas.Bool.{cases_Bool, and_parts, and_from}
 use Rattle.mg_bytes.specs.declared.letter.Letter.{Letter}
-use Rattle.digit_map.specs.Words.{has_letter, is_repeated, is_empty, spells, letters_again}
+use Rattle.mg_bytes.specs.Lists.{is_empty}
+use Rattle.digit_map.specs.Words.{has_letter, is_repeated, spells, letters_again}
 use Rattle.digit_map_bits.specs.Places.{Place, takes, repeats, taken, led, led_by, left_from, left_of, spelled_by}
 use Rattle.digit_map.proofs.WordLaws.{again_rest}
 

@@ -1,14 +1,14 @@
 -- Names of call agents (RFC 3435, 2.1.4 and 3.2.1.3): `[local@]host[:port]`. The largest lengths, and that leading
 -- zeros of numbers are taken, are this gateway's profile.
-use Rattle.std.specs.Prelude.{ℕ, ◌-◌, nat_le, Bool, ◌&&◌, not, ◌==◌, if◌then◌else◌, List, length, slice_index, take, drop, Option, Some, None, option_map}
+use Rattle.std.specs.Prelude.{ℕ, nat_le, Bool, ◌&&◌, not, if◌then◌else◌, List, length, Option, Some, None, option_map}
 use Rattle.std.specs.List.{list_any}
 use Rattle.std.specs.declared.net.ipv4_addr.Ipv4Addr.{Ipv4Addr}
 use Rattle.std.specs.declared.net.socket_addr.SocketAddrV4.{SocketAddrV4}
 use Rattle.mg_bytes.specs.Option.{◌>>=◌}
-use Rattle.mg_bytes.specs.Bytes.{colon, at_sign, left_bracket, right_bracket}
+use Rattle.mg_bytes.specs.Bytes.{colon, at_sign}
 use Rattle.mg_bytes.specs.Blanks.{is_blank}
 use Rattle.mg_bytes.specs.Lines.{is_line_feed}
-use Rattle.mg_bytes.specs.Words.{split_once}
+use Rattle.mg_bytes.specs.Words.{split_once, in_brackets}
 use Rattle.mg_bytes.specs.Address.{ipv4_of, port_of}
 use Rattle.endpoint_names.specs.declared.table.Host.{Host}
 use Rattle.endpoint_names.specs.declared.entity.Entity.{Entity}
@@ -17,13 +17,6 @@ use Rattle.endpoint_names.specs.Table.{address_of}
 -- 1 to 64 bytes (that none is an `@` is where the text is split)
 abbrev pub is_local : List ℕ → Bool
 is_local local = nat_le 1 (length local) && nat_le (length local) 64
-
--- what stands between `[` and `]`
-abbrev pub in_brackets : List ℕ → Option (List ℕ)
-in_brackets text =
-    if nat_le 2 (length text) && slice_index text 0 == left_bracket
-    && slice_index text (length text - 1) == right_bracket
-    then Some (drop 1 (take (length text - 1) text)) else None
 
 abbrev pub host_from : List Host → List ℕ → Option (List ℕ) → Option Ipv4Addr
 host_from hosts host None = address_of hosts host

@@ -3,7 +3,7 @@
 use Rattle.std.specs.Prelude.{ℕ, zero, suc, Bool, true, ◌||◌, ◌==◌, if◌then◌else◌, List, [], ◌∷◌, ◌++◌, codes, decimal, Option, Some, None, Result, Ok, Err}
 use Rattle.std.specs.List.{list_any, slice_split}
 use Rattle.std.specs.Str.{bytes_eq}
-use Rattle.mg_bytes.specs.Bytes.{slash, at_sign}
+use Rattle.mg_bytes.specs.Bytes.{at_sign, is_slash}
 use Rattle.mg_bytes.specs.Case.{same_but_case}
 use Rattle.mg_bytes.specs.Words.{split_once}
 use Rattle.endpoint_names.specs.declared.name.Pattern.{Pattern}
@@ -36,9 +36,6 @@ names_any local = is_one_of (codes "$" ∷ codes "aaln/$" ∷ codes "$/$" ∷ []
 -- a term that is `*` or `$`
 abbrev pub is_wildcard : List ℕ → Bool
 is_wildcard term = bytes_eq term (codes "*") || bytes_eq term (codes "$")
-
-abbrev pub is_slash : ℕ → Bool
-is_slash b = b == slash
 
 -- one of its terms, which `/` parts, is a wildcard
 unfoldable pub has_wildcard : List ℕ → Bool

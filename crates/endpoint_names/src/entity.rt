@@ -1,9 +1,10 @@
 //! The names of call agents (RFC 3435, 2.1.4 and 3.2.1.3).
-ghost use Rattle.std.specs.Prelude.{◌≡◌, false, IfSome, option_map};
+ghost use Rattle.std.specs.Prelude.{◌≡◌, false, IfSome};
 ghost use Rattle.std.specs.List.{list_any};
 ghost use Rattle.mg_bytes.specs.Blanks.{is_blank};
 ghost use Rattle.mg_bytes.specs.Lines.{is_line_feed};
-ghost use Rattle.endpoint_names.specs.Entity.{is_entity_text, is_local, in_brackets, host_of, place_of, agent_of, entity_of};
+ghost use Rattle.mg_bytes.specs.Words.{in_brackets};
+ghost use Rattle.endpoint_names.specs.Entity.{is_entity_text, is_local, host_of, place_of, agent_of, entity_of};
 
 use crate::fixed::FixedText;
 use crate::table::Table;
@@ -42,15 +43,6 @@ fn is_local(local: &[u8]) -> bool
     ensures { result ≡ is_local local.now }
 {
     local.len() >= 1 && local.len() <= 64
-}
-
-fn in_brackets(text: &[u8]) -> Option<&[u8]>
-    ensures { option_map (λ inner. inner.now) result ≡ in_brackets text.now }
-{
-    match text {
-        [b'[', inner @ .., b']'] => Some(inner),
-        _ => None,
-    }
 }
 
 fn host_of(table: &Table, host: &[u8]) -> Option<Ipv4Addr>

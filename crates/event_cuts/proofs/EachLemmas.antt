@@ -1,7 +1,8 @@
 -- Entries that are read one after the other.
 use Rattle.std.proofs.Common.{◌≡◌, ℕ, ◌+◌, List, [], ◌∷◌, ◌++◌, refl, sym, ap, ◌∙◌, append_assoc, append-nil, length, length-append, ◌≤◌, suc, arith}
 use Rattle.std.specs.Prelude.{Result, Ok, Err}
-use Rattle.event_cuts.specs.Faults.{each, ◌>>=◌}
+use Rattle.mg_bytes.specs.Steps.{◌>>=◌}
+use Rattle.event_cuts.specs.Faults.{each}
 
 -- values that were read before
 abbrev pub put_before : {A : Type 0} → List A → Result (List A) ℕ → Result (List A) ℕ

@@ -3,7 +3,8 @@ use Rattle.std.proofs.Common.{◌≡◌, ℕ, suc, ◌<◌, ◌≤◌, Bool, tru
 use Rattle.std.specs.Prelude.{Result, Ok, Err, is_ok}
 use Rattle.std.specs.List.{list_all}
 use Rattle.std.proofs.lemmas.Bool.{and_parts, le-leb, lt-leb}
-use Rattle.event_cuts.specs.Faults.{◌>>=◌, each, each_up_to}
+use Rattle.mg_bytes.specs.Steps.{◌>>=◌}
+use Rattle.event_cuts.specs.Faults.{each, each_up_to}
 
 -- Entries that are read one after the other
 

@@ -4,7 +4,8 @@ use Rattle.std.specs.Prelude.{Result, Ok, Err}
 use Rattle.std.specs.List.{list_all}
 use Rattle.std.proofs.lemmas.Bool.{cases_Bool}
 use Rattle.mg_bytes.proofs.DigitLemmas.{both_true}
-use Rattle.event_cuts.specs.Faults.{each, each_up_to, ◌>>=◌}
+use Rattle.mg_bytes.specs.Steps.{◌>>=◌}
+use Rattle.event_cuts.specs.Faults.{each, each_up_to}
 
 -- a value that passes, or a return code
 abbrev pub Passes : {A : Type 0} → (A → Type 0) → Result A ℕ → Type 0

@@ -1,22 +1,16 @@
 -- Lists whose items have parentheses: a comma parts two entries only where it stands outside of all parentheses. Blanks
 -- may stand round commas and parentheses.
-use Rattle.std.specs.Prelude.{◌≡◌, ℕ, ◌+◌, ◌-◌, Bool, true, false, ◌&&◌, ◌||◌, not, ◌==◌, if◌then◌else◌, List, [], ◌∷◌, ◌++◌, map, Option, Some, None}
+use Rattle.std.specs.Prelude.{◌≡◌, ℕ, ◌+◌, ◌-◌, Bool, true, ◌&&◌, ◌||◌, not, ◌==◌, if◌then◌else◌, List, [], ◌∷◌, ◌++◌, map, Option, Some, None}
 use Rattle.std.specs.List.{onto_first, list_all, join_with_byte}
 use Rattle.std.specs.Borrow.{Bor}
-use Rattle.mg_bytes.specs.Bytes.{comma}
+use Rattle.mg_bytes.specs.Lists.{is_empty}
+use Rattle.mg_bytes.specs.Bytes.{comma, left_parenthesis, right_parenthesis}
 use Rattle.mg_bytes.specs.Blanks.{is_blank, trimmed}
 use Rattle.event_cuts.specs.declared.cut.Cut.{Cut}
 use Rattle.event_cuts.specs.declared.cut.Cut.TheVariants.{Commas, Parentheses}
 use Rattle.event_cuts.specs.declared.form.Inside.{Inside}
 use Rattle.event_cuts.specs.declared.form.Inside.TheVariants.{Nothing, Single, Double}
 use Rattle.event_cuts.specs.declared.form.Shape.{Shape}
-
--- `(` and `)`
-abbrev pub left_parenthesis : ℕ
-left_parenthesis = 40
-
-abbrev pub right_parenthesis : ℕ
-right_parenthesis = 41
 
 abbrev pub in_parentheses : List ℕ → List ℕ
 in_parentheses text = left_parenthesis ∷ (text ++ right_parenthesis ∷ [])
@@ -76,17 +70,13 @@ pub record Form : Type 0 where
   pub head : List ℕ
   pub inside : List (List ℕ)
 
-abbrev pub is_nil : List ℕ → Bool
-is_nil [] = true
-is_nil (b ∷ bs) = false
-
 -- from what the outermost parentheses part: nothing stands between two pairs, and nothing behind the last
 abbrev pub form_from : List (List ℕ) → Option Form
 form_from (head ∷ []) = Some (record { head = head; inside = [] })
 form_from (head ∷ first ∷ behind ∷ []) =
-    if is_nil behind then Some (record { head = head; inside = first ∷ [] }) else None
+    if is_empty behind then Some (record { head = head; inside = first ∷ [] }) else None
 form_from (head ∷ first ∷ between ∷ second ∷ behind ∷ []) =
-    if is_nil between && is_nil behind then Some (record { head = head; inside = first ∷ second ∷ [] }) else None
+    if is_empty between && is_empty behind then Some (record { head = head; inside = first ∷ second ∷ [] }) else None
 form_from _ = None
 
 -- `head`, `head(first)` or `head(first)(second)`

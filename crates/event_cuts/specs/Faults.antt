@@ -1,10 +1,6 @@
--- Steps that may end with a return code, one after the other.
+-- What is read of each item of a list.
 use Rattle.std.specs.Prelude.{ℕ, nat_le, if◌then◌else◌, List, [], ◌∷◌, length, Result, Ok, Err}
-
-infixl 10 ◌>>=◌
-abbrev pub ◌>>=◌ : {A B : Type 0} → Result A ℕ → (A → Result B ℕ) → Result B ℕ
-(Ok x) >>= f = f x
-(Err code) >>= f = Err code
+use Rattle.mg_bytes.specs.Steps.{◌>>=◌}
 
 -- what is read of each, or the first code
 unfoldable pub each : {A : Type 0} → (List ℕ → Result A ℕ) → List (List ℕ) → Result (List A) ℕ

@@ -1,10 +1,10 @@
 -- How names and parameters are spelled (RFC 3435, 2.3.3 and appendix A).
 use Rattle.std.specs.Prelude.{ℕ, nat_le, Bool, false, ◌&&◌, ◌||◌, not, ◌==◌, List, [], ◌∷◌, length, Option, Some, None}
 use Rattle.std.specs.List.{list_all}
-use Rattle.mg_bytes.specs.Bytes.{comma, slash, at_sign, left_bracket, right_bracket}
+use Rattle.mg_bytes.specs.Bytes.{comma, slash, at_sign, left_bracket, right_bracket, left_parenthesis, right_parenthesis}
 use Rattle.mg_bytes.specs.Blanks.{is_blank}
 use Rattle.mg_bytes.specs.Words.{split_once}
-use Rattle.event_cuts.specs.Cuts.{left_parenthesis, right_parenthesis, items}
+use Rattle.event_cuts.specs.Cuts.{items}
 
 abbrev pub is_parenthesis : ℕ → Bool
 is_parenthesis b = b == left_parenthesis || b == right_parenthesis

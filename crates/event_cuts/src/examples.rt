@@ -3,7 +3,8 @@
 
 ghost use Rattle.std.specs.Prelude.{◌≡◌, codes, [], ◌∷◌, Some, None, true, false};
 ghost use Rattle.std.specs.List.{list_any};
-ghost use Rattle.event_cuts.specs.Cuts.{left_parenthesis, right_parenthesis, in_parentheses, items, entries, form_of};
+ghost use Rattle.mg_bytes.specs.Bytes.{left_parenthesis, right_parenthesis};
+ghost use Rattle.event_cuts.specs.Cuts.{in_parentheses, items, entries, form_of};
 ghost use Rattle.event_cuts.specs.Spelling.{is_word, is_name, are_parameters, with_parameters};
 
 /// The names of bytes stand for what is written.

@@ -1,6 +1,7 @@
 //! A name with parentheses behind it.
 ghost use Rattle.std.specs.Prelude.{◌≡◌, option_map};
-ghost use Rattle.event_cuts.specs.Cuts.{is_nil, form_of, seen};
+ghost use Rattle.mg_bytes.specs.Lists.{is_empty};
+ghost use Rattle.event_cuts.specs.Cuts.{form_of, seen};
 
 use crate::cut::between_parentheses;
 
@@ -19,8 +20,8 @@ pub struct Shape<'a> {
     pub inside: Inside<'a>,
 }
 
-fn is_nil(text: &[u8]) -> bool
-    ensures { result ≡ is_nil text.now }
+fn is_empty(text: &[u8]) -> bool
+    ensures { result ≡ is_empty text.now }
 {
     text.is_empty()
 }
@@ -40,7 +41,7 @@ pub fn form_of(text: &[u8]) -> Option<Shape<'_>>
     };
     let between = pieces.next()?;
     let Some(second) = pieces.next() else {
-        if !is_nil(between) {
+        if !is_empty(between) {
             return None;
         }
         return Some(Shape {
@@ -49,7 +50,7 @@ pub fn form_of(text: &[u8]) -> Option<Shape<'_>>
         });
     };
     let behind = pieces.next()?;
-    if pieces.next().is_some() || !is_nil(between) || !is_nil(behind) {
+    if pieces.next().is_some() || !is_empty(between) || !is_empty(behind) {
         return None;
     }
     Some(Shape {

@@ -5,7 +5,7 @@ use Rattle.std.specs.List.{list_all}
 use Rattle.std.proofs.lemmas.Bool.{and_parts, leb-true}
 use Rattle.event_syntax.specs.declared.events.Events.{Events}
 use Rattle.event_cuts.specs.Cuts.{Form, form_of, entries}
-use Rattle.event_cuts.specs.Faults.{◌>>=◌}
+use Rattle.mg_bytes.specs.Steps.{◌>>=◌}
 use Rattle.event_cuts.specs.Spelling.{with_parameters, are_parameters}
 use Rattle.event_syntax.specs.EventSpelling.{is_event, is_detected, is_detected_from, are_detected}
 use Rattle.event_syntax.specs.Events.{events_called, events_text, is_writable}

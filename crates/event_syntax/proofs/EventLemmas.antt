@@ -5,7 +5,7 @@ use Rattle.std.specs.Option.{ok_or}
 use Rattle.std.proofs.lemmas.Bool.{and_parts, eqb-true, le-leb}
 use Rattle.mg_bytes.specs.Bytes.{slash, at_sign}
 use Rattle.mg_bytes.specs.Case.{same_but_case}
-use Rattle.mg_bytes.specs.Words.{split_once}
+use Rattle.mg_bytes.specs.Words.{split_once, in_brackets}
 use Rattle.mg_bytes.specs.declared.letter.Letter.TheVariants.{Zero}
 use Rattle.mg_packages.specs.declared.event.Event.{Event}
 use Rattle.mg_packages.specs.declared.event.Event.TheVariants.{OffHook, GenericComplete, Letter}
@@ -17,8 +17,8 @@ use Rattle.digit_map.specs.Cuts.{parts_of}
 use Rattle.digit_map.specs.Spelling.{is_range}
 use Rattle.event_syntax.specs.declared.events.Events.{Events}
 use Rattle.event_syntax.specs.declared.events.Events.TheVariants.{AllOfLine, One, Letters}
-use Rattle.event_cuts.specs.Faults.{◌>>=◌}
-use Rattle.event_syntax.specs.Ranges.{in_brackets, is_some_range, is_bracketed, letters_in}
+use Rattle.mg_bytes.specs.Steps.{◌>>=◌}
+use Rattle.event_syntax.specs.Ranges.{is_some_range, is_bracketed, letters_in}
 use Rattle.event_cuts.specs.Spelling.{is_word, is_name}
 use Rattle.event_syntax.specs.EventSpelling.{is_event, is_event_from}
 use Rattle.event_syntax.specs.Events.{one, one_in, is_all, keys, letters_from, events_from, events_at, events_called, is_writable}

@@ -9,7 +9,8 @@ use Rattle.event_syntax.specs.Actions.{Deed, embed, accumulate_and_embed, Rule, 
 use Rattle.event_cuts.specs.Cuts.{entries}
 use Rattle.event_syntax.specs.Detect.{most_events, detected, detected_in, detected_of}
 use Rattle.event_syntax.specs.Embedding.{embedded_in}
-use Rattle.event_cuts.specs.Faults.{◌>>=◌, each_up_to}
+use Rattle.mg_bytes.specs.Steps.{◌>>=◌}
+use Rattle.event_cuts.specs.Faults.{each_up_to}
 use Rattle.event_syntax.specs.Requested.{requested, requested_by, response_of, requested_in, requested_of}
 use Rattle.event_syntax.specs.RequestSpelling.{are_requested}
 use Rattle.event_syntax.specs.EventSpelling.{are_detected}

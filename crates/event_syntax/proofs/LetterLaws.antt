@@ -6,7 +6,7 @@ use Rattle.std.proofs.lemmas.List.{get_or_push, length_push, take_at}
 use Rattle.std.proofs.lemmas.List.Folds.{list_all-append}
 use Rattle.std.proofs.lemmas.Bool.{and_parts, le-leb}
 use Rattle.std.proofs.lemmas.Bool.Decides.{nat_tests}
-use Rattle.mg_bytes.specs.Words.{split_once}
+use Rattle.mg_bytes.specs.Words.{split_once, in_brackets}
 use Rattle.mg_bytes.specs.declared.letter.Letter.{Letter}
 use Rattle.mg_bytes.specs.declared.letter.Letter.TheVariants.{Zero}
 use Rattle.mg_bytes.specs.Letter.{all_letters, byte_of}
@@ -15,7 +15,7 @@ use Rattle.digit_map.specs.Cuts.{parts_of}
 use Rattle.digit_map.specs.Spelling.{is_range}
 use Rattle.digit_map.specs.Words.{is_in_range}
 use Rattle.event_syntax.specs.declared.events.Events.TheVariants.{Letters}
-use Rattle.event_syntax.specs.Ranges.{in_brackets, chosen, letters_of, bracketed, letters_in, letters_text}
+use Rattle.event_syntax.specs.Ranges.{chosen, letters_of, bracketed, letters_in, letters_text}
 use Rattle.event_cuts.specs.Spelling.{is_word, is_name, is_parameter_byte}
 use Rattle.event_syntax.specs.EventSpelling.{is_event}
 use Rattle.event_syntax.specs.Events.{events_called}

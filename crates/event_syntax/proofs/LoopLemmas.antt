@@ -8,7 +8,8 @@ use Rattle.std.proofs.lemmas.Grind.{reverse_onto}
 use Rattle.std.proofs.Math.Seq.{take-suc}
 use Rattle.mg_bytes.specs.Blanks.{trimmed}
 use Rattle.mg_bytes.specs.Case.{same_but_case}
-use Rattle.event_cuts.specs.Cuts.{deeper, is_nil}
+use Rattle.mg_bytes.specs.Lists.{is_empty}
+use Rattle.event_cuts.specs.Cuts.{deeper}
 use Rattle.event_cuts.specs.Spelling.{are_parameters}
 use Rattle.event_syntax.specs.EventSpelling.{is_event}
 use Rattle.event_syntax.specs.RequestSpelling.{is_embed}
@@ -164,12 +165,12 @@ behind_part_short seen Closing rest = by_one (length rest)
 each_short : (stand : Stand) (name : List ℕ) (mark : Mark) (rest : List ℕ) → is_shorter (length (marked mark rest)) (stepped stand name mark rest) ≡ true
 unfolding stepped
 each_short Entry name mark rest = short_if _ (is_event name) _ (entry_short mark rest)
-each_short BehindActions name mark rest = short_if _ (is_nil name) _ (actions_short mark rest)
-each_short BehindParameters name mark rest = short_if _ (is_nil name) _ (behind_parameters_short mark rest)
+each_short BehindActions name mark rest = short_if _ (is_empty name) _ (actions_short mark rest)
+each_short BehindParameters name mark rest = short_if _ (is_empty name) _ (behind_parameters_short mark rest)
 each_short Action name mark rest = action_short name mark rest
-each_short BehindEmbedded name mark rest = short_if _ (is_nil name) _ (embedded_short mark rest)
+each_short BehindEmbedded name mark rest = short_if _ (is_empty name) _ (embedded_short mark rest)
 each_short (Part seen) name mark rest = part_short seen name mark rest
-each_short (BehindPart seen) name mark rest = short_if _ (is_nil name) _ (behind_part_short seen mark rest)
+each_short (BehindPart seen) name mark rest = short_if _ (is_empty name) _ (behind_part_short seen mark rest)
 
 -- One turn of the walk
 

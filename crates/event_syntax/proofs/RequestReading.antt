@@ -23,8 +23,10 @@ use Rattle.event_syntax.specs.declared.request.RequestedEvent.{RequestedEvent}
 use Rattle.event_values.specs.declared.signals.SignalRequest.{SignalRequest}
 use Rattle.event_syntax.specs.declared.request.Action.TheVariants.{Notify, Accumulate, Dial, Ignore}
 use Rattle.event_cuts.specs.declared.cut.Cut.TheVariants.{Commas, Parentheses}
-use Rattle.event_cuts.specs.Cuts.{Form, is_nil, form_of, form_from, items, entries, pieces}
-use Rattle.event_cuts.specs.Faults.{each, each_up_to, ◌>>=◌}
+use Rattle.mg_bytes.specs.Lists.{is_empty}
+use Rattle.event_cuts.specs.Cuts.{Form, form_of, form_from, items, entries, pieces}
+use Rattle.mg_bytes.specs.Steps.{◌>>=◌}
+use Rattle.event_cuts.specs.Faults.{each, each_up_to}
 use Rattle.event_syntax.specs.EventSpelling.{is_event}
 use Rattle.event_values.specs.SignalSpelling.{are_signals}
 use Rattle.event_syntax.specs.RequestSpelling.{is_part_in, is_part_with, is_part_from, is_part, are_parts, is_action_with, is_action_from, is_action, is_requested_with, is_requested_from, is_requested, are_requested_within, are_requested}
@@ -250,13 +252,13 @@ form_whole text = from_pieces (map trimmed (pieces Parentheses 0 text)) (all_who
     from_pieces (head ∷ first ∷ []) whole = refl
     from_pieces (head ∷ first ∷ behind ∷ []) whole =
         let one : is_whole first ≡ true = (both_true _ _ (both_true _ _ whole).1).0 in
-        guarded (is_nil behind) (record { head = head; inside = first ∷ [] }) (rw one refl)
+        guarded (is_empty behind) (record { head = head; inside = first ∷ [] }) (rw one refl)
     from_pieces (head ∷ first ∷ between ∷ second ∷ []) whole = refl
     from_pieces (head ∷ first ∷ between ∷ second ∷ behind ∷ []) whole =
         let rest : list_all is_whole (first ∷ between ∷ second ∷ behind ∷ []) ≡ true = (both_true _ _ whole).1 in
         let one : is_whole first ≡ true = (both_true _ _ rest).0 in
         let two : is_whole second ≡ true = (both_true _ _ (both_true _ _ (both_true _ _ rest).1).1).0 in
-        guarded (is_nil between && is_nil behind) (record { head = head; inside = first ∷ second ∷ [] }) (rw (one, two) refl)
+        guarded (is_empty between && is_empty behind) (record { head = head; inside = first ∷ second ∷ [] }) (rw (one, two) refl)
     from_pieces (head ∷ first ∷ between ∷ second ∷ behind ∷ more ∷ rest) whole = refl
 
 -- so entries of what stands in parentheses are there

@@ -5,7 +5,8 @@ use Rattle.std.specs.List.{list_all}
 use Rattle.mg_bytes.specs.Blanks.{trimmed}
 use Rattle.mg_bytes.specs.Case.{same_but_case}
 use Rattle.event_cuts.specs.declared.cut.Cut.TheVariants.{Commas, Parentheses}
-use Rattle.event_cuts.specs.Cuts.{Form, form_of, form_from, is_nil, items, pieces}
+use Rattle.mg_bytes.specs.Lists.{is_empty}
+use Rattle.event_cuts.specs.Cuts.{Form, form_of, form_from, items, pieces}
 use Rattle.event_cuts.specs.Spelling.{is_word, are_parameters}
 use Rattle.event_cuts.proofs.CutLemmas.{put_front, put_front-nil}
 use Rattle.event_syntax.specs.EventSpelling.{is_event}
@@ -90,10 +91,10 @@ two_pairs v t x p false m = sym (both_false (is_event t) (are_actions v x))
 
 entry_form : (v : List ℕ → Bool) (t x : List ℕ) (l : List (List ℕ)) → is_requested_from v (form_from (t ∷ x ∷ l)) ≡ (is_event t && (are_actions v x && has_parameters l))
 entry_form v t x [] = sym (both_false (is_event t) (are_actions v x))
-entry_form v t x (b ∷ []) = one_pair v t x (is_nil b)
-entry_form v t x (b ∷ p ∷ []) = sym (ap (λ a. is_event t && (are_actions v x && a)) (both_false (is_nil b) (are_parameters p)) ∙ both_false (is_event t) (are_actions v x))
-entry_form v t x (b ∷ p ∷ e ∷ []) = two_pairs v t x p (is_nil b) (is_nil e)
-entry_form v t x (b ∷ p ∷ e ∷ f ∷ more) = sym (ap (λ a. is_event t && (are_actions v x && a)) (both_false (is_nil b) (are_parameters p)) ∙ both_false (is_event t) (are_actions v x))
+entry_form v t x (b ∷ []) = one_pair v t x (is_empty b)
+entry_form v t x (b ∷ p ∷ []) = sym (ap (λ a. is_event t && (are_actions v x && a)) (both_false (is_empty b) (are_parameters p)) ∙ both_false (is_event t) (are_actions v x))
+entry_form v t x (b ∷ p ∷ e ∷ []) = two_pairs v t x p (is_empty b) (is_empty e)
+entry_form v t x (b ∷ p ∷ e ∷ f ∷ more) = sym (ap (λ a. is_event t && (are_actions v x && a)) (both_false (is_empty b) (are_parameters p)) ∙ both_false (is_event t) (are_actions v x))
 
 -- Actions with parentheses
 
@@ -107,9 +108,9 @@ no_action v t x p false = refl
 
 action_form : (v : List ℕ → Bool) (t x : List ℕ) (l : List (List ℕ)) → is_action_from v (form_from (t ∷ x ∷ l)) ≡ (is_embed t && (are_parts v (items x) && is_bare l))
 action_form v t x [] = sym (both_false (is_embed t) (are_parts v (items x)))
-action_form v t x (b ∷ []) = one_action v t x (is_nil b)
+action_form v t x (b ∷ []) = one_action v t x (is_empty b)
 action_form v t x (b ∷ p ∷ []) = sym (both_false (is_embed t) (are_parts v (items x)))
-action_form v t x (b ∷ p ∷ e ∷ []) = no_action v t x p (is_nil b && is_nil e) ∙ sym (both_false (is_embed t) (are_parts v (items x)))
+action_form v t x (b ∷ p ∷ e ∷ []) = no_action v t x p (is_empty b && is_empty e) ∙ sym (both_false (is_embed t) (are_parts v (items x)))
 action_form v t x (b ∷ p ∷ e ∷ f ∷ more) = sym (both_false (is_embed t) (are_parts v (items x)))
 
 -- Parts
@@ -124,9 +125,9 @@ no_part v t x p false = refl
 
 pub part_form : (v : List ℕ → Bool) (t x : List ℕ) (l : List (List ℕ)) → is_part_from v (form_from (t ∷ x ∷ l)) ≡ (is_part_in v t x && is_bare l)
 part_form v t x [] = sym (and_false (is_part_in v t x))
-part_form v t x (b ∷ []) = one_part v t x (is_nil b)
+part_form v t x (b ∷ []) = one_part v t x (is_empty b)
 part_form v t x (b ∷ p ∷ []) = sym (and_false (is_part_in v t x))
-part_form v t x (b ∷ p ∷ e ∷ []) = no_part v t x p (is_nil b && is_nil e) ∙ sym (and_false (is_part_in v t x))
+part_form v t x (b ∷ p ∷ e ∷ []) = no_part v t x p (is_empty b && is_empty e) ∙ sym (and_false (is_part_in v t x))
 part_form v t x (b ∷ p ∷ e ∷ f ∷ more) = sym (and_false (is_part_in v t x))
 
 pub called_form : (called t x : List ℕ) (l : List (List ℕ)) → is_bare l ≡ true → is_called_from called (form_from (t ∷ x ∷ l)) ≡ same_but_case t called
@@ -202,25 +203,25 @@ action_opens d name quiet = record {
 }
 
 -- behind actions there may be parameters
-parameters_form : (t x : List ℕ) (l : List (List ℕ)) → has_parameters (t ∷ x ∷ l) ≡ (is_nil t && (are_parameters x && is_bare l))
+parameters_form : (t x : List ℕ) (l : List (List ℕ)) → has_parameters (t ∷ x ∷ l) ≡ (is_empty t && (are_parameters x && is_bare l))
 parameters_form t x l = refl
 
 pub actions_name : (d : ℕ) (name : List ℕ) (rest : List (List ℕ)) → is_quiet name ≡ true
-    → spelled_at BehindActions d name rest ≡ (is_nil (trimmed name) && list_all (is_requested (are_requested_within d)) (map trimmed rest))
+    → spelled_at BehindActions d name rest ≡ (is_empty (trimmed name) && list_all (is_requested (are_requested_within d)) (map trimmed rest))
 actions_name d name rest quiet = rw (parted_name name quiet) refl
 
 pub parameters_open : (d : ℕ) (name : List ℕ) → is_quiet name ≡ true
-    → Opens (spelled_at BehindActions d) (spelled_at BehindParameters d) (is_nil (trimmed name)) (λ x. are_parameters (trimmed x)) name
+    → Opens (spelled_at BehindActions d) (spelled_at BehindParameters d) (is_empty (trimmed name)) (λ x. are_parameters (trimmed x)) name
 parameters_open d name quiet = record {
   closed = λ (text x y : List ℕ) (ps : List (List ℕ)) (closes : ClosesAt 0 text x y).
       rw (parted_open name text x y quiet closes)
-      (regroup (is_nil (trimmed name)) (are_parameters (trimmed x)) (is_bare (parted y)) (list_all (is_requested (are_requested_within d)) (map trimmed ps)));
+      (regroup (is_empty (trimmed name)) (are_parameters (trimmed x)) (is_bare (parted y)) (list_all (is_requested (are_requested_within d)) (map trimmed ps)));
   unclosed = λ (text : List ℕ) (none : closing 0 text ≡ None).
-      rw (parted_unclosed name text quiet none) (and_true (is_nil (trimmed name) && (are_parameters (trimmed text) && false)) ∙ both_false (is_nil (trimmed name)) (are_parameters (trimmed text)));
+      rw (parted_unclosed name text quiet none) (and_true (is_empty (trimmed name) && (are_parameters (trimmed text) && false)) ∙ both_false (is_empty (trimmed name)) (are_parameters (trimmed text)));
 }
 
 -- behind the last parentheses there is nothing
-pub bare_name : (name : List ℕ) → is_quiet name ≡ true → is_bare (parted name) ≡ is_nil (trimmed name)
+pub bare_name : (name : List ℕ) → is_quiet name ≡ true → is_bare (parted name) ≡ is_empty (trimmed name)
 bare_name name quiet = rw (parted_name name quiet) refl
 
 pub bare_opens : (is : List (List ℕ) → Bool) (name : List ℕ) → is_quiet name ≡ true

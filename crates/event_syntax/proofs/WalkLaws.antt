@@ -5,7 +5,8 @@ use Rattle.std.specs.List.{list_all}
 use Rattle.std.proofs.lemmas.Bool.{cases_Bool}
 use Rattle.mg_bytes.specs.Blanks.{is_blank, trimmed}
 use Rattle.mg_bytes.specs.Case.{same_but_case}
-use Rattle.event_cuts.specs.Cuts.{is_nil, items, entries}
+use Rattle.mg_bytes.specs.Lists.{is_empty}
+use Rattle.event_cuts.specs.Cuts.{items, entries}
 use Rattle.event_cuts.specs.Spelling.{is_word, are_parameters}
 use Rattle.event_values.specs.SignalSpelling.{are_signals}
 use Rattle.event_syntax.specs.EventSpelling.{is_event}
@@ -85,22 +86,22 @@ actions_step : (d : ℕ) (outers : List Outer) (name : List ℕ) (mark : Mark) (
     → is_left BehindActions d outers (name ++ marked mark rest) ≡ is_left_by d outers (stepped BehindActions (trimmed name) mark rest)
 unfolding is_left stepped
 actions_step d outers name End rest free fits =
-    level_end (spelled_at BehindActions d) (is_nil (trimmed name)) outers name free (actions_name d name [] (inner_free _ name free) ∙ and_true _)
-    ∙ if_and (is_nil (trimmed name)) d outers ends
+    level_end (spelled_at BehindActions d) (is_empty (trimmed name)) outers name free (actions_name d name [] (inner_free _ name free) ∙ and_true _)
+    ∙ if_and (is_empty (trimmed name)) d outers ends
 actions_step d outers name Comma rest free fits =
-    left_comma (spelled_at BehindActions d) (spelled_at Entry d) (is_nil (trimmed name)) (closes_value outers) name rest free
+    left_comma (spelled_at BehindActions d) (spelled_at Entry d) (is_empty (trimmed name)) (closes_value outers) name rest free
     (λ q qs. actions_name d name (q ∷ qs) (inner_free _ name free))
-    ∙ if_and (is_nil (trimmed name)) d outers (on Entry rest)
+    ∙ if_and (is_empty (trimmed name)) d outers (on Entry rest)
 actions_step d outers name Opening rest free fits =
-    left_open (spelled_at BehindActions d) (spelled_at BehindParameters d) (is_nil (trimmed name)) (λ x. are_parameters (trimmed x)) (closes_value outers) name rest free
+    left_open (spelled_at BehindActions d) (spelled_at BehindParameters d) (is_empty (trimmed name)) (λ x. are_parameters (trimmed x)) (closes_value outers) name rest free
     (parameters_open d name (inner_free _ name free))
-    ∙ ap (λ b. is_nil (trimmed name) && b) (by_parameters d outers (closing 0 rest))
-    ∙ if_and (is_nil (trimmed name)) d outers (behind_parameters (closing 0 rest))
+    ∙ ap (λ b. is_empty (trimmed name) && b) (by_parameters d outers (closing 0 rest))
+    ∙ if_and (is_empty (trimmed name)) d outers (behind_parameters (closing 0 rest))
 actions_step d outers name Closing rest free fits =
-    level_close (spelled_at BehindActions d) (is_nil (trimmed name)) outers name rest free fits (actions_name d name [] (inner_free _ name free) ∙ and_true _)
-    ∙ if_and (is_nil (trimmed name)) d outers (out rest)
+    level_close (spelled_at BehindActions d) (is_empty (trimmed name)) outers name rest free fits (actions_name d name [] (inner_free _ name free) ∙ and_true _)
+    ∙ if_and (is_empty (trimmed name)) d outers (out rest)
 
-bare_is : (is : List (List ℕ) → Bool) (name : List ℕ) (rest : List (List ℕ)) → is_quiet name ≡ true → (is_bare (parted name) && is rest) ≡ (is_nil (trimmed name) && is rest)
+bare_is : (is : List (List ℕ) → Bool) (name : List ℕ) (rest : List (List ℕ)) → is_quiet name ≡ true → (is_bare (parted name) && is rest) ≡ (is_empty (trimmed name) && is rest)
 bare_is is name rest quiet = rw (bare_name name quiet) refl
 
 parameters_step : (d : ℕ) (outers : List Outer) (name : List ℕ) (mark : Mark) (rest : List ℕ) → is_free (closes_value outers) name
@@ -108,21 +109,21 @@ parameters_step : (d : ℕ) (outers : List Outer) (name : List ℕ) (mark : Mark
     → is_left BehindParameters d outers (name ++ marked mark rest) ≡ is_left_by d outers (stepped BehindParameters (trimmed name) mark rest)
 unfolding is_left stepped
 parameters_step d outers name End rest free fits =
-    level_end (spelled_at BehindParameters d) (is_nil (trimmed name)) outers name free
+    level_end (spelled_at BehindParameters d) (is_empty (trimmed name)) outers name free
     (bare_is (λ ps. list_all (is_requested (are_requested_within d)) (map trimmed ps)) name [] (inner_free _ name free) ∙ and_true _)
-    ∙ if_and (is_nil (trimmed name)) d outers ends
+    ∙ if_and (is_empty (trimmed name)) d outers ends
 parameters_step d outers name Comma rest free fits =
-    left_comma (spelled_at BehindParameters d) (spelled_at Entry d) (is_nil (trimmed name)) (closes_value outers) name rest free
+    left_comma (spelled_at BehindParameters d) (spelled_at Entry d) (is_empty (trimmed name)) (closes_value outers) name rest free
     (λ q qs. bare_is (λ ps. list_all (is_requested (are_requested_within d)) (map trimmed ps)) name (q ∷ qs) (inner_free _ name free))
-    ∙ if_and (is_nil (trimmed name)) d outers (on Entry rest)
+    ∙ if_and (is_empty (trimmed name)) d outers (on Entry rest)
 parameters_step d outers name Opening rest free fits =
     left_open (spelled_at BehindParameters d) (λ piece more. false) false (λ x. false) (closes_value outers) name rest free
     (bare_opens (λ ps. list_all (is_requested (are_requested_within d)) (map trimmed ps)) name (inner_free _ name free))
-    ∙ sym (and_false (is_nil (trimmed name))) ∙ if_and (is_nil (trimmed name)) d outers wrong
+    ∙ sym (and_false (is_empty (trimmed name))) ∙ if_and (is_empty (trimmed name)) d outers wrong
 parameters_step d outers name Closing rest free fits =
-    level_close (spelled_at BehindParameters d) (is_nil (trimmed name)) outers name rest free fits
+    level_close (spelled_at BehindParameters d) (is_empty (trimmed name)) outers name rest free fits
     (bare_is (λ ps. list_all (is_requested (are_requested_within d)) (map trimmed ps)) name [] (inner_free _ name free) ∙ and_true _)
-    ∙ if_and (is_nil (trimmed name)) d outers (out rest)
+    ∙ if_and (is_empty (trimmed name)) d outers (out rest)
 
 inner_end : (h : List ℕ → List (List ℕ) → Bool) (next : List ℕ → Bool) (name : List ℕ) → is_free (Some next) name → left h (Some next) (name ++ []) ≡ false
 inner_end h next name free = ap (left h (Some next)) (append-nil name) ∙ left_unclosed h next name free
@@ -154,19 +155,19 @@ embedded_step : (d : ℕ) (outers : List Outer) (name : List ℕ) (mark : Mark) 
 unfolding is_left stepped
 embedded_step d outers name End rest free =
     inner_end (spelled_at BehindEmbedded d) (closes_actions d (closes_value outers)) name free
-    ∙ sym (and_false (is_nil (trimmed name))) ∙ if_and (is_nil (trimmed name)) d outers wrong
+    ∙ sym (and_false (is_empty (trimmed name))) ∙ if_and (is_empty (trimmed name)) d outers wrong
 embedded_step d outers name Comma rest free =
-    left_comma (spelled_at BehindEmbedded d) (spelled_at Action d) (is_nil (trimmed name)) (Some (closes_actions d (closes_value outers))) name rest free
+    left_comma (spelled_at BehindEmbedded d) (spelled_at Action d) (is_empty (trimmed name)) (Some (closes_actions d (closes_value outers))) name rest free
     (λ q qs. bare_is (λ ps. list_all (is_action (are_requested_within d)) (map trimmed ps)) name (q ∷ qs) (quiet_of true name free))
-    ∙ if_and (is_nil (trimmed name)) d outers (on Action rest)
+    ∙ if_and (is_empty (trimmed name)) d outers (on Action rest)
 embedded_step d outers name Opening rest free =
     left_open (spelled_at BehindEmbedded d) (λ piece more. false) false (λ x. false) (Some (closes_actions d (closes_value outers))) name rest free
     (bare_opens (λ ps. list_all (is_action (are_requested_within d)) (map trimmed ps)) name (quiet_of true name free))
-    ∙ sym (and_false (is_nil (trimmed name))) ∙ if_and (is_nil (trimmed name)) d outers wrong
+    ∙ sym (and_false (is_empty (trimmed name))) ∙ if_and (is_empty (trimmed name)) d outers wrong
 embedded_step d outers name Closing rest free =
-    inner_close (spelled_at BehindEmbedded d) (is_nil (trimmed name)) (closes_actions d (closes_value outers)) name rest free
+    inner_close (spelled_at BehindEmbedded d) (is_empty (trimmed name)) (closes_actions d (closes_value outers)) name rest free
     (bare_is (λ ps. list_all (is_action (are_requested_within d)) (map trimmed ps)) name [] (quiet_of true name free) ∙ and_true _)
-    ∙ if_and (is_nil (trimmed name)) d outers (on BehindActions rest)
+    ∙ if_and (is_empty (trimmed name)) d outers (on BehindActions rest)
 
 none_left : (v : List ℕ → Bool) (seen : Seen) → are_parts_after v seen [] ≡ true
 none_left v seen = by_flags seen.events seen.signals seen.map
@@ -186,21 +187,21 @@ behind_part_step : (seen : Seen) (d : ℕ) (outers : List Outer) (name : List �
 unfolding is_left stepped
 behind_part_step seen d outers name End rest free =
     inner_end (spelled_at (BehindPart seen) d) (closes_embedded d (closes_value outers)) name free
-    ∙ sym (and_false (is_nil (trimmed name))) ∙ if_and (is_nil (trimmed name)) d outers wrong
+    ∙ sym (and_false (is_empty (trimmed name))) ∙ if_and (is_empty (trimmed name)) d outers wrong
 behind_part_step seen d outers name Comma rest free =
-    left_comma (spelled_at (BehindPart seen) d) (spelled_at (Part seen) d) (is_nil (trimmed name)) (Some (closes_embedded d (closes_value outers))) name rest free
+    left_comma (spelled_at (BehindPart seen) d) (spelled_at (Part seen) d) (is_empty (trimmed name)) (Some (closes_embedded d (closes_value outers))) name rest free
     (λ q qs. bare_is (λ ps. are_parts_after (are_requested_within d) seen (map trimmed ps)) name (q ∷ qs) (quiet_of true name free))
-    ∙ if_and (is_nil (trimmed name)) d outers (on (Part seen) rest)
+    ∙ if_and (is_empty (trimmed name)) d outers (on (Part seen) rest)
 behind_part_step seen d outers name Opening rest free =
     left_open (spelled_at (BehindPart seen) d) (λ piece more. false) false (λ x. false) (Some (closes_embedded d (closes_value outers))) name rest free
     (bare_opens (λ ps. are_parts_after (are_requested_within d) seen (map trimmed ps)) name (quiet_of true name free))
-    ∙ sym (and_false (is_nil (trimmed name))) ∙ if_and (is_nil (trimmed name)) d outers wrong
+    ∙ sym (and_false (is_empty (trimmed name))) ∙ if_and (is_empty (trimmed name)) d outers wrong
 behind_part_step seen d outers name Closing rest free =
-    inner_close (spelled_at (BehindPart seen) d) (is_nil (trimmed name) && are_parts_after (are_requested_within d) seen []) (closes_embedded d (closes_value outers)) name rest free
+    inner_close (spelled_at (BehindPart seen) d) (is_empty (trimmed name) && are_parts_after (are_requested_within d) seen []) (closes_embedded d (closes_value outers)) name rest free
     (bare_is (λ ps. are_parts_after (are_requested_within d) seen (map trimmed ps)) name [] (quiet_of true name free))
-    ∙ ap (λ b. (is_nil (trimmed name) && b) && closes_embedded d (closes_value outers) rest) (none_left (are_requested_within d) seen)
-    ∙ ap (λ b. b && closes_embedded d (closes_value outers) rest) (and_true (is_nil (trimmed name)))
-    ∙ if_and (is_nil (trimmed name)) d outers (on BehindEmbedded rest)
+    ∙ ap (λ b. (is_empty (trimmed name) && b) && closes_embedded d (closes_value outers) rest) (none_left (are_requested_within d) seen)
+    ∙ ap (λ b. b && closes_embedded d (closes_value outers) rest) (and_true (is_empty (trimmed name)))
+    ∙ if_and (is_empty (trimmed name)) d outers (on BehindEmbedded rest)
 
 -- A part with parentheses
 

@@ -7,7 +7,8 @@ use Rattle.mg_bytes.specs.declared.code_fault.CodeFault.TheVariants.{OutOfMemory
 use Rattle.digit_map.specs.Reading.{map_of, or_code}
 use Rattle.event_syntax.specs.declared.request.EmbeddedEvent.{EmbeddedEvent}
 use Rattle.event_syntax.specs.declared.request.EmbeddedRequest.{EmbeddedRequest}
-use Rattle.event_cuts.specs.Faults.{◌>>=◌, each_up_to}
+use Rattle.mg_bytes.specs.Steps.{◌>>=◌}
+use Rattle.event_cuts.specs.Faults.{each_up_to}
 use Rattle.event_cuts.specs.Cuts.{Form, form_of, items, entries}
 use Rattle.event_values.specs.Signals.{signals_in}
 use Rattle.event_syntax.specs.Detect.{most_events}

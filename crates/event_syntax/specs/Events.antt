@@ -4,7 +4,7 @@ use Rattle.std.specs.List.{list_any}
 use Rattle.mg_bytes.specs.Bytes.{at_sign}
 use Rattle.mg_bytes.specs.Case.{same_but_case}
 use Rattle.mg_bytes.specs.Letter.{byte_of}
-use Rattle.mg_bytes.specs.Words.{split_once}
+use Rattle.mg_bytes.specs.Words.{split_once, in_brackets}
 use Rattle.mg_packages.specs.declared.event.Event.{Event}
 use Rattle.mg_packages.specs.declared.event.Event.TheVariants.{GenericComplete, Letter}
 use Rattle.mg_packages.specs.declared.package.Package.{Package}
@@ -12,8 +12,8 @@ use Rattle.mg_packages.specs.declared.package.Package.TheVariants.{Line, Generic
 use Rattle.mg_packages.specs.Looking.{in_package, event_in, event_name}
 use Rattle.event_syntax.specs.declared.events.Events.{Events}
 use Rattle.event_syntax.specs.declared.events.Events.TheVariants.{AllOfLine, One, Letters}
-use Rattle.event_cuts.specs.Faults.{◌>>=◌}
-use Rattle.event_syntax.specs.Ranges.{in_brackets, letters_in, letters_text}
+use Rattle.mg_bytes.specs.Steps.{◌>>=◌}
+use Rattle.event_syntax.specs.Ranges.{letters_in, letters_text}
 
 -- Reading
 

@@ -1,6 +1,7 @@
 -- Ranges of the events of D (RFC 3660, 2.2; RFC 3435, 2.1.7): `[..]`, in which letters, `X` and digit spans stand as
 -- they do in a digit map; and sets of letters.
-use Rattle.std.specs.Prelude.{ℕ, ◌-◌, nat_le, Bool, false, ◌&&◌, ◌==◌, if◌then◌else◌, List, [], ◌∷◌, ◌++◌, length, slice_index, take, drop, map, Option, Some, None}
+use Rattle.std.specs.Prelude.{ℕ, Bool, false, ◌==◌, if◌then◌else◌, List, [], ◌∷◌, ◌++◌, length, map, Option, Some, None}
+use Rattle.mg_bytes.specs.Words.{in_brackets}
 use Rattle.mg_bytes.specs.Bytes.{left_bracket, right_bracket}
 use Rattle.mg_bytes.specs.declared.letter.Letter.{Letter}
 use Rattle.mg_bytes.specs.Letter.{all_letters, byte_of}
@@ -8,12 +9,6 @@ use Rattle.digit_map.specs.Spelling.{is_range}
 use Rattle.digit_map.specs.Words.{is_in_range}
 
 -- Reading
-
--- what stands between `[` and `]`
-abbrev pub in_brackets : List ℕ → Option (List ℕ)
-in_brackets text =
-    if nat_le 2 (length text) && slice_index text 0 == left_bracket && slice_index text (length text - 1) == right_bracket
-    then Some (drop 1 (take (length text - 1) text)) else None
 
 abbrev pub is_some_range : Option (List ℕ) → Bool
 is_some_range None = false

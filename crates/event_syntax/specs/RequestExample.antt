@@ -8,7 +8,7 @@ use Rattle.event_syntax.specs.declared.request.EmbeddedRequest.{EmbeddedRequest}
 use Rattle.event_syntax.specs.declared.request.Response.{Response}
 use Rattle.event_syntax.specs.declared.request.Response.TheVariants.{Plain, Embed}
 use Rattle.event_syntax.specs.declared.request.RequestedEvent.{RequestedEvent}
-use Rattle.event_cuts.specs.Faults.{◌>>=◌}
+use Rattle.mg_bytes.specs.Steps.{◌>>=◌}
 use Rattle.event_syntax.specs.Embedding.{nothing_embedded}
 use Rattle.event_syntax.specs.Requested.{requested_of, requested_text}
 

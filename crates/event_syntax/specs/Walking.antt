@@ -2,11 +2,12 @@
 use Rattle.std.specs.Prelude.{ℕ, zero, suc, length, nat_le, Bool, true, false, ◌&&◌, ◌||◌, not, ◌==◌, if◌then◌else◌, List, [], ◌∷◌, map, codes, count_by, Option, Some, None}
 use Rattle.std.specs.List.{list_all}
 use Rattle.std.specs.Borrow.{Bor}
-use Rattle.mg_bytes.specs.Bytes.{comma}
+use Rattle.mg_bytes.specs.Bytes.{comma, left_parenthesis, right_parenthesis}
 use Rattle.mg_bytes.specs.Case.{same_but_case}
 use Rattle.mg_bytes.specs.Blanks.{trimmed}
 use Rattle.event_cuts.specs.declared.cut.Cut.TheVariants.{Commas, Parentheses}
-use Rattle.event_cuts.specs.Cuts.{left_parenthesis, right_parenthesis, deeper, pieces, is_nil}
+use Rattle.mg_bytes.specs.Lists.{is_empty}
+use Rattle.event_cuts.specs.Cuts.{deeper, pieces}
 use Rattle.event_cuts.specs.Spelling.{is_word, are_parameters}
 use Rattle.event_values.specs.SignalSpelling.{are_signals}
 use Rattle.event_syntax.specs.EventSpelling.{is_event}
@@ -51,13 +52,13 @@ left is_spelled (Some goes_on) text = by_closing is_spelled goes_on (closing 0 t
 
 -- a text between two pairs of parentheses, or behind the last
 abbrev pub is_bare : List (List ℕ) → Bool
-is_bare (blank ∷ []) = is_nil blank
+is_bare (blank ∷ []) = is_empty blank
 is_bare _ = false
 
 -- what stands behind the actions of an entry: nothing, or parameters
 abbrev pub has_parameters : List (List ℕ) → Bool
-has_parameters (blank ∷ []) = is_nil blank
-has_parameters (blank ∷ parameters ∷ behind) = is_nil blank && (are_parameters parameters && is_bare behind)
+has_parameters (blank ∷ []) = is_empty blank
+has_parameters (blank ∷ parameters ∷ behind) = is_empty blank && (are_parameters parameters && is_bare behind)
 has_parameters _ = false
 
 abbrev pub parted : List ℕ → List (List ℕ)
@@ -212,12 +213,12 @@ behind_part_stepped seen Closing rest = on BehindEmbedded rest
 -- by the name, without the blanks round it
 unfoldable pub stepped : Stand → List ℕ → Mark → List ℕ → Stepped
 stepped Entry name mark rest = if is_event name then entry_stepped mark rest else wrong
-stepped BehindActions name mark rest = if is_nil name then behind_actions_stepped mark rest else wrong
-stepped BehindParameters name mark rest = if is_nil name then behind_parameters_stepped mark rest else wrong
+stepped BehindActions name mark rest = if is_empty name then behind_actions_stepped mark rest else wrong
+stepped BehindParameters name mark rest = if is_empty name then behind_parameters_stepped mark rest else wrong
 stepped Action name mark rest = action_stepped name mark rest
-stepped BehindEmbedded name mark rest = if is_nil name then behind_embedded_stepped mark rest else wrong
+stepped BehindEmbedded name mark rest = if is_empty name then behind_embedded_stepped mark rest else wrong
 stepped (Part seen) name mark rest = part_stepped seen name mark rest
-stepped (BehindPart seen) name mark rest = if is_nil name then behind_part_stepped seen mark rest else wrong
+stepped (BehindPart seen) name mark rest = if is_empty name then behind_part_stepped seen mark rest else wrong
 
 -- what is left behind such a step
 

@@ -1,9 +1,9 @@
 //! The events that an entry of R or T names.
 ghost use Rattle.std.specs.Prelude.{◌≡◌, ◌++◌, OnOk};
 ghost use Rattle.event_syntax.specs.Events.{one, one_in, is_all, letters_from, events_in, events_called, events_text};
-ghost use Rattle.event_syntax.specs.Ranges.{in_brackets};
+ghost use Rattle.mg_bytes.specs.Words.{in_brackets};
 
-use crate::range::{in_brackets, letters_in, put_letters};
+use crate::range::{letters_in, put_letters};
 use mg_bytes::{OutOfMemory, ReturnCode, same_no_case, split_once};
 use mg_packages::{Event, Package, event_in, event_name, in_package};
 

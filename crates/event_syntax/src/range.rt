@@ -1,20 +1,11 @@
 //! Ranges of the events of D: what stands in brackets.
-ghost use Rattle.std.specs.Prelude.{◌≡◌, ◌++◌, ◌==◌, length, map, option_map, OnOk};
+ghost use Rattle.std.specs.Prelude.{◌≡◌, ◌++◌, ◌==◌, length, map, OnOk};
 ghost use Rattle.mg_bytes.specs.Letter.{byte_of};
-ghost use Rattle.event_syntax.specs.Ranges.{in_brackets, is_bracketed, letters_in, letters_of, letters_text};
+ghost use Rattle.mg_bytes.specs.Words.{in_brackets};
+ghost use Rattle.event_syntax.specs.Ranges.{is_bracketed, letters_in, letters_of, letters_text};
 
 use digit_map::{is_in_range, is_range};
-use mg_bytes::{LETTERS, OutOfMemory};
-
-/// What stands between `[` and `]`; `None` for a text that doesn't stand in brackets.
-pub(crate) fn in_brackets(text: &[u8]) -> Option<&[u8]>
-    ensures { option_map (λ inner. inner.now) result ≡ in_brackets text.now }
-{
-    match text {
-        [b'[', inner @ .., b']'] => Some(inner),
-        _ => None,
-    }
-}
+use mg_bytes::{LETTERS, OutOfMemory, in_brackets};
 
 /// Whether a text is a range in its brackets.
 pub(crate) fn is_bracketed(text: &[u8]) -> bool

@@ -4,7 +4,8 @@ ghost use Rattle.std.specs.Prelude.{◌≡◌, ◌+◌, ◌≤◌, ◌==◌, ◌
 ghost use Rattle.std.specs.List.{list_all};
 ghost use Rattle.mg_bytes.specs.Blanks.{is_blank};
 ghost use Rattle.event_syntax.specs.declared.walk.Stand.TheVariants.{Entry as AnEntry};
-ghost use Rattle.event_cuts.specs.Cuts.{right_parenthesis, deeper};
+ghost use Rattle.mg_bytes.specs.Bytes.{right_parenthesis};
+ghost use Rattle.event_cuts.specs.Cuts.{deeper};
 ghost use Rattle.event_syntax.specs.RequestSpelling.{are_requested, is_embed};
 ghost use Rattle.event_syntax.specs.Walking.{closing, split_seen, mark_of, marked, is_mark, is_free_byte, nested_at};
 ghost use Rattle.event_syntax.specs.Walking.{step_seen, entry_stepped, behind_parameters, behind_actions_stepped};

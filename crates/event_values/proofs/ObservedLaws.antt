@@ -18,7 +18,7 @@ use Rattle.event_values.specs.declared.observed.Observed.{Observed}
 use Rattle.event_values.specs.declared.observed.Observed.TheVariants.{Happened, Ended}
 use Rattle.event_cuts.specs.declared.cut.Cut.TheVariants.{Commas}
 use Rattle.event_cuts.specs.Cuts.{Form, form_of, entries, after, is_uncut}
-use Rattle.event_cuts.specs.Faults.{◌>>=◌}
+use Rattle.mg_bytes.specs.Steps.{◌>>=◌}
 use Rattle.event_values.specs.Signals.{signal_called}
 use Rattle.event_values.specs.Observed.{is_completion, tells, happened, ended, observed_with, observed_from, or_510, observed_entry, observed_of, observed_entry_text, observed_text, is_writable_observed, are_writable_observed}
 use Rattle.event_cuts.proofs.PassLemmas.{Passes, passes_each, along}

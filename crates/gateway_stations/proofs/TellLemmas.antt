@@ -7,7 +7,7 @@ use Rattle.std.proofs.lemmas.Bool.Decides.{nat_tests}
 use Rattle.mgcp_text.specs.declared.message.Param.{Param}
 use Rattle.mgcp_text.specs.declared.message.Message.TheVariants as messages
 use Rattle.mgcp_text.specs.declared.message.Verb.TheVariants.{Ntfy, Rsip}
-use Rattle.mgcp_text.specs.Reading.{is_empty}
+use Rattle.mg_bytes.specs.Lists.{is_empty}
 use Rattle.mgcp_text.specs.Writing.{is_id, is_writable_param, is_writable_body, is_writable}
 use Rattle.endpoint_names.specs.declared.name.Pattern.TheVariants.{One, All}
 use Rattle.endpoint_names.specs.Name.{name_text}

@@ -21,7 +21,8 @@ use Rattle.command_forms.specs.Codes.{target_in}
 use Rattle.command_forms.specs.Command.{Command}
 use Rattle.command_forms.specs.Meaning.{named, target_of, meant}
 use Rattle.command_forms.specs.Order.{asked, form_while, form_of}
-use Rattle.command_forms.specs.Refusing.{placed, coded, ◌>>=◌}
+use Rattle.mg_bytes.specs.Steps.{◌>>=◌}
+use Rattle.command_forms.specs.Refusing.{placed, coded}
 use Rattle.command_forms.specs.Verbs.{row_of}
 use Rattle.command_forms.proofs.FormLemmas.{name_first, asked_behind, same_target}
 use Rattle.command_forms.proofs.RefusedLemmas.{coded_ok}

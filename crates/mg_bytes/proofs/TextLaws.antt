@@ -8,12 +8,9 @@ use Rattle.std.proofs.lemmas.List.Sums.{suffix_len_is}
 use Rattle.std.proofs.lemmas.Bool.Decides.{nat_tests}
 use Rattle.std.proofs.lemmas.Str.Parse.{digit_from_value}
 use Rattle.mg_bytes.proofs.WordLemmas.{words-front, words-nil}
-use Rattle.mg_bytes.specs.Lines.{is_line_feed, cut, without_end, line_of}
+use Rattle.mg_bytes.specs.Lines.{is_line_feed, cut, without_end, line_of, crlf}
 use Rattle.mg_bytes.specs.Blanks.{is_blank, trimmed_start, trimmed_end, trimmed}
 use Rattle.mg_bytes.specs.Words.{words, leading_word, after_word}
-
-abbrev pub crlf : List ℕ
-crlf = 13 ∷ 10 ∷ []
 
 -- no byte is a line feed
 abbrev pub HasNoFeed : List ℕ → Type 0

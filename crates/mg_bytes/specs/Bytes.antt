@@ -1,5 +1,5 @@
 -- The bytes that definitions speak of, by name (RFC 3435, appendix A; RFC 5234, appendix B.1).
-use Rattle.std.specs.Prelude.{ℕ}
+use Rattle.std.specs.Prelude.{ℕ, Bool, ◌==◌}
 
 abbrev pub tab : ℕ
 tab = 9
@@ -22,6 +22,14 @@ space = 32
 -- `$`
 abbrev pub dollar : ℕ
 dollar = 36
+
+-- `(`
+abbrev pub left_parenthesis : ℕ
+left_parenthesis = 40
+
+-- `)`
+abbrev pub right_parenthesis : ℕ
+right_parenthesis = 41
 
 -- `*`
 abbrev pub star : ℕ
@@ -46,6 +54,9 @@ full_stop = 46
 -- `/`
 abbrev pub slash : ℕ
 slash = 47
+
+abbrev pub is_slash : ℕ → Bool
+is_slash b = b == slash
 
 -- `0`
 abbrev pub digit_zero : ℕ

@@ -1,4 +1,6 @@
 pub mod Option
+pub mod Steps
+pub mod Lists
 pub mod Bytes
 pub mod Checks
 pub mod Blanks

@@ -1,10 +1,10 @@
 -- The lines of a text (RFC 3435, appendix A: EOL is CRLF or LF).
-use Rattle.std.specs.Prelude.{ℕ, ◌-◌, Bool, ◌==◌, slice_index, Option, MatchOption, ◌≡◌, if◌then◌else◌, List, [], ◌∷◌, length, take, map, codes}
+use Rattle.std.specs.Prelude.{ℕ, ◌-◌, Bool, ◌==◌, slice_index, Option, MatchOption, ◌≡◌, if◌then◌else◌, List, [], ◌∷◌, ◌++◌, length, take, map, codes}
 use Rattle.std.specs.List.{onto_first}
 use Rattle.std.specs.Borrow.{Bor}
 use Rattle.std.specs.Str.{bytes_eq}
 use Rattle.std.specs.Str.Lines.{strip_carriage_return}
-use Rattle.mg_bytes.specs.Bytes.{line_feed}
+use Rattle.mg_bytes.specs.Bytes.{carriage_return, line_feed}
 use Rattle.mg_bytes.specs.Blanks.{trimmed}
 
 abbrev pub is_line_feed : ℕ → Bool
@@ -28,6 +28,13 @@ line_of piece = trimmed (without_end piece)
 -- the lines of a text
 abbrev pub lines_of : List ℕ → List (List ℕ)
 lines_of text = map line_of (cut text)
+
+-- what ends a line that is written, and a line with its end
+abbrev pub crlf : List ℕ
+crlf = carriage_return ∷ line_feed ∷ []
+
+abbrev pub ended : List ℕ → List ℕ
+ended line = line ++ crlf
 
 -- the line is a single dot, which parts the messages of a datagram (RFC 3435, 3.5.5)
 abbrev pub is_dot_line : List ℕ → Bool

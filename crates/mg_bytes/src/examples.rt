@@ -4,11 +4,12 @@
 ghost use Rattle.std.specs.Prelude.{◌≡◌, ◌++◌, codes, map, ℕ, List, [], ◌∷◌, Some, None, Ok, Err, true, false};
 ghost use Rattle.mg_bytes.specs.Bytes.{tab, line_feed, vertical_tab, form_feed, carriage_return, space, dollar, star};
 ghost use Rattle.mg_bytes.specs.Bytes.{plus, comma, hyphen, full_stop, slash, digit_zero, colon, at_sign};
-ghost use Rattle.mg_bytes.specs.Bytes.{left_bracket, right_bracket};
+ghost use Rattle.mg_bytes.specs.Bytes.{left_parenthesis, right_parenthesis, left_bracket, right_bracket, is_slash};
+ghost use Rattle.mg_bytes.specs.Lists.{is_empty};
 ghost use Rattle.mg_bytes.specs.Checks.{unless, first_fault, checked, given};
-ghost use Rattle.mg_bytes.specs.Lines.{lines_of, is_dot_line};
+ghost use Rattle.mg_bytes.specs.Lines.{lines_of, ended, is_dot_line};
 ghost use Rattle.mg_bytes.specs.Blanks.{trimmed};
-ghost use Rattle.mg_bytes.specs.Words.{words, split_once};
+ghost use Rattle.mg_bytes.specs.Words.{words, split_once, in_brackets};
 ghost use Rattle.mg_bytes.specs.Items.{items_of};
 ghost use Rattle.mg_bytes.specs.Numbers.{decimal_of, is_hex_text, identifier_of};
 ghost use Rattle.mg_bytes.specs.Case.{same_but_case};
@@ -21,11 +22,26 @@ use crate::code_fault::CodeFault;
 use crate::letter::{LETTERS, Letter};
 use crate::return_code::ReturnCode;
 
+/// A list has nothing in it, or something.
+pub fn lists_are_empty_or_not()
+    ensures none { is_empty (codes "") ≡ true }
+    ensures some { is_empty (codes "x") ≡ false }
+{}
+
+/// A line that is written ends in CRLF.
+pub fn lines_are_ended()
+    ensures some { ended (codes "v=0") ≡ codes "v=0\r\n" }
+    ensures empty { ended [] ≡ codes "\r\n" }
+{}
+
 /// The names of bytes stand for what is written.
 pub fn bytes_have_names()
     ensures ends { codes "\r\n" ≡ carriage_return ∷ line_feed ∷ [] }
     ensures blanks { codes " \t" ≡ space ∷ tab ∷ [] }
     ensures signs { codes "$*+,-./" ≡ dollar ∷ star ∷ plus ∷ comma ∷ hyphen ∷ full_stop ∷ slash ∷ [] }
+    ensures parentheses { codes "()" ≡ left_parenthesis ∷ right_parenthesis ∷ [] }
+    ensures slash { is_slash slash ≡ true }
+    ensures no_slash { is_slash full_stop ≡ false }
     ensures others { codes "0:@[]" ≡ digit_zero ∷ colon ∷ at_sign ∷ left_bracket ∷ right_bracket ∷ [] }
 {}
 
@@ -87,6 +103,12 @@ pub fn the_first_colon_splits()
     ensures first { split_once colon (codes "K:1:2") ≡ Some (codes "K", codes "1:2") }
     ensures none { split_once colon (codes "K") ≡ None }
     ensures ends { split_once colon (codes ":") ≡ Some ([], []) }
+    ensures brackets { in_brackets (codes "[1.2]") ≡ Some (codes "1.2") }
+    ensures empty_brackets { in_brackets (codes "[]") ≡ Some [] }
+    ensures left_alone { in_brackets (codes "[1") ≡ None }
+    ensures right_alone { in_brackets (codes "1]") ≡ None }
+    ensures one_bracket { in_brackets (codes "[") ≡ None }
+    ensures no_bracket { in_brackets [] ≡ None }
 {}
 
 /// Commas part the items of a list, and blanks round an item are dropped.

@@ -35,5 +35,5 @@ pub use crate::number::{decimal, hex_text, put_decimal};
 pub use crate::owned::{OutOfMemory, Text};
 pub use crate::return_code::{RETURN_CODES, ReturnCode};
 pub use crate::sequence::Sequence;
-pub use crate::split::{has_dot_line, lines, list_items, split_once, words};
+pub use crate::split::{has_dot_line, in_brackets, lines, list_items, split_once, words};
 pub use crate::word::Words;

@@ -3,7 +3,7 @@ ghost use Rattle.std.specs.Prelude.{◌≡◌, ◌≤◌, length, option_map};
 ghost use Rattle.std.specs.List.{concat, list_any};
 ghost use Rattle.mg_bytes.specs.Lines.{cut, is_dot_line};
 ghost use Rattle.mg_bytes.specs.Items.{items_of};
-ghost use Rattle.mg_bytes.specs.Words.{words as words_of, split_once};
+ghost use Rattle.mg_bytes.specs.Words.{words as words_of, split_once, in_brackets};
 
 use crate::item::ListItems;
 use crate::line::Lines;
@@ -54,5 +54,15 @@ pub fn split_once(text: &[u8], byte: u8) -> Option<(&[u8], &[u8])>
     match memchr(byte, text) {
         Some(place) => Some((&text[..place], &text[place + 1..])),
         None => None,
+    }
+}
+
+/// What stands between `[` and `]`; `None` for a text that doesn't stand in brackets.
+pub fn in_brackets(text: &[u8]) -> Option<&[u8]>
+    ensures { option_map (λ inner. inner.now) result ≡ in_brackets text.now }
+{
+    match text {
+        [b'[', inner @ .., b']'] => Some(inner),
+        _ => None,
     }
 }

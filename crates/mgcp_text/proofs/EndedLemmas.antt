@@ -4,12 +4,11 @@ use Rattle.std.specs.Prelude.{map, Option, Some, None, MatchOption}
 use Rattle.std.specs.Borrow.{Bor}
 use Rattle.std.specs.List.{flat_map}
 use Rattle.std.specs.Str.{bytes_eq}
-use Rattle.mg_bytes.specs.Lines.{line_of}
+use Rattle.mg_bytes.specs.Lines.{line_of, crlf, ended}
 use Rattle.std.proofs.lemmas.List.{append_cancel_left}
 use Rattle.std.proofs.lemmas.Bool.{cases_Bool}
 use Rattle.std.proofs.lemmas.Bool.Decides.{Decides-eqb}
 use Rattle.std.proofs.lemmas.Slice.Eq.{bytes_eq-Decides}
-use Rattle.mgcp_text.specs.Writing.{ended, crlf}
 
 -- what doesn't begin with the line, or after it with CRLF, doesn't begin with both
 pub no_line : (text line : List ℕ) → ((rest : List ℕ) → text ≢ line ++ rest) → (rest : List ℕ) → text ≢ ended line ++ rest

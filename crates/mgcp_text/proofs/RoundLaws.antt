@@ -16,7 +16,7 @@ use Rattle.std.proofs.lemmas.List.Sums.{suffix_len-take_yes}
 use Rattle.std.proofs.lemmas.Slice.Eq.{bytes_eq-Decides}
 use Rattle.mg_bytes.specs.Bytes.{space, colon, digit_zero}
 use Rattle.mg_bytes.specs.Blanks.{is_blank, trimmed, trimmed_start, trimmed_end}
-use Rattle.mg_bytes.specs.Lines.{cut, line_of, is_line_feed}
+use Rattle.mg_bytes.specs.Lines.{cut, line_of, is_line_feed, crlf, ended}
 use Rattle.mg_bytes.specs.Words.{words, split_once}
 use Rattle.mg_bytes.specs.Numbers.{decimal_of}
 use Rattle.mg_bytes.proofs.PieceLemmas.{cut-nil, concat-cut}
@@ -30,8 +30,9 @@ use Rattle.mgcp_text.specs.declared.header.Start.TheVariants as starts
 use Rattle.mgcp_text.specs.declared.header.Header.{Header}
 use Rattle.mgcp_text.specs.Header.{verb_of, id_of, start_of, header_of}
 use Rattle.mgcp_text.specs.Parameter.{is_code_byte, is_code, param_of}
-use Rattle.mgcp_text.specs.Reading.{Outcome, is_empty, is_empty_line, skip_empty, params_of, some_params_of, description_of, command_from, response_from, message_from, message, read_text}
-use Rattle.mgcp_text.specs.Writing.{crlf, verb_text, command_line, code_text, comment, response_line, value_text, param_line, body_text, ended, written, is_known, is_writable_param, is_writable_body, is_writable}
+use Rattle.mg_bytes.specs.Lists.{is_empty}
+use Rattle.mgcp_text.specs.Reading.{Outcome, is_empty_line, skip_empty, params_of, some_params_of, description_of, command_from, response_from, message_from, message, read_text}
+use Rattle.mgcp_text.specs.Writing.{verb_text, command_line, code_text, comment, response_line, value_text, param_line, body_text, written, is_known, is_writable_param, is_writable_body, is_writable}
 use Rattle.mgcp_text.specs.Spelling.{Reads}
 use Rattle.mgcp_text.proofs.SpellingLaws.{reads_some}
 use Rattle.mgcp_text.proofs.WholeLemmas.{feedless_append, code_feedless, code_starts, feedless_text, value_feedless, comment_feedless, digit_starts, verb_feedless, after_verb, after_feedless, command_parts, response_parts, id_bounds, name_parts}

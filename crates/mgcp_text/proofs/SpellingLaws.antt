@@ -14,7 +14,8 @@ use Rattle.mgcp_text.specs.declared.header.Start.TheVariants as starts
 use Rattle.mgcp_text.specs.declared.header.Header.{Header}
 use Rattle.mgcp_text.specs.Header.{header_of, is_version}
 use Rattle.mgcp_text.specs.Parameter.{param_of}
-use Rattle.mgcp_text.specs.Reading.{Outcome, message, no_header, bad_version, bad_body, is_empty, is_empty_line, skip_empty, put_front, params_of, some_params_of, description_of, read_as, command_from, response_from, message_from, read_text}
+use Rattle.mg_bytes.specs.Lists.{is_empty}
+use Rattle.mgcp_text.specs.Reading.{Outcome, message, no_header, bad_version, bad_body, is_empty_line, skip_empty, put_front, params_of, some_params_of, description_of, read_as, command_from, response_from, message_from, read_text}
 use Rattle.mgcp_text.specs.Spelling.{IsEmptyLine, IsFullLine, BeginsWith, HasHeader, AreParams, EndsParams, HasParams, HasSomeParams, HasStray, HasName, HasOtherVersion, HasCommand, Reads}
 
 -- ---- the first line that isn't empty

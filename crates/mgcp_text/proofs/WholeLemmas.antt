@@ -11,7 +11,7 @@ use Rattle.std.proofs.lemmas.List.Folds.{list_any-append}
 use Rattle.std.proofs.lemmas.Slice.Eq.{bytes_eq-Decides}
 use Rattle.mg_bytes.specs.Bytes.{full_stop, space, colon, digit_zero}
 use Rattle.mg_bytes.specs.Blanks.{is_blank, trimmed, trimmed_end}
-use Rattle.mg_bytes.specs.Lines.{cut, lines_of, is_line_feed, is_dot_line}
+use Rattle.mg_bytes.specs.Lines.{cut, lines_of, is_line_feed, is_dot_line, crlf, ended}
 use Rattle.mg_bytes.proofs.CutLemmas.{cut_append, ends_append}
 use Rattle.mg_bytes.proofs.PieceLemmas.{cut-nil}
 use Rattle.mg_bytes.proofs.TextLaws.{HasNoFeed, cut_crlf, without_end_crlf, plain_digits}
@@ -21,8 +21,9 @@ use Rattle.mgcp_text.specs.declared.message.Param.{Param}
 use Rattle.mgcp_text.specs.declared.message.Message.{Message}
 use Rattle.mgcp_text.specs.declared.message.Message.TheVariants.{Command, Response}
 use Rattle.mgcp_text.specs.Parameter.{is_code_byte, is_code}
-use Rattle.mgcp_text.specs.Reading.{is_empty, is_empty_line}
-use Rattle.mgcp_text.specs.Writing.{crlf, verb_text, command_line, comment, response_line, value_text, param_line, body_text, ended, written, is_known, is_writable_name, is_writable_param, is_writable_body, is_id, is_writable}
+use Rattle.mg_bytes.specs.Lists.{is_empty}
+use Rattle.mgcp_text.specs.Reading.{is_empty_line}
+use Rattle.mgcp_text.specs.Writing.{verb_text, command_line, comment, response_line, value_text, param_line, body_text, written, is_known, is_writable_name, is_writable_param, is_writable_body, is_id, is_writable}
 
 -- the last byte is a line feed, and no line is a single dot
 pub record IsWhole (text : List ℕ) : Type 0 where

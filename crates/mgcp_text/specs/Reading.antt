@@ -1,6 +1,7 @@
 -- What a text is read as, as a function, so that it computes. `Spelling` says the same as a relation.
-use Rattle.std.specs.Prelude.{ℕ, Bool, ◌++◌, true, false, if◌then◌else◌, List, [], ◌∷◌, Option, Some, None, Result, Ok, Err, option_and_then, option_map}
+use Rattle.std.specs.Prelude.{ℕ, Bool, ◌++◌, if◌then◌else◌, List, [], ◌∷◌, Option, Some, None, Result, Ok, Err, option_and_then, option_map}
 use Rattle.std.specs.List.{concat, list_all}
+use Rattle.mg_bytes.specs.Lists.{is_empty}
 use Rattle.mg_bytes.specs.Checks.{unless, checked, given}
 use Rattle.mg_bytes.specs.Lines.{cut, line_of}
 use Rattle.mg_bytes.specs.Words.{words}
@@ -46,10 +47,6 @@ outcome_of (Err OutOfMemory) = None
 outcome_of (Err NoHeader) = Some no_header
 outcome_of (Err (BadVersion id)) = Some (bad_version id)
 outcome_of (Err (BadBody id)) = Some (bad_body id)
-
-abbrev pub is_empty : List ℕ → Bool
-is_empty [] = true
-is_empty (b ∷ bs) = false
 
 -- the piece is an empty line, or one of blanks
 abbrev pub is_empty_line : List ℕ → Bool

@@ -2,19 +2,17 @@
 use Rattle.std.specs.Prelude.{ℕ, ◌+◌, ◌/◌, ◌%◌, ◌&&◌, ◌||◌, ◌==◌, not, nat_le, Bool, true, codes, decimal, if◌then◌else◌, List, [], ◌∷◌, ◌++◌}
 use Rattle.std.specs.List.{list_all, list_any, flat_map}
 use Rattle.std.specs.Str.{bytes_eq}
-use Rattle.mg_bytes.specs.Bytes.{line_feed, carriage_return, space, digit_zero, colon}
+use Rattle.mg_bytes.specs.Bytes.{space, digit_zero, colon}
 use Rattle.mg_bytes.specs.Blanks.{is_blank, trimmed}
-use Rattle.mg_bytes.specs.Lines.{cut, lines_of, is_line_feed, is_dot_line}
+use Rattle.mg_bytes.specs.Lines.{cut, lines_of, is_line_feed, is_dot_line, crlf, ended}
 use Rattle.mgcp_text.specs.declared.message.Verb.{Verb}
 use Rattle.mgcp_text.specs.declared.message.Verb.TheVariants.{Epcf, Rqnt, Ntfy, Crcx, Mdcx, Dlcx, Auep, Aucx, Rsip, Other}
 use Rattle.mgcp_text.specs.declared.message.Param.{Param}
 use Rattle.mgcp_text.specs.declared.message.Message.{Message}
 use Rattle.mgcp_text.specs.declared.message.Message.TheVariants.{Command, Response}
 use Rattle.mgcp_text.specs.Parameter.{is_code}
-use Rattle.mgcp_text.specs.Reading.{is_empty, is_empty_line}
-
-abbrev pub crlf : List ℕ
-crlf = carriage_return ∷ line_feed ∷ []
+use Rattle.mg_bytes.specs.Lists.{is_empty}
+use Rattle.mgcp_text.specs.Reading.{is_empty_line}
 
 -- a verb's word, in upper case (RFC 3435, 3.2.1.1); of another verb the word isn't known
 abbrev pub verb_text : Verb → List ℕ
@@ -58,10 +56,6 @@ param_line param = param.code ++ (colon ∷ value_text param.value)
 abbrev pub body_text : List ℕ → List ℕ
 body_text [] = []
 body_text (b ∷ bs) = crlf ++ (b ∷ bs)
-
--- a line with its end
-abbrev pub ended : List ℕ → List ℕ
-ended line = line ++ crlf
 
 -- a header line, a line for each parameter, and the description
 abbrev pub text_with : List ℕ → List Param → List ℕ → List ℕ

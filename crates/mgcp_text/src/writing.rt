@@ -3,14 +3,14 @@ ghost use Rattle.std.specs.Prelude.{◌≡◌, ◌++◌, ◌-◌, ◌≤◌, tru
 ghost use Rattle.std.specs.Str.{bytes_eq};
 ghost use Rattle.std.specs.List.{list_all, list_any, flat_map};
 ghost use Rattle.mg_bytes.specs.Blanks.{is_blank};
-ghost use Rattle.mg_bytes.specs.Lines.{cut, lines_of, is_line_feed, is_dot_line};
+ghost use Rattle.mg_bytes.specs.Lines.{cut, lines_of, is_line_feed, is_dot_line, ended};
 ghost use Rattle.mgcp_text.specs.declared.message.Param.{Param};
 ghost use Rattle.mgcp_text.specs.Parameter.{is_code};
 ghost use Rattle.mgcp_text.specs.declared.message.Message.{Message};
 ghost use Rattle.mgcp_text.specs.declared.message.Message.TheVariants as messages;
 ghost use Rattle.mgcp_text.specs.Reading.{is_empty_line, message, read_text};
 ghost use Rattle.mgcp_text.specs.Spelling.{Reads};
-ghost use Rattle.mgcp_text.specs.Writing.{verb_text, command_line, code_text, comment, response_line, param_line, ended, body_text, text_with, written};
+ghost use Rattle.mgcp_text.specs.Writing.{verb_text, command_line, code_text, comment, response_line, param_line, body_text, text_with, written};
 ghost use Rattle.mgcp_text.specs.Writing.{is_id, is_known, is_writable_name, is_writable_param, is_writable_body, is_writable};
 
 use crate::bytes::Bytes;

@@ -8,7 +8,8 @@ use Rattle.mgcp_text.specs.declared.message.Message.{Message}
 use Rattle.mgcp_text.specs.declared.message.Message.TheVariants as messages
 use Rattle.mgcp_text.specs.declared.message.Param.{Param}
 use Rattle.mgcp_text.specs.declared.message.Verb.TheVariants.{Rsip}
-use Rattle.mgcp_text.specs.Writing.{ended, command_line, param_line, written, is_writable_param, is_id, is_writable}
+use Rattle.mg_bytes.specs.Lines.{ended}
+use Rattle.mgcp_text.specs.Writing.{command_line, param_line, written, is_writable_param, is_id, is_writable}
 use Rattle.mgcp_text.proofs.ValueLaws.{word_writable}
 use Rattle.mgcp_text.proofs.IdLemmas.{is_id_true}
 use Rattle.mgcp_text.proofs.WholeLemmas.{whole_written}

@@ -18,7 +18,8 @@ use Rattle.mgcp_text.specs.declared.message.Param.{Param}
 use Rattle.mgcp_text.specs.declared.message.Message.TheVariants as messages
 use Rattle.mgcp_text.specs.Confirmation.{k_of}
 use Rattle.mgcp_text.specs.Reading.{Outcome, message, no_header, bad_version, bad_body, id_in, read_text}
-use Rattle.mgcp_text.specs.Writing.{code_text, comment, response_line, param_line, body_text, ended, written, is_writable_param, is_writable_body}
+use Rattle.mg_bytes.specs.Lines.{ended}
+use Rattle.mgcp_text.specs.Writing.{code_text, comment, response_line, param_line, body_text, written, is_writable_param, is_writable_body}
 use Rattle.mgcp_text.specs.Answer.{Answer, IsAnswer, plain_code, response_of}
 use Rattle.mgcp_text.proofs.AnswerLemmas.{answer_writable}
 use Rattle.mgcp_text.proofs.IdLemmas.{IsId, read_id}

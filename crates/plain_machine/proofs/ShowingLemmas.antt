@@ -5,7 +5,7 @@ use Rattle.std.specs.List.{AllByRecursion}
 use Rattle.std.specs.Option.{unwrap_or}
 use Rattle.std.proofs.lemmas.Bool.{and_parts}
 use Rattle.std.proofs.lemmas.List.Elements.{All-nil, All-cons}
-use Rattle.event_cuts.specs.Faults.{◌>>=◌}
+use Rattle.mg_bytes.specs.Steps.{◌>>=◌}
 use Rattle.mg_bytes.specs.Checks.{unless, checked, given, first_fault}
 use Rattle.mg_bytes.specs.Numbers.{is_hex_text}
 use Rattle.sdp_subset.specs.declared.session.Session.{Session}

@@ -12,9 +12,9 @@ use Rattle.std.proofs.lemmas.Slice.Eq.{bytes_eq-Decides}
 use Rattle.std.specs.declared.net.ipv4_addr.Ipv4Addr.{Ipv4Addr}
 use Rattle.mg_bytes.specs.Blanks.{is_blank, trimmed, trimmed_end}
 use Rattle.mg_bytes.specs.Checks.{unless, checked, given}
-use Rattle.mg_bytes.specs.Lines.{cut, line_of, lines_of, is_line_feed, is_dot_line}
+use Rattle.mg_bytes.specs.Lines.{cut, line_of, lines_of, is_line_feed, is_dot_line, ended}
 use Rattle.mgcp_text.specs.Reading.{is_empty_line}
-use Rattle.mgcp_text.specs.Writing.{ended, param_line, is_writable_param, is_writable_body}
+use Rattle.mgcp_text.specs.Writing.{param_line, is_writable_param, is_writable_body}
 use Rattle.mgcp_text.proofs.ValueLaws.{word_writable}
 use Rattle.sdp_subset.specs.declared.session.Session.{Session}
 use Rattle.sdp_subset.specs.Payloads.{are_payloads}

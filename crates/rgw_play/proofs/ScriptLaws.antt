@@ -3,7 +3,7 @@ use Rattle.std.proofs.Common.{arith, ◌≡◌, ℕ, ◌+◌, Bool, true, false,
 use Rattle.std.specs.Prelude.{codes, Err}
 use Rattle.std.specs.List.{list_any, flat_map}
 use Rattle.std.specs.declared.net.socket_addr.SocketAddrV4.{SocketAddrV4}
-use Rattle.mgcp_text.specs.Writing.{ended}
+use Rattle.mg_bytes.specs.Lines.{ended}
 use Rattle.rgw_play.specs.declared.step.Step.{Step}
 use Rattle.rgw_play.specs.declared.step.Step.TheVariants.{Datagram}
 use Rattle.rgw_play.specs.Script.{Reading, is_end, read_from, steps_after}

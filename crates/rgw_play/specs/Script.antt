@@ -12,7 +12,7 @@ use Rattle.mg_line.specs.declared.phone.Act.{Act}
 use Rattle.mg_line.specs.declared.phone.Act.TheVariants as acts
 use Rattle.mg_line.specs.declared.phone.Key.{Key}
 use Rattle.mg_line.specs.declared.phone.Key.TheVariants as keys
-use Rattle.mgcp_text.specs.Writing.{ended}
+use Rattle.mg_bytes.specs.Lines.{ended}
 use Rattle.rgw_play.specs.declared.step.Step.{Step}
 use Rattle.rgw_play.specs.declared.step.Step.TheVariants.{Datagram, Phone, Tick, At, Wait, Show}
 use Rattle.rgw_play.specs.declared.step.ScriptLine.{ScriptLine}

@@ -3,7 +3,7 @@ ghost use Rattle.std.specs.Prelude.{◌≡◌, ◌<◌, ◌≤◌, ◌+◌, ◌+
 ghost use Rattle.std.specs.List.{list_any, flat_map};
 ghost use Rattle.std.specs.declared.net.socket_addr.SocketAddrV4.{SocketAddrV4};
 ghost use Rattle.mg_bytes.specs.Words.{words as words_of};
-ghost use Rattle.mgcp_text.specs.Writing.{ended};
+ghost use Rattle.mg_bytes.specs.Lines.{ended};
 ghost use Rattle.plain_machine.specs.declared.config.Config.{Config};
 ghost use Rattle.plain_machine.specs.declared.config.ConfigFault.{ConfigFault};
 ghost use Rattle.plain_machine.specs.ConfigFault.{config_fault_number};

@@ -17,7 +17,8 @@ use Rattle.mg_bytes.specs.Words.{words}
 use Rattle.sdp_subset.specs.declared.audio.Audio.{Audio}
 use Rattle.sdp_subset.specs.declared.session.Session.{Session}
 use Rattle.sdp_subset.specs.Payloads.{is_payload, are_payloads, payloads_from}
-use Rattle.sdp_subset.specs.Fields.{is_field, is_empty, are_fields, has_version, is_media, is_audio, is_connection, from_audio, first_connection, connection_of}
+use Rattle.mg_bytes.specs.Lists.{is_empty}
+use Rattle.sdp_subset.specs.Fields.{is_field, are_fields, has_version, is_media, is_audio, is_connection, from_audio, first_connection, connection_of}
 use Rattle.sdp_subset.specs.Reading.{port_from, port_of, payload_of, each_payload, payloads_of, stream_from, audio_from, audio_of, address_from, address_of, session_with, session_at, session_of}
 use Rattle.sdp_subset.specs.Spelling.{IsField, IsEmpty, IsNoAudio, IsAside, IsDescription, HasAudio, HasConnection, HasNoConnection, IsUsed, IsAudioLine, IsConnectionLine, Describes, Reads}
 use Rattle.sdp_subset.proofs.PayloadLemmas.{ArePayloads, payloads_are, are_payloads_of}

@@ -7,11 +7,11 @@ use Rattle.std.specs.Str.{bytes_eq}
 use Rattle.std.proofs.lemmas.Bool.{and_parts, cases_Bool, leb-true}
 use Rattle.std.proofs.lemmas.Fmt.{length-decimal-le}
 use Rattle.std.specs.declared.net.ipv4_addr.Ipv4Addr.{Ipv4Addr}
-use Rattle.mg_bytes.specs.Lines.{cut, line_of, lines_of, is_dot_line}
+use Rattle.mg_bytes.specs.Lines.{cut, line_of, lines_of, is_dot_line, ended}
 use Rattle.sdp_subset.specs.declared.session.Origin.{Origin}
 use Rattle.sdp_subset.specs.declared.session.Session.{Session}
 use Rattle.sdp_subset.specs.Payloads.{is_payload}
-use Rattle.sdp_subset.specs.Writing.{address_text, origin_line, connection_line, payloads_text, audio_line, ptime_line, session_lines, ended, written, IsSession}
+use Rattle.sdp_subset.specs.Writing.{address_text, origin_line, connection_line, payloads_text, audio_line, ptime_line, session_lines, written, IsSession}
 use Rattle.sdp_subset.proofs.PayloadLemmas.{payloads_are}
 use Rattle.sdp_subset.proofs.WrittenLaws.{HasOctets, octets_are, dotted, address_is, session_with_parts, lines_written}
 

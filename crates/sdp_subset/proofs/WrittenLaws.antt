@@ -9,10 +9,10 @@ use Rattle.std.proofs.lemmas.List.{length-append, get_or-append_right}
 use Rattle.std.specs.declared.net.ipv4_addr.Ipv4Addr.{Ipv4Addr}
 use Rattle.mg_bytes.specs.Address.{octet_of, ipv4_of}
 use Rattle.mg_bytes.specs.Blanks.{is_blank, trimmed_start}
-use Rattle.mg_bytes.specs.Lines.{cut, line_of, lines_of}
+use Rattle.mg_bytes.specs.Lines.{cut, line_of, lines_of, ended, crlf}
 use Rattle.mg_bytes.specs.Words.{words}
 use Rattle.mg_bytes.proofs.PieceLemmas.{cut-nil}
-use Rattle.mg_bytes.proofs.TextLaws.{IsPlain, HasNoFeed, IsTrim, crlf, cut_crlf, line_of_written, words_more, words_last}
+use Rattle.mg_bytes.proofs.TextLaws.{IsPlain, HasNoFeed, IsTrim, cut_crlf, line_of_written, words_more, words_last}
 use Rattle.sdp_subset.specs.declared.audio.Audio.{Audio}
 use Rattle.sdp_subset.specs.declared.session.Origin.{Origin}
 use Rattle.sdp_subset.specs.declared.session.Session.{Session}
@@ -20,7 +20,7 @@ use Rattle.sdp_subset.specs.Payloads.{is_payload, are_payloads, payloads_from}
 use Rattle.sdp_subset.specs.Fields.{are_fields, from_audio, first_connection, connection_of}
 use Rattle.sdp_subset.specs.Reading.{port_of, payload_of, each_payload, payloads_of, audio_of, address_of, session_with, session_in, session_of}
 use Rattle.sdp_subset.specs.Spelling.{Reads}
-use Rattle.sdp_subset.specs.Writing.{address_text, origin_line, connection_line, payloads_text, audio_line, ptime_line, ptime_lines, session_lines, ended, written, as_read, IsSession}
+use Rattle.sdp_subset.specs.Writing.{address_text, origin_line, connection_line, payloads_text, audio_line, ptime_line, ptime_lines, session_lines, written, as_read, IsSession}
 use Rattle.sdp_subset.proofs.PayloadLemmas.{payloads_are}
 use Rattle.sdp_subset.proofs.DecimalLemmas.{decimal_some, decimal_full, decimal_plain, decimal_feedless, decimal_again, decimal_split}
 use Rattle.sdp_subset.proofs.SpellingLaws.{reads_some}

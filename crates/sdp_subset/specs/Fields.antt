@@ -4,6 +4,7 @@ use Rattle.std.specs.List.{list_all, starts_with}
 use Rattle.std.specs.Char.{is_ascii_alphabetic}
 use Rattle.std.specs.Option.{option_or}
 use Rattle.std.specs.Str.{bytes_eq}
+use Rattle.mg_bytes.specs.Lists.{is_empty}
 
 -- `=`
 abbrev pub equals_sign : ℕ
@@ -14,10 +15,6 @@ abbrev pub is_field : List ℕ → Bool
 is_field [] = false
 is_field (letter ∷ []) = false
 is_field (letter ∷ sign ∷ text) = is_ascii_alphabetic letter && sign == equals_sign
-
-abbrev pub is_empty : List ℕ → Bool
-is_empty [] = true
-is_empty (b ∷ bs) = false
 
 -- each line is a field, but for empty ones at the end
 unfoldable pub are_fields : List (List ℕ) → Bool

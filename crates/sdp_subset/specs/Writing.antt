@@ -2,7 +2,8 @@
 use Rattle.std.specs.Prelude.{◌≡◌, ◌≤◌, ℕ, true, codes, decimal, List, [], ◌∷◌, ◌++◌, length, map, Option, Some, None}
 use Rattle.std.specs.List.{AllByRecursion, flat_map, join_with_byte}
 use Rattle.std.specs.declared.net.ipv4_addr.Ipv4Addr.{Ipv4Addr}
-use Rattle.mg_bytes.specs.Bytes.{line_feed, carriage_return, space, full_stop}
+use Rattle.mg_bytes.specs.Lines.{ended}
+use Rattle.mg_bytes.specs.Bytes.{space, full_stop}
 use Rattle.sdp_subset.specs.declared.session.Origin.{Origin}
 use Rattle.sdp_subset.specs.declared.session.Session.{Session}
 use Rattle.sdp_subset.specs.Payloads.{are_payloads}
@@ -52,10 +53,6 @@ unfoldable pub session_lines : Session → List (List ℕ)
 session_lines session =
     codes "v=0" ∷ (origin_lines session.origin session.address ++ (connection_line session.address
     ∷ (time_lines session.origin ++ (audio_line session.port session.payloads ∷ ptime_lines session.ptime))))
-
--- a line with its end
-abbrev pub ended : List ℕ → List ℕ
-ended line = line ++ (carriage_return ∷ line_feed ∷ [])
 
 -- the text of a session
 unfoldable pub written : Session → List ℕ

@@ -5,7 +5,7 @@ ghost use Rattle.std.specs.Prelude.{◌≡◌, ◌++◌, codes, map, replicate, 
 ghost use Rattle.std.specs.List.{concat};
 ghost use Rattle.sdp_subset.specs.declared.fault.SdpFault.TheVariants as faults;
 ghost use Rattle.sdp_subset.specs.Payloads.{is_payload, are_payloads, payloads_from, has_room, with_payload};
-ghost use Rattle.sdp_subset.specs.Fields.{equals_sign, is_field, is_empty, are_fields, has_version};
+ghost use Rattle.sdp_subset.specs.Fields.{equals_sign, is_field, are_fields, has_version};
 ghost use Rattle.sdp_subset.specs.Fields.{is_media, is_audio, is_connection};
 ghost use Rattle.sdp_subset.specs.Fields.{from_audio, first_connection, connection_of};
 ghost use Rattle.sdp_subset.specs.Reading.{port_of, payload_of, payloads_of, audio_of, address_of};
@@ -95,7 +95,6 @@ pub fn lines_are_told_by_what_they_begin_with()
     ensures other { is_audio (codes "m=video") ≡ false }
     ensures connection { is_connection (codes "c=") ≡ true }
     ensures no_connection { is_connection (codes "b=c=") ≡ false }
-    ensures full { is_empty (codes "x") ≡ false }
 {}
 
 /// The first audio line is used.

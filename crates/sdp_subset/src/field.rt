@@ -2,7 +2,8 @@
 ghost use Rattle.std.specs.Prelude.{◌≡◌, ◌&&◌, ◌∷◌, [], MatchOption, map, option_map};
 ghost use Rattle.std.specs.List.{list_all};
 ghost use Rattle.mg_bytes.specs.Lines.{line_of, lines_of};
-ghost use Rattle.sdp_subset.specs.Fields.{is_field, is_empty, are_fields, has_version, is_media, is_audio};
+ghost use Rattle.mg_bytes.specs.Lists.{is_empty};
+ghost use Rattle.sdp_subset.specs.Fields.{is_field, are_fields, has_version, is_media, is_audio};
 ghost use Rattle.sdp_subset.specs.Fields.{is_connection, from_audio, first_connection, connection_of};
 
 use mg_bytes::{Lines, lines};

@@ -1,11 +1,11 @@
 //! How a session is written (RFC 2327, 6; RFC 3435, 3.4).
 ghost use Rattle.std.specs.Prelude.{◌≡◌, ◌≤◌, ◌++◌, IfOk, OnOk, IfSome, Some, false, codes, decimal, length, slice_get};
 ghost use Rattle.std.specs.List.{AllByRecursion, flat_map, list_any};
-ghost use Rattle.mg_bytes.specs.Lines.{cut, lines_of, is_dot_line};
+ghost use Rattle.mg_bytes.specs.Lines.{cut, lines_of, is_dot_line, ended};
 ghost use Rattle.sdp_subset.specs.declared.session.Session.{Session};
 ghost use Rattle.sdp_subset.specs.Writing.{address_text, origin_line, origin_lines, connection_line, time_lines};
 ghost use Rattle.sdp_subset.specs.Writing.{payloads_text, audio_line, ptime_lines};
-ghost use Rattle.sdp_subset.specs.Writing.{ended, written, as_read, IsSession};
+ghost use Rattle.sdp_subset.specs.Writing.{written, as_read, IsSession};
 ghost use Rattle.sdp_subset.specs.Spelling.{Reads};
 
 use crate::session::{Origin, Session};

@@ -14,7 +14,7 @@ mod transacting;
 pub use crate::acknowledging::acknowledge;
 pub use crate::confirming::spans_of;
 pub use crate::output::{OutDatagram, Outputs};
-pub use crate::packing::packed;
+pub use crate::packing::{packed, same_address};
 pub use crate::sending::send;
 pub use crate::transacting::{Origin, answer, is_new};
 

@@ -14,7 +14,8 @@ use std::net::SocketAddrV4;
 // The line that parts the messages of a datagram (RFC 3435, 3.5.5).
 const DOT_LINE: &[u8] = b".\r\n";
 
-fn same_address(a: SocketAddrV4, b: SocketAddrV4) -> bool
+/// Whether two addresses are the same.
+pub fn same_address(a: SocketAddrV4, b: SocketAddrV4) -> bool
     ensures { result ≡ same_address a b }
 {
     a.ip().octets() == b.ip().octets() && a.port() == b.port()

@@ -14,7 +14,8 @@ use Rattle.mgcp_text.specs.declared.message.Param.{Param}
 use Rattle.mgcp_text.specs.declared.message.Verb.{Verb}
 use Rattle.mgcp_text.specs.declared.message.Verb.TheVariants.{Epcf, Rqnt, Ntfy, Crcx, Mdcx, Dlcx, Auep, Aucx, Rsip, Other}
 use Rattle.mgcp_text.specs.Reading.{Outcome, message, no_header, bad_version, bad_body, id_in, read_text}
-use Rattle.mgcp_text.specs.Writing.{code_text, comment, response_line, ended, written, is_writable_body}
+use Rattle.mg_bytes.specs.Lines.{ended}
+use Rattle.mgcp_text.specs.Writing.{code_text, comment, response_line, written, is_writable_body}
 use Rattle.mgcp_text.specs.Answer.{IsAnswer, plain_code, response_of}
 use Rattle.mgcp_text.proofs.AnswerLemmas.{answer_writable}
 use Rattle.mgcp_text.proofs.IdLemmas.{IsId, read_id}

@@ -1,7 +1,8 @@
 use Rattle.std.proofs.Common.{rules, tests}
 use Rattle.std.proofs.lemmas.Iterator.Search.{any_from_yields_List}
 use Rattle.std.proofs.lemmas.Iterator.Splits.{YieldsList-from_slice_split}
-use Rattle.endpoint_names.specs.Name.{has_wildcard, is_wildcard, is_slash}
+use Rattle.mg_bytes.specs.Bytes.{is_slash}
+use Rattle.endpoint_names.specs.Name.{has_wildcard, is_wildcard}
 use Rattle.endpoint_names.proofs.name.has_wildcard.Goals as goal
 
 pub returns : goal.returns

@@ -2,8 +2,7 @@ use Rattle.std.proofs.Common.{List, ℕ, sym, ap, ◌∙◌}
 use Rattle.std.specs.Prelude.{map}
 use Rattle.std.specs.List.{flat_map}
 use Rattle.std.specs.Str.{bytes_eq}
-use Rattle.mg_bytes.specs.Lines.{line_of}
-use Rattle.mgcp_text.specs.Writing.{ended}
+use Rattle.mg_bytes.specs.Lines.{line_of, ended}
 use Rattle.mgcp_text.proofs.EndedLemmas.{ended_step}
 use Rattle.mgcp_text.proofs.writing.is_ended_lines.Goals as goal
 

@@ -2,8 +2,7 @@ use Rattle.std.proofs.Common.{◌≡◌}
 use Rattle.std.specs.Prelude.{map}
 use Rattle.std.specs.List.{flat_map}
 use Rattle.std.specs.Str.{bytes_eq}
-use Rattle.mg_bytes.specs.Lines.{lines_of, line_of}
-use Rattle.mgcp_text.specs.Writing.{ended}
+use Rattle.mg_bytes.specs.Lines.{lines_of, line_of, ended}
 use Rattle.mgcp_text.proofs.writing.is_ended_lines.Given as goal
 
 abbrev pub invariant-loop-line : goal.invariant-loop-line

@@ -1,6 +1,7 @@
 use Rattle.std.proofs.Common.{◌≡◌, ◌++◌, drop}
 use Rattle.std.specs.List.{flat_map}
-use Rattle.mgcp_text.specs.Writing.{ended, param_line}
+use Rattle.mg_bytes.specs.Lines.{ended}
+use Rattle.mgcp_text.specs.Writing.{param_line}
 use Rattle.mgcp_text.proofs.writing.put_params.Given as goal
 
 abbrev pub invariant-loop-param : goal.invariant-loop-param

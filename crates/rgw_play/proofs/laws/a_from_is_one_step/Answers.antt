@@ -1,6 +1,6 @@
 use Rattle.std.proofs.Common.{◌≡◌, ℕ, ◌+◌, ◌∷◌, [], ◌++◌, length, ap, ◌∙◌, arith}
 use Rattle.std.specs.List.{flat_map}
-use Rattle.mgcp_text.specs.Writing.{ended}
+use Rattle.mg_bytes.specs.Lines.{ended}
 use Rattle.rgw_play.specs.declared.step.Step.TheVariants as steps
 use Rattle.rgw_play.specs.Script.{read_from, steps_after}
 use Rattle.rgw_play.proofs.ScriptLaws.{ended_from, unended_from}
