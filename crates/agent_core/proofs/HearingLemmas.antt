@@ -12,7 +12,7 @@ use Rattle.outbound.specs.declared.reply.Reply.TheVariants.{Answered, Provisiona
 use Rattle.outbound.specs.Flight.{InFlight, reply_of, heard}
 use Rattle.piggyback.specs.Parts.{parts_of}
 use Rattle.transmission.specs.declared.output.OutDatagram.{OutDatagram}
-use Rattle.transmission.specs.Texts.{texts_of}
+use Rattle.transmission.specs.Texts.{texts_of, largest_datagram}
 use Rattle.agent_core.specs.declared.setup.AgentSetup.{AgentSetup}
 use Rattle.agent_core.specs.declared.state.State.{State}
 use Rattle.agent_core.specs.Agent.{AgentMachine, AgentEffect}
@@ -90,26 +90,26 @@ went_on setup source text was is were are went = ap (λ (m : AgentMachine). m.no
 
 -- a datagram
 
-is_long : (bytes : List ℕ) → 4000 < length bytes → nat_lt 4000 (length bytes) ≡ true
+is_long : (bytes : List ℕ) → largest_datagram < length bytes → nat_lt largest_datagram (length bytes) ≡ true
 is_long bytes long = grind (arith, nat_tests)
 
-is_short : (bytes : List ℕ) → length bytes ≤ 4000 → nat_lt 4000 (length bytes) ≡ false
+is_short : (bytes : List ℕ) → length bytes ≤ largest_datagram → nat_lt largest_datagram (length bytes) ≡ false
 is_short bytes short = grind (arith, nat_tests)
 
-texts_of_long : (bytes : List ℕ) → 4000 < length bytes → texts_of bytes ≡ []
+texts_of_long : (bytes : List ℕ) → largest_datagram < length bytes → texts_of bytes ≡ []
 unfolding texts_of
 texts_of_long bytes long = rw (is_long bytes long) refl
 
-texts_of_short : (bytes : List ℕ) → length bytes ≤ 4000 → texts_of bytes ≡ parts_of bytes
+texts_of_short : (bytes : List ℕ) → length bytes ≤ largest_datagram → texts_of bytes ≡ parts_of bytes
 unfolding texts_of
 texts_of_short bytes short = rw (is_short bytes short) refl
 
-pub took_none : (setup : AgentSetup) (was : State) (source : SocketAddrV4) (bytes : List ℕ) (sent : List OutDatagram) → sent ≡ [] → 4000 < length bytes
+pub took_none : (setup : AgentSetup) (was : State) (source : SocketAddrV4) (bytes : List ℕ) (sent : List OutDatagram) → sent ≡ [] → largest_datagram < length bytes
     → Happened (took_all setup (kept_in was) source (texts_of bytes)) was was sent
 unfolding took_all
 took_none setup was source bytes sent none long = rw (texts_of_long bytes long, none) (record { machine = refl; found = refl; sent = refl })
 
-pub took_texts : (setup : AgentSetup) (was is : State) (source : SocketAddrV4) (bytes : List ℕ) (none sent : List OutDatagram) → none ≡ [] → length bytes ≤ 4000
+pub took_texts : (setup : AgentSetup) (was is : State) (source : SocketAddrV4) (bytes : List ℕ) (none sent : List OutDatagram) → none ≡ [] → length bytes ≤ largest_datagram
     → Went (took_all setup (kept_in was) source (parts_of bytes)) was is none sent → Happened (took_all setup (kept_in was) source (texts_of bytes)) was is sent
 took_texts setup was is source bytes none sent empty short went = rw (texts_of_short bytes short) (record {
   machine = went.machine;

@@ -20,6 +20,7 @@ use Rattle.audits.specs.ConnectionReport.{remote_text, descriptions_text}
 use Rattle.audits.specs.Fitting.{fitting}
 use Rattle.audits.specs.Laws.{are_distinct, behind_a_line}
 use Rattle.audits.specs.Picking.{asks_for, listed, with_item, with_items, picked}
+use Rattle.transmission.specs.Texts.{largest_datagram}
 
 -- Codes that are the same
 
@@ -221,16 +222,16 @@ picked_begins known items more =
 
 -- Whether an answer fits
 
-pub fits : (id : ℕ) (wanted : Answer) → length (written (response_of id wanted)) ≤ 4000 → fitting id wanted ≡ Ok wanted
+pub fits : (id : ℕ) (wanted : Answer) → length (written (response_of id wanted)) ≤ largest_datagram → fitting id wanted ≡ Ok wanted
 unfolding fitting
 fits id wanted short =
-    let is : nat_le (length (written (response_of id wanted))) 4000 ≡ true = grind (arith, nat_tests) in
+    let is : nat_le (length (written (response_of id wanted))) largest_datagram ≡ true = grind (arith, nat_tests) in
     rw is refl
 
-pub too_long : (id : ℕ) (wanted : Answer) → 4000 < length (written (response_of id wanted)) → fitting id wanted ≡ Err 533
+pub too_long : (id : ℕ) (wanted : Answer) → largest_datagram < length (written (response_of id wanted)) → fitting id wanted ≡ Err 533
 unfolding fitting
 too_long id wanted long =
-    let is : nat_le (length (written (response_of id wanted))) 4000 ≡ false = grind (arith, nat_tests) in
+    let is : nat_le (length (written (response_of id wanted))) largest_datagram ≡ false = grind (arith, nat_tests) in
     rw is refl
 
 -- The descriptions

@@ -54,6 +54,7 @@ use Rattle.audits.specs.Writing.{IsDescription}
 use Rattle.audits.proofs.IdLemmas.{ids_no_blanks, ids_one_line}
 use Rattle.audits.proofs.ValueLemmas.{active_no_blanks, active_one_line, options_writable}
 use Rattle.audits.proofs.BodyLemmas.{body_writable, both_writable}
+use Rattle.transmission.specs.Texts.{largest_datagram}
 
 -- Whether an answer fits
 
@@ -63,12 +64,12 @@ fit_same false wanted answer e = absurd cc
 
 pub fitting_same : (id : ℕ) (wanted answer : Answer) → fitting id wanted ≡ Ok answer → answer ≡ wanted
 unfolding fitting
-fitting_same id wanted answer e = (fit_same (nat_le (length (written (response_of id wanted))) 4000) wanted answer e).1
+fitting_same id wanted answer e = (fit_same (nat_le (length (written (response_of id wanted))) largest_datagram) wanted answer e).1
 
-pub fitting_short : (id : ℕ) (wanted answer : Answer) → fitting id wanted ≡ Ok answer → length (written (response_of id answer)) ≤ 4000
+pub fitting_short : (id : ℕ) (wanted answer : Answer) → fitting id wanted ≡ Ok answer → length (written (response_of id answer)) ≤ largest_datagram
 unfolding fitting
 fitting_short id wanted answer e =
-    let is = fit_same (nat_le (length (written (response_of id wanted))) 4000) wanted answer e in
+    let is = fit_same (nat_le (length (written (response_of id wanted))) largest_datagram) wanted answer e in
     rw (is.1) (leb-true _ _ is.0)
 
 fit_code : (b : Bool) (wanted : Answer) (code : ℕ) → checked {F = ℕ} (unless b 533) (Ok wanted) ≡ Err code → code ≤ 999
@@ -77,7 +78,7 @@ fit_code false wanted code e = let same : 533 ≡ code = cc in omega (arith, sam
 
 pub fitting_code : (id : ℕ) (wanted : Answer) (code : ℕ) → fitting id wanted ≡ Err code → code ≤ 999
 unfolding fitting
-fitting_code id wanted code e = fit_code (nat_le (length (written (response_of id wanted))) 4000) wanted code e
+fitting_code id wanted code e = fit_code (nat_le (length (written (response_of id wanted))) largest_datagram) wanted code e
 
 -- What is picked of what can be written
 

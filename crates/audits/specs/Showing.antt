@@ -12,6 +12,7 @@ use Rattle.sdp_subset.specs.Writing.{IsSession}
 use Rattle.connections.specs.declared.connection.Connection.{Connection}
 use Rattle.connections.specs.Standing.{Standing}
 use Rattle.audits.specs.Endpoint.{Endpoint}
+use Rattle.transmission.specs.Texts.{largest_datagram}
 
 -- a connection: its call is spelled as an identifier, and its remote description is a session
 pub record IsShowableConnection (connection : Connection) : Type 0 where
@@ -42,4 +43,4 @@ pub record CanBeWritten (id : ℕ) (answer : Answer) : Type 0 where
   pub three_digits : answer.code ≤ 999
   pub each : list_all is_writable_param answer.params ≡ true
   pub whole : is_writable_body answer.body ≡ true
-  pub short : length (written (response_of id answer)) ≤ 4000
+  pub short : length (written (response_of id answer)) ≤ largest_datagram

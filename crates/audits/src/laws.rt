@@ -10,6 +10,7 @@ ghost use Rattle.audits.specs.ConnectionReport.{remote_text, descriptions_text};
 ghost use Rattle.audits.specs.Fitting.{fitting};
 ghost use Rattle.audits.specs.Laws.{are_distinct, behind_a_line};
 ghost use Rattle.audits.specs.Picking.{asks_for, picked};
+ghost use Rattle.transmission.specs.Texts.{largest_datagram};
 
 /// Under each code a report has what is known, where F asks for the code, and else nothing; and it has no code twice.
 pub fn a_report_has_what_is_asked_for()
@@ -26,9 +27,9 @@ pub fn a_report_has_the_order_of_f()
 
 /// A response of up to 4,000 bytes is as it was wanted, and a longer one gives way to 533 (RFC 3435, 2.4 and 3.5.4).
 pub fn a_response_is_too_long_past_4000_bytes()
-    ensures short { (id : ℕ) (wanted : Answer) → length (written (response_of id wanted)) ≤ 4000 →
+    ensures short { (id : ℕ) (wanted : Answer) → length (written (response_of id wanted)) ≤ largest_datagram →
         fitting id wanted ≡ Ok wanted }
-    ensures long { (id : ℕ) (wanted : Answer) → 4000 < length (written (response_of id wanted)) →
+    ensures long { (id : ℕ) (wanted : Answer) → largest_datagram < length (written (response_of id wanted)) →
         fitting id wanted ≡ Err 533 }
 {}
 

@@ -6,9 +6,7 @@ ghost use Rattle.audits.specs.Fitting.{fitting};
 use mg_bytes::{CodeFault, ReturnCode};
 use mgcp_text::{Answer, TransactionId};
 use std::alloc::Global;
-
-/// The longest response, in bytes (RFC 3435, 3.5.4).
-const LONGEST: usize = 4000;
+use transmission::LARGEST_DATAGRAM;
 
 /// An answer under this id, as it is wanted; where its text would have more than 4,000 bytes, the return code 533
 /// (RFC 3435, 2.4 and 3.5.4).
@@ -17,7 +15,7 @@ pub fn fitting(alloc: Global, id: TransactionId, wanted: Answer) -> Result<Answe
     ensures { AnswersAs (fitting id wanted) result }
 {
     let text = wanted.text(alloc, id)?;
-    if text.as_bytes().len() > LONGEST {
+    if text.as_bytes().len() > LARGEST_DATAGRAM {
         return Err(CodeFault::of(ReturnCode::ResponseTooLarge));
     }
     Ok(wanted)

@@ -10,6 +10,7 @@ ghost use Rattle.audits.specs.Fitting.{fitting};
 ghost use Rattle.audits.specs.EndpointReport.{endpoint_report};
 ghost use Rattle.audits.specs.ConnectionReport.{connection_report};
 ghost use Rattle.audits.specs.Showing.{IsShowable, CanBeWritten};
+ghost use Rattle.transmission.specs.Texts.{largest_datagram};
 
 /// What is reported of an endpoint whose texts can be written can be written, and has 4,000 bytes at most; what is answered
 /// in its place is a return code (RFC 3435, 3.3 and 3.5.4).
@@ -20,7 +21,7 @@ pub fn what_is_reported_can_be_written()
         IsShowable endpoint → connection_report id endpoint connection items ≡ Ok answer → CanBeWritten id answer }
     ensures as_wanted { (id : ℕ) (wanted answer : Answer) → fitting id wanted ≡ Ok answer → answer ≡ wanted }
     ensures fits { (id : ℕ) (wanted answer : Answer) → fitting id wanted ≡ Ok answer →
-        length (written (response_of id answer)) ≤ 4000 }
+        length (written (response_of id answer)) ≤ largest_datagram }
     ensures line_code { (id : ℕ) (endpoint : Endpoint) (items : List (List ℕ)) (code : ℕ) →
         endpoint_report id endpoint items ≡ Err code → code ≤ 999 }
     ensures connection_code { (id : ℕ) (endpoint : Endpoint) (connection : List ℕ) (items : List (List ℕ)) (code : ℕ) →

@@ -30,6 +30,10 @@ verdict_of map letters =
 unfoldable pub is_critical : List ℕ → List Letter → Bool
 is_critical map letters = is_word map (letters ++ Timer ∷ [])
 
+-- the most letters that a matcher is fed with (this gateway's profile)
+abbrev pub most_letters : ℕ
+most_letters = 64
+
 -- a matcher at work: its map, and the letters that it was fed with
 pub record Matching : Type 0 where
   pub map : List ℕ

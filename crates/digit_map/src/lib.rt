@@ -21,7 +21,7 @@ pub use crate::change::{MapChange, read_change};
 pub use crate::cut::{PositionsLeft, StringsLeft, positions, set_of, strings};
 pub use crate::fault::MapFault;
 pub use crate::map_text::{MapText, read_map};
-pub use crate::matcher::Matcher;
+pub use crate::matcher::{MOST_LETTERS, Matcher};
 pub use crate::slow::SlowMap;
 pub use crate::spelling::is_range;
 pub use crate::verdict::Verdict;

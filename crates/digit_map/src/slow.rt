@@ -2,7 +2,7 @@
 ghost use Rattle.std.specs.Prelude.{◌≡◌, ◌≤◌, length};
 
 use crate::map_text::MapText;
-use crate::matcher::Matcher;
+use crate::matcher::{MOST_LETTERS, Matcher};
 use crate::verdict::Verdict;
 use crate::walk::{is_word, verdict_of};
 use arrayvec::ArrayVec;
@@ -15,19 +15,19 @@ use std::marker::Model;
 #[derive(Drop)]
 pub struct SlowMap {
     map: MapText,
-    letters: ArrayVec<Letter, 64>,
+    letters: ArrayVec<Letter, MOST_LETTERS>,
 }
 
 impl Model for SlowMap {
     ghost use Rattle.std.specs.Prelude.{◌≡◌, ◌≤◌, length, true};
     ghost use Rattle.digit_map.specs.Spelling.{is_map};
-    ghost use Rattle.digit_map.specs.Verdict.{Matching};
+    ghost use Rattle.digit_map.specs.Verdict.{Matching, most_letters};
 
     ghost Value = { Matching };
 
     ghost view = { λ m. record { map = m.map; letters = m.letters.items } };
 
-    ghost invariant = { λ m. (is_map m.map ≡ true) × (length m.letters.items ≤ 64) };
+    ghost invariant = { λ m. (is_map m.map ≡ true) × (length m.letters.items ≤ most_letters) };
 }
 
 // The same letters in a list of this capacity.

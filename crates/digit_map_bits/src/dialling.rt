@@ -2,32 +2,32 @@
 ghost use Rattle.std.specs.Prelude.{◌≡◌, ◌≤◌, length};
 
 use crate::compiled::Compiled;
-use digit_map::{MapText, Matcher, Verdict};
+use digit_map::{MOST_LETTERS, MapText, Matcher, Verdict};
 use mg_bytes::{Letter, OutOfMemory};
 use std::alloc::Global;
 use std::marker::Model;
 
-/// A `Compiled` that keeps the letters too, at most 64, for those who are told what was dialled (RFC 3435, 2.1.5). A
+/// A `Compiled` that keeps the letters too, at most `MOST_LETTERS`, for those who are told what was dialled (RFC 3435, 2.1.5). A
 /// contract sees the map's text and the letters, as of a `SlowMap`.
 #[derive(Drop)]
 pub struct Dialling {
     matcher: Compiled,
     // The letters, and behind them what nobody reads.
-    letters: [Letter; 64],
+    letters: [Letter; MOST_LETTERS],
     // How many letters there are.
     count: usize,
 }
 
 impl Model for Dialling {
     ghost use Rattle.std.specs.Prelude.{◌≡◌, ◌≤◌, take};
-    ghost use Rattle.digit_map.specs.Verdict.{Matching};
+    ghost use Rattle.digit_map.specs.Verdict.{Matching, most_letters};
     ghost use Rattle.digit_map_bits.specs.Blocks.{words_after};
 
     ghost Value = { Matching };
 
     ghost view = { λ d. record { map = d.matcher.map; letters = take d.count d.letters } };
 
-    ghost invariant = { λ d. (d.matcher.words ≡ words_after d.matcher.map (take d.count d.letters)) × (d.count ≤ 64) };
+    ghost invariant = { λ d. (d.matcher.words ≡ words_after d.matcher.map (take d.count d.letters)) × (d.count ≤ most_letters) };
 }
 
 impl Dialling {
@@ -60,7 +60,7 @@ impl Matcher for Dialling {
     fn start(alloc: Global, map: &MapText) -> Result<Dialling, OutOfMemory> {
         Ok(Dialling {
             matcher: Compiled::start(alloc, map)?,
-            letters: [Letter::Zero; 64],
+            letters: [Letter::Zero; MOST_LETTERS],
             count: 0,
         })
     }

@@ -14,9 +14,16 @@ use Rattle.endpoint_names.specs.declared.table.Host.{Host}
 use Rattle.endpoint_names.specs.declared.entity.Entity.{Entity}
 use Rattle.endpoint_names.specs.Table.{address_of}
 
+-- the most bytes of an entity, and of its local name (this gateway's profile)
+abbrev pub longest_entity : ℕ
+longest_entity = 128
+
+abbrev pub longest_local : ℕ
+longest_local = 64
+
 -- 1 to 64 bytes (that none is an `@` is where the text is split)
 abbrev pub is_local : List ℕ → Bool
-is_local local = nat_le 1 (length local) && nat_le (length local) 64
+is_local local = nat_le 1 (length local) && nat_le (length local) longest_local
 
 abbrev pub host_from : List Host → List ℕ → Option (List ℕ) → Option Ipv4Addr
 host_from hosts host None = address_of hosts host
@@ -54,7 +61,7 @@ agent_of hosts text = agent_from hosts text (split_once at_sign text)
 -- at most 128 bytes, none of them a blank, and no line feed, since it is written as a word of a line
 abbrev pub is_entity_text : List ℕ → Bool
 is_entity_text text =
-    nat_le (length text) 128 && not (list_any is_blank text) && not (list_any is_line_feed text)
+    nat_le (length text) longest_entity && not (list_any is_blank text) && not (list_any is_line_feed text)
 
 -- the entity that a text names: the text as it is given, and its address
 unfoldable pub entity_of : List Host → List ℕ → Option Entity

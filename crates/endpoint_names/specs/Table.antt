@@ -14,9 +14,16 @@ use Rattle.endpoint_names.specs.declared.table.TableFault.TheVariants.{NotADomai
 abbrev pub is_domain_byte : ℕ → Bool
 is_domain_byte b = is_ascii_alphanumeric b || b == hyphen || b == full_stop
 
+-- the most bytes of a domain name, and the most names of a table
+abbrev pub longest_domain : ℕ
+longest_domain = 64
+
+abbrev pub most_hosts : ℕ
+most_hosts = 64
+
 -- 1 to 64 of these
 abbrev pub is_domain : List ℕ → Bool
-is_domain text = nat_le 1 (length text) && nat_le (length text) 64 && list_all is_domain_byte text
+is_domain text = nat_le 1 (length text) && nat_le (length text) longest_domain && list_all is_domain_byte text
 
 -- the address of the first host with this name, without case
 unfoldable pub address_of : List Host → List ℕ → Option Ipv4Addr
@@ -33,7 +40,7 @@ abbrev pub fault_of : List Host → List ℕ → Option TableFault
 fault_of hosts name = first_fault
     (unless (is_domain name) NotADomain
     ∷ unless (not (has_name hosts name)) Twice
-    ∷ unless (nat_lt (length hosts) 64) Full
+    ∷ unless (nat_lt (length hosts) most_hosts) Full
     ∷ [])
 
 -- a fault's number, from 1

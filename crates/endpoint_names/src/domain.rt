@@ -3,6 +3,9 @@ ghost use Rattle.std.specs.Prelude.{◌≡◌};
 ghost use Rattle.std.specs.List.{list_all};
 ghost use Rattle.endpoint_names.specs.Table.{is_domain_byte, is_domain};
 
+/// The most bytes of a domain name (this gateway's profile).
+pub const LONGEST_DOMAIN: usize = 64;
+
 fn is_domain_byte(byte: u8) -> bool
     ensures { result ≡ is_domain_byte byte }
 {
@@ -20,5 +23,5 @@ fn all_domain_bytes(text: &[u8]) -> bool
 pub fn is_domain(text: &[u8]) -> bool
     ensures { result ≡ is_domain text.now }
 {
-    text.len() >= 1 && text.len() <= 64 && all_domain_bytes(text)
+    text.len() >= 1 && text.len() <= LONGEST_DOMAIN && all_domain_bytes(text)
 }

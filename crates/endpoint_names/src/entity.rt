@@ -14,10 +14,16 @@ use std::net::{Ipv4Addr, SocketAddrV4};
 // The port of a call agent where its name gives none (RFC 3435, 3.5).
 const AGENT_PORT: u16 = 2727;
 
+/// The most bytes of an entity (this gateway's profile).
+pub const LONGEST_ENTITY: usize = 128;
+
+/// The most bytes of its local name (this gateway's profile).
+const LONGEST_LOCAL: usize = 64;
+
 /// An entity that notifications go to (RFC 3435, 2.1.4): its name as it was given, and its address.
 #[derive(Clone, Copy)]
 pub struct Entity {
-    pub text: FixedText<128>,
+    pub text: FixedText<LONGEST_ENTITY>,
     pub address: SocketAddrV4,
 }
 
@@ -36,13 +42,13 @@ fn any_line_feed(text: &[u8]) -> bool
 fn is_entity_text(text: &[u8]) -> bool
     ensures { result ≡ is_entity_text text.now }
 {
-    text.len() <= 128 && !any_blank(text) && !any_line_feed(text)
+    text.len() <= LONGEST_ENTITY && !any_blank(text) && !any_line_feed(text)
 }
 
 fn is_local(local: &[u8]) -> bool
     ensures { result ≡ is_local local.now }
 {
-    local.len() >= 1 && local.len() <= 64
+    local.len() >= 1 && local.len() <= LONGEST_LOCAL
 }
 
 fn host_of(table: &Table, host: &[u8]) -> Option<Ipv4Addr>

@@ -11,9 +11,9 @@ mod name;
 mod names;
 mod table;
 
-pub use crate::domain::is_domain;
-pub use crate::entity::{Entity, read_entity};
+pub use crate::domain::{LONGEST_DOMAIN, is_domain};
+pub use crate::entity::{Entity, LONGEST_ENTITY, read_entity};
 pub use crate::fixed::FixedText;
 pub use crate::name::{NameFault, Pattern, matches, read_name, write_name};
 pub use crate::names::Names;
-pub use crate::table::{Host, Table, TableFault};
+pub use crate::table::{Host, MOST_HOSTS, Table, TableFault};

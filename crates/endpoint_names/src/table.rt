@@ -2,17 +2,20 @@
 ghost use Rattle.std.specs.Prelude.{◌≡◌, ◌++◌, ◌∷◌, [], Some, None, OnOk, OnErr, IfErr, IsOk};
 ghost use Rattle.endpoint_names.specs.Table.{address_of, has_name, fault_of, table_fault_number};
 
-use crate::domain::is_domain;
+use crate::domain::{LONGEST_DOMAIN, is_domain};
 use crate::fixed::FixedText;
 use arrayvec::ArrayVec;
 use mg_bytes::same_no_case;
 use std::marker::Model;
 use std::net::Ipv4Addr;
 
+/// The most hosts of a table (this gateway's profile).
+pub const MOST_HOSTS: usize = 64;
+
 /// A host's configured name and its address.
 #[derive(Clone, Copy)]
 pub struct Host {
-    pub name: FixedText<64>,
+    pub name: FixedText<LONGEST_DOMAIN>,
     pub address: Ipv4Addr,
 }
 
@@ -75,7 +78,7 @@ fn address_of(hosts: &[Host], name: &[u8]) -> Option<Ipv4Addr>
 /// A contract sees the list of hosts: at most 64, each with a domain name.
 #[derive(Drop)]
 pub struct Table {
-    hosts: ArrayVec<Host, 64>,
+    hosts: ArrayVec<Host, MOST_HOSTS>,
 }
 
 impl Model for Table {
@@ -85,11 +88,11 @@ impl Model for Table {
 
     ghost Value = { List Host };
 
-    ghost use Rattle.endpoint_names.specs.Table.{is_domain};
+    ghost use Rattle.endpoint_names.specs.Table.{is_domain, most_hosts};
 
     ghost view = { λ t. t.hosts.items };
 
-    ghost invariant = { λ t. (length t.hosts.items ≤ 64)
+    ghost invariant = { λ t. (length t.hosts.items ≤ most_hosts)
         × (list_all (λ host. is_domain host.name) t.hosts.items ≡ true) };
 }
 

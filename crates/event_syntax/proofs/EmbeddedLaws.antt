@@ -23,7 +23,7 @@ use Rattle.event_cuts.specs.Faults.{each}
 use Rattle.event_cuts.specs.Spelling.{is_word}
 use Rattle.event_values.specs.SignalSpelling.{is_signal_entry, are_signals}
 use Rattle.event_syntax.specs.RequestSpelling.{is_part_in, is_part, is_called, are_parts, is_embed, is_action, is_requested, are_requested_within}
-use Rattle.event_values.specs.Signals.{signals_text, is_writable_signal, are_writable_signals, signal_entry, signal_entry_text, signals_in}
+use Rattle.event_values.specs.Signals.{signals_text, is_writable_signal, are_writable_signals, signal_entry, signal_entry_text, signals_in, most_signals}
 use Rattle.event_syntax.specs.Events.{events_text, is_writable}
 use Rattle.event_syntax.specs.Actions.{Word, keeps, acts, embeds, word_named, word_of, plain, Said, said_by, said_of, takes, Rule, rule_of}
 use Rattle.event_syntax.specs.Embedding.{embedded_event, nothing_embedded, with_part_named, with_part, with_parts, embedded_in}
@@ -33,6 +33,7 @@ use Rattle.event_cuts.proofs.ClosedLemmas.{calm_closed, IsClosed, closed_group, 
 use Rattle.event_values.proofs.SignalLaws as signals
 use Rattle.event_syntax.proofs.EventLaws.{events_again}
 use Rattle.event_syntax.proofs.RequestMaps.{IsInner, map_inner}
+use Rattle.event_syntax.specs.Detect.{most_events}
 
 -- a list of entries can stand in parentheses
 pub join_some : (e : List ℕ) (es : List (List ℕ)) → 0 < length e → leb 1 (length (join_with_byte 44 (e ∷ es))) ≡ true
@@ -194,7 +195,7 @@ one_part head inside was is flat solid inner spelled read =
       read = λ (more : List (List ℕ)). rw (form, read) refl;
     }
 
-events_parts : (was : EmbeddedRequest) (events : List EmbeddedEvent) → was.events ≡ [] → leb (length events) 32 ≡ true
+events_parts : (was : EmbeddedRequest) (events : List EmbeddedEvent) → was.events ≡ [] → leb (length events) most_events ≡ true
     → list_all is_writable_embedded_event events ≡ true
     → Parts (codes "R") was (record was { events = events }) (events_part events)
 unfolding are_requested_within
@@ -232,7 +233,7 @@ signals_parts : (was : EmbeddedRequest) (list : List SignalRequest) → was.sign
 unfolding are_writable_signals signals_text are_signals signals_in
 signals_parts was [] none ok = rw none (no_part (codes "S") (record was { signals = [] }))
 signals_parts was (s ∷ ss) none ok =
-    let both : (leb (length (s ∷ ss)) 8 ≡ true) × (list_all is_writable_signal (s ∷ ss) ≡ true) = both_true _ _ ok in
+    let both : (leb (length (s ∷ ss)) most_signals ≡ true) × (list_all is_writable_signal (s ∷ ss) ≡ true) = both_true _ _ ok in
     let reads = signals_read (s ∷ ss) both.1 in
     let text : List ℕ = listed (map signal_entry_text (s ∷ ss)) in
     let inner : IsInner text = list_inner (signal_entry_text s) (map signal_entry_text ss) reads.entries reads.closed in

@@ -19,6 +19,7 @@ use Rattle.event_syntax.specs.Requested.{listed, parts_text, embedded_text, acti
 use Rattle.event_cuts.proofs.JoinLemmas.{IsEntry, entries_join}
 use Rattle.event_syntax.proofs.ActionLemmas.{embed_alike, both_alike}
 use Rattle.event_syntax.proofs.EmbeddedLaws.{join_some, plain_says, action_reads, embed_reads, and_action, keep_actions, keep_words, entry_reads, embedded_again}
+use Rattle.event_syntax.specs.Detect.{most_events}
 
 -- an entry, at any depth of what stands in it
 record Again (k : ℕ) (entry : RequestedEvent) : Type 0 where
@@ -104,5 +105,5 @@ cut_again list ok = entries_join (map requested_entry_text list) (all_again 0 li
 pub requested_again : (list : List RequestedEvent) → are_writable_requested list ≡ true → requested_of (requested_text list) ≡ Ok list
 unfolding requested_of requested_in are_requested are_requested_within are_writable_requested
 requested_again list ok =
-    let parts : (leb (length list) 32 ≡ true) × (list_all is_writable_entry list ≡ true) = both_true _ _ ok in
+    let parts : (leb (length list) most_events ≡ true) × (list_all is_writable_entry list ≡ true) = both_true _ _ ok in
     rw (cut_again list parts.1, deep_enough list parts.1, length-map list requested_entry_text, parts.0) (all_again 0 list parts.1).read

@@ -272,7 +272,7 @@ some_entries (b ∷ bs) whole some =
 -- An embedded request
 
 record Good (request : EmbeddedRequest) : Type 0 where
-  few : leb (length request.events) 32 ≡ true
+  few : leb (length request.events) most_events ≡ true
   events : list_all is_writable_embedded_event request.events ≡ true
   signals : are_writable_signals request.signals ≡ true
   map : is_writable_map request.map ≡ true
@@ -313,17 +313,17 @@ record Inside (text : List ℕ) : Type 0 where
 
 abbrev AreRead : List (List ℕ) → List EmbeddedEvent → Type 0
 AreRead texts events =
-    (leb (length events) 32 ≡ true) × (list_all is_writable_embedded_event events ≡ true) × (length events ≡ length texts)
+    (leb (length events) most_events ≡ true) × (list_all is_writable_embedded_event events ≡ true) × (length events ≡ length texts)
 
 events_read : (inner : List ℕ → Bool) (texts : List (List ℕ)) → list_all (is_requested inner) texts ≡ true
     → Passes (AreRead texts) (each_up_to most_events embedded_event texts)
 events_read inner texts spelled =
     ⊎_elim
-    (λ (h : leb (length texts) 32 ≡ true). rw h (passes_more _ _ (each embedded_event texts)
+    (λ (h : leb (length texts) most_events ≡ true). rw h (passes_more _ _ (each embedded_event texts)
     (passes_all (is_requested inner) is_writable_embedded_event embedded_event texts spelled (embedded_passes inner))
     (λ events read. (rw (read.1) h, read.0, read.1))))
-    (λ (h : leb (length texts) 32 ≡ false). rw h (lit≤ tt))
-    (cases_Bool (leb (length texts) 32))
+    (λ (h : leb (length texts) most_events ≡ false). rw h (lit≤ tt))
+    (cases_Bool (leb (length texts) most_events))
 
 with_events_passes : (depth : ℕ) (request : EmbeddedRequest) (value : List ℕ) → Good request → Inside value
     → are_requested_within depth value ≡ true → Passes Whole (with_events request value)
@@ -341,10 +341,10 @@ signals_read : (texts : List (List ℕ))
 unfolding are_writable_signals
 signals_read texts =
     ⊎_elim
-    (λ (h : leb (length texts) 8 ≡ true). rw h (passes_more _ _ (each signal_entry texts) (passes_each is_writable_signal signal_entry texts entry_passes)
+    (λ (h : leb (length texts) most_signals ≡ true). rw h (passes_more _ _ (each signal_entry texts) (passes_each is_writable_signal signal_entry texts entry_passes)
     (λ signals read. (rw (read.1, h) read.0, read.1))))
-    (λ (h : leb (length texts) 8 ≡ false). rw h (lit≤ tt))
-    (cases_Bool (leb (length texts) 8))
+    (λ (h : leb (length texts) most_signals ≡ false). rw h (lit≤ tt))
+    (cases_Bool (leb (length texts) most_signals))
 
 with_signals_passes : (request : EmbeddedRequest) (value : List ℕ) → Good request → Inside value → Passes Whole (with_signals request value)
 unfolding signals_in
@@ -471,11 +471,11 @@ requested_in_passes : (depth : ℕ) (texts : List (List ℕ)) → list_all (is_r
 unfolding are_writable_requested
 requested_in_passes depth texts spelled =
     ⊎_elim
-    (λ (h : leb (length texts) 32 ≡ true). rw h (passes_more _ _ (each requested texts)
+    (λ (h : leb (length texts) most_events ≡ true). rw h (passes_more _ _ (each requested texts)
     (passes_all (is_requested (are_requested_within depth)) is_writable_entry requested texts spelled (requested_passes depth))
     (λ list read. rw (read.1, h) read.0)))
-    (λ (h : leb (length texts) 32 ≡ false). rw h (lit≤ tt))
-    (cases_Bool (leb (length texts) 32))
+    (λ (h : leb (length texts) most_events ≡ false). rw h (lit≤ tt))
+    (cases_Bool (leb (length texts) most_events))
 
 value_passes : (value : List ℕ) → are_requested value ≡ true → Passes (λ list. are_writable_requested list ≡ true) (requested_in value)
 unfolding are_requested are_requested_within requested_in

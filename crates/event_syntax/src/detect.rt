@@ -6,7 +6,7 @@ ghost use Rattle.mg_bytes.specs.Lines.{is_line_feed};
 ghost use Rattle.mg_bytes.specs.CodeFault.{AnswersAs, answer_of};
 ghost use Rattle.event_cuts.specs.Cuts.{entries};
 ghost use Rattle.event_cuts.specs.Faults.{each};
-ghost use Rattle.event_syntax.specs.Detect.{detected, detected_in, detected_of, detected_text, are_writable_events};
+ghost use Rattle.event_syntax.specs.Detect.{detected, detected_in, detected_of, detected_text, are_writable_events, most_events};
 
 use crate::event_spelling::are_detected;
 use crate::events::{Events, events_called, put_events};
@@ -14,11 +14,11 @@ use event_cuts::{Inside, entries, form_of, has_at_most};
 use mg_bytes::{CodeFault, Few, OutOfMemory, ReturnCode, Text};
 use std::alloc::Global;
 
-/// The most entries that T and R may have.
-pub(crate) const MOST_EVENTS: usize = 32;
+/// The most entries that T and R may have (this gateway's profile).
+pub const MOST_EVENTS: usize = 32;
 
-/// The entries of T, at most 32.
-pub type DetectedEvents = Few<Events, 32>;
+/// The entries of T, at most `MOST_EVENTS`.
+pub type DetectedEvents = Few<Events, MOST_EVENTS>;
 
 #[tactic(auto, unfolding(crate::specs::Detect::detected))]
 fn detected(entry: &[u8]) -> Result<Events, u16>
@@ -35,7 +35,7 @@ fn detected(entry: &[u8]) -> Result<Events, u16>
 }
 
 fn each_detected(value: &[u8]) -> Result<DetectedEvents, u16>
-    requires { length (entries value.now) ≤ 32 }
+    requires { length (entries value.now) ≤ most_events }
     ensures { result ≡ each detected (entries value.now) }
 {
     let mut list = DetectedEvents::new();

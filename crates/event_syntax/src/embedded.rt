@@ -32,7 +32,7 @@ fn embedded_event(entry: &[u8]) -> Result<EmbeddedEvent, u16>
 }
 
 fn each_event(value: &[u8]) -> Result<EmbeddedEvents, u16>
-    requires { length (entries value.now) ≤ 32 }
+    requires { length (entries value.now) ≤ most_events }
     ensures { result ≡ each embedded_event (entries value.now) }
 {
     let mut events = EmbeddedEvents::new();

@@ -19,7 +19,7 @@ mod requested;
 mod rule;
 mod walk;
 
-pub use crate::detect::{DetectedEvents, read_detect, write_detect};
+pub use crate::detect::{DetectedEvents, MOST_EVENTS, read_detect, write_detect};
 pub use crate::events::Events;
 pub use crate::request::{
     Action, EmbeddedEvent, EmbeddedEvents, EmbeddedRequest, Embedding, RequestedEvent,

@@ -1,4 +1,5 @@
 //! What R holds (RFC 3435, 2.3.3): events with what is done at them, and requests embedded in these.
+use crate::detect::MOST_EVENTS;
 use crate::events::Events;
 use digit_map::MapText;
 use event_values::SignalRequests;
@@ -46,8 +47,8 @@ impl Default for EmbeddedEvent {
     }
 }
 
-/// The entries of R in an embedded request, at most 32.
-pub type EmbeddedEvents = Few<EmbeddedEvent, 32>;
+/// The entries of R in an embedded request, at most `MOST_EVENTS`.
+pub type EmbeddedEvents = Few<EmbeddedEvent, MOST_EVENTS>;
 
 /// What stands in the parentheses of E: an R, an S, and a digit map where one is given.
 #[derive(Drop)]
@@ -137,5 +138,5 @@ impl Default for RequestedEvent {
     }
 }
 
-/// The entries of R, at most 32.
-pub type RequestedEvents = Few<RequestedEvent, 32>;
+/// The entries of R, at most `MOST_EVENTS`.
+pub type RequestedEvents = Few<RequestedEvent, MOST_EVENTS>;

@@ -6,6 +6,7 @@ ghost use Rattle.event_cuts.specs.Faults.{each};
 ghost use Rattle.event_syntax.specs.Actions.{deed_seen};
 ghost use Rattle.event_syntax.specs.Embedding.{embedded_in, Gives};
 ghost use Rattle.event_syntax.specs.Requested.{response_of, requested, requested_in, requested_of, are_writable_requested};
+ghost use Rattle.event_syntax.specs.Detect.{most_events};
 
 use crate::detect::MOST_EVENTS;
 use crate::embedded::embedded_in;
@@ -49,7 +50,7 @@ fn requested(alloc: Global, entry: &[u8]) -> Result<RequestedEvent, CodeFault>
 }
 
 fn each_requested(alloc: Global, value: &[u8]) -> Result<RequestedEvents, CodeFault>
-    requires { length (entries value.now) ≤ 32 }
+    requires { length (entries value.now) ≤ most_events }
     ensures { Gives (each requested (entries value.now)) result }
 {
     let mut list = RequestedEvents::new();

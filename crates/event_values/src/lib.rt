@@ -15,5 +15,5 @@ pub use crate::handling::{Handling, Notifying, Quarantined, read_handling, write
 pub use crate::observed::{Observed, read_observed, write_observed};
 pub use crate::signal_spelling::are_signals;
 pub use crate::signals::{
-    Setting, SignalRequest, SignalRequests, read_signals, signals_in, write_signals,
+    MOST_SIGNALS, Setting, SignalRequest, SignalRequests, read_signals, signals_in, write_signals,
 };

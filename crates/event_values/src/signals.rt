@@ -3,7 +3,7 @@ ghost use Rattle.std.specs.Prelude.{◌≡◌, ◌≤◌, ◌++◌, length, true
 ghost use Rattle.mg_bytes.specs.CodeFault.{AnswersAs, answer_of};
 ghost use Rattle.event_cuts.specs.Cuts.{entries, items, inside_seen};
 ghost use Rattle.event_cuts.specs.Faults.{each};
-ghost use Rattle.event_values.specs.Signals.{takes, behind_to, time_in, asked_by, taken_by, setting_from, setting_of};
+ghost use Rattle.event_values.specs.Signals.{takes, behind_to, time_in, asked_by, taken_by, setting_from, setting_of, most_signals};
 ghost use Rattle.event_values.specs.Signals.{signal_called, signal_entry, signals_in, signals_of, are_writable_signals};
 ghost use Rattle.event_values.specs.Signals.{setting_text, signal_entry_text, signals_text};
 
@@ -16,7 +16,7 @@ use mg_packages::{Kind, Signal, in_package, kind_of, signal_in, signal_name};
 use std::alloc::Global;
 
 /// The most entries that S may have.
-const MOST_SIGNALS: usize = 8;
+pub const MOST_SIGNALS: usize = 8;
 
 /// The longest time that can be asked for, in ms.
 const LONGEST_TIME: u64 = 3_600_000;
@@ -55,8 +55,8 @@ impl Default for SignalRequest {
     }
 }
 
-/// The entries of S, at most 8.
-pub type SignalRequests = Few<SignalRequest, 8>;
+/// The entries of S, at most `MOST_SIGNALS`.
+pub type SignalRequests = Few<SignalRequest, MOST_SIGNALS>;
 
 fn takes(kind: Kind, setting: Setting) -> bool
     ensures { result ≡ takes kind setting }
@@ -168,7 +168,7 @@ fn signal_entry(entry: &[u8]) -> Result<SignalRequest, u16>
 }
 
 fn each_signal(value: &[u8]) -> Result<SignalRequests, u16>
-    requires { length (entries value.now) ≤ 8 }
+    requires { length (entries value.now) ≤ most_signals }
     ensures { result ≡ each signal_entry (entries value.now) }
 {
     let mut requests = SignalRequests::new();

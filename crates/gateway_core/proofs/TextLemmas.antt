@@ -27,7 +27,7 @@ use Rattle.plain_machine.specs.Message.{datagram_of, datagrams_of}
 use Rattle.plain_machine.specs.Machine.{Machine, Effect, told, serves}
 use Rattle.plain_machine.specs.Done.{Done, only_answer}
 use Rattle.piggyback.specs.Parts.{parts_of}
-use Rattle.transmission.specs.Texts.{texts_of}
+use Rattle.transmission.specs.Texts.{texts_of, largest_datagram}
 use Rattle.transmission.specs.Acknowledging.{asks_for_acknowledgement, acknowledgements, acknowledgement_text}
 use Rattle.transmission.specs.Transacting.{message_to, is_new, answered_again}
 use Rattle.transmission.specs.Confirming.{spans_of}
@@ -136,22 +136,22 @@ pub went_on : (setup : Setup) (source : SocketAddrV4) (text : List ℕ) (was is 
     → Went (handled setup (machine_in was) source (read_text text)) was is were are → is.clock ≡ was.clock
 went_on setup source text was is were are went = ap (λ (m : Machine). m.now) went.machine ∙ handled_now setup (machine_in was) source (read_text text)
 
-is_long : (bytes : List ℕ) → 4000 < length bytes → nat_lt 4000 (length bytes) ≡ true
+is_long : (bytes : List ℕ) → largest_datagram < length bytes → nat_lt largest_datagram (length bytes) ≡ true
 is_long bytes long = grind (arith, nat_tests)
 
-is_short : (bytes : List ℕ) → length bytes ≤ 4000 → nat_lt 4000 (length bytes) ≡ false
+is_short : (bytes : List ℕ) → length bytes ≤ largest_datagram → nat_lt largest_datagram (length bytes) ≡ false
 is_short bytes short = grind (arith, nat_tests)
 
-texts_of_long : (bytes : List ℕ) → 4000 < length bytes → texts_of bytes ≡ []
+texts_of_long : (bytes : List ℕ) → largest_datagram < length bytes → texts_of bytes ≡ []
 unfolding texts_of
 texts_of_long bytes long = rw (is_long bytes long) refl
 
 -- a datagram that is too long
-pub took_none : (setup : Setup) (was : State) (source : SocketAddrV4) (bytes : List ℕ) (sent : List OutDatagram) → sent ≡ [] → 4000 < length bytes
+pub took_none : (setup : Setup) (was : State) (source : SocketAddrV4) (bytes : List ℕ) (sent : List OutDatagram) → sent ≡ [] → largest_datagram < length bytes
     → Happened (took_all setup (machine_in was) source (texts_of bytes)) was was sent
 unfolding took_all
 took_none setup was source bytes sent none long = rw (texts_of_long bytes long, none) (record { machine = refl; found = tt; sent = refl })
 
-pub texts_of_short : (bytes : List ℕ) → length bytes ≤ 4000 → texts_of bytes ≡ parts_of bytes
+pub texts_of_short : (bytes : List ℕ) → length bytes ≤ largest_datagram → texts_of bytes ≡ parts_of bytes
 unfolding texts_of
 texts_of_short bytes short = rw (is_short bytes short) refl

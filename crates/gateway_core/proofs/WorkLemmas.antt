@@ -15,7 +15,7 @@ use Rattle.plain_machine.specs.declared.station.Station.{Station}
 use Rattle.transmission.specs.declared.output.OutDatagram.{OutDatagram}
 use Rattle.plain_machine.specs.declared.refusal.Refusal.{Refusal}
 use Rattle.plain_machine.specs.declared.refusal.Refusal.TheVariants.{OutOfMemory}
-use Rattle.plain_machine.specs.Setup.{setup_of}
+use Rattle.plain_machine.specs.Setup.{setup_of, most_lines}
 use Rattle.plain_machine.specs.Event.{GatewayEvent, datagram, phone, tick}
 use Rattle.plain_machine.specs.Message.{datagrams_of}
 use Rattle.plain_machine.specs.Notifying.{noted}
@@ -150,7 +150,7 @@ opening_sound config setup m is stations now = record {
   moment = rw now (omega arith);
 }
 
-pub opening_few : (config : Config) (setup : Setup) (stations : List Station) → setup_of config ≡ Ok setup → stations ≡ map (opening_station setup) (range_with_len 1 setup.names.lines) → length stations ≤ 16
+pub opening_few : (config : Config) (setup : Setup) (stations : List Station) → setup_of config ≡ Ok setup → stations ≡ map (opening_station setup) (range_with_len 1 setup.names.lines) → length stations ≤ most_lines
 opening_few config setup stations is same = rw (ap length same ∙ length-map-range_with_len (opening_station setup) 1 setup.names.lines) (setup_is config setup is).lines
 
 -- A list of names is whole at its end

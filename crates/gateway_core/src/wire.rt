@@ -4,9 +4,10 @@ ghost use Rattle.gateway_core.specs.Wire.{WireLog, Carries, IsWithin, traffic_of
 
 use mg_line::Act;
 use std::net::SocketAddrV4;
+use transmission::LARGEST_DATAGRAM;
 
 /// The room for a datagram that a wire is given: one byte more than a gateway takes.
-pub const DATAGRAM_ROOM: usize = 4001;
+pub const DATAGRAM_ROOM: usize = LARGEST_DATAGRAM + 1;
 
 /// What a wire gives at a turn.
 #[derive(Clone, Copy)]

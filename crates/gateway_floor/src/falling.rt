@@ -6,6 +6,7 @@ ghost use Rattle.plain_machine.specs.Falling.{first_due, due_by, is_due, happene
 ghost use Rattle.gateway_stations.specs.Telling.{MayTell};
 ghost use Rattle.gateway_floor.specs.Saving.{manned};
 ghost use Rattle.gateway_floor.specs.Tells.{Tells};
+ghost use Rattle.plain_machine.specs.Setup.{most_lines};
 
 use crate::floor::Floor;
 use gateway_stations::{Context, Occasion, due_on, earlier, happened_on, own_happened, post_due};
@@ -15,7 +16,7 @@ use plain_machine::{Due, DueItem, OutDatagram, Own, Station};
 /// What falls due first of all. It takes no memory.
 #[tactic(auto, unfolding(plain_machine::specs::Falling::first_due))]
 pub(crate) fn first_due(own: &Own, stations: &[Station]) -> Option<DueItem>
-    requires { length stations.now ≤ 16 }
+    requires { length stations.now ≤ most_lines }
     ensures { result ≡ first_due (manned stations.now own.now) }
 {
     let mut first = post_due(0, &own.post);

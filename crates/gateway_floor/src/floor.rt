@@ -9,6 +9,7 @@ ghost use Rattle.plain_machine.specs.Acting.{acted_on};
 ghost use Rattle.plain_machine.specs.Falling.{due_on, first_due};
 ghost use Rattle.gateway_stations.specs.Telling.{HasId};
 ghost use Rattle.gateway_floor.specs.Saving.{manned, undone};
+ghost use Rattle.plain_machine.specs.Setup.{most_lines};
 
 use crate::falling::first_due;
 use mg_bytes::OutOfMemory;
@@ -73,6 +74,7 @@ pub struct Floor {
 
 impl Model for Floor {
     ghost use Rattle.std.specs.Prelude.{◌≡◌, ◌≤◌, length};
+    ghost use Rattle.plain_machine.specs.Setup.{most_lines};
     ghost use Rattle.plain_machine.specs.Falling.{first_due};
     ghost use Rattle.gateway_floor.specs.FloorState.{FloorState};
     ghost use Rattle.gateway_floor.specs.Saving.{manned, restored};
@@ -84,7 +86,7 @@ impl Model for Floor {
       found = restored f.saved.items (manned f.stations.items f.own);
     } };
 
-    ghost invariant = { λ f. (length f.stations.items ≤ 16) × (f.first ≡ first_due (manned f.stations.items f.own)) };
+    ghost invariant = { λ f. (length f.stations.items ≤ most_lines) × (f.first ≡ first_due (manned f.stations.items f.own)) };
 }
 
 impl Floor {
@@ -98,7 +100,7 @@ impl Floor {
     /// A floor with these stations, and with this of the gateway itself.
     #[tactic(auto, unfolding(crate::specs::Saving::restored))]
     pub fn of(alloc: Global, stations: Vec<Station>, own: Own) -> Self
-        requires few { length stations.items ≤ 16 }
+        requires few { length stations.items ≤ most_lines }
         requires id { HasId 0 own.post.number }
         ensures { result ≡ settled_at (manned stations.items own) }
     {
@@ -137,7 +139,7 @@ impl Floor {
     /// The stations, of which the first is that of line 1.
     pub fn stations(&self) -> &[Station]
         ensures value { result.now ≡ self.now.endpoints.stations }
-        ensures few { length result.now ≤ 16 }
+        ensures few { length result.now ≤ most_lines }
     {
         &self.stations
     }
@@ -245,7 +247,7 @@ fn pass_over_on(station: &mut Station, act: Act)
 // What falls due first behind an act that wasn't heeded: where the hook state stays, what did before it, without a look at
 // the lines.
 fn first_after(first: Option<DueItem>, own: &Own, stations: &[Station], act: Act) -> Option<DueItem>
-    requires few { length stations.now ≤ 16 }
+    requires few { length stations.now ≤ most_lines }
     requires stays { ((line : LineState) → hooked line act ≡ line) → first ≡ first_due (manned stations.now own.now) }
     ensures { result ≡ first_due (manned stations.now own.now) }
 {

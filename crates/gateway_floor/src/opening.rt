@@ -1,7 +1,7 @@
 //! What a configuration sets up, and what there is at the opening: the stations, and what the gateway keeps for itself.
 ghost use Rattle.std.specs.Prelude.{◌≡◌, ◌≤◌, ◌<◌, ◌+◌, ◌^◌, [], length, map, IfOk};
 ghost use Rattle.std.specs.List.{AllByRecursion, range_with_len};
-ghost use Rattle.plain_machine.specs.Setup.{table_from, are_lines, is_wait, is_media_base, is_address, setup_of, IsSetUp};
+ghost use Rattle.plain_machine.specs.Setup.{table_from, are_lines, is_wait, is_media_base, is_address, setup_of, IsSetUp, most_lines};
 ghost use Rattle.plain_machine.specs.Machine.{port_of, opening_post, opening_station, opening_own};
 ghost use Rattle.gateway_stations.specs.Telling.{HasId};
 
@@ -9,7 +9,9 @@ use connections::{Connections, Encoding};
 use endpoint_names::{Names, Table, is_domain, read_entity};
 use mg_bytes::OutOfMemory;
 use mg_line::Line;
-use plain_machine::{CommandNumber, Config, ConfigFault, NamedAddress, Own, Post, Setup, Station};
+use plain_machine::{
+    CommandNumber, Config, ConfigFault, MOST_LINES, NamedAddress, Own, Post, Setup, Station,
+};
 use restart::Restart;
 use std::alloc::Global;
 use std::net::Ipv4Addr;
@@ -32,7 +34,7 @@ fn table_of(names: &[NamedAddress]) -> Option<Table>
 fn are_lines(lines: u32) -> bool
     ensures { result ≡ are_lines lines }
 {
-    lines >= 1 && lines <= 16
+    lines >= 1 && lines <= MOST_LINES as u32
 }
 
 fn is_wait(wait: u32) -> bool
@@ -118,7 +120,7 @@ fn opening_post(setup: &Setup, number: CommandNumber, restart: Restart) -> Post
 fn port_of(setup: &Setup, line: u16) -> u16
     requires ports { setup.now.media_base ≤ 64000 }
     requires some { 1 ≤ line }
-    requires few { line ≤ 16 }
+    requires few { line ≤ most_lines }
     ensures value { result ≡ port_of setup.now line }
     ensures within { result + 6 < 2 ^ 16 }
 {
@@ -129,7 +131,7 @@ fn port_of(setup: &Setup, line: u16) -> u16
 fn opening_station(alloc: Global, setup: &Setup, line: u16) -> Result<Station, OutOfMemory>
     requires ports { setup.now.media_base ≤ 64000 }
     requires some { 1 ≤ line }
-    requires few { line ≤ 16 }
+    requires few { line ≤ most_lines }
     ensures { IfOk result (λ station. station ≡ opening_station setup.now line) }
 {
     Ok(Station {

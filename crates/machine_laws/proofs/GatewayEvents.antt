@@ -26,7 +26,7 @@ use Rattle.plain_machine.specs.declared.own.Own.{Own as Itself}
 use Rattle.plain_machine.specs.declared.setup.Setup.{Setup}
 use Rattle.plain_machine.specs.declared.station.Station.{Station}
 use Rattle.plain_machine.specs.declared.refusal.Refusal.TheVariants.{ClockBack, TickTooFar}
-use Rattle.plain_machine.specs.Setup.{IsSetUp}
+use Rattle.plain_machine.specs.Setup.{IsSetUp, most_lines}
 use Rattle.plain_machine.specs.Event.{GatewayEvent, datagram, phone, tick}
 use Rattle.plain_machine.specs.Message.{of_none, again, acknowledgement, Sent, text_of}
 use Rattle.plain_machine.specs.Posting.{first_number}
@@ -315,7 +315,7 @@ event_holds setup log m (tick moment) h taken =
 
 opening_stands : (setup : Setup) → IsSetUp setup → EndpointsStand 0 [] (opening setup).endpoints
 opening_stands setup set_up =
-    let lines : setup.names.lines ≤ 16 = set_up.lines in
+    let lines : setup.names.lines ≤ most_lines = set_up.lines in
     let sound = opening_is_sound setup set_up in
     record {
       logged = record { begun = tt; apart = λ few. λ i j d less none. absurd (omega arith) };

@@ -30,7 +30,7 @@ use Rattle.restart.specs.declared.heard.Heard.TheVariants.{Nothing, PutOff, Redi
 use Rattle.plain_machine.specs.declared.post.Post.{Post}
 use Rattle.plain_machine.specs.declared.response.Response.{Response}
 use Rattle.plain_machine.specs.declared.setup.Setup.{Setup}
-use Rattle.plain_machine.specs.Setup.{IsSetUp}
+use Rattle.plain_machine.specs.Setup.{IsSetUp, most_lines}
 use Rattle.plain_machine.specs.Message.{own_of, command, resent, Sent, text_of}
 use Rattle.plain_machine.specs.Posting.{numbers, first_number, number_after, id_on, line_of_id, PostTurn, unsent, with_command, given_up, repeated_as, resent_by, resent_on}
 use Rattle.plain_machine.specs.Announcing.{announced_lines, method_of, announcement, announced, announced_by, announced_on, put_off, replied}
@@ -246,7 +246,7 @@ resent_good setup until log line moment post flight pending due past logged s =
 
 -- An announcement
 
-pub announced_good : (setup : Setup) (until : ℕ) (log : List Issued) (line moment : ℕ) (post : Post) → IsSetUp setup → line ≤ 16 → 1 ≤ id_on line post.number → moment ≤ until → Logged until log
+pub announced_good : (setup : Setup) (until : ℕ) (log : List Issued) (line moment : ℕ) (post : Post) → IsSetUp setup → line ≤ most_lines → 1 ≤ id_on line post.number → moment ≤ until → Logged until log
     → Posted until log line post → PostGood until log line (announced setup line moment post)
 unfolding announced announcement
 announced_good setup until log line moment post set_up few some past logged s =
@@ -254,7 +254,7 @@ announced_good setup until log line moment post set_up few some past logged s =
     ((record { code = codes "RM"; value = method_of line }) ∷ []) [] (announcement_writable setup line post.number set_up few s.below some) past logged
     (record { below = s.below; counts = s.counts; flight = s.flight })
 
-pub announcing_good : (setup : Setup) (until : ℕ) (log : List Issued) (line moment : ℕ) (post : Post) → IsSetUp setup → line ≤ 16 → 1 ≤ id_on line post.number → moment ≤ until → Logged until log
+pub announcing_good : (setup : Setup) (until : ℕ) (log : List Issued) (line moment : ℕ) (post : Post) → IsSetUp setup → line ≤ most_lines → 1 ≤ id_on line post.number → moment ≤ until → Logged until log
     → Posted until log line post → PostGood until log line (announced_on setup line moment post)
 announcing_good setup until log line moment post set_up few some past logged s = by_restart post.restart where
   by_restart : (restart : Restart) → PostGood until log line (announced_by restart setup line moment post)
@@ -283,7 +283,7 @@ put_off_stands until log line response post s = by_pending post.pending s.flight
   by_pending None is = record { below = s.below; counts = s.counts; flight = tt }
   by_pending (Some flight) is = record { below = s.below; counts = s.counts; flight = heard_in_log until log flight response.id response.code is }
 
-pub replied_good : (heard : Heard) (setup : Setup) (until : ℕ) (log : List Issued) (line : ℕ) (response : Response) (post : Post) → IsSetUp setup → line ≤ 16 → 1 ≤ id_on line post.number → Logged until log
+pub replied_good : (heard : Heard) (setup : Setup) (until : ℕ) (log : List Issued) (line : ℕ) (response : Response) (post : Post) → IsSetUp setup → line ≤ most_lines → 1 ≤ id_on line post.number → Logged until log
     → Posted until log line post → PostGood until log line (replied heard setup line until response post)
 unfolding replied
 replied_good Nothing setup until log line response post set_up few some logged s = post_still until log line post logged s

@@ -17,11 +17,12 @@ use Rattle.piggyback.specs.Packing.{is_joinable}
 use Rattle.piggyback.proofs.PackingLaws.{joinable-from}
 use Rattle.plain_machine.specs.declared.setup.Setup.{Setup}
 use Rattle.transmission.specs.Texts.{largest_datagram}
-use Rattle.plain_machine.specs.Setup.{IsSetUp}
+use Rattle.plain_machine.specs.Setup.{IsSetUp, most_lines}
 use Rattle.plain_machine.specs.Posting.{numbers, first_number, number_after, id_on}
 use Rattle.plain_machine.specs.Announcing.{announcement}
 use Rattle.plain_machine.proofs.NameLemmas.{name_is_word, all_is_word}
 use Rattle.plain_machine.proofs.NotificationLemmas.{name_short, domain_short, command_short, no_body}
+use Rattle.endpoint_names.specs.Table.{longest_domain}
 
 -- Its id
 
@@ -44,11 +45,11 @@ Announced all setup line id =
     messages.Command Rsip id (name_text (if all then All else One line) setup.names.domain)
     ((record { code = codes "RM"; value = if all then codes "restart" else codes "disconnected" }) ∷ []) []
 
-all_short : (domain : List ℕ) → length domain ≤ 64 → length (name_text All domain) ≤ 72
+all_short : (domain : List ℕ) → length domain ≤ longest_domain → length (name_text All domain) ≤ 72
 unfolding name_text
 all_short domain short = omega (arith, short)
 
-announced_writable : (all : Bool) (setup : Setup) (line id : ℕ) → IsSetUp setup → line ≤ 16 → 1 ≤ id → id ≤ 999999999 → is_writable (Announced all setup line id) ≡ true
+announced_writable : (all : Bool) (setup : Setup) (line id : ℕ) → IsSetUp setup → line ≤ most_lines → 1 ≤ id → id ≤ 999999999 → is_writable (Announced all setup line id) ≡ true
 unfolding is_writable name_text
 announced_writable true setup line id set_up few some small =
     let has_id : is_id id ≡ true = is_id_true id some small in
@@ -72,7 +73,7 @@ text_short id name param small short most =
     let whole = length-append (ended (command_line Rsip id name) ++ (ended (param_line param) ++ [])) [] in
     omega (arith, start, most, params, front, whole)
 
-announced_short : (all : Bool) (setup : Setup) (line id : ℕ) → IsSetUp setup → line ≤ 16 → id ≤ 999999999 → length (written (Announced all setup line id)) ≤ largest_datagram
+announced_short : (all : Bool) (setup : Setup) (line id : ℕ) → IsSetUp setup → line ≤ most_lines → id ≤ 999999999 → length (written (Announced all setup line id)) ≤ largest_datagram
 unfolding param_line
 announced_short true setup line id set_up few small =
     text_short id (name_text All setup.names.domain) (record { code = codes "RM"; value = codes "restart" }) small
@@ -81,14 +82,14 @@ announced_short false setup line id set_up few small =
     text_short id (name_text (One line) setup.names.domain) (record { code = codes "RM"; value = codes "disconnected" }) small
     (name_short line setup.names.domain few set_up.domain) (omega arith)
 
-announced_joins : (all : Bool) (setup : Setup) (line id : ℕ) → IsSetUp setup → line ≤ 16 → 1 ≤ id → id ≤ 999999999
+announced_joins : (all : Bool) (setup : Setup) (line id : ℕ) → IsSetUp setup → line ≤ most_lines → 1 ≤ id → id ≤ 999999999
     → is_joinable largest_datagram (written (Announced all setup line id)) ≡ true
 announced_joins all setup line id set_up few some small =
     let whole = whole_written (Announced all setup line id) (announced_writable all setup line id set_up few some small) in
     joinable-from largest_datagram (written (Announced all setup line id))
     (record { ends = whole.ends; apart = whole.apart; short = announced_short all setup line id set_up few small })
 
-pub announcement_writable : (setup : Setup) (line number : ℕ) → IsSetUp setup → line ≤ 16 → number < numbers → 1 ≤ id_on line number
+pub announcement_writable : (setup : Setup) (line number : ℕ) → IsSetUp setup → line ≤ most_lines → number < numbers → 1 ≤ id_on line number
     → is_writable (announcement setup line (id_on line number)) ≡ true
 unfolding announcement
 announcement_writable setup line number set_up few below some = by_line (line == 0) where
@@ -96,7 +97,7 @@ announcement_writable setup line number set_up few below some = by_line (line ==
       ((record { code = codes "RM"; value = if b then codes "restart" else codes "disconnected" }) ∷ []) []) ≡ true
   by_line b = announced_writable b setup line (id_on line number) set_up few some (omega (arith, few, below))
 
-pub announcement_goes : (setup : Setup) (line number : ℕ) → IsSetUp setup → line ≤ 16 → number < numbers → 1 ≤ id_on line number
+pub announcement_goes : (setup : Setup) (line number : ℕ) → IsSetUp setup → line ≤ most_lines → number < numbers → 1 ≤ id_on line number
     → is_joinable largest_datagram (written (announcement setup line (id_on line number))) ≡ true
 unfolding announcement
 announcement_goes setup line number set_up few below some = by_line (line == 0) where

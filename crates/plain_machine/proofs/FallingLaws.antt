@@ -11,7 +11,7 @@ use Rattle.plain_machine.specs.declared.due_item.DueItem.{DueItem}
 use Rattle.plain_machine.specs.declared.setup.Setup.{Setup}
 use Rattle.plain_machine.specs.declared.station.Station.{Station}
 use Rattle.plain_machine.specs.Machine.{Endpoints, Told, told, with_turn, with_own, on_own, afterwards}
-use Rattle.plain_machine.specs.Falling.{due_on, own_due, first_due, due_by, happened_on, own_happened, happened, go_on, passed, room, pass}
+use Rattle.plain_machine.specs.Falling.{due_on, own_due, first_due, due_by, happened_on, own_happened, happened, go_on, passed, room, pass, things_of_a_line, own_things}
 use Rattle.plain_machine.proofs.EffectLaws.{happened_lines, other_station, either_own, either_line, on_this}
 use Rattle.plain_machine.proofs.FirstLemmas.{IsDueOn, first_on, post_line, by_moment, station_is, station_line, earliest_own, earliest_on}
 use Rattle.plain_machine.proofs.LeftLemmas.{post_has, Happens, has_by, first_happens, none_before, due_count, twelve_at_most, happens_less, own_first_happens, own_none_before, own_count, two_at_most, own_happens_less}
@@ -21,13 +21,13 @@ use Rattle.plain_machine.proofs.LeftLemmas.{post_has, Happens, has_by, first_hap
 abbrev total : ℕ → Endpoints → ℕ
 total moment endpoints = sum_by (due_count moment) endpoints.stations + own_count moment endpoints.own
 
-sum_most : (moment : ℕ) (stations : List Station) → sum_by (due_count moment) stations ≤ 12 * length stations
+sum_most : (moment : ℕ) (stations : List Station) → sum_by (due_count moment) stations ≤ things_of_a_line * length stations
 sum_most moment [] = omega arith
 sum_most moment (station ∷ stations) =
     omega (arith, sum_by-cons (due_count moment) station stations, twelve_at_most moment station, sum_most moment stations)
 
 abbrev per_moment : Endpoints → ℕ
-per_moment endpoints = 12 * length endpoints.stations + 2
+per_moment endpoints = things_of_a_line * length endpoints.stations + own_things
 
 total_most : (moment : ℕ) (endpoints : Endpoints) → total moment endpoints ≤ per_moment endpoints
 total_most moment endpoints = omega (arith, sum_most moment endpoints.stations, two_at_most moment endpoints.own)
@@ -194,7 +194,7 @@ pub left_falls : (setup : Setup) (endpoints : Endpoints) (moment : ℕ) (item : 
 left_falls setup endpoints moment item due =
     let after = (happened setup endpoints item).endpoints in
     let first = (by_moment endpoints moment item due).0 in
-    rw (left_some endpoints moment item due) (by_next after (due_by after moment) refl first (ap (λ (n : ℕ). 12 * n + 2) (happened_lines setup endpoints item))
+    rw (left_some endpoints moment item due) (by_next after (due_by after moment) refl first (ap (λ (n : ℕ). things_of_a_line * n + own_things) (happened_lines setup endpoints item))
     (some_due setup endpoints item first) (less_to_come setup endpoints item first)
     (λ next is. not_earlier setup endpoints item next first (by_moment after moment next is).0)) where
       by_order : (after : Endpoints) (next : DueItem) → next.moment ≤ moment → per_moment after ≡ per_moment endpoints → 0 < total item.moment endpoints

@@ -57,7 +57,7 @@ use Rattle.command_forms.specs.Order.{form_while}
 use Rattle.command_forms.proofs.RestartLemmas.{while_code}
 use Rattle.endpoint_names.specs.declared.names.Names.{Names}
 use Rattle.command_forms.specs.Codes.{name_codes, param_codes, has_code}
-use Rattle.plain_machine.specs.Setup.{IsSetUp}
+use Rattle.plain_machine.specs.Setup.{IsSetUp, most_lines}
 use Rattle.plain_machine.specs.Done.{Done}
 use Rattle.command_forms.specs.declared.forms.ConnectionDeed.{ConnectionDeed}
 use Rattle.command_forms.specs.declared.forms.ConnectionDeed.TheVariants.{Keep, Create, Modify, Delete}
@@ -214,7 +214,7 @@ audit_answered : (setup : Setup) (m : Machine) (id : ℕ) (target : Target) (aud
 unfolding audited names_of
 audit_answered setup m id (One line) audit fits has = line_answered setup m id line audit fits has
 audit_answered setup m id AllLines audit fits has =
-    let lines : setup.names.lines ≤ 16 = fits.set_up.lines in
+    let lines : setup.names.lines ≤ most_lines = fits.set_up.lines in
     let few : length m.endpoints.stations < 2 ^ 16 = omega (arith, fits.lines, lines) in
     names_answered id (map (name_param setup) (numbered m.endpoints)) has (names_writable setup m.endpoints.stations fits.set_up.domain few)
 audit_answered setup m id AnyLine audit fits has = code_fits 503 id has (omega arith)
@@ -283,7 +283,7 @@ deed_answered setup endpoints lines more deed moment id set_up places has one =
 no_more : Params [] 100
 no_more = (refl, omega arith)
 
-name_more : (setup : Setup) (line : ℕ) → IsSetUp setup → line ≤ 16 → Params (name_of_line setup line ∷ []) 100
+name_more : (setup : Setup) (line : ℕ) → IsSetUp setup → line ≤ most_lines → Params (name_of_line setup line ∷ []) 100
 name_more setup line set_up few =
     let fine : is_writable_param (name_of_line setup line) ≡ true = line_writable setup line set_up.domain (omega arith) in
     let short = param_short (codes "Z") (name_text (patterns.One line) setup.names.domain) 72 (omega arith) (name_short line setup.names.domain few set_up.domain) in

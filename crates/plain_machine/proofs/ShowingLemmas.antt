@@ -58,7 +58,7 @@ use Rattle.plain_machine.specs.declared.due_item.Due.TheVariants.{OfLine, Resend
 use Rattle.plain_machine.specs.declared.response.Response.{Response}
 use Rattle.plain_machine.specs.declared.setup.Setup.{Setup}
 use Rattle.plain_machine.specs.declared.station.Station.{Station}
-use Rattle.plain_machine.specs.Setup.{IsSetUp}
+use Rattle.plain_machine.specs.Setup.{IsSetUp, most_lines}
 use Rattle.plain_machine.specs.Message.{Sent}
 use Rattle.plain_machine.specs.Posting.{repeated_as, resent_by}
 use Rattle.plain_machine.specs.Announcing.{announced, announced_by, heard_on, replied}
@@ -336,7 +336,7 @@ line_shows setup line station set_up sound has shows =
     let four : length station.connections.places ≡ 4 = has.places.four in
     let base : setup.media_base ≤ 64000 = set_up.ports in
     let few : line ≤ setup.names.lines = has.few in
-    let lines : setup.names.lines ≤ 16 = set_up.lines in
+    let lines : setup.names.lines ≤ most_lines = set_up.lines in
     record {
       entity_blankless = not_any _ front.1;
       entity_in_line = not_any _ parts.1;

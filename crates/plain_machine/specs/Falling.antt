@@ -97,11 +97,18 @@ unfoldable pub passed : ℕ → Setup → Endpoints → ℕ → Told
 passed zero setup endpoints moment = told endpoints []
 passed (suc n) setup endpoints moment = go_on (due_by endpoints moment) setup endpoints (λ next. passed n setup next moment)
 
--- more things can't happen up to this moment: what starts at a moment falls due later, so that at one moment each of 12
--- things happens at most once on a line, its 9 signals, timer T, the command in flight and the announcement, and besides
--- the last two of the gateway itself
+-- what falls due of a line, each once at a moment: its 9 signals, timer T, the command in flight and the announcement; and
+-- of the gateway itself: the last two
+abbrev pub things_of_a_line : ℕ
+things_of_a_line = 12
+
+abbrev pub own_things : ℕ
+own_things = 2
+
+-- more things can't happen up to this moment: what starts at a moment falls due later, so that at one moment each of these
+-- things happens at most once
 abbrev pub room : Endpoints → ℕ → ℕ
-room endpoints moment = (moment + 1) * (12 * length endpoints.stations + 2)
+room endpoints moment = (moment + 1) * (things_of_a_line * length endpoints.stations + own_things)
 
 -- What is due up to this moment happens: while there is something, the first happens at its own moment. The law
 -- `what_is_due_happens_in_its_order` says so without a number.

@@ -1,8 +1,9 @@
 //! The matcher of lines, with a bit for each place of its digit map, beside the plain one, which keeps letters alone.
 ghost use Rattle.std.specs.Prelude.{◌≤◌, length};
+ghost use Rattle.digit_map.specs.Verdict.{most_letters};
 
 use crate::work::{Work, nanoseconds as nanoseconds_each, word};
-use digit_map::{MapText, Matcher, SlowMap, Verdict, read_map};
+use digit_map::{MOST_LETTERS, MapText, Matcher, SlowMap, Verdict, read_map};
 use digit_map_bits::Dialling;
 use mg_bytes::{Letter, OutOfMemory};
 use std::alloc::Global;
@@ -19,7 +20,7 @@ fn number_of(verdict: Verdict) -> u64 {
 
 // What a matcher says of these letters, one after the other.
 fn said_by<M: Matcher>(alloc: Global, map: &MapText, letters: &[Letter]) -> Result<u64, OutOfMemory>
-    requires { length letters.now ≤ 64 }
+    requires { length letters.now ≤ most_letters }
 {
     let mut matcher = M::start(alloc, map)?;
     let mut said: u64 = 0;
@@ -42,7 +43,7 @@ fn nanoseconds<M: Matcher>(
     letters: &[Letter],
     times: u32,
 ) -> io::Result<u128>
-    requires { length letters.now ≤ 64 }
+    requires { length letters.now ≤ most_letters }
 {
     let mut least = u128::MAX;
     for _ in 0..times {
@@ -123,7 +124,7 @@ fn time(rt: &HostRuntime, name: &str, text: &[u8]) -> io::Result<()> {
         println!(rt; "{name} is no digit map")?;
         return Ok(());
     };
-    let letters = [Letter::One; 64];
+    let letters = [Letter::One; MOST_LETTERS];
     let started = nanoseconds::<Dialling>(rt, &map, &[], 200)?;
     let used = nanoseconds::<Dialling>(rt, &map, &letters, 200)?;
     let plain = nanoseconds::<SlowMap>(rt, &map, &letters, 3)?;
@@ -165,7 +166,7 @@ pub fn times(rt: &HostRuntime) -> io::Result<()> {
 }
 
 fn compare(rt: &HostRuntime, name: &str, text: &[u8], letters: &[Letter]) -> io::Result<()>
-    requires { length letters.now ≤ 64 }
+    requires { length letters.now ≤ most_letters }
 {
     let Ok(map) = read_map(rt.alloc(), text) else {
         println!(rt; "{name} is no digit map")?;
@@ -193,7 +194,7 @@ pub fn alike(rt: &HostRuntime) -> io::Result<()> {
         rt,
         "x 60 times",
         &repeated(alloc, b"", b"x", 60, b"")?,
-        &[Letter::One; 64],
+        &[Letter::One; MOST_LETTERS],
     )?;
     compare(
         rt,

@@ -6,11 +6,12 @@
 //! - `change  xx  xx` what a D makes of the map: another, `keep` where it is absent (`-`), `remove`, or a code;
 //! - `range  1-3x  yes` it may stand in brackets; `in range  1-3  2  yes` that names the key.
 ghost use Rattle.std.specs.Prelude.{◌≤◌, length};
+ghost use Rattle.digit_map.specs.Verdict.{most_letters};
 
 use crate::texts::{judged, text_of};
 use digit_map::{
-    MapChange, MapFault, MapText, Matcher, SlowMap, Verdict, is_in_range, is_range, read_change,
-    read_map,
+    MOST_LETTERS, MapChange, MapFault, MapText, Matcher, SlowMap, Verdict, is_in_range, is_range,
+    read_change, read_map,
 };
 use digit_map_bits::{Compiled, Dialling};
 use mg_bytes::{CodeFault, Letter, OutOfMemory, letter_of};
@@ -32,7 +33,7 @@ fn letters_of(alloc: Global, dialled: &[u8]) -> Result<Option<Vec<Letter>>, OutO
 
 // What is said of the last of these letters, fed one by one.
 fn fed(matcher: &mut Dialling, letters: &[Letter]) -> Option<Verdict>
-    requires { length letters.now ≤ 64 }
+    requires { length letters.now ≤ most_letters }
 {
     matcher.clear();
     let mut said = None;
@@ -60,7 +61,7 @@ fn said<M: Matcher>(
     map: &MapText,
     letters: &[Letter],
 ) -> Result<(Option<Verdict>, bool), OutOfMemory>
-    requires { length letters.now ≤ 64 }
+    requires { length letters.now ≤ most_letters }
 {
     let mut matcher = M::start(alloc, map)?;
     let mut said = None;
@@ -77,7 +78,7 @@ fn is_said_by<M: Matcher>(
     letters: &[Letter],
     expected: (Option<Verdict>, bool),
 ) -> Result<bool, OutOfMemory>
-    requires { length letters.now ≤ 64 }
+    requires { length letters.now ≤ most_letters }
 {
     let given = said::<M>(alloc, map, letters)?;
     Ok(given == expected)
@@ -102,7 +103,7 @@ fn others_say(
     letters: &[Letter],
     expected: (Option<Verdict>, bool),
 ) -> Result<bool, OutOfMemory>
-    requires { length letters.now ≤ 64 }
+    requires { length letters.now ≤ most_letters }
 {
     let slow = is_slow_copy_critical(alloc, map)?;
     let compiled = is_compiled_copy_critical(alloc, map)?;
@@ -112,7 +113,7 @@ fn others_say(
 
 // What is said of the last of these letters, and whether T would complete them.
 fn dialled(matcher: &mut Dialling, letters: &[Letter]) -> (Option<Verdict>, bool)
-    requires { length letters.now ≤ 64 }
+    requires { length letters.now ≤ most_letters }
 {
     let said = fed(matcher, letters);
     (said, matcher.critical())
@@ -124,7 +125,7 @@ fn copy_says(
     letters: &[Letter],
     expected: (Option<Verdict>, bool),
 ) -> Result<bool, OutOfMemory>
-    requires { length letters.now ≤ 64 }
+    requires { length letters.now ≤ most_letters }
 {
     let mut copy = matcher.try_copy()?;
     let (_, is_critical) = expected;
@@ -133,7 +134,7 @@ fn copy_says(
 
 // By a map, by a copy of what matches, and by the other kinds of matchers.
 fn verdict_by(alloc: Global, map: &MapText, letters: &[Letter]) -> io::Result<&'static str>
-    requires { length letters.now ≤ 64 }
+    requires { length letters.now ≤ most_letters }
 {
     let mut matcher = Dialling::start(alloc, map)?;
     let (said, is_critical) = dialled(&mut matcher, letters);
@@ -148,7 +149,7 @@ fn verdict_by(alloc: Global, map: &MapText, letters: &[Letter]) -> io::Result<&'
 
 fn verdict_of(alloc: Global, map: &MapText, dialled: &[u8]) -> io::Result<&'static str> {
     match letters_of(alloc, dialled)? {
-        Some(letters) if letters.len() <= 64 => verdict_by(alloc, map, &letters),
+        Some(letters) if letters.len() <= MOST_LETTERS => verdict_by(alloc, map, &letters),
         _ => Ok("no letters"),
     }
 }
