@@ -24,4 +24,7 @@ pub use crate::gateway::Gateway;
 pub use crate::served::Served;
 pub use crate::stopped::Stopped;
 pub use crate::wire::{DATAGRAM_ROOM, Input, Wire, WireFault};
-pub use plain_machine::{Config, ConfigFault, Event, NamedAddress, OutDatagram, Outputs, Refusal};
+pub use gateway_floor::key_at_fault;
+pub use plain_machine::{
+    Config, ConfigFault, ConfigKey, Event, NamedAddress, OutDatagram, Outputs, Refusal,
+};

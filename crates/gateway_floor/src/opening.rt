@@ -1,16 +1,17 @@
 //! What a configuration sets up, and what there is at the opening: the stations, and what the gateway keeps for itself.
 ghost use Rattle.std.specs.Prelude.{◌≡◌, ◌≤◌, ◌<◌, ◌+◌, ◌^◌, [], length, map, IfOk};
 ghost use Rattle.std.specs.List.{AllByRecursion, range_with_len};
-ghost use Rattle.plain_machine.specs.Setup.{table_from, are_lines, is_wait, is_media_base, is_address, setup_of, IsSetUp, most_lines};
+ghost use Rattle.plain_machine.specs.Setup.{table_from, are_lines, is_wait, is_media_base, is_address, parts_of, setup_of, key_at_fault, IsSetUp, most_lines};
 ghost use Rattle.plain_machine.specs.Machine.{port_of, opening_post, opening_station, opening_own};
 ghost use Rattle.gateway_stations.specs.Telling.{HasId};
 
 use connections::{Connections, Encoding};
-use endpoint_names::{Names, Table, is_domain, read_entity};
+use endpoint_names::{Entity, Names, Table, is_domain, read_entity};
 use mg_bytes::OutOfMemory;
 use mg_line::Line;
 use plain_machine::{
-    CommandNumber, Config, ConfigFault, MOST_LINES, NamedAddress, Own, Post, Setup, Station,
+    CommandNumber, Config, ConfigFault, ConfigKey, MOST_LINES, NamedAddress, Own, Post, Setup,
+    Station,
 };
 use restart::Restart;
 use std::alloc::Global;
@@ -67,41 +68,69 @@ fn is_address(address: Ipv4Addr) -> bool
     true
 }
 
+// The table and the agent of a configuration, or the key that its first fault is about.
+#[tactic(auto, unfolding(plain_machine::specs::Setup::parts_of))]
+fn parts_of(config: &Config) -> Result<(Table, Entity), ConfigKey>
+    ensures { result ≡ parts_of config.now }
+{
+    if !is_domain(config.domain.as_bytes()) {
+        return Err(ConfigKey::Domain);
+    }
+    if !are_lines(config.lines) {
+        return Err(ConfigKey::Lines);
+    }
+    let Some(table) = table_of(config.names.as_slice()) else {
+        return Err(ConfigKey::Names);
+    };
+    let Some(agent) = read_entity(config.agent.as_bytes(), &table) else {
+        return Err(ConfigKey::Agent);
+    };
+    if !is_wait(config.restart_wait) {
+        return Err(ConfigKey::RestartWait);
+    }
+    if !is_wait(config.disconnected_wait) {
+        return Err(ConfigKey::DisconnectedWait);
+    }
+    if !is_address(config.media_address) {
+        return Err(ConfigKey::MediaAddress);
+    }
+    if !is_media_base(config.media_base) {
+        return Err(ConfigKey::MediaBase);
+    }
+    Ok((table, agent))
+}
+
+/// The key that the first fault of a configuration is about, for people; `None` where it has no fault.
+#[tactic(auto, unfolding(plain_machine::specs::Setup::key_at_fault))]
+pub fn key_at_fault(config: &Config) -> Option<ConfigKey>
+    ensures { result ≡ key_at_fault config.now }
+{
+    match parts_of(config) {
+        Ok(_) => None,
+        Err(key) => Some(key),
+    }
+}
+
 /// What a configuration sets up, or its first fault, in the order of their numbers.
 #[tactic(auto, unfolding(plain_machine::specs::Setup::setup_of))]
 pub fn judged(config: Config) -> Result<Setup, ConfigFault>
     ensures { result ≡ setup_of config }
 {
-    if !is_domain(config.domain.as_bytes()) {
-        return Err(ConfigFault::BadDomain);
+    match parts_of(&config) {
+        Ok((table, agent)) => Ok(Setup {
+            names: Names {
+                domain: config.domain,
+                lines: config.lines as u16,
+                table,
+            },
+            agent,
+            restart_wait: config.restart_wait,
+            disconnected_wait: config.disconnected_wait,
+            media_address: config.media_address,
+            media_base: config.media_base,
+        }),
+        Err(key) => Err(key.fault()),
     }
-    if !are_lines(config.lines) {
-        return Err(ConfigFault::BadLines);
-    }
-    let Some(table) = table_of(config.names.as_slice()) else {
-        return Err(ConfigFault::BadAgent);
-    };
-    let Some(agent) = read_entity(config.agent.as_bytes(), &table) else {
-        return Err(ConfigFault::BadAgent);
-    };
-    if !is_wait(config.restart_wait) || !is_wait(config.disconnected_wait) {
-        return Err(ConfigFault::BadWait);
-    }
-    if !is_address(config.media_address) || !is_media_base(config.media_base) {
-        return Err(ConfigFault::BadMedia);
-    }
-    Ok(Setup {
-        names: Names {
-            domain: config.domain,
-            lines: config.lines as u16,
-            table,
-        },
-        agent,
-        restart_wait: config.restart_wait,
-        disconnected_wait: config.disconnected_wait,
-        media_address: config.media_address,
-        media_base: config.media_base,
-    })
 }
 
 // A post under which nothing was sent; its first command has this number.

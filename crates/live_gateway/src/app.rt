@@ -10,7 +10,7 @@ use crate::telephones::Telephones;
 use crate::trace::{Trace, TraceState};
 use crate::words::{Settings, WordFault, read_words};
 use gateway_core::Gateway;
-use rgw_play::{LIMIT, PlayFault, gateway_of, read_limited};
+use rgw_play::{LIMIT, PlayFault, gateway_of, read_key_at_fault, read_limited};
 use std::alloc::Global;
 use std::fs::File;
 use std::io::ErrorKind;
@@ -37,10 +37,29 @@ fn words_of<R: AllocGlobal + Env>(rt: &R) -> Result<Vec<String>, WordFault> {
 fn file_ending(file: &str, fault: PlayFault) -> Ending<'_> {
     match fault {
         PlayFault::OutOfMemory => Ending::OutOfMemory,
-        PlayFault::Config { number } => Ending::Config { file, number },
+        PlayFault::Config { number } => Ending::Config {
+            file,
+            number,
+            key: None,
+        },
         PlayFault::Read | PlayFault::Write | PlayFault::Script { .. } => {
             Ending::Unreadable { file }
         }
+    }
+}
+
+// What is wrong with a configuration, with the key that it is about; without it where memory is refused.
+fn config_ending<'a>(alloc: Global, file: &'a str, text: &[u8], fault: PlayFault) -> Ending<'a> {
+    match file_ending(file, fault) {
+        Ending::Config { file, number, .. } => Ending::Config {
+            file,
+            number,
+            key: match read_key_at_fault(alloc, text) {
+                Ok(key) => key,
+                Err(_) => None,
+            },
+        },
+        other => other,
     }
 }
 
@@ -59,6 +78,7 @@ fn config_text<'a, R: Files>(rt: &R, alloc: Global, file: &'a str) -> Result<Vec
         return Err(Ending::Config {
             file,
             number: BAD_TOML,
+            key: None,
         });
     }
     Ok(text)
@@ -144,7 +164,7 @@ fn perform<'w, R: AllocGlobal + Files + Net + Clock + Print + Eprint>(
     let text = config_text(rt, alloc, settings.config)?;
     let mut gateway = match gateway_of(alloc, text.as_slice()) {
         Ok(gateway) => gateway,
-        Err(fault) => return Err(file_ending(settings.config, fault)),
+        Err(fault) => return Err(config_ending(alloc, settings.config, text.as_slice(), fault)),
     };
     let Ok(tally) = MessageTally::new(alloc) else {
         return Err(Ending::OutOfMemory);

@@ -1,5 +1,6 @@
 //! How the program ends: its status, and its line on standard error.
 use crate::words::WordFault;
+use gateway_core::ConfigKey;
 use rgw_play::name_of_config_fault;
 use std::fmt;
 use std::net::SocketAddrV4;
@@ -15,10 +16,11 @@ pub enum Ending<'a> {
     BadAddress {
         word: &'static str,
     },
-    /// The configuration in this file has this fault.
+    /// The configuration in this file has this fault, which is about this key, if it can be read.
     Config {
         file: &'a str,
         number: u8,
+        key: Option<ConfigKey>,
     },
     /// This file can't be read.
     Unreadable {
@@ -72,9 +74,15 @@ impl<'a> fmt::Display for Ending<'a> {
                 "usage: rgwd CONFIG [--listen ADDRESS] [--phones ADDRESS] [--trace] [--stop-after MS]"
             ),
             Ending::BadAddress { word } => writeln!(f, "{word}: no address a.b.c.d:port"),
-            Ending::Config { file, number } => {
+            Ending::Config { file, number, key } => {
                 let name = name_of_config_fault(number);
-                writeln!(f, "{file}: config {number} {name}")
+                match key {
+                    Some(key) => {
+                        let key = key.name();
+                        writeln!(f, "{file}: config {number} {name}: {key}")
+                    }
+                    None => writeln!(f, "{file}: config {number} {name}"),
+                }
             }
             Ending::Unreadable { file } => writeln!(f, "{file}: read fault"),
             Ending::Unbound { word, address } => writeln!(f, "{word} {address}: no socket"),

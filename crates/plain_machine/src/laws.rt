@@ -1,6 +1,6 @@
 //! Laws of the plain machine, for every setup and every list of events.
 ghost use Rattle.std.specs.declared.net.socket_addr.SocketAddrV4.{SocketAddrV4};
-ghost use Rattle.std.specs.Prelude.{ℕ, if◌then◌else◌, ◌<◌, Ok, ◌≡◌, ◌≢◌, ◌++◌, ◌∷◌, ◌-◌, [], ◌≤◌, List, length, map, filter, flat_map, All, AllPairs, Option, Some, None, true, false};
+ghost use Rattle.std.specs.Prelude.{ℕ, if◌then◌else◌, ◌<◌, Ok, ◌≡◌, ◌≢◌, ◌++◌, ◌∷◌, ◌-◌, [], ◌≤◌, List, length, map, filter, flat_map, All, AllPairs, Option, Some, None, true, false, Err, IfErr};
 ghost use Rattle.history.specs.Memory.{memory_time, most_firsts};
 ghost use Rattle.history.specs.Arrival.{Arrival as Command};
 ghost use Rattle.history.specs.Firsts.{Copied, a_first, a_repeat, lost, kind_of, firsts_of};
@@ -17,7 +17,9 @@ ghost use Rattle.plain_machine.specs.Machine.{Machine, Endpoints, idle, told, af
 ghost use Rattle.plain_machine.specs.Falling.{due_at, due_by, happened, pass};
 ghost use Rattle.plain_machine.specs.declared.due_item.DueItem.{DueItem};
 ghost use Rattle.plain_machine.specs.declared.config.Config.{Config};
-ghost use Rattle.plain_machine.specs.Setup.{setup_of, IsSetUp};
+ghost use Rattle.plain_machine.specs.declared.config.ConfigKey.{ConfigKey};
+ghost use Rattle.plain_machine.specs.ConfigFault.{fault_about};
+ghost use Rattle.plain_machine.specs.Setup.{setup_of, key_at_fault, IsSetUp};
 ghost use Rattle.plain_machine.specs.Answering.{Transaction, reply, executed, transacted};
 ghost use Rattle.transmission.specs.Packing.{messages_in};
 ghost use Rattle.transmission.specs.Texts.{largest_datagram};
@@ -99,6 +101,12 @@ pub fn commands_are_done_by_what_they_are()
         m.history ≡ entries_of (firsts_of most_firsts earlier) →
         kind_of most_firsts (firsts_of most_firsts earlier) (command_arrival m t) ≡ lost →
         transacted m source t ≡ idle m }
+{}
+
+/// A configuration is refused exactly where a key is at fault, and by the fault of that key.
+pub fn a_refusal_is_about_a_key()
+    ensures refused { (config : Config) (key : ConfigKey) → key_at_fault config ≡ Some key → setup_of config ≡ Err (fault_about key) }
+    ensures set_up { (config : Config) → key_at_fault config ≡ None → IfErr (setup_of config) (λ fault. ⊥) }
 {}
 
 /// What a configuration sets up has a domain, 16 lines at most, an address for streams, and room for the ports of 16

@@ -25,7 +25,7 @@ pub use crate::input::read_limited;
 pub use crate::link::{Direct, Link};
 pub use crate::played::{LinkFault, PlayFault, Played, StepFault, name_of_config_fault};
 pub use crate::printing::{put_line, put_refusal};
-pub use crate::scene::{Scene, gateway_of, judge};
+pub use crate::scene::{Scene, gateway_of, judge, read_key_at_fault};
 pub use crate::session::{carry, play};
 pub use crate::status::{LineStatus, status_of};
 pub use crate::step::{ScriptLine, Step};

@@ -1,5 +1,6 @@
 //! Judges an input: its gateway and its steps, or its first fault.
-ghost use Rattle.std.specs.Prelude.{◌≡◌, ◌≢◌, List, [], Ok, ℕ, Result, IfOk, IfErr};
+ghost use Rattle.std.specs.Prelude.{◌≡◌, ◌≢◌, List, [], Ok, ℕ, Result, IfOk, IfErr, option_and_then};
+ghost use Rattle.plain_machine.specs.Setup.{key_at_fault};
 ghost use Rattle.gateway_core.specs.Stands.{Stands};
 ghost use Rattle.rgw_play.specs.declared.step.Step.{Step};
 ghost use Rattle.rgw_play.specs.Configuration.{config_in};
@@ -10,7 +11,8 @@ use crate::script::{ScriptFault, read_script};
 use crate::settings::read_config;
 use crate::step::Step;
 use crate::{LIMIT, PlayFault};
-use gateway_core::{ConfigFault, Gateway};
+use gateway_core::{ConfigFault, ConfigKey, Gateway, key_at_fault};
+use mg_bytes::OutOfMemory;
 use std::alloc::Global;
 
 // The number of the fault that a configuration can't be read.
@@ -43,6 +45,17 @@ pub fn gateway_of(alloc: Global, text: &[u8]) -> Result<Gateway, PlayFault>
         Err(fault) => Err(PlayFault::Config {
             number: fault.number(),
         }),
+    }
+}
+
+/// The key that the first fault of a configuration's text is about, for people; `None` where it has no fault, or can't be
+/// read. Its only error is want of memory.
+pub fn read_key_at_fault(alloc: Global, text: &[u8]) -> Result<Option<ConfigKey>, OutOfMemory>
+    ensures { IfOk result (λ key. key ≡ option_and_then key_at_fault (config_in text.now)) }
+{
+    match read_config(alloc, text)? {
+        Some(config) => Ok(key_at_fault(&config)),
+        None => Ok(None),
     }
 }
 
