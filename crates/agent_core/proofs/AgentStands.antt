@@ -9,7 +9,7 @@ use Rattle.history.specs.declared.entry.Entry.{Entry}
 use Rattle.history.specs.declared.entry.Entry.TheVariants.{Confirmation}
 use Rattle.history.specs.Memory.{most_firsts}
 use Rattle.history.specs.Kept.{first_entry}
-use Rattle.history.specs.Looking.{Told as Looked, new, repeat, confirmed, full, look_of}
+use Rattle.history.specs.Looking.{Looked, new, repeat, confirmed, full, look_of}
 use Rattle.history.specs.Recalling.{Recalls}
 use Rattle.history.proofs.RecallLaws.{recalls_entry, recalls_look, recalls_later}
 use Rattle.outbound.specs.declared.reply.Reply.{Reply}

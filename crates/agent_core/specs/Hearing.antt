@@ -8,7 +8,7 @@ use Rattle.plain_machine.specs.declared.refusal.Refusal.TheVariants.{NoSuchLine}
 use Rattle.plain_machine.specs.Event.{GatewayEvent, datagram, phone, tick}
 use Rattle.transmission.specs.Texts.{texts_of}
 use Rattle.plain_machine.specs.Refusing.{tick_refusal}
-use Rattle.machine_laws.specs.Saying.{Issued}
+use Rattle.machine_laws.specs.Saying.{Begun}
 use Rattle.agent_core.specs.declared.setup.AgentSetup.{AgentSetup}
 use Rattle.agent_core.specs.Agent.{AgentMachine, AgentEffect, agent_opening, idle}
 use Rattle.agent_core.specs.Issuing.{command_text, issued, IssueRefusal, issue_refusal}
@@ -85,13 +85,13 @@ agent_after setup m (event ∷ events) = agent_after setup (agent_effect setup m
 abbrev pub plain_agent : AgentSetup → List AgentEvent → AgentMachine
 plain_agent setup events = agent_after setup (agent_opening setup) events
 
-abbrev pub issued_with : AgentMachine → AgentEvent → List Issued
+abbrev pub issued_with : AgentMachine → AgentEvent → List Begun
 issued_with m (issues verb name rest) =
     (record { id = m.next; moment = m.now; text = command_text verb m.next name rest }) ∷ []
 issued_with m (hears event) = []
 
 -- the commands that an agent issues with these events
-unfoldable pub issued_from : AgentSetup → AgentMachine → List AgentEvent → List Issued
+unfoldable pub issued_from : AgentSetup → AgentMachine → List AgentEvent → List Begun
 issued_from setup m [] = []
 issued_from setup m (event ∷ events) = issued_with m event ++ issued_from setup (agent_effect setup m event).machine events
 

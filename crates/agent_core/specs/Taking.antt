@@ -15,7 +15,7 @@ use Rattle.history.specs.declared.span.IdSpan.{IdSpan}
 use Rattle.history.specs.declared.entry.Entry.TheVariants.{Confirmation}
 use Rattle.history.specs.Memory.{most_firsts}
 use Rattle.history.specs.Kept.{first_entry}
-use Rattle.history.specs.Looking.{Told as Looked, new, repeat, confirmed, full, look_of}
+use Rattle.history.specs.Looking.{Looked, new, repeat, confirmed, full, look_of}
 use Rattle.transmission.specs.Confirming.{spans_of}
 use Rattle.plain_machine.specs.Answering.{line_meant}
 use Rattle.machine_laws.specs.Notified.{observed_with}

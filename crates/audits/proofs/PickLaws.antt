@@ -13,7 +13,7 @@ use Rattle.mgcp_text.specs.Message.{has_code, param_at}
 use Rattle.mg_bytes.specs.Lines.{crlf}
 use Rattle.mgcp_text.specs.Writing.{body_text, written}
 use Rattle.sdp_subset.specs.declared.session.Session.{Session}
-use Rattle.sdp_subset.specs.Writing.{session_lines, written as description_text}
+use Rattle.sdp_subset.specs.Writing.{session_lines, session_text}
 use Rattle.connections.specs.declared.answer.Audited.{Audited}
 use Rattle.event_cuts.proofs.JoinLemmas.{false_of_not}
 use Rattle.audits.specs.ConnectionReport.{remote_text, descriptions_text}
@@ -246,8 +246,8 @@ texts_behind true false (b ∷ bs) (c ∷ cs) some has = refl
 texts_behind false true (b ∷ bs) (c ∷ cs) some has = refl
 texts_behind false false (b ∷ bs) (c ∷ cs) some has = refl
 
-description_some : (session : Session) → 0 < length (description_text session)
-unfolding description_text session_lines
+description_some : (session : Session) → 0 < length (session_text session)
+unfolding session_text session_lines
 description_some session = omega arith
 
 remote_some : (remote : Option Session) → 0 < length (remote_text remote)
@@ -255,9 +255,9 @@ remote_some None = omega arith
 remote_some (Some session) = description_some session
 
 pub descriptions_behind : (audited : Audited) (items : List (List ℕ)) → body_text (descriptions_text audited items)
-    ≡ behind_a_line (asks_for (codes "LC") items) (description_text audited.description)
+    ≡ behind_a_line (asks_for (codes "LC") items) (session_text audited.description)
     ++ behind_a_line (asks_for (codes "RC") items) (remote_text audited.connection.remote)
 unfolding descriptions_text
 descriptions_behind audited items =
-    texts_behind (asks_for (codes "LC") items) (asks_for (codes "RC") items) (description_text audited.description)
+    texts_behind (asks_for (codes "LC") items) (asks_for (codes "RC") items) (session_text audited.description)
     (remote_text audited.connection.remote) (description_some audited.description) (remote_some audited.connection.remote)

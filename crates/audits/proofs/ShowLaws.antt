@@ -28,7 +28,7 @@ use Rattle.event_syntax.specs.Requested.{is_spelled_map, requested_text}
 use Rattle.event_syntax.proofs.WordLemmas.{map_word, detected_no_blanks, detected_one_line, requested_no_blanks, requested_one_line}
 use Rattle.sdp_subset.specs.declared.session.Session.{Session}
 use Rattle.sdp_subset.specs.Payloads.{are_payloads}
-use Rattle.sdp_subset.specs.Writing.{written as session_text, IsSession}
+use Rattle.sdp_subset.specs.Writing.{session_text, IsSession}
 use Rattle.sdp_subset.proofs.WholeLemmas.{whole_written, first_written, dotless_written}
 use Rattle.connections.specs.declared.answer.Audited.{Audited}
 use Rattle.connections.specs.declared.codec.Codec.TheVariants.{Pcmu, Pcma}

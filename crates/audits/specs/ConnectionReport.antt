@@ -4,7 +4,7 @@ use Rattle.mgcp_text.specs.declared.message.Param.{Param}
 use Rattle.mgcp_text.specs.Answer.{Answer}
 use Rattle.mg_bytes.specs.Lines.{crlf}
 use Rattle.sdp_subset.specs.declared.session.Session.{Session}
-use Rattle.sdp_subset.specs.Writing.{written}
+use Rattle.sdp_subset.specs.Writing.{session_text}
 use Rattle.connections.specs.declared.answer.Audited.{Audited}
 use Rattle.connections.specs.declared.connection.Connection.{Connection}
 use Rattle.connections.specs.Modes.{mode_text}
@@ -32,12 +32,12 @@ connection_params entity connection =
 -- RC: the remote description; one that isn't known is its first line alone (this gateway's profile)
 abbrev pub remote_text : Option Session → List ℕ
 remote_text None = codes "v=0\r\n"
-remote_text (Some session) = written session
+remote_text (Some session) = session_text session
 
 -- the descriptions that are asked for: the local one (LC), then the remote one (RC), with an empty line between them
 unfoldable pub descriptions_text : Audited → List (List ℕ) → List ℕ
 descriptions_text audited items =
-    (if asks_for (codes "LC") items then written audited.description else [])
+    (if asks_for (codes "LC") items then session_text audited.description else [])
     ++ ((if asks_for (codes "LC") items && asks_for (codes "RC") items then crlf else [])
     ++ (if asks_for (codes "RC") items then remote_text audited.connection.remote else []))
 

@@ -3,7 +3,7 @@ ghost use Rattle.std.specs.Prelude.{◌≡◌, ◌++◌, true, IfOk};
 ghost use Rattle.mg_bytes.specs.Items.{items_of};
 ghost use Rattle.mg_bytes.specs.Lines.{crlf};
 ghost use Rattle.mgcp_text.specs.Writing.{is_writable_body};
-ghost use Rattle.sdp_subset.specs.Writing.{written};
+ghost use Rattle.sdp_subset.specs.Writing.{session_text};
 ghost use Rattle.audits.specs.ConnectionReport.{remote_text, descriptions_text};
 ghost use Rattle.audits.specs.Writing.{IsDescription};
 
@@ -16,7 +16,7 @@ use std::alloc::Global;
 
 // The local description.
 fn local_text(alloc: Global, description: &Session) -> Result<Text, OutOfMemory>
-    ensures value { IfOk result (λ text. text ≡ written description.now) }
+    ensures value { IfOk result (λ text. text ≡ session_text description.now) }
     ensures whole { IfOk result (λ text. IsDescription text) }
 {
     write_sdp(alloc, description)
@@ -37,7 +37,7 @@ fn remote_text(alloc: Global, remote: &Option<Session>) -> Result<Text, OutOfMem
 // Both, with an empty line between them.
 fn both_texts(alloc: Global, audited: &Audited) -> Result<Text, OutOfMemory>
     ensures value { IfOk result (λ text. text
-        ≡ written audited.now.description ++ (crlf ++ remote_text audited.now.connection.remote)) }
+        ≡ session_text audited.now.description ++ (crlf ++ remote_text audited.now.connection.remote)) }
     ensures writable { IfOk result (λ text. is_writable_body text ≡ true) }
 {
     let local = local_text(alloc, &audited.description)?;

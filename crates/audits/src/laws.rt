@@ -4,7 +4,7 @@ ghost use Rattle.mgcp_text.specs.declared.message.Param.{Param};
 ghost use Rattle.mgcp_text.specs.Answer.{Answer, response_of};
 ghost use Rattle.mgcp_text.specs.Message.{param_at};
 ghost use Rattle.mgcp_text.specs.Writing.{body_text, written};
-ghost use Rattle.sdp_subset.specs.Writing.{written as description_text};
+ghost use Rattle.sdp_subset.specs.Writing.{session_text};
 ghost use Rattle.connections.specs.declared.answer.Audited.{Audited};
 ghost use Rattle.audits.specs.ConnectionReport.{remote_text, descriptions_text};
 ghost use Rattle.audits.specs.Fitting.{fitting};
@@ -37,6 +37,6 @@ pub fn a_response_is_too_long_past_4000_bytes()
 /// line (RFC 3435, 3.4).
 pub fn each_description_stands_behind_an_empty_line()
     ensures { (audited : Audited) (items : List (List ℕ)) → body_text (descriptions_text audited items)
-        ≡ behind_a_line (asks_for (codes "LC") items) (description_text audited.description)
+        ≡ behind_a_line (asks_for (codes "LC") items) (session_text audited.description)
         ++ behind_a_line (asks_for (codes "RC") items) (remote_text audited.connection.remote) }
 {}

@@ -1,7 +1,7 @@
 //! Worked examples of what can be shown, as theorems.
 ghost use Rattle.std.specs.Prelude.{◌≡◌, ◌∷◌, [], true, false};
 ghost use Rattle.mgcp_text.specs.Writing.{is_writable_body};
-ghost use Rattle.sdp_subset.specs.Writing.{written};
+ghost use Rattle.sdp_subset.specs.Writing.{session_text};
 ghost use Rattle.connections.specs.Example.{cut_connection, offering};
 ghost use Rattle.audits.specs.Example.{opening, lifted, after_request, calling};
 ghost use Rattle.audits.specs.Showing.{IsShowable};
@@ -18,6 +18,6 @@ pub fn endpoints_can_be_shown()
 /// A description can't be written with an address of no octets, since its line would end in a blank.
 #[tactic(auto, unfolding(crate::proofs::Computing::on_examples))]
 pub fn a_description_needs_an_address()
-    ensures whole { is_writable_body (written (offering (8 ∷ []))) ≡ true }
-    ensures none { is_writable_body (written (record (offering (8 ∷ [])) { address = record { octets = [] } })) ≡ false }
+    ensures whole { is_writable_body (session_text (offering (8 ∷ []))) ≡ true }
+    ensures none { is_writable_body (session_text (record (offering (8 ∷ [])) { address = record { octets = [] } })) ≡ false }
 {}

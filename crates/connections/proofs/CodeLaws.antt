@@ -14,7 +14,7 @@ use Rattle.connections.specs.declared.deletion.Deletion.TheVariants.{All, OfCall
 use Rattle.connections.specs.Numbers.{greatest}
 use Rattle.connections.specs.Connection.{agreed, can_be, begun, begun_with, given_or, remote_or, is_changed, renewed, renewed_with}
 use Rattle.connections.specs.Places.{is_free, holds_call, holds_id, holds_both, place_where}
-use Rattle.connections.specs.Standing.{Standing, Done, answered_by, created, created_from, place_of, modified, modified_at, modified_held, modified_from, refused, without, deleted, whether, audited, audited_held}
+use Rattle.connections.specs.Standing.{Standing, Left, answered_by, created, created_from, place_of, modified, modified_at, modified_held, modified_from, refused, without, deleted, whether, audited, audited_held}
 
 -- a code of three digits, if there is one
 abbrev IsSmall : {A : Type 0} → Result A ℕ → Type 0
@@ -29,7 +29,7 @@ answers_as : {A : Type 0} (said : Result A ℕ) → IsSmall said → AnswersAs s
 answers_as (Ok value) small = refl
 answers_as (Err code) small = (refl, small)
 
-answered_small : {A : Type 0} (made : Result (Done A) ℕ) → IsSmall made → IsSmall (answered_by made)
+answered_small : {A : Type 0} (made : Result (Left A) ℕ) → IsSmall made → IsSmall (answered_by made)
 answered_small (Ok done) small = tt
 answered_small (Err code) small = small
 

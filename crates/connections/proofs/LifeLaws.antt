@@ -11,41 +11,41 @@ use Rattle.connections.specs.declared.connection.Change.{Change}
 use Rattle.connections.specs.Numbers.{greatest}
 use Rattle.connections.specs.Connection.{begun, renewed}
 use Rattle.connections.specs.Places.{is_free, place_where}
-use Rattle.connections.specs.Standing.{Standing, Done, described, left_by, left_of, created, created_from, place_of, modified, modified_at, modified_held, modified_from, refused, deleted, without}
+use Rattle.connections.specs.Standing.{Standing, Left, described, left_by, left_of, created, created_from, place_of, modified, modified_at, modified_held, modified_from, refused, deleted, without}
 use Rattle.connections.specs.Life.{Happening, creates, modifies, deletes, after_one, after}
 
 -- The number of a connection that is created
 
-abbrev creation_by : Standing → Option ℕ → Bool → Result Connection ℕ → Result (Done Created) ℕ
+abbrev creation_by : Standing → Option ℕ → Bool → Result Connection ℕ → Result (Left Created) ℕ
 creation_by standing found below made =
     given found 540 (λ place. checked (unless below 502) (created_from standing place (standing.last + 1) made))
 
-pub record IsNext (standing : Standing) (done : Done Created) : Type 0 where
+pub record IsNext (standing : Standing) (done : Left Created) : Type 0 where
   pub number : done.answer.number ≡ standing.last + 1
   pub last : done.leaves.last ≡ standing.last + 1
 
-abbrev number_in : Result (Done Created) ℕ → ℕ
+abbrev number_in : Result (Left Created) ℕ → ℕ
 number_in (Ok done) = done.answer.number
 number_in (Err code) = 0
 
-abbrev last_in : Result (Done Created) ℕ → ℕ
+abbrev last_in : Result (Left Created) ℕ → ℕ
 last_in (Ok done) = done.leaves.last
 last_in (Err code) = 0
 
-next_by : (standing : Standing) (found : Option ℕ) (below : Bool) (made : Result Connection ℕ) (done : Done Created)
+next_by : (standing : Standing) (found : Option ℕ) (below : Bool) (made : Result Connection ℕ) (done : Left Created)
     → creation_by standing found below made ≡ Ok done → IsNext standing done
 next_by standing None below made done e = absurd cc
 next_by standing (Some place) false made done e = absurd cc
 next_by standing (Some place) true (Err code) done e = absurd cc
 next_by standing (Some place) true (Ok connection) done e = record { number = sym (ap number_in e); last = sym (ap last_in e) }
 
-is_next : (encoding : Encoding) (creation : Creation) (standing : Standing) (done : Done Created)
+is_next : (encoding : Encoding) (creation : Creation) (standing : Standing) (done : Left Created)
     → created encoding creation standing ≡ Ok done → IsNext standing done
 unfolding created
 is_next encoding creation standing done e =
     next_by standing (place_where is_free standing.places) (nat_lt standing.last greatest) (begun encoding creation (standing.last + 1)) done e
 
-pub next_number : (encoding : Encoding) (creation : Creation) (standing : Standing) (done : Done Created)
+pub next_number : (encoding : Encoding) (creation : Creation) (standing : Standing) (done : Left Created)
     → created encoding creation standing ≡ Ok done → (done.answer.number ≡ standing.last + 1) × (done.leaves.last ≡ standing.last + 1)
 next_number encoding creation standing done e = let n = is_next encoding creation standing done e in (n.number, n.last)
 
@@ -121,7 +121,7 @@ never_past standing [] few = few
 never_past standing (happening ∷ more) few = never_past (after_one standing happening) more (one_at_most standing happening few)
 
 pub numbers_rise : (encoding other : Encoding) (creation later : Creation) (standing : Standing) (happenings : List Happening)
-    (first second : Done Created) → created encoding creation standing ≡ Ok first
+    (first second : Left Created) → created encoding creation standing ≡ Ok first
     → created other later (after first.leaves happenings) ≡ Ok second → first.answer.number < second.answer.number
 numbers_rise encoding other creation later standing happenings first second e f =
     let a = is_next encoding creation standing first e in

@@ -47,33 +47,33 @@ abbrev pub numbered : Standing → ℕ → Standing
 numbered standing number = record standing { last = number }
 
 -- what a command leaves, where it isn't refused, and what it answers
-pub record Done (A : Type 0) : Type 0 where
+pub record Left (A : Type 0) : Type 0 where
   pub leaves : Standing
   pub answer : A
 
 -- what stands then: as it was where the command is refused
-abbrev pub left_by : {A : Type 0} → Standing → Result (Done A) ℕ → Standing
+abbrev pub left_by : {A : Type 0} → Standing → Result (Left A) ℕ → Standing
 left_by was (Ok done) = done.leaves
 left_by was (Err code) = was
 
-abbrev pub answered_by : {A : Type 0} → Result (Done A) ℕ → Result A ℕ
+abbrev pub answered_by : {A : Type 0} → Result (Left A) ℕ → Result A ℕ
 answered_by (Ok done) = Ok done.answer
 answered_by (Err code) = Err code
 
 -- A connection is created (RFC 3435, 2.3.5)
 
-abbrev pub created_done : Standing → ℕ → ℕ → Connection → Done Created
+abbrev pub created_done : Standing → ℕ → ℕ → Connection → Left Created
 created_done standing place number connection = record {
   leaves = placed (numbered standing number) place connection;
   answer = record { number = number; description = described standing place connection };
 }
 
-abbrev pub created_from : Standing → ℕ → ℕ → Result Connection ℕ → Result (Done Created) ℕ
+abbrev pub created_from : Standing → ℕ → ℕ → Result Connection ℕ → Result (Left Created) ℕ
 created_from standing place number (Ok connection) = Ok (created_done standing place number connection)
 created_from standing place number (Err code) = Err code
 
 -- at the least free place; none is 540, then no more numbers 502, then the faults of the connection
-unfoldable pub created : Encoding → Creation → Standing → Result (Done Created) ℕ
+unfoldable pub created : Encoding → Creation → Standing → Result (Left Created) ℕ
 created encoding creation standing =
     given (place_where is_free standing.places) 540 (λ place.
     checked (unless (nat_lt standing.last greatest) 502)
@@ -91,26 +91,26 @@ abbrev pub shown_if : Bool → Session → Option Session
 shown_if true description = Some description
 shown_if false description = None
 
-abbrev pub modified_done : Standing → ℕ → Connection → Connection → Done (Option Session)
+abbrev pub modified_done : Standing → ℕ → Connection → Connection → Left (Option Session)
 modified_done standing place was is = record {
   leaves = placed standing place is;
   answer = shown_if (is_changed was is.options is.codecs) (described standing place is);
 }
 
-abbrev pub modified_from : Standing → ℕ → Connection → Result Connection ℕ → Result (Done (Option Session)) ℕ
+abbrev pub modified_from : Standing → ℕ → Connection → Result Connection ℕ → Result (Left (Option Session)) ℕ
 modified_from standing place was (Ok is) = Ok (modified_done standing place was is)
 modified_from standing place was (Err code) = Err code
 
-abbrev pub modified_held : Encoding → Change → Standing → ℕ → Option Connection → Result (Done (Option Session)) ℕ
+abbrev pub modified_held : Encoding → Change → Standing → ℕ → Option Connection → Result (Left (Option Session)) ℕ
 modified_held encoding change standing place None = Err 515
 modified_held encoding change standing place (Some was) = modified_from standing place was (renewed encoding change was)
 
-abbrev pub modified_at : Encoding → Change → Standing → Result ℕ ℕ → Result (Done (Option Session)) ℕ
+abbrev pub modified_at : Encoding → Change → Standing → Result ℕ ℕ → Result (Left (Option Session)) ℕ
 modified_at encoding change standing (Ok place) =
     modified_held encoding change standing place (get_or standing.places place None)
 modified_at encoding change standing (Err code) = Err code
 
-unfoldable pub modified : Encoding → List ℕ → List ℕ → Change → Standing → Result (Done (Option Session)) ℕ
+unfoldable pub modified : Encoding → List ℕ → List ℕ → Change → Standing → Result (Left (Option Session)) ℕ
 modified encoding call id change standing = modified_at encoding change standing (place_of call id standing.places)
 
 -- Connections are deleted (2.3.7, 2.3.9)

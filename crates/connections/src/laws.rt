@@ -13,13 +13,13 @@ ghost use Rattle.connections.specs.Codecs.{offers, listed, listed_or_none, offer
 ghost use Rattle.connections.specs.Numbers.{names_number, greatest};
 ghost use Rattle.connections.specs.Connection.{agreed, can_be, begun, begun_with, given_or, remote_or, renewed, renewed_to, is_changed};
 ghost use Rattle.connections.specs.Places.{is_free, holds_call, holds_both, place_where};
-ghost use Rattle.connections.specs.Standing.{Standing, Done, described, answered_by, created, created_done, place_of, modified, deleted};
+ghost use Rattle.connections.specs.Standing.{Standing, Left, described, answered_by, created, created_done, place_of, modified, deleted};
 ghost use Rattle.connections.specs.Life.{Happening, creates, modifies, deletes, after_one, after};
 
 /// A connection gets the number after the last one, and no later connection of the line gets it again, whatever happens in
 /// between (RFC 3435, 2.1.3). No number is past the greatest.
 pub fn a_number_is_never_used_again()
-    ensures next { (encoding : Encoding) (creation : Creation) (standing : Standing) (done : Done Created) →
+    ensures next { (encoding : Encoding) (creation : Creation) (standing : Standing) (done : Left Created) →
         created encoding creation standing ≡ Ok done →
         (done.answer.number ≡ standing.last + 1) × (done.leaves.last ≡ standing.last + 1) }
     ensures never_less { (standing : Standing) (happenings : List Happening) →
@@ -27,7 +27,7 @@ pub fn a_number_is_never_used_again()
     ensures never_past { (standing : Standing) (happenings : List Happening) →
         standing.last ≤ greatest → (after standing happenings).last ≤ greatest }
     ensures again { (encoding other : Encoding) (creation later : Creation) (standing : Standing)
-        (happenings : List Happening) (first second : Done Created) → created encoding creation standing ≡ Ok first →
+        (happenings : List Happening) (first second : Left Created) → created encoding creation standing ≡ Ok first →
         created other later (after first.leaves happenings) ≡ Ok second → first.answer.number < second.answer.number }
 {}
 

@@ -14,7 +14,7 @@ use Rattle.plain_machine.specs.Lists.{plain, sent_of}
 use Rattle.plain_machine.specs.Machine.{station_at}
 use Rattle.plain_machine.specs.Posting.{line_of_id}
 use Rattle.plain_machine.specs.Setup.{IsSetUp}
-use Rattle.machine_laws.specs.Saying.{HasNumbersLeft, Issued, OneOf}
+use Rattle.machine_laws.specs.Saying.{HasNumbersLeft, Begun, OneOf}
 use Rattle.machine_laws.proofs.EachLemmas.{Each, each_back, each_front, each_from_all, each_weaker, one_from_any, one_weaker}
 use Rattle.machine_laws.proofs.LineLemmas.{place_of}
 use Rattle.dialled_once.specs.Course.{course_from, course_of}
@@ -64,20 +64,20 @@ taken_whole line id (one ∷ taken) found = by_test (is_of_line line one) found 
 
 -- What the commands of a line tell
 
-abbrev Tells : Reached → Issued → Type 0
-Tells one b = TellsAs (λ (x : Issued). x.id) (λ (x : Reached). x.asked.id) told_by told_taken one b
+abbrev Tells : Reached → Begun → Type 0
+Tells one b = TellsAs (λ (x : Begun). x.id) (λ (x : Reached). x.asked.id) told_by told_taken one b
 
-sent_tells : (one : Reached) (b : Issued) → IsAsSent one b → Tells one b
+sent_tells : (one : Reached) (b : Begun) → IsAsSent one b → Tells one b
 sent_tells one b is = (is.0, ap told_as (sym is.1))
 
-not_last : (P : Issued → Type 0) (front : List Issued) (last : Issued) → OneOf P (front ++ last ∷ []) → (P last → ⊥) → OneOf P front
+not_last : (P : Begun → Type 0) (front : List Begun) (last : Begun) → OneOf P (front ++ last ∷ []) → (P last → ⊥) → OneOf P front
 not_last P [] last (inl is) never = never is
 not_last P [] last (inr none) never = none
 not_last P (b ∷ front) last (inl is) never = inl is
 not_last P (b ∷ front) last (inr behind) never = inr (not_last P front last behind never)
 
-module _ (line : ℕ) (begun settled : List Issued) (taken : List Reached) (apart : Apart (begun_ids begun)) (mine : Each (λ (b : Issued). line_of_id b.id ≡ line) begun)
-    (as_sent : Each (λ (one : Reached). OneOf (IsAsSent one) begun) (line_taken line taken)) (answered : Each (λ (b : Issued). WasTaken taken b.id) settled) where
+module _ (line : ℕ) (begun settled : List Begun) (taken : List Reached) (apart : Apart (begun_ids begun)) (mine : Each (λ (b : Begun). line_of_id b.id ≡ line) begun)
+    (as_sent : Each (λ (one : Reached). OneOf (IsAsSent one) begun) (line_taken line taken)) (answered : Each (λ (b : Begun). WasTaken taken b.id) settled) where
   abbrev of : List Reached
   of = line_taken line taken
 
@@ -88,13 +88,13 @@ module _ (line : ℕ) (begun settled : List Issued) (taken : List Reached) (apar
 
   -- all that began was taken
   all_told : begun_ids begun ≡ taken_ids of → flat_map told_by begun ≡ flat_map told_taken of
-  all_told same = tell_same (λ (b : Issued). b.id) (λ (one : Reached). one.asked.id) told_by told_taken begun of same apart tells_each
+  all_told same = tell_same (λ (b : Begun). b.id) (λ (one : Reached). one.asked.id) told_by told_taken begun of same apart tells_each
 
   none_untaken : (pending : Option InFlight) → begun ≡ settled ++ flying pending → begun_ids begun ≡ taken_ids of → untaken taken pending ≡ []
   none_untaken None is same = refl
   none_untaken (Some flight) is same =
       let inside : In flight.id (begun_ids begun) =
-      subst (In flight.id) (sym (ap begun_ids is ∙ map-append (λ (b : Issued). b.id) settled (flying (Some flight)))) (last_in (begun_ids settled) flight.id) in
+      subst (In flight.id) (sym (ap begun_ids is ∙ map-append (λ (b : Begun). b.id) settled (flying (Some flight)))) (last_in (begun_ids settled) flight.id) in
       ap (λ (b : Bool). if b then [] else told_as (read_text flight.text))
       (taken_true flight.id taken (taken_whole line flight.id taken (one_with (λ (one : Reached). one.asked.id) flight.id of (subst (In flight.id) same inside))))
 
@@ -106,10 +106,10 @@ module _ (line : ℕ) (begun settled : List Issued) (taken : List Reached) (apar
     clash inside = apart_clash (taken_ids of) (id ∷ []) id (subst Apart more apart) inside (inl refl)
 
     settled_in : Each (λ (i : ℕ). In i (taken_ids of)) (begun_ids settled)
-    settled_in = settled_taken line taken settled answered (each_front (λ (b : Issued). line_of_id b.id ≡ line) settled (flying pending) (subst (Each (λ (b : Issued). line_of_id b.id ≡ line)) is mine))
+    settled_in = settled_taken line taken settled answered (each_front (λ (b : Begun). line_of_id b.id ≡ line) settled (flying pending) (subst (Each (λ (b : Begun). line_of_id b.id ≡ line)) is mine))
 
-    last : Last (λ (b : Issued). b.id) begun (taken_ids of) id
-    last = last_of (λ (b : Issued). b.id) begun (taken_ids of) id more
+    last : Last (λ (b : Begun). b.id) begun (taken_ids of) id
+    last = last_of (λ (b : Begun). b.id) begun (taken_ids of) id more
 
     fronts : Each (λ (one : Reached). OneOf (Tells one) last.front) of
     fronts =
@@ -120,14 +120,14 @@ module _ (line : ℕ) (begun settled : List Issued) (taken : List Reached) (apar
 
     front_told : flat_map told_by last.front ≡ flat_map told_taken of
     front_told =
-        tell_same (λ (b : Issued). b.id) (λ (one : Reached). one.asked.id) told_by told_taken last.front of last.ids_are
-        (apart_front (begun_ids last.front) (last.last.id ∷ []) (subst Apart (ap begun_ids last.is ∙ map-append (λ (b : Issued). b.id) last.front (last.last ∷ [])) apart)) fronts
+        tell_same (λ (b : Begun). b.id) (λ (one : Reached). one.asked.id) told_by told_taken last.front of last.ids_are
+        (apart_front (begun_ids last.front) (last.last.id ∷ []) (subst Apart (ap begun_ids last.is ∙ map-append (λ (b : Begun). b.id) last.front (last.last ∷ [])) apart)) fronts
 
     by_taken : (flight : InFlight) → begun ≡ settled ++ flying (Some flight) → last.last ≡ record { id = flight.id; moment = flight.first; text = flight.text } → (b : Bool) → has_taken flight.id taken ≡ b
         → told_by last.last ++ [] ≡ (if b then [] else told_as (read_text flight.text))
     by_taken flight is same true was =
-        absurd (let here : flight.id ≡ id = sym (ap (λ (b : Issued). b.id) same) ∙ last.id_is in
-        let of_it = each_back (λ (b : Issued). line_of_id b.id ≡ line) settled (flying (Some flight)) (subst (Each (λ (b : Issued). line_of_id b.id ≡ line)) is mine) in
+        absurd (let here : flight.id ≡ id = sym (ap (λ (b : Begun). b.id) same) ∙ last.id_is in
+        let of_it = each_back (λ (b : Begun). line_of_id b.id ≡ line) settled (flying (Some flight)) (subst (Each (λ (b : Begun). line_of_id b.id ≡ line)) is mine) in
         clash (subst (λ (i : ℕ). In i (taken_ids of)) here (taken_mine line flight.id taken of_it.0 (taken_one flight.id taken was))))
     by_taken flight is same false was = append-nil (told_by last.last) ∙ ap told_by same
 
@@ -157,9 +157,9 @@ module _ (setup : Setup) (steps : List WorldStep) (line : ℕ) (set_up : IsSetUp
   observed_is =
       told_is setup steps line set_up taken
       ∙ taken_tells setup set_up line (sent_of setup w.gateway_took) (taken_in w) (each_from_all (IsWell setup) (sent_of setup w.gateway_took) (sent_well setup set_up w.gateway_took))
-      (each_weaker (λ (one : Reached). Any (λ (b : Issued). (b.id ≡ one.asked.id) × (one.outcome ≡ read_text b.text)) (own_in setup w)) (λ (one : Reached). OneOf (IsAsSent one) (own_in setup w))
+      (each_weaker (λ (one : Reached). Any (λ (b : Begun). (b.id ≡ one.asked.id) × (one.outcome ≡ read_text b.text)) (own_in setup w)) (λ (one : Reached). OneOf (IsAsSent one) (own_in setup w))
       (λ one any. one_from_any (IsAsSent one) (own_in setup w) any) (taken_in w)
-      (each_from_all (λ (one : Reached). Any (λ (b : Issued). (b.id ≡ one.asked.id) × (one.outcome ≡ read_text b.text)) (own_in setup w)) (taken_in w) (taken_as_sent setup steps set_up taken)))
+      (each_from_all (λ (one : Reached). Any (λ (b : Begun). (b.id ≡ one.asked.id) × (one.outcome ≡ read_text b.text)) (own_in setup w)) (taken_in w) (taken_as_sent setup steps set_up taken)))
 
   course_is : (station : Station) → station_at (gateway_in setup w).endpoints line ≡ Some station
       → told_in (course_of setup line w.gateway_took) ≡ flat_map told_by (line_begun setup line w.gateway_took)

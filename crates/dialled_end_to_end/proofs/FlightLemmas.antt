@@ -28,8 +28,8 @@ use Rattle.restart.specs.declared.restart.Restart.TheVariants.{Waiting, Announce
 use Rattle.restart.specs.declared.heard.Heard.{Heard}
 use Rattle.restart.specs.declared.heard.Heard.TheVariants.{Nothing, PutOff, Redirected, Answered}
 use Rattle.restart.specs.Restarting.{is_serving, heard_of}
-use Rattle.plain_machine.specs.declared.due_item.Due.{Due}
-use Rattle.plain_machine.specs.declared.due_item.Due.TheVariants.{OfLine, Resend, Announce}
+use Rattle.plain_machine.specs.declared.due_item.StationDue.{StationDue}
+use Rattle.plain_machine.specs.declared.due_item.StationDue.TheVariants.{OfLine, Resend, Announce}
 use Rattle.plain_machine.specs.declared.line_deed.LineDeed.{LineDeed}
 use Rattle.plain_machine.specs.declared.post.Post.{Post}
 use Rattle.plain_machine.specs.declared.response.Response.{Response}
@@ -44,7 +44,7 @@ use Rattle.plain_machine.specs.Posting.{repeated_as, resent_by, resent_on}
 use Rattle.plain_machine.specs.Requesting.{with_entity, with_connections, asked_if, deed_on}
 use Rattle.plain_machine.specs.Responding.{responded_as, responded_on, redirected_on, opened_on}
 use Rattle.plain_machine.proofs.FlightLaws.{WaitsOn, phoned_waits, fired_waits, asked_waits, redirected_announced}
-use Rattle.machine_laws.specs.Saying.{Issued, begun_at, begun_in}
+use Rattle.machine_laws.specs.Saying.{Begun, begun_at, begun_in}
 use Rattle.machine_laws.proofs.EachLemmas.{Each, each_push}
 use Rattle.world_laws.proofs.LinkLaws.{final_is}
 use Rattle.dialled_end_to_end.specs.GivenUp.{announces, has_given_up}
@@ -52,7 +52,7 @@ use Rattle.dialled_once.specs.Course.{Step}
 use Rattle.dialled_once.proofs.CourseLemmas.{StationTurns}
 
 -- what is in flight, as what began
-abbrev pub flying : Option InFlight → List Issued
+abbrev pub flying : Option InFlight → List Begun
 flying None = []
 flying (Some flight) = (record { id = flight.id; moment = flight.first; text = flight.text }) ∷ []
 
@@ -133,9 +133,9 @@ module _ (A : ℕ → Type 0) (B : Type 0) where
   pub record Fine (sent : List Sent) (restart : Restart) (pending : Option InFlight) : Type 0 where
     pub still : B
     pub serving : restart ≡ Serving
-    pub settled : List Issued
+    pub settled : List Begun
     pub split : begun_in sent ≡ settled ++ flying pending
-    pub answered : Each (λ (b : Issued). A b.id) settled
+    pub answered : Each (λ (b : Begun). A b.id) settled
 
   pub record Flies (sent : List Sent) (station : Station) : Type 0 where
     rests : Rests station.post.restart station.post.pending station.line.state
@@ -154,7 +154,7 @@ module _ (A : ℕ → Type 0) (B : Type 0) where
     still = f.still;
     serving = f.serving;
     settled = f.settled;
-    split = begun_both sent more ∙ ap (λ (x : List Issued). begun_in sent ++ x) none ∙ append-nil (begun_in sent) ∙ f.split;
+    split = begun_both sent more ∙ ap (λ (x : List Begun). begun_in sent ++ x) none ∙ append-nil (begun_in sent) ∙ f.split;
     answered = f.answered;
   }
 
@@ -190,7 +190,7 @@ module _ (A : ℕ → Type 0) (B : Type 0) where
         still = f.still;
         serving = f.serving;
         settled = f.settled;
-        split = begun_both sent turn.sent ∙ ap (λ (x : List Issued). x ++ begun_in turn.sent) (f.split ∙ append-nil f.settled);
+        split = begun_both sent turn.sent ∙ ap (λ (x : List Begun). x ++ begun_in turn.sent) (f.split ∙ append-nil f.settled);
         answered = f.answered;
       }
 
@@ -265,7 +265,7 @@ module _ (A : ℕ → Type 0) (B : Type 0) where
         still = on.still;
         serving = on.serving;
         settled = on.settled;
-        split = on.split ∙ ap (λ (x : List Issued). on.settled ++ x) (sym same);
+        split = on.split ∙ ap (λ (x : List Begun). on.settled ++ x) (sym same);
         answered = on.answered;
       })
 
@@ -304,7 +304,7 @@ module _ (A : ℕ → Type 0) (B : Type 0) where
     by_restart Announced rests = same
     by_restart Serving rests = same
 
-  happened_flies : (setup : Setup) (sent : List Sent) (due : Due) (line moment : ℕ) (station : Station) → Flies sent station → FliesOn sent (happened_on due setup line moment station)
+  happened_flies : (setup : Setup) (sent : List Sent) (due : StationDue) (line moment : ℕ) (station : Station) → Flies sent station → FliesOn sent (happened_on due setup line moment station)
   unfolding happened_on
   happened_flies setup sent (OfLine due) line moment station f =
       noted_flies setup sent line moment station (fired station.line due moment) (notifies_once.firing station.line due moment) (fired_waits station.line due moment) f
@@ -352,7 +352,7 @@ module _ (A : ℕ → Type 0) (B : Type 0) where
     serving = refl;
     settled = f.settled ++ flying (Some flight);
     split = f.split ∙ ap (λ (p : Option InFlight). f.settled ++ flying p) at ∙ sym (append-nil (f.settled ++ flying (Some flight)));
-    answered = each_push (λ (b : Issued). A b.id) f.settled (record { id = flight.id; moment = flight.first; text = flight.text }) f.answered holds;
+    answered = each_push (λ (b : Begun). A b.id) f.settled (record { id = flight.id; moment = flight.first; text = flight.text }) f.answered holds;
   })
   settles sent restart pending flight state at holds rests (inr (inl is)) = inr (inl is)
   settles sent (Waiting until) pending flight state at holds rests (inr (inr is)) = absurd (none-some flight (sym rests.0 ∙ at))

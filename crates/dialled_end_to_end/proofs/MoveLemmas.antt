@@ -7,7 +7,7 @@ use Rattle.history.specs.Memory.{most_firsts}
 use Rattle.history.specs.Firsts.{Kind, a_first, a_repeat, lost, kind_of}
 use Rattle.transmission.specs.Packing.{same_address}
 use Rattle.plain_machine.specs.declared.setup.Setup.{Setup}
-use Rattle.plain_machine.specs.Arriving.{Arrival, arrivals_at, arrivals_of}
+use Rattle.plain_machine.specs.Arriving.{TextArrival, arrivals_at, arrivals_of}
 use Rattle.plain_machine.specs.Event.{GatewayEvent, datagram, phone, tick}
 use Rattle.plain_machine.specs.Lists.{plain}
 use Rattle.plain_machine.specs.Machine.{opening}
@@ -50,7 +50,7 @@ all_grow firsts (one ∷ ones) =
     grows_on firsts (executed_with firsts one) (fold executed_with (executed_with firsts one) ones) (one_grows firsts one) (all_grow (executed_with firsts one) ones)
 
 -- what an agent took with one event more
-executed_more : (some more : List Arrival) → executed_of (some ++ more) ≡ fold executed_with (executed_of some) (flat_map reached more)
+executed_more : (some more : List TextArrival) → executed_of (some ++ more) ≡ fold executed_with (executed_of some) (flat_map reached more)
 executed_more some more =
     ap (fold executed_with []) (flat_map-append reached some more)
     ∙ fold-append executed_with [] (flat_map reached some) (flat_map reached more)

@@ -20,7 +20,7 @@ use Rattle.plain_machine.specs.Message.{Owner, Said, answer, again, command, res
 use Rattle.plain_machine.specs.Posting.{line_of_id}
 use Rattle.plain_machine.specs.Setup.{IsSetUp}
 use Rattle.machine_laws.specs.Notified.{observed_with}
-use Rattle.machine_laws.specs.Saying.{Issued, OneOf, begun_by, begun_at, begun_in}
+use Rattle.machine_laws.specs.Saying.{Begun, OneOf, begun_by, begun_at, begun_in}
 use Rattle.machine_laws.proofs.EachLemmas.{Each, each_both, one_of_each, one_to}
 use Rattle.dialled_once.specs.Course.{notified_with}
 use Rattle.dialled_once.specs.Dialled.{told_in}
@@ -39,12 +39,12 @@ abbrev pub told_taken : Reached → List Observed
 told_taken one = told_as one.outcome
 
 -- a command of the gateway's own that was taken is this one, as it was sent
-abbrev pub IsAsSent : Reached → Issued → Type 0
+abbrev pub IsAsSent : Reached → Begun → Type 0
 IsAsSent one b = (b.id ≡ one.asked.id) × (one.outcome ≡ read_text b.text)
 
 module _ (setup : Setup) (set_up : IsSetUp setup) (line : ℕ) where
   -- what is taken of the line of a command's text
-  abbrev TakenAs : Issued → Type 0
+  abbrev TakenAs : Begun → Type 0
   TakenAs b = flat_map (told_of line) (taken_of_command (command_of (agent_of setup) (read_text b.text))) ≡ (if is_mine line b then told_by b else [])
 
   notice_taken : (n : ℕ) (params : List Param) → 1 ≤ n → n ≤ setup.names.lines
@@ -91,7 +91,7 @@ module _ (setup : Setup) (set_up : IsSetUp setup) (line : ℕ) where
   begun_taken [] well = tt
   begun_taken (one ∷ sent) well = each_both TakenAs (begun_at one) (begun_in sent) (said_taken one.owner one.moment one.said well.0) (begun_taken sent well.1)
 
-  all_taken : (own : List Issued) (taken : List Reached) → Each TakenAs own → Each (λ (one : Reached). OneOf (IsAsSent one) own) taken
+  all_taken : (own : List Begun) (taken : List Reached) → Each TakenAs own → Each (λ (one : Reached). OneOf (IsAsSent one) own) taken
       → flat_map (told_of line) (flat_map (taken_with (agent_of setup)) taken) ≡ flat_map told_taken (filter (is_of_line line) taken)
   all_taken own [] each sent = refl
   all_taken own (one ∷ taken) each sent =
@@ -99,7 +99,7 @@ module _ (setup : Setup) (set_up : IsSetUp setup) (line : ℕ) where
       ∙ ap (λ (x : List Observed). x ++ flat_map (told_of line) (flat_map (taken_with (agent_of setup)) taken)) first
       ∙ ap (λ (x : List Observed). (if is_of_line line one then told_taken one else []) ++ x) (all_taken own taken each sent.1)
       ∙ by_test (is_of_line line one) where
-        from : (b : Issued) → TakenAs b × IsAsSent one b → flat_map (told_of line) (taken_with (agent_of setup) one) ≡ (if is_of_line line one then told_taken one else [])
+        from : (b : Begun) → TakenAs b × IsAsSent one b → flat_map (told_of line) (taken_with (agent_of setup) one) ≡ (if is_of_line line one then told_taken one else [])
         from b both =
             ap (λ (outcome : Outcome). flat_map (told_of line) (taken_of_command (command_of (agent_of setup) outcome))) both.1.1 ∙ both.0
             ∙ ap (λ (id : ℕ). if line_of_id id == line then told_by b else []) both.1.0
@@ -107,7 +107,7 @@ module _ (setup : Setup) (set_up : IsSetUp setup) (line : ℕ) where
 
         first : flat_map (told_of line) (taken_with (agent_of setup) one) ≡ (if is_of_line line one then told_taken one else [])
         first =
-            one_to (λ (b : Issued). TakenAs b × IsAsSent one b) (flat_map (told_of line) (taken_with (agent_of setup) one) ≡ (if is_of_line line one then told_taken one else []))
+            one_to (λ (b : Begun). TakenAs b × IsAsSent one b) (flat_map (told_of line) (taken_with (agent_of setup) one) ≡ (if is_of_line line one then told_taken one else []))
             from own (one_of_each TakenAs (IsAsSent one) own each sent.0)
 
         by_test : (b : Bool) → (if b then told_taken one else []) ++ flat_map told_taken (filter (is_of_line line) taken)

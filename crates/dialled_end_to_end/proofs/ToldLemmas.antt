@@ -20,7 +20,7 @@ use Rattle.plain_machine.specs.Message.{Owner, Said, answer, again, command, res
 use Rattle.plain_machine.specs.Posting.{line_of_id}
 use Rattle.plain_machine.specs.Requesting.{deed_on}
 use Rattle.plain_machine.specs.Responding.{responded_on, redirected_on, opened_on}
-use Rattle.machine_laws.specs.Saying.{Issued, begun_by, begun_at, begun_in}
+use Rattle.machine_laws.specs.Saying.{Begun, begun_by, begun_at, begun_in}
 use Rattle.machine_laws.proofs.EachLemmas.{Each}
 use Rattle.machine_laws.proofs.WaitLaws.{opening_waits}
 use Rattle.line_isolation.specs.Belonging.{is_of, of_line}
@@ -77,7 +77,7 @@ course_tells setup line some events station at =
 
 -- By the texts of the commands that began
 
-abbrev pub told_by : Issued → List Observed
+abbrev pub told_by : Begun → List Observed
 told_by b = told_as (read_text b.text)
 
 said_tells : (setup : Setup) (owner : Owner) (moment : ℕ) (said : Said) → SaysWell setup owner said → told_in (notified_by said) ≡ flat_map told_by (begun_by moment said)
@@ -104,10 +104,10 @@ begun_tell setup line (one ∷ sent) well = by_test (is_of line one.owner) (begu
 
 -- The commands of a line are those whose ids are its
 
-abbrev pub is_mine : ℕ → Issued → Bool
+abbrev pub is_mine : ℕ → Begun → Bool
 is_mine line b = line_of_id b.id == line
 
-none_mine : (b : Bool) → ◌≡◌ {A = List Issued} [] (if b then [] else [])
+none_mine : (b : Bool) → ◌≡◌ {A = List Begun} [] (if b then [] else [])
 none_mine true = refl
 none_mine false = refl
 
@@ -125,8 +125,8 @@ pub mine_is : (setup : Setup) (line : ℕ) (sent : List Sent) → Each (IsWell s
 mine_is setup line [] well = refl
 mine_is setup line (one ∷ sent) well =
     filter-append (is_mine line) (begun_at one) (begun_in sent)
-    ∙ ap (λ (x : List Issued). x ++ filter (is_mine line) (begun_in sent)) (said_mine setup line one.owner one.moment one.said well.0)
-    ∙ ap (λ (x : List Issued). (if is_of line one.owner then begun_at one else []) ++ x) (mine_is setup line sent well.1)
+    ∙ ap (λ (x : List Begun). x ++ filter (is_mine line) (begun_in sent)) (said_mine setup line one.owner one.moment one.said well.0)
+    ∙ ap (λ (x : List Begun). (if is_of line one.owner then begun_at one else []) ++ x) (mine_is setup line sent well.1)
     ∙ by_test (is_of line one.owner) where
       by_test : (b : Bool) → (if b then begun_at one else []) ++ begun_in (of_line line sent) ≡ begun_in (if b then one ∷ of_line line sent else of_line line sent)
       by_test true = refl

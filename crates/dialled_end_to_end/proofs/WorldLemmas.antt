@@ -13,7 +13,7 @@ use Rattle.outbound.specs.Flight.{InFlight}
 use Rattle.plain_machine.specs.declared.response.Response.{Response}
 use Rattle.plain_machine.specs.declared.setup.Setup.{Setup}
 use Rattle.plain_machine.specs.declared.station.Station.{Station}
-use Rattle.plain_machine.specs.Arriving.{Arrival, arrivals_from, arrivals_of}
+use Rattle.plain_machine.specs.Arriving.{TextArrival, arrivals_from, arrivals_of}
 use Rattle.plain_machine.specs.Event.{GatewayEvent}
 use Rattle.plain_machine.specs.Happening.{effect}
 use Rattle.plain_machine.specs.Lists.{machine_after, plain, sent_from, sent_of}
@@ -23,7 +23,7 @@ use Rattle.plain_machine.specs.Posting.{line_of_id}
 use Rattle.plain_machine.specs.Setup.{IsSetUp}
 use Rattle.plain_machine.proofs.ListLaws.{machine_on}
 use Rattle.plain_machine.proofs.TurnLemmas.{on_made, of_line as of_its_line}
-use Rattle.machine_laws.specs.Saying.{HasNumbersLeft, Issued, OneOf, begun_at, begun_in}
+use Rattle.machine_laws.specs.Saying.{HasNumbersLeft, Begun, OneOf, begun_at, begun_in}
 use Rattle.machine_laws.proofs.EachLemmas.{Each, each_back, each_front, each_from_all, each_weaker, one_from_any, one_weaker}
 use Rattle.machine_laws.proofs.PostLogs.{few_before}
 use Rattle.machine_laws.proofs.WaitLaws.{opening_waits, events_wait}
@@ -48,14 +48,14 @@ use Rattle.dialled_end_to_end.proofs.MoveLemmas.{Move, gateway_took, agent_took,
 abbrev pub line_sent : Setup → ℕ → List GatewayEvent → List Sent
 line_sent setup line events = of_line line (sent_of setup events)
 
-abbrev pub line_begun : Setup → ℕ → List GatewayEvent → List Issued
+abbrev pub line_begun : Setup → ℕ → List GatewayEvent → List Begun
 line_begun setup line events = begun_in (line_sent setup line events)
 
 abbrev pub line_taken : ℕ → List Reached → List Reached
 line_taken line taken = filter (is_of_line line) taken
 
-abbrev pub begun_ids : List Issued → List ℕ
-begun_ids begun = map (λ (b : Issued). b.id) begun
+abbrev pub begun_ids : List Begun → List ℕ
+begun_ids begun = map (λ (b : Begun). b.id) begun
 
 abbrev pub taken_ids : List Reached → List ℕ
 taken_ids taken = map (λ (one : Reached). one.asked.id) taken
@@ -81,21 +81,21 @@ sent_more setup line took event =
 pub record Known (setup : Setup) (line : ℕ) (w : World) : Type 0 where
   pub apart : Apart (begun_ids (line_begun setup line w.gateway_took))
   pub once : Apart (taken_ids (line_taken line (taken_in w)))
-  pub mine : Each (λ (b : Issued). line_of_id b.id ≡ line) (line_begun setup line w.gateway_took)
+  pub mine : Each (λ (b : Begun). line_of_id b.id ≡ line) (line_begun setup line w.gateway_took)
   pub as_sent : Each (λ (one : Reached). OneOf (IsAsSent one) (line_begun setup line w.gateway_took)) (line_taken line (taken_in w))
   pub flies : (s : Station) → station_at (gateway_in setup w).endpoints line ≡ Some s → Flies (WasTaken (taken_in w)) (Unit {0}) (line_sent setup line w.gateway_took) s
 
 -- filtered by their ids
 
-mine_each : (line : ℕ) (begun : List Issued) → Each (λ (b : Issued). line_of_id b.id ≡ line) (filter (is_mine line) begun)
+mine_each : (line : ℕ) (begun : List Begun) → Each (λ (b : Begun). line_of_id b.id ≡ line) (filter (is_mine line) begun)
 mine_each line [] = tt
 mine_each line (b ∷ begun) = by_test (is_mine line b) refl (mine_each line begun) where
-  by_test : (t : Bool) → is_mine line b ≡ t → Each (λ (b : Issued). line_of_id b.id ≡ line) (filter (is_mine line) begun)
-      → Each (λ (b : Issued). line_of_id b.id ≡ line) (if t then b ∷ filter (is_mine line) begun else filter (is_mine line) begun)
+  by_test : (t : Bool) → is_mine line b ≡ t → Each (λ (b : Begun). line_of_id b.id ≡ line) (filter (is_mine line) begun)
+      → Each (λ (b : Begun). line_of_id b.id ≡ line) (if t then b ∷ filter (is_mine line) begun else filter (is_mine line) begun)
   by_test true is rest = (eqb-true (line_of_id b.id) line is, rest)
   by_test false is rest = rest
 
-one_mine : (line : ℕ) (one : Reached) (begun : List Issued) → line_of_id one.asked.id ≡ line → OneOf (IsAsSent one) begun → OneOf (IsAsSent one) (filter (is_mine line) begun)
+one_mine : (line : ℕ) (one : Reached) (begun : List Begun) → line_of_id one.asked.id ≡ line → OneOf (IsAsSent one) begun → OneOf (IsAsSent one) (filter (is_mine line) begun)
 one_mine line one [] is none = none
 one_mine line one (b ∷ begun) is found = by_test (is_mine line b) refl found (one_mine line one begun is) where
   by_test : (t : Bool) → is_mine line b ≡ t → OneOf (IsAsSent one) (b ∷ begun) → (OneOf (IsAsSent one) begun → OneOf (IsAsSent one) (filter (is_mine line) begun))
@@ -105,7 +105,7 @@ one_mine line one (b ∷ begun) is found = by_test (is_mine line b) refl found (
   by_test false e (inl here) rest = absurd (let same : (line_of_id b.id == line) ≡ true = eq-eqb (line_of_id b.id) line (ap (λ (id : ℕ). line_of_id id) here.0 ∙ is) in cc)
   by_test false e (inr behind) rest = rest behind
 
-taken_each : (line : ℕ) (own : List Issued) (taken : List Reached) → Each (λ (one : Reached). OneOf (IsAsSent one) own) taken
+taken_each : (line : ℕ) (own : List Begun) (taken : List Reached) → Each (λ (one : Reached). OneOf (IsAsSent one) own) taken
     → Each (λ (one : Reached). OneOf (IsAsSent one) (filter (is_mine line) own)) (filter (is_of_line line) taken)
 taken_each line own [] each = tt
 taken_each line own (one ∷ taken) each = by_test (is_of_line line one) refl (taken_each line own taken each.1) where
@@ -125,22 +125,22 @@ taken_mine line id (one ∷ taken) is found = by_test (is_of_line line one) refl
   by_test false e (inl here) rest = absurd (let same : (line_of_id one.asked.id == line) ≡ true = eq-eqb (line_of_id one.asked.id) line (ap (λ (i : ℕ). line_of_id i) here ∙ is) in cc)
   by_test false e (inr behind) rest = rest behind
 
-pub settled_taken : (line : ℕ) (taken : List Reached) (begun : List Issued) → Each (λ (b : Issued). WasTaken taken b.id) begun → Each (λ (b : Issued). line_of_id b.id ≡ line) begun
+pub settled_taken : (line : ℕ) (taken : List Reached) (begun : List Begun) → Each (λ (b : Begun). WasTaken taken b.id) begun → Each (λ (b : Begun). line_of_id b.id ≡ line) begun
     → Each (λ (id : ℕ). In id (taken_ids (line_taken line taken))) (begun_ids begun)
 settled_taken line taken [] was of = tt
 settled_taken line taken (b ∷ begun) was of = (taken_mine line b.id taken of.0 was.0, settled_taken line taken begun was.1 of.1)
 
 -- each of the line's that was taken began
-pub taken_began : (begun : List Issued) (taken : List Reached) → Each (λ (one : Reached). OneOf (IsAsSent one) begun) taken → Each (λ (id : ℕ). In id (begun_ids begun)) (taken_ids taken)
+pub taken_began : (begun : List Begun) (taken : List Reached) → Each (λ (one : Reached). OneOf (IsAsSent one) begun) taken → Each (λ (id : ℕ). In id (begun_ids begun)) (taken_ids taken)
 taken_began begun [] each = tt
 taken_began begun (one ∷ taken) each =
-    (in_mapped (λ (b : Issued). b.id) one.asked.id begun (one_weaker (IsAsSent one) (λ (b : Issued). b.id ≡ one.asked.id) (λ b is. is.0) begun each.0), taken_began begun taken each.1)
+    (in_mapped (λ (b : Begun). b.id) one.asked.id begun (one_weaker (IsAsSent one) (λ (b : Begun). b.id ≡ one.asked.id) (λ b is. is.0) begun each.0), taken_began begun taken each.1)
 
 abbrev IsFinal : (ℕ → Type 0) → Response → Type 0
 IsFinal A response = 200 ≤ response.code → A response.id
 
-hear_finals : (setup : Setup) (A : ℕ → Type 0) (arrivals : List Arrival)
-    → Each (λ (a : Arrival). (code id : ℕ) (params : List Param) (body : List ℕ) → a.outcome ≡ message (messages.Response code id params body) → 200 ≤ code → A id) arrivals
+hear_finals : (setup : Setup) (A : ℕ → Type 0) (arrivals : List TextArrival)
+    → Each (λ (a : TextArrival). (code id : ℕ) (params : List Param) (body : List ℕ) → a.outcome ≡ message (messages.Response code id params body) → 200 ≤ code → A id) arrivals
     → AllHear setup (IsFinal A) arrivals
 hear_finals setup A [] each = tt
 hear_finals setup A (a ∷ arrivals) each = (by_outcome a.outcome each.0, hear_finals setup A arrivals each.1) where
@@ -167,24 +167,24 @@ known setup line some steps set_up taken few =
     let well = each_from_all (IsWell setup) (sent_of setup w.gateway_took) (sent_well setup set_up w.gateway_took) in
     let mine : filter (is_mine line) (own_in setup w) ≡ line_begun setup line w.gateway_took = mine_is setup line (sent_of setup w.gateway_took) well in
     let A : ℕ → Type 0 = WasTaken (taken_in w) in
-    let Q : Reached → Type 0 = λ one. Any (λ (b : Issued). (b.id ≡ one.asked.id) × (one.outcome ≡ read_text b.text)) (own_in setup w) in
-    let P : Arrival → Type 0 = λ a. (code id : ℕ) (params : List Param) (body : List ℕ) → a.outcome ≡ message (messages.Response code id params body) → 200 ≤ code → Any (λ (one : Reached). one.asked.id ≡ id) (taken_in w) in
+    let Q : Reached → Type 0 = λ one. Any (λ (b : Begun). (b.id ≡ one.asked.id) × (one.outcome ≡ read_text b.text)) (own_in setup w) in
+    let P : TextArrival → Type 0 = λ a. (code id : ℕ) (params : List Param) (body : List ℕ) → a.outcome ≡ message (messages.Response code id params body) → 200 ≤ code → Any (λ (one : Reached). one.asked.id ≡ id) (taken_in w) in
     let sent : Each (λ (one : Reached). OneOf (IsAsSent one) (own_in setup w)) (taken_in w) =
     each_weaker Q (λ (one : Reached). OneOf (IsAsSent one) (own_in setup w)) (λ one any. one_from_any (IsAsSent one) (own_in setup w) any) (taken_in w)
     (each_from_all Q (taken_in w) (taken_as_sent setup steps set_up taken)) in
     let finals : AllHear setup (IsFinal A) (arrivals_of w.gateway_took) =
     hear_finals setup A (arrivals_of w.gateway_took)
-    (each_weaker P (λ (a : Arrival). (code id : ℕ) (params : List Param) (body : List ℕ) → a.outcome ≡ message (messages.Response code id params body) → 200 ≤ code → A id)
+    (each_weaker P (λ (a : TextArrival). (code id : ℕ) (params : List Param) (body : List ℕ) → a.outcome ≡ message (messages.Response code id params body) → 200 ≤ code → A id)
     (λ a all. λ code id params body is high. one_from_any (λ (one : Reached). one.asked.id ≡ id) (taken_in w) (all code id params body is high)) (arrivals_of w.gateway_took)
     (each_from_all P (arrivals_of w.gateway_took) (heard_was_taken setup steps set_up taken))) in
     record {
-      apart = subst (λ (x : List Issued). Apart (begun_ids x)) mine
-          (apart_filtered (λ (b : Issued). b.id) (is_mine line) (own_in setup w)
-          (apart_from (λ (b : Issued). b.id) (own_in setup w) ((world_linked setup steps set_up taken).links.gateway.stands.logged.apart few)));
+      apart = subst (λ (x : List Begun). Apart (begun_ids x)) mine
+          (apart_filtered (λ (b : Begun). b.id) (is_mine line) (own_in setup w)
+          (apart_from (λ (b : Begun). b.id) (own_in setup w) ((world_linked setup steps set_up taken).links.gateway.stands.logged.apart few)));
       once = apart_filtered (λ (one : Reached). one.asked.id) (is_of_line line) (taken_in w)
           (apart_from (λ (one : Reached). one.asked.id) (taken_in w) (taken_once setup steps set_up taken few));
-      mine = subst (Each (λ (b : Issued). line_of_id b.id ≡ line)) mine (mine_each line (own_in setup w));
-      as_sent = subst (λ (x : List Issued). Each (λ (one : Reached). OneOf (IsAsSent one) x) (line_taken line (taken_in w))) mine (taken_each line (own_in setup w) (taken_in w) sent);
+      mine = subst (Each (λ (b : Begun). line_of_id b.id ≡ line)) mine (mine_each line (own_in setup w));
+      as_sent = subst (λ (x : List Begun). Each (λ (one : Reached). OneOf (IsAsSent one) x) (line_taken line (taken_in w))) mine (taken_each line (own_in setup w) (taken_in w) sent);
       flies = (events_stand setup (IsFinal A) (FliesBeside A (Unit {0})) (flight_turns A (Unit {0}) setup) line some (opening setup) [] [] 0 w.gateway_took finals
           (opening_stands setup A line some)).holds;
     }
@@ -243,7 +243,7 @@ module _ (setup : Setup) (line : ℕ) (some : 1 ≤ line) where
   gateway_matches : (took : List GatewayEvent) (event : GatewayEvent) (taken : List Reached)
       → ((s : Station) → station_at (plain setup took).endpoints line ≡ Some s → Flies (WasTaken taken) (Unit {0}) (line_sent setup line took) s)
       → Apart (begun_ids (line_begun setup line (took ++ event ∷ [])))
-      → Each (λ (b : Issued). line_of_id b.id ≡ line) (line_begun setup line (took ++ event ∷ []))
+      → Each (λ (b : Begun). line_of_id b.id ≡ line) (line_begun setup line (took ++ event ∷ []))
       → Each (λ (one : Reached). OneOf (IsAsSent one) (line_begun setup line took)) (line_taken line taken)
       → ((s : Station) → station_at (plain setup (took ++ event ∷ [])).endpoints line ≡ Some s → Flies (WasTaken taken) (Unit {0}) (line_sent setup line (took ++ event ∷ [])) s)
       → MatchesBy setup line took taken → MatchesBy setup line (took ++ event ∷ []) taken
@@ -251,7 +251,7 @@ module _ (setup : Setup) (line : ℕ) (some : 1 ≤ line) where
     there : station_at (machine_after setup (plain setup took) (event ∷ [])).endpoints line ≡ Some s'
     there = ap (λ (m : Machine). station_at m.endpoints line) (sym (machine_on setup (opening setup) took (event ∷ []))) ∙ at'
 
-    new : List Issued
+    new : List Begun
     new = begun_in (of_line line (sent_from setup (plain setup took) (event ∷ [])))
 
     sent_is : line_sent setup line (took ++ event ∷ []) ≡ line_sent setup line took ++ of_line line (sent_from setup (plain setup took) (event ∷ []))
@@ -261,7 +261,7 @@ module _ (setup : Setup) (line : ℕ) (some : 1 ≤ line) where
     begun_is = ap begun_in sent_is ∙ flat_map-append begun_at (line_sent setup line took) (of_line line (sent_from setup (plain setup took) (event ∷ [])))
 
     ids_are : begun_ids (line_begun setup line (took ++ event ∷ [])) ≡ begun_ids (line_begun setup line took) ++ begun_ids new
-    ids_are = ap begun_ids begun_is ∙ map-append (λ (b : Issued). b.id) (line_begun setup line took) new
+    ids_are = ap begun_ids begun_is ∙ map-append (λ (b : Begun). b.id) (line_begun setup line took) new
 
     fine : Fine (WasTaken taken) (Unit {0}) (line_sent setup line (took ++ event ∷ [])) s'.post.restart s'.post.pending
     fine = gave_nothing_up (WasTaken taken) (Unit {0}) (line_sent setup line (took ++ event ∷ [])) s' (flies s' at') none
@@ -269,12 +269,12 @@ module _ (setup : Setup) (line : ℕ) (some : 1 ≤ line) where
     settled_in : Each (λ (id : ℕ). In id (taken_ids (line_taken line taken))) (begun_ids fine.settled)
     settled_in =
         settled_taken line taken fine.settled fine.answered
-        (each_front (λ (b : Issued). line_of_id b.id ≡ line) fine.settled (flying s'.post.pending) (subst (Each (λ (b : Issued). line_of_id b.id ≡ line)) fine.split mine))
+        (each_front (λ (b : Begun). line_of_id b.id ≡ line) fine.settled (flying s'.post.pending) (subst (Each (λ (b : Begun). line_of_id b.id ≡ line)) fine.split mine))
 
     whole : (pending : Option InFlight) → s'.post.pending ≡ pending
         → begun_ids (line_begun setup line took) ++ begun_ids new ≡ begun_ids fine.settled ++ begun_ids (flying pending)
     whole pending is =
-        sym ids_are ∙ ap begun_ids fine.split ∙ map-append (λ (b : Issued). b.id) fine.settled (flying s'.post.pending)
+        sym ids_are ∙ ap begun_ids fine.split ∙ map-append (λ (b : Begun). b.id) fine.settled (flying s'.post.pending)
         ∙ ap (λ (p : Option InFlight). begun_ids fine.settled ++ begun_ids (flying p)) is
 
     by_pending : (pending : Option InFlight) → s'.post.pending ≡ pending → Matches (begun_ids (line_begun setup line took)) (taken_ids (line_taken line taken))
@@ -323,7 +323,7 @@ module _ (setup : Setup) (line : ℕ) (some : 1 ≤ line) where
       subst (λ (events : List GatewayEvent). MatchesBy setup line events (taken_in w')) (sym took)
       (subst (MatchesBy setup line (w.gateway_took ++ event ∷ [])) (sym taken)
       (gateway_matches w.gateway_took event (taken_in w) k.flies (subst (λ (events : List GatewayEvent). Apart (begun_ids (line_begun setup line events))) took k'.apart)
-      (subst (λ (events : List GatewayEvent). Each (λ (b : Issued). line_of_id b.id ≡ line) (line_begun setup line events)) took k'.mine) k.as_sent
+      (subst (λ (events : List GatewayEvent). Each (λ (b : Begun). line_of_id b.id ≡ line) (line_begun setup line events)) took k'.mine) k.as_sent
       (subst (λ (x : List Reached). (s : Station) → station_at (plain setup (w.gateway_took ++ event ∷ [])).endpoints line ≡ Some s
       → Flies (WasTaken x) (Unit {0}) (line_sent setup line (w.gateway_took ++ event ∷ [])) s) taken
       (subst (λ (events : List GatewayEvent). (s : Station) → station_at (plain setup events).endpoints line ≡ Some s

@@ -5,7 +5,7 @@ use Rattle.event_values.specs.declared.observed.Observed.{Observed}
 use Rattle.mgcp_text.specs.Reading.{read_text}
 use Rattle.mg_line.specs.declared.phone.Act.TheVariants.{OffHook, Key}
 use Rattle.mg_line.specs.declared.phone.Key.TheVariants.{Five}
-use Rattle.outbound.specs.Flight.{InFlight, begun}
+use Rattle.outbound.specs.Flight.{InFlight, sent_first}
 use Rattle.plain_machine.specs.declared.station.Station.{Station}
 use Rattle.plain_machine.specs.Event.{GatewayEvent, phone}
 use Rattle.plain_machine.specs.Example.{agent, two_lines, ready}
@@ -33,7 +33,7 @@ reporting verb id = verb ++ codes " " ++ decimal id ++ codes " aaln/1@rgw.exampl
 
 -- the notification with this id, in flight, and as it was taken
 abbrev pub flying : ℕ → InFlight
-flying id = begun id agent (reporting (codes "NTFY") id) 1000
+flying id = sent_first id agent (reporting (codes "NTFY") id) 1000
 
 abbrev pub taken_as : ℕ → Reached
 taken_as id = record {

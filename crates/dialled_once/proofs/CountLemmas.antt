@@ -12,8 +12,8 @@ use Rattle.event_values.specs.declared.observed.Observed.TheVariants.{Happened, 
 use Rattle.event_requests.specs.Choice.{is_kept}
 use Rattle.quarantine.specs.Held.{Held, most_lost, one_lost, one_kept, holding}
 use Rattle.signals.specs.Stopping.{without}
-use Rattle.mg_line.specs.declared.due.Due.{Due}
-use Rattle.mg_line.specs.declared.due.Due.TheVariants.{DigitTimer, SignalEnd}
+use Rattle.mg_line.specs.declared.due.LineDue.{LineDue}
+use Rattle.mg_line.specs.declared.due.LineDue.TheVariants.{DigitTimer, SignalEnd}
 use Rattle.mg_line.specs.declared.phone.Act.{Act}
 use Rattle.mg_line.specs.declared.phone.Act.TheVariants.{OffHook, OnHook, Flash, Key}
 use Rattle.mg_line.specs.declared.state.State.{State}
@@ -65,7 +65,7 @@ ended_counts TimeOut signal line moment few = detected_counts line (Ended signal
 ended_counts Brief signal line moment few = few
 ended_counts OnOff signal line moment few = few
 
-pub fires_count : (line : LineState) (due : Due) (moment : ℕ) → IsCounted line → IsCounted (fired line due moment).line
+pub fires_count : (line : LineState) (due : LineDue) (moment : ℕ) → IsCounted line → IsCounted (fired line due moment).line
 unfolding fired
 fires_count line DigitTimer moment few = detected_counts (record line { timer = None }) (Happened (events.Letter letters.Timer)) moment few
 fires_count line (SignalEnd signal) moment few = ended_counts (kind_of signal) signal (record line { signals = without signal line.signals }) moment few

@@ -12,7 +12,7 @@ use Rattle.mgcp_text.specs.declared.message.Message.TheVariants as messages
 use Rattle.mgcp_text.specs.declared.message.Param.{Param}
 use Rattle.mgcp_text.specs.Reading.{Outcome, message, no_header, bad_version, bad_body, read_text}
 use Rattle.history.specs.declared.span.IdSpan.{IdSpan}
-use Rattle.history.specs.Looking.{Told as Looked, new, repeat, confirmed, full, look_of}
+use Rattle.history.specs.Looking.{Looked, new, repeat, confirmed, full, look_of}
 use Rattle.history.specs.Memory.{most_firsts}
 use Rattle.transmission.specs.Confirming.{spans_of}
 use Rattle.transmission.specs.Texts.{texts_of}
@@ -37,8 +37,8 @@ use Rattle.restart.specs.declared.restart.Restart.TheVariants.{Waiting, Announce
 use Rattle.restart.specs.declared.heard.Heard.{Heard}
 use Rattle.restart.specs.declared.heard.Heard.TheVariants.{Nothing, PutOff, Redirected, Answered}
 use Rattle.restart.specs.Restarting.{is_serving}
-use Rattle.plain_machine.specs.declared.due_item.Due.{Due}
-use Rattle.plain_machine.specs.declared.due_item.Due.TheVariants.{OfLine, Resend, Announce}
+use Rattle.plain_machine.specs.declared.due_item.StationDue.{StationDue}
+use Rattle.plain_machine.specs.declared.due_item.StationDue.TheVariants.{OfLine, Resend, Announce}
 use Rattle.plain_machine.specs.declared.due_item.DueItem.{DueItem}
 use Rattle.plain_machine.specs.declared.line_deed.LineDeed.{LineDeed}
 use Rattle.plain_machine.specs.declared.own.Own.{Own}
@@ -48,7 +48,7 @@ use Rattle.plain_machine.specs.declared.station.Station.{Station}
 use Rattle.plain_machine.specs.Acting.{acted_on, acted}
 use Rattle.plain_machine.specs.Announcing.{announcement, announced, announced_by, heard_by, heard_on, replied}
 use Rattle.plain_machine.specs.Answering.{line_of_name, transaction, executed, transacted_by, handled, took_all}
-use Rattle.plain_machine.specs.Arriving.{Arrival, arrival, arrivals_at, arrivals_from, clock_after}
+use Rattle.plain_machine.specs.Arriving.{TextArrival, arrival, arrivals_at, arrivals_from, clock_after}
 use Rattle.plain_machine.specs.Commanding.{line_deed, done_by, commanded}
 use Rattle.plain_machine.specs.Done.{Done, only_answer}
 use Rattle.plain_machine.specs.Event.{GatewayEvent, datagram, phone, tick}
@@ -79,7 +79,7 @@ use Rattle.dialled_once.proofs.StationLemmas.{steps_in, Calls, Goes, act_goes, d
 -- The gateway itself serves on, or not yet
 
 -- while it serves it has nothing in flight, and so it stays at what falls due
-free_happens : (setup : Setup) (due : Due) (moment : ℕ) (own : Own) → IsFree own → IsFree (own_happened due setup moment own).own
+free_happens : (setup : Setup) (due : StationDue) (moment : ℕ) (own : Own) → IsFree own → IsFree (own_happened due setup moment own).own
 unfolding own_happened announced
 free_happens setup (OfLine due) moment own free = free
 free_happens setup Resend moment own free = by_serving (is_serving own.post.restart) refl where
@@ -151,11 +151,11 @@ Hears setup H (bad_body id) = Unit {0}
 Hears setup H (message (messages.Command verb id name params body)) = Unit {0}
 Hears setup H (message (messages.Response code id params body)) = H (response_with setup id code params)
 
-abbrev pub AllHear : Setup → (Response → Type 0) → List Arrival → Type 0
-AllHear setup H arrivals = Each (λ (a : Arrival). Hears setup H a.outcome) arrivals
+abbrev pub AllHear : Setup → (Response → Type 0) → List TextArrival → Type 0
+AllHear setup H arrivals = Each (λ (a : TextArrival). Hears setup H a.outcome) arrivals
 
 -- where it holds of all
-pub hear_all : (setup : Setup) (H : Response → Type 0) → ((response : Response) → H response) → (arrivals : List Arrival) → AllHear setup H arrivals
+pub hear_all : (setup : Setup) (H : Response → Type 0) → ((response : Response) → H response) → (arrivals : List TextArrival) → AllHear setup H arrivals
 hear_all setup H all [] = tt
 hear_all setup H all (a ∷ arrivals) = (by_outcome a.outcome, hear_all setup H all arrivals) where
   by_outcome : (outcome : Outcome) → Hears setup H outcome
@@ -515,7 +515,7 @@ module _ (setup : Setup) (H : Response → Type 0) (G : Bool → List Step → L
   events_stand m course sent now [] hears s = record { order = s.order; holds = padded m.endpoints course sent s.holds }
   events_stand m course sent now (event ∷ events) hears s =
       let next : Machine = (effect setup m event).machine in
-      let Q : Arrival → Type 0 = λ a. Hears setup H a.outcome in
+      let Q : TextArrival → Type 0 = λ a. Hears setup H a.outcome in
       both_stand course (course_at setup m line event) (course_from setup next line events) sent (effect setup m event).sent (sent_from setup next events) (machine_after setup next events)
       (events_stand next (course ++ course_at setup m line event) (sent ++ of_line line (effect setup m event).sent) (clock_after now event) events
       (each_back Q (arrivals_at now event) (arrivals_from (clock_after now event) events) hears)

@@ -20,8 +20,8 @@ use Rattle.event_syntax.specs.declared.request.Response.TheVariants.{Plain, Embe
 use Rattle.event_requests.specs.Choice.{Chosen, chosen}
 use Rattle.event_requests.specs.Naming.{event_of}
 use Rattle.signals.specs.Stopping.{without}
-use Rattle.mg_line.specs.declared.due.Due.{Due}
-use Rattle.mg_line.specs.declared.due.Due.TheVariants.{DigitTimer, SignalEnd}
+use Rattle.mg_line.specs.declared.due.LineDue.{LineDue}
+use Rattle.mg_line.specs.declared.due.LineDue.TheVariants.{DigitTimer, SignalEnd}
 use Rattle.mg_line.specs.declared.phone.Act.{Act}
 use Rattle.mg_line.specs.declared.phone.Act.TheVariants.{OffHook, OnHook, Flash, Key}
 use Rattle.mg_line.specs.declared.request.Request.{Request}
@@ -145,7 +145,7 @@ ended_same TimeOut signal line moment = detected_same line (Ended signal) moment
 ended_same Brief signal line moment = still_same line
 ended_same OnOff signal line moment = still_same line
 
-fired_same : (line : LineState) (due : Due) (moment : ℕ) → Same line (fired line due moment)
+fired_same : (line : LineState) (due : LineDue) (moment : ℕ) → Same line (fired line due moment)
 unfolding fired
 fired_same line DigitTimer moment = detected_same (record line { timer = None }) (Happened (events.Letter Timer)) moment
 fired_same line (SignalEnd signal) moment =
@@ -189,7 +189,7 @@ ended_waits TimeOut signal line moment waits = detected_waits line (Ended signal
 ended_waits Brief signal line moment waits = record { waits = waits; renewed = refl }
 ended_waits OnOff signal line moment waits = record { waits = waits; renewed = refl }
 
-fired_waits : (line : LineState) (due : Due) (moment : ℕ) → IsWaiting line.state → WaitsOn line (fired line due moment)
+fired_waits : (line : LineState) (due : LineDue) (moment : ℕ) → IsWaiting line.state → WaitsOn line (fired line due moment)
 unfolding fired
 fired_waits line DigitTimer moment waits =
     let h = detected_waits (record line { timer = None }) (Happened (events.Letter Timer)) moment waits in record { waits = h.waits; renewed = h.renewed }

@@ -20,8 +20,8 @@ use Rattle.event_requests.specs.Naming.{event_of}
 use Rattle.quarantine.specs.Held.{Held, one_lost, one_kept, holding}
 use Rattle.signals.specs.Due.{due_first}
 use Rattle.signals.specs.Stopping.{without}
-use Rattle.mg_line.specs.declared.due.Due.{Due}
-use Rattle.mg_line.specs.declared.due.Due.TheVariants.{DigitTimer, SignalEnd}
+use Rattle.mg_line.specs.declared.due.LineDue.{LineDue}
+use Rattle.mg_line.specs.declared.due.LineDue.TheVariants.{DigitTimer, SignalEnd}
 use Rattle.mg_line.specs.declared.phone.Act.{Act}
 use Rattle.mg_line.specs.declared.phone.Act.TheVariants.{OffHook, OnHook, Flash, Key}
 use Rattle.mg_line.specs.declared.phone.Key.{Key as OneKey}
@@ -299,7 +299,7 @@ no_timer : (timer : Option ℕ) (ends : Option (ℕ × Signal)) (at : ℕ) → t
 no_timer (Some end) ends at none e = cc
 no_timer None None at none e = cc
 no_timer None (Some first) at none e = let clash : is_digit (Some (signal_end first)) ≡ true = ap is_digit e in cc where
-  is_digit : Option (ℕ × Due) → Bool
+  is_digit : Option (ℕ × LineDue) → Bool
   is_digit None = false
   is_digit (Some (at, DigitTimer)) = true
   is_digit (Some (at, SignalEnd signal)) = false
@@ -367,7 +367,7 @@ with_signals_keeps : (line : LineState) (signal : Signal) → KeepsAll line → 
 with_signals_keeps line signal k =
     record { asked = k.asked; untimed = k.untimed; accumulated = k.accumulated; of_phone = k.of_phone; normal = k.normal }
 
-fired_keeps : (line : LineState) (at : ℕ) (due : Due) (moment : ℕ) → KeepsAll line → due_of line ≡ Some (at, due) → Conserves line [] (fired line due moment)
+fired_keeps : (line : LineState) (at : ℕ) (due : LineDue) (moment : ℕ) → KeepsAll line → due_of line ≡ Some (at, due) → Conserves line [] (fired line due moment)
 unfolding due_of fired
 fired_keeps line at DigitTimer moment k is = absurd (no_timer line.timer (due_first line.signals) at k.untimed is)
 fired_keeps line at (SignalEnd signal) moment k is =
@@ -569,7 +569,7 @@ untouched_ended TimeOut signal line moment u = untouched_detected line.state lin
 untouched_ended Brief signal line moment u = record { line = u; told = refl }
 untouched_ended OnOff signal line moment u = record { line = u; told = refl }
 
-untouched_fired : (line : LineState) (at : ℕ) (due : Due) (moment : ℕ) → IsUntouched line → due_of line ≡ Some (at, due) → StaysUntouched (fired line due moment)
+untouched_fired : (line : LineState) (at : ℕ) (due : LineDue) (moment : ℕ) → IsUntouched line → due_of line ≡ Some (at, due) → StaysUntouched (fired line due moment)
 unfolding due_of fired
 untouched_fired line at DigitTimer moment u is = absurd (no_timer line.timer (due_first line.signals) at u.untimed is)
 untouched_fired line at (SignalEnd signal) moment u is =

@@ -24,8 +24,8 @@ use Rattle.event_requests.specs.Choice.{Chosen, chosen, is_kept}
 use Rattle.event_requests.specs.Naming.{event_of}
 use Rattle.quarantine.specs.Held.{Held, one_lost, one_kept, holding}
 use Rattle.signals.specs.Stopping.{without}
-use Rattle.mg_line.specs.declared.due.Due.{Due}
-use Rattle.mg_line.specs.declared.due.Due.TheVariants.{DigitTimer, SignalEnd}
+use Rattle.mg_line.specs.declared.due.LineDue.{LineDue}
+use Rattle.mg_line.specs.declared.due.LineDue.TheVariants.{DigitTimer, SignalEnd}
 use Rattle.mg_line.specs.declared.phone.Act.{Act}
 use Rattle.mg_line.specs.declared.phone.Act.TheVariants.{OffHook, OnHook, Flash, Key}
 use Rattle.mg_line.specs.declared.phone.Key.{Key as OneKey}
@@ -231,7 +231,7 @@ ended_readable TimeOut signal line moment e is = detected_readable line (Ended s
 ended_readable Brief signal line moment e is = still_readable line is
 ended_readable OnOff signal line moment e is = still_readable line is
 
-pub fired_readable : (line : LineState) (due : Due) (moment : ℕ) → IsReadable line → TellsReadable (fired line due moment)
+pub fired_readable : (line : LineState) (due : LineDue) (moment : ℕ) → IsReadable line → TellsReadable (fired line due moment)
 unfolding fired
 fired_readable line DigitTimer moment is =
     detected_readable (record line { timer = None }) (Happened (events.Letter letters.Timer)) moment of_timer (record { accumulated = is.accumulated; quarantined = is.quarantined })

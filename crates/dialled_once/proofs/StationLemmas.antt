@@ -3,7 +3,7 @@ use Rattle.std.proofs.Common.{◌≡◌, ℕ, Bool, true, false, List, [], ◌�
 use Rattle.std.specs.Prelude.{◌⊎◌, flat_map, IfSome}
 use Rattle.endpoint_names.specs.declared.entity.Entity.{Entity}
 use Rattle.event_values.specs.declared.observed.Observed.{Observed}
-use Rattle.mg_line.specs.declared.due.Due.{Due as LineDue}
+use Rattle.mg_line.specs.declared.due.LineDue.{LineDue}
 use Rattle.mg_line.specs.declared.phone.Act.{Act}
 use Rattle.mg_line.specs.declared.request.Request.{Request}
 use Rattle.mg_line.specs.Line.{LineState, Notice, LineDone}
@@ -19,8 +19,8 @@ use Rattle.restart.specs.declared.restart.Restart.{Restart}
 use Rattle.restart.specs.declared.restart.Restart.TheVariants.{Waiting, Announced, Serving}
 use Rattle.restart.specs.declared.heard.Heard.{Heard}
 use Rattle.restart.specs.declared.heard.Heard.TheVariants.{Nothing, PutOff, Redirected, Answered}
-use Rattle.plain_machine.specs.declared.due_item.Due.{Due}
-use Rattle.plain_machine.specs.declared.due_item.Due.TheVariants.{OfLine, Resend, Announce}
+use Rattle.plain_machine.specs.declared.due_item.StationDue.{StationDue}
+use Rattle.plain_machine.specs.declared.due_item.StationDue.TheVariants.{OfLine, Resend, Announce}
 use Rattle.plain_machine.specs.declared.due_item.DueItem.{DueItem}
 use Rattle.plain_machine.specs.declared.line_deed.LineDeed.{LineDeed}
 use Rattle.plain_machine.specs.declared.post.Post.{Post}
@@ -191,7 +191,7 @@ module _ (setup : Setup) (Q : Bool → List Step → LineState → Type 0) where
         → Goes serving course station → TurnGoes serving course (happened_on item.due setup line item.moment station)
     unfolding happened_on
     happened_goes serving course line item station is goes = by_due item.due refl where
-      by_due : (due : Due) → item.due ≡ due → TurnGoes serving course (happened_on due setup line item.moment station)
+      by_due : (due : StationDue) → item.due ≡ due → TurnGoes serving course (happened_on due setup line item.moment station)
       by_due (OfLine due) kind =
           let of = of_the_line line station item due is kind in
           noted_goes serving course line item.moment station (fired station.line due item.moment) (fired_readable station.line due item.moment goes.readable)

@@ -2,7 +2,7 @@
 use Rattle.std.specs.Prelude.{◌≡◌, ℕ, Bool, true, false, codes, List, [], ◌∷◌, None, IfSome}
 use Rattle.event_values.specs.declared.handling.Handling.{Handling}
 use Rattle.event_values.specs.declared.handling.Notifying.TheVariants.{Step as InStep}
-use Rattle.mg_line.specs.declared.due.Due.{Due}
+use Rattle.mg_line.specs.declared.due.LineDue.{LineDue}
 use Rattle.mg_line.specs.declared.phone.Act.{Act}
 use Rattle.mg_line.specs.declared.request.Request.{Request}
 use Rattle.mg_line.specs.Line.{LineState, LineDone}
@@ -60,7 +60,7 @@ pub record FollowsTheLatest : Type 0 where
       → Follows request.identifier request.handling (asked line request moment)
   pub answering : (line : LineState) (moment : ℕ) → Follows line.identifier line.handling (answered line moment)
   pub serving : (line : LineState) (moment : ℕ) → Follows line.identifier line.handling (opened line moment)
-  pub firing : (line : LineState) (due : Due) (moment : ℕ) → Follows line.identifier line.handling (fired line due moment)
+  pub firing : (line : LineState) (due : LineDue) (moment : ℕ) → Follows line.identifier line.handling (fired line due moment)
 
 -- in step, a line that notified, to which no request came since
 pub record IsResting (line : LineState) : Type 0 where
@@ -76,7 +76,7 @@ pub record StaysResting (done : LineDone) : Type 0 where
 pub record RestsUntilAsked : Type 0 where
   pub act : (line : LineState) (act : Act) (moment : ℕ) → IsResting line → StaysResting (phoned line act moment)
   pub answering : (line : LineState) (moment : ℕ) → IsResting line → StaysResting (answered line moment)
-  pub firing : (line : LineState) (due : Due) (moment : ℕ) → IsResting line → StaysResting (fired line due moment)
+  pub firing : (line : LineState) (due : LineDue) (moment : ℕ) → IsResting line → StaysResting (fired line due moment)
 
 abbrev pub RestsIfNotified : LineDone → Type 0
 RestsIfNotified done = IfSome done.notice (λ notice. IsResting done.line)
@@ -88,5 +88,5 @@ pub record RestsOnceNotified : Type 0 where
       → RestsIfNotified (asked line request moment)
   pub answering : (line : LineState) (moment : ℕ) → line.handling.notifying ≡ InStep → RestsIfNotified (answered line moment)
   pub serving : (line : LineState) (moment : ℕ) → line.handling.notifying ≡ InStep → RestsIfNotified (opened line moment)
-  pub firing : (line : LineState) (due : Due) (moment : ℕ) → line.handling.notifying ≡ InStep
+  pub firing : (line : LineState) (due : LineDue) (moment : ℕ) → line.handling.notifying ≡ InStep
       → RestsIfNotified (fired line due moment)

@@ -10,7 +10,7 @@ use Rattle.event_syntax.specs.declared.request.RequestedEvent.{RequestedEvent}
 use Rattle.event_syntax.specs.declared.request.Response.{Response}
 use Rattle.event_syntax.specs.declared.request.Response.TheVariants.{Plain, Embed, AccumulateAndEmbed}
 use Rattle.event_requests.specs.Choice.{chosen}
-use Rattle.mg_line.specs.declared.due.Due.{Due}
+use Rattle.mg_line.specs.declared.due.LineDue.{LineDue}
 use Rattle.mg_line.specs.declared.phone.Act.{Act}
 use Rattle.mg_line.specs.declared.request.Request.{Request}
 use Rattle.mg_line.specs.declared.state.State.TheVariants.{Normal}
@@ -101,7 +101,7 @@ pub record NothingIsSkipped : Type 0 where
       → Conserves line [] (asked line request moment)
   pub answering : (line : LineState) (moment : ℕ) → KeepsAll line → Conserves line [] (answered line moment)
   pub serving : (line : LineState) (moment : ℕ) → KeepsAll line → Conserves line [] (opened line moment)
-  pub firing : (line : LineState) (at : ℕ) (due : Due) (moment : ℕ) → KeepsAll line → due_of line ≡ Some (at, due)
+  pub firing : (line : LineState) (at : ℕ) (due : LineDue) (moment : ℕ) → KeepsAll line → due_of line ≡ Some (at, due)
       → Conserves line [] (fired line due moment)
 
 -- until the telephone does something nothing of it is told, whatever is asked for; and from the first request that asks
@@ -110,7 +110,7 @@ pub record NothingIsMadeUp : Type 0 where
   pub request : (line : LineState) (request : Request) (moment : ℕ) → IsUntouched line → StaysUntouched (asked line request moment)
   pub answering : (line : LineState) (moment : ℕ) → IsUntouched line → StaysUntouched (answered line moment)
   pub serving : (line : LineState) (moment : ℕ) → IsUntouched line → StaysUntouched (opened line moment)
-  pub firing : (line : LineState) (at : ℕ) (due : Due) (moment : ℕ) → IsUntouched line → due_of line ≡ Some (at, due)
+  pub firing : (line : LineState) (at : ℕ) (due : LineDue) (moment : ℕ) → IsUntouched line → due_of line ≡ Some (at, due)
       → StaysUntouched (fired line due moment)
   pub begins : (line : LineState) (request : Request) (moment : ℕ) → AsksForAll request → IsUntouched line
       → Conserves line [] (asked line request moment)

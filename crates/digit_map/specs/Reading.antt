@@ -26,11 +26,11 @@ unfoldable pub map_of : List ℕ → Result (List ℕ) MapFault
 map_of text = checked (fault_of (without_blanks text)) (Ok (without_blanks text))
 
 -- the value or the fault is what is said, unless memory was refused
-abbrev pub AnswersAs : {A : Type 0} → Result A MapFault → Result A MapFault → Type 0
-AnswersAs said (Ok value) = said ≡ Ok value
-AnswersAs said (Err OutOfMemory) = ⊤
-AnswersAs said (Err Syntax) = said ≡ Err Syntax
-AnswersAs said (Err TooLarge) = said ≡ Err TooLarge
+abbrev pub ReadsAs : {A : Type 0} → Result A MapFault → Result A MapFault → Type 0
+ReadsAs said (Ok value) = said ≡ Ok value
+ReadsAs said (Err OutOfMemory) = ⊤
+ReadsAs said (Err Syntax) = said ≡ Err Syntax
+ReadsAs said (Err TooLarge) = said ≡ Err TooLarge
 
 -- the return code that answers a fault: 510 (protocol error) for a text that isn't spelled as a map, 502 (insufficient
 -- resources) for a map that is too large (this gateway's profile); reading doesn't end in want of memory here

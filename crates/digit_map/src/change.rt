@@ -2,7 +2,7 @@
 ghost use Rattle.std.specs.Prelude.{◌≡◌, option_map};
 ghost use Rattle.std.specs.List.{list_all};
 ghost use Rattle.mg_bytes.specs.Blanks.{is_blank};
-ghost use Rattle.digit_map.specs.Reading.{AnswersAs};
+ghost use Rattle.digit_map.specs.Reading.{ReadsAs};
 ghost use Rattle.digit_map.specs.Change.{change_of};
 
 use crate::fault::MapFault;
@@ -33,7 +33,7 @@ fn all_blank(text: &[u8]) -> bool
 /// Want of memory is `OutOfMemory`.
 #[tactic(auto, unfolding(crate::specs::Change::change_of))]
 pub fn read_change(alloc: Global, value: Option<&[u8]>) -> Result<MapChange, MapFault>
-    ensures { AnswersAs (change_of (option_map (λ text. text.now) value.entry)) result }
+    ensures { ReadsAs (change_of (option_map (λ text. text.now) value.entry)) result }
 {
     let Some(text) = value else {
         return Ok(MapChange::Keep);

@@ -6,7 +6,7 @@ ghost use Rattle.std.specs.List.{list_all};
 ghost use Rattle.mg_bytes.specs.Bytes.{left_parenthesis, right_parenthesis};
 ghost use Rattle.digit_map.specs.Cuts.{bar, strings_of, positions_of, set_of, parts_of};
 ghost use Rattle.digit_map.specs.Spelling.{is_position, is_map};
-ghost use Rattle.digit_map.specs.Reading.{map_of, or_code, map_code, code_fault_of, map_fault_number, AnswersAs};
+ghost use Rattle.digit_map.specs.Reading.{map_of, or_code, map_code, code_fault_of, map_fault_number, ReadsAs};
 ghost use Rattle.digit_map.specs.Change.{change_of};
 ghost use Rattle.digit_map.specs.Words.{is_word};
 ghost use Rattle.digit_map.specs.Example.{dialled, verdict, critical, copies, letters_of};
@@ -147,17 +147,17 @@ pub fn maps_have_at_most_2_048_bytes()
 
 /// What is answered is what the text is read as, or that memory was refused; nothing else is.
 pub fn answers_are_what_is_read()
-    ensures map { AnswersAs (Ok (codes "1")) (Ok (codes "1")) }
-    ensures no_map { AnswersAs {A = List ℕ} (Err MapFault.Syntax) (Err MapFault.Syntax) }
-    ensures large { AnswersAs {A = List ℕ} (Err MapFault.TooLarge) (Err MapFault.TooLarge) }
-    ensures memory { AnswersAs (Ok (codes "1")) (Err MapFault.OutOfMemory) }
-    ensures memory_first { AnswersAs {A = List ℕ} (Err MapFault.Syntax) (Err MapFault.OutOfMemory) }
-    ensures other_map { ¬ AnswersAs (Ok (codes "1")) (Ok (codes "2")) }
-    ensures map_of_none { ¬ AnswersAs (Err MapFault.Syntax) (Ok (codes "1")) }
-    ensures false_syntax { ¬ AnswersAs (Ok (codes "1")) (Err MapFault.Syntax) }
-    ensures syntax_for_large { ¬ AnswersAs {A = List ℕ} (Err MapFault.TooLarge) (Err MapFault.Syntax) }
-    ensures false_large { ¬ AnswersAs (Ok (codes "1")) (Err MapFault.TooLarge) }
-    ensures large_for_syntax { ¬ AnswersAs {A = List ℕ} (Err MapFault.Syntax) (Err MapFault.TooLarge) }
+    ensures map { ReadsAs (Ok (codes "1")) (Ok (codes "1")) }
+    ensures no_map { ReadsAs {A = List ℕ} (Err MapFault.Syntax) (Err MapFault.Syntax) }
+    ensures large { ReadsAs {A = List ℕ} (Err MapFault.TooLarge) (Err MapFault.TooLarge) }
+    ensures memory { ReadsAs (Ok (codes "1")) (Err MapFault.OutOfMemory) }
+    ensures memory_first { ReadsAs {A = List ℕ} (Err MapFault.Syntax) (Err MapFault.OutOfMemory) }
+    ensures other_map { ¬ ReadsAs (Ok (codes "1")) (Ok (codes "2")) }
+    ensures map_of_none { ¬ ReadsAs (Err MapFault.Syntax) (Ok (codes "1")) }
+    ensures false_syntax { ¬ ReadsAs (Ok (codes "1")) (Err MapFault.Syntax) }
+    ensures syntax_for_large { ¬ ReadsAs {A = List ℕ} (Err MapFault.TooLarge) (Err MapFault.Syntax) }
+    ensures false_large { ¬ ReadsAs (Ok (codes "1")) (Err MapFault.TooLarge) }
+    ensures large_for_syntax { ¬ ReadsAs {A = List ℕ} (Err MapFault.Syntax) (Err MapFault.TooLarge) }
 {}
 
 /// Without D the map stays; a D of blanks alone removes it; another replaces it, or has the fault of its text.

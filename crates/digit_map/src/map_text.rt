@@ -1,6 +1,6 @@
 //! A digit map, and how it is read.
 ghost use Rattle.std.specs.Prelude.{◌≡◌, IfOk};
-ghost use Rattle.digit_map.specs.Reading.{without_blanks, map_of, AnswersAs};
+ghost use Rattle.digit_map.specs.Reading.{without_blanks, map_of, ReadsAs};
 
 use crate::fault::MapFault;
 use crate::spelling::is_map;
@@ -80,7 +80,7 @@ fn without_blanks(alloc: Global, text: &[u8]) -> Result<Vec<u8>, OutOfMemory>
 /// Another text, an empty one too, is `Syntax`; a map of more than 2,048 bytes without its blanks is `TooLarge`.
 #[tactic(auto, unfolding(crate::specs::Reading::map_of))]
 pub fn read_map(alloc: Global, text: &[u8]) -> Result<MapText, MapFault>
-    ensures { AnswersAs (map_of text.now) result }
+    ensures { ReadsAs (map_of text.now) result }
 {
     let bytes = without_blanks(alloc, text)?;
     if !is_map(&bytes) {

@@ -4,7 +4,7 @@ use Rattle.std.specs.Prelude.{nat_lt, if◌then◌else◌, Bool, Result}
 use Rattle.std.specs.Bool.{OnTrue, OnFalse}
 use Rattle.std.specs.declared.alloc.AllocError.{AllocError}
 use Rattle.history.specs.Memory.{most_firsts}
-use Rattle.history.specs.Looking.{Told as Looked, new, repeat, confirmed, full, look_of}
+use Rattle.history.specs.Looking.{Looked, new, repeat, confirmed, full, look_of}
 use Rattle.mgcp_text.specs.Reading.{message}
 use Rattle.mgcp_text.specs.Writing.{written}
 use Rattle.mgcp_text.specs.Message.{params_in}

@@ -11,7 +11,7 @@ ghost use Rattle.plain_machine.specs.Setup.{most_lines};
 use crate::floor::Floor;
 use gateway_stations::{Context, Occasion, due_on, earlier, happened_on, own_happened, post_due};
 use mg_bytes::OutOfMemory;
-use plain_machine::{Due, DueItem, OutDatagram, Own, Station};
+use plain_machine::{DueItem, OutDatagram, Own, Station, StationDue};
 
 /// What falls due first of all. It takes no memory.
 #[tactic(auto, unfolding(plain_machine::specs::Falling::first_due))]
@@ -52,7 +52,7 @@ fn happen_on_line(
     context: Context<'_>,
     floor: &mut Floor,
     occasion: Occasion,
-    due: Due,
+    due: StationDue,
     out: &mut Vec<OutDatagram>,
 ) -> Result<(), OutOfMemory>
     requires { MayTell context.setup.now occasion.moment }
@@ -73,7 +73,7 @@ fn happen_itself(
     context: Context<'_>,
     floor: &mut Floor,
     moment: u64,
-    due: Due,
+    due: StationDue,
     out: &mut Vec<OutDatagram>,
 ) -> Result<(), OutOfMemory>
     requires { MayTell context.setup.now moment }

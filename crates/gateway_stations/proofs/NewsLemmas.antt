@@ -2,7 +2,7 @@
 use Rattle.std.proofs.Common.{◌≡◌, ℕ, Result, Ok, Err, refl}
 use Rattle.mg_bytes.specs.declared.code_fault.CodeFault.TheVariants.{OutOfMemory, Code}
 use Rattle.mg_bytes.specs.CodeFault.{answer_of}
-use Rattle.connections.specs.Standing.{Standing, Done as Left, left_by, left_of, answered_by, whether}
+use Rattle.connections.specs.Standing.{Standing, Left, left_by, left_of, answered_by, whether}
 use Rattle.plain_machine.specs.Connecting.{Shown, showing, showing_what}
 
 -- no call on connections wants memory

@@ -7,8 +7,8 @@ use Rattle.restart.specs.declared.restart.Restart.{Restart}
 use Rattle.restart.specs.declared.restart.Restart.TheVariants.{Waiting, Announced, Serving}
 use Rattle.restart.specs.declared.heard.Heard.{Heard}
 use Rattle.restart.specs.declared.heard.Heard.TheVariants.{Nothing, PutOff, Redirected, Answered}
-use Rattle.plain_machine.specs.declared.due_item.Due.{Due}
-use Rattle.plain_machine.specs.declared.due_item.Due.TheVariants.{OfLine, Resend, Announce}
+use Rattle.plain_machine.specs.declared.due_item.StationDue.{StationDue}
+use Rattle.plain_machine.specs.declared.due_item.StationDue.TheVariants.{OfLine, Resend, Announce}
 use Rattle.plain_machine.specs.declared.own.Own.{Own}
 use Rattle.plain_machine.specs.declared.response.Response.{Response}
 use Rattle.plain_machine.specs.declared.setup.Setup.{Setup}
@@ -26,7 +26,7 @@ use Rattle.gateway_stations.specs.Turns.{OwnHasTurn}
 next_id : (number : ℕ) → HasId 0 number → HasId 0 (number_after 0 number)
 next_id number has = record { some = next_some 0 number has.some; few = has.few }
 
-happened_has : (due : Due) (setup : Setup) (moment : ℕ) (own : Own) → HasId 0 own.post.number → HasId 0 (own_happened due setup moment own).own.post.number
+happened_has : (due : StationDue) (setup : Setup) (moment : ℕ) (own : Own) → HasId 0 own.post.number → HasId 0 (own_happened due setup moment own).own.post.number
 unfolding own_happened announced
 happened_has (OfLine due) setup moment own has = has
 happened_has Resend setup moment own has = by_pending own.post.pending where
@@ -53,7 +53,7 @@ responded_has setup moment response own has = by_heard (heard_on own.post respon
   by_heard (Answered agent) = has
 
 -- of what it becomes at its turn
-pub happened_id : (due : Due) (setup : Setup) (moment : ℕ) (own becomes : Own) (were are : List OutDatagram) → HasId 0 own.post.number
+pub happened_id : (due : StationDue) (setup : Setup) (moment : ℕ) (own becomes : Own) (were are : List OutDatagram) → HasId 0 own.post.number
     → OwnHasTurn (own_happened due setup moment own) becomes were are → HasId 0 becomes.post.number
 happened_id due setup moment own becomes were are has turn = subst (λ (o : Own). HasId 0 o.post.number) (sym turn.own) (happened_has due setup moment own has)
 

@@ -14,7 +14,7 @@ use Rattle.endpoint_names.specs.Name.{name_text}
 use Rattle.endpoint_names.specs.Table.{is_domain}
 use Rattle.outbound.specs.declared.repeat.Repeat.{Repeat}
 use Rattle.outbound.specs.declared.repeat.Repeat.TheVariants.{Sent as SentAgain, GivenUp}
-use Rattle.outbound.specs.Flight.{InFlight, repeat_of, repeated_as, repeated}
+use Rattle.outbound.specs.Flight.{InFlight, repeat_of, again_as, repeated}
 use Rattle.transmission.specs.declared.output.OutDatagram.{OutDatagram}
 use Rattle.plain_machine.specs.declared.post.Post.{Post}
 use Rattle.plain_machine.specs.declared.setup.Setup.{Setup}
@@ -62,7 +62,7 @@ announcement_writable setup id line name params some short is small named all = 
 kept_to : (message : InFlight) (moment : ℕ) → ((repeated message moment).to ≡ message.to) × ((repeated message moment).text ≡ message.text)
 unfolding repeated
 kept_to message moment = by_repeat (repeat_of message moment) where
-  by_repeat : (repeat : Repeat) → ((repeated_as repeat message moment).to ≡ message.to) × ((repeated_as repeat message moment).text ≡ message.text)
+  by_repeat : (repeat : Repeat) → ((again_as repeat message moment).to ≡ message.to) × ((again_as repeat message moment).text ≡ message.text)
   by_repeat SentAgain = (refl, refl)
   by_repeat GivenUp = (refl, refl)
 

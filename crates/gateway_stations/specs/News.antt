@@ -1,6 +1,6 @@
 -- What a deed made of the connections of a line, and what there is to be told of them.
 use Rattle.std.specs.Prelude.{[], ◌∷◌, Some, Result, Ok, Err, ℕ}
-use Rattle.connections.specs.Standing.{Done as Left}
+use Rattle.connections.specs.Standing.{Left}
 use Rattle.plain_machine.specs.Connecting.{Shown, nothing_shown, created_shown, modified_shown, counts_param}
 use Rattle.gateway_stations.specs.declared.connecting.Connected.{Connected}
 use Rattle.gateway_stations.specs.declared.connecting.News.{News}

@@ -2,7 +2,7 @@
 ghost use Rattle.std.specs.Prelude.{◌≡◌, true, codes, Ok, IfOk};
 ghost use Rattle.std.specs.List.{list_all};
 ghost use Rattle.mgcp_text.specs.Writing.{is_writable_param, is_writable_body};
-ghost use Rattle.sdp_subset.specs.Writing.{written};
+ghost use Rattle.sdp_subset.specs.Writing.{session_text};
 ghost use Rattle.connections.specs.Standing.{left_by, created, modified, deleted};
 ghost use Rattle.plain_machine.specs.Connecting.{id_param, counts_param, created_shown, modified_shown, deleted_shown};
 ghost use Rattle.plain_machine.specs.Connecting.{showing, showing_what, done_code};
@@ -199,7 +199,7 @@ fn params_of(context: Context<'_>, news: &News) -> Result<Params<'static>, OutOf
 
 // The text of a description.
 fn text_of(context: Context<'_>, description: &Session) -> Result<Bytes<'static>, OutOfMemory>
-    ensures value { IfOk result (λ text. text ≡ written description.now) }
+    ensures value { IfOk result (λ text. text ≡ session_text description.now) }
     ensures writable { IfOk result (λ text. is_writable_body text ≡ true) }
 {
     let text = write_sdp(context.alloc, description)?;

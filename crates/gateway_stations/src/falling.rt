@@ -3,7 +3,7 @@
 //! and 4.4.6).
 ghost use Rattle.std.specs.Prelude.{◌≡◌, option_map, IfOk};
 ghost use Rattle.mg_line.specs.Falling.{due_of};
-ghost use Rattle.restart.specs.Restarting.{due_of as announced_at};
+ghost use Rattle.restart.specs.Restarting.{announced_at};
 ghost use Rattle.plain_machine.specs.Falling.{line_item, command_item, announcement_item, post_due, due_on, earlier};
 ghost use Rattle.plain_machine.specs.Falling.{happened_on, own_happened};
 ghost use Rattle.gateway_stations.specs.Telling.{MayTell, IsLine, HasId};
@@ -15,7 +15,7 @@ use crate::notifying::tell;
 use crate::posting::{Occasion, copy_of, resent_on};
 use crate::station::{with_line, with_post};
 use mg_bytes::OutOfMemory;
-use plain_machine::{Due, DueItem, OutDatagram, Own, Post, Station};
+use plain_machine::{DueItem, OutDatagram, Own, Post, Station, StationDue};
 
 // What falls due first of a line.
 fn line_item(line: u16, station: &Station) -> Option<DueItem>
@@ -25,7 +25,7 @@ fn line_item(line: u16, station: &Station) -> Option<DueItem>
     Some(DueItem {
         moment,
         line,
-        due: Due::OfLine(due),
+        due: StationDue::OfLine(due),
     })
 }
 
@@ -38,7 +38,7 @@ fn command_item(line: u16, post: &Post) -> Option<DueItem>
         Some(message) => Some(DueItem {
             moment: message.due(),
             line,
-            due: Due::Resend,
+            due: StationDue::Resend,
         }),
     }
 }
@@ -51,7 +51,7 @@ fn announcement_item(line: u16, post: &Post) -> Option<DueItem>
     Some(DueItem {
         moment,
         line,
-        due: Due::Announce,
+        due: StationDue::Announce,
     })
 }
 
@@ -94,7 +94,7 @@ pub fn happened_on(
     context: Context<'_>,
     occasion: Occasion,
     station: &Station,
-    due: Due,
+    due: StationDue,
     out: &mut Vec<OutDatagram>,
 ) -> Result<Station, OutOfMemory>
     requires line { IsLine occasion.line }
@@ -104,7 +104,7 @@ pub fn happened_on(
         becomes out.old.items out.new.items) }
 {
     match due {
-        Due::OfLine(due) => {
+        StationDue::OfLine(due) => {
             let step = station.line.fire(due, occasion.moment)?;
             tell(
                 context,
@@ -114,11 +114,11 @@ pub fn happened_on(
                 out,
             )
         }
-        Due::Resend => {
+        StationDue::Resend => {
             let post = resent_on(context, occasion, &station.post, out)?;
             with_post(station, post)
         }
-        Due::Announce => {
+        StationDue::Announce => {
             let post = announced_on(context, occasion, &station.post, out)?;
             with_post(station, post)
         }
@@ -132,7 +132,7 @@ pub fn own_happened(
     context: Context<'_>,
     moment: u64,
     own: &Own,
-    due: Due,
+    due: StationDue,
     out: &mut Vec<OutDatagram>,
 ) -> Result<Own, OutOfMemory>
     requires id { HasId 0 own.now.post.number }
@@ -142,9 +142,9 @@ pub fn own_happened(
 {
     let occasion = Occasion { line: 0, moment };
     let post = match due {
-        Due::OfLine(_) => copy_of(&own.post)?,
-        Due::Resend => resent_on(context, occasion, &own.post, out)?,
-        Due::Announce => announced_on(context, occasion, &own.post, out)?,
+        StationDue::OfLine(_) => copy_of(&own.post)?,
+        StationDue::Resend => resent_on(context, occasion, &own.post, out)?,
+        StationDue::Announce => announced_on(context, occasion, &own.post, out)?,
     };
     Ok(Own { post })
 }

@@ -4,7 +4,7 @@ use Rattle.std.specs.Prelude.{◌||◌, nat_lt, option_map}
 use Rattle.std.specs.Option.{option_or}
 use Rattle.std.specs.List.{list_any}
 use Rattle.history.specs.declared.span.IdSpan.{IdSpan}
-use Rattle.history.specs.declared.entry.First.{First as KeptFirst}
+use Rattle.history.specs.declared.entry.KeptFirst.{KeptFirst}
 use Rattle.history.specs.declared.entry.Entry.{Entry}
 use Rattle.history.specs.declared.entry.Entry.TheVariants.{First, Confirmation}
 use Rattle.history.specs.Span.{is_named}
@@ -13,7 +13,7 @@ use Rattle.history.specs.Arrival.{Arrival}
 use Rattle.history.specs.Firsts.{is_copy, Copied, copied_by, young_of, a_first, kind_by, kind_of, firsts_with, firsts_of}
 use Rattle.history.specs.Answers.{is_confirmed}
 use Rattle.history.specs.Kept.{first_entry, young_firsts, entries_of}
-use Rattle.history.specs.Looking.{Told, latest, repeated, confirms, Recalled, recalled, told_by, told_as, look_of}
+use Rattle.history.specs.Looking.{Looked, latest, repeated, confirms, Recalled, recalled, told_by, told_as, look_of}
 use Rattle.history.specs.Recalling.{Recalls, Remembers, TellsArrival}
 use Rattle.history.proofs.KindLaws.{at_front, firsts_on, firsts_with_first, firsts_with_no_first}
 use Rattle.history.proofs.RecallLaws.{recalled-cons, or_none, recalls_entry, recalls_no_spans, recalls_look}
@@ -110,7 +110,7 @@ remembers_no_first kept earlier a since r other =
     subst (λ (firsts : List Arrival). Recalls kept (entries_of firsts) since)
     (sym (firsts_more earlier a ∙ firsts_with_no_first most_firsts (firsts_of most_firsts earlier) a other)) r
 
-pub tells_arrival : (kept : List Entry) (id now : ℕ) (told : Told) → told ≡ look_of most_firsts kept id now → TellsArrival told kept id now
+pub tells_arrival : (kept : List Entry) (id now : ℕ) (told : Looked) → told ≡ look_of most_firsts kept id now → TellsArrival told kept id now
 tells_arrival kept id now told is = λ earlier a since r le same_id same_moment.
     let in_time : since ≤ a.moment = rw same_moment le in
     is ∙ ap (λ i. look_of most_firsts kept i now) (sym same_id) ∙ ap (λ m. look_of most_firsts kept a.id m) (sym same_moment)

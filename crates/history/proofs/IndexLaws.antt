@@ -6,7 +6,7 @@ use Rattle.std.specs.Map.{lookup}
 use Rattle.std.proofs.lemmas.List.{take_rest, take-append-drop, take-append-le, drop-take, drop-drop, drop-append-le, length-take-le}
 use Rattle.std.proofs.Math.Seq.{take-length}
 use Rattle.indexmap.specs.IndexMap.{IndexMap, get, spare}
-use Rattle.history.specs.declared.entry.First.{First as KeptFirst}
+use Rattle.history.specs.declared.entry.KeptFirst.{KeptFirst}
 use Rattle.history.specs.declared.entry.Entry.{Entry}
 use Rattle.history.specs.declared.entry.Entry.TheVariants.{First, Confirmation}
 use Rattle.history.specs.declared.spots.Spot.{Spot}

@@ -3,7 +3,7 @@ use Rattle.std.proofs.Common.{◌≡◌, ℕ, ◌-◌, ◌<◌, ◌≤◌, suc, 
 use Rattle.std.specs.Prelude.{All, AllPairs, fold}
 use Rattle.std.proofs.lemmas.Bool.{ltb-true}
 use Rattle.std.proofs.lemmas.List.Elements.{All-nil, All-cons, All-weaker}
-use Rattle.history.specs.declared.entry.First.{First as KeptFirst}
+use Rattle.history.specs.declared.entry.KeptFirst.{KeptFirst}
 use Rattle.history.specs.declared.entry.Entry.{Entry}
 use Rattle.history.specs.declared.entry.Entry.TheVariants.{First, Confirmation}
 use Rattle.history.specs.Memory.{memory_time, most_firsts, is_young}

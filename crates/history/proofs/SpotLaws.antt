@@ -7,7 +7,7 @@ use Rattle.std.proofs.lemmas.Bool.{ltb-true, lt-ltb}
 use Rattle.std.proofs.lemmas.Bool.Decides.{nat_tests}
 use Rattle.std.proofs.lemmas.List.{take_more, length-take-le}
 use Rattle.std.proofs.lemmas.List.Folds.{list_any-append}
-use Rattle.history.specs.declared.entry.First.{First as KeptFirst}
+use Rattle.history.specs.declared.entry.KeptFirst.{KeptFirst}
 use Rattle.history.specs.declared.entry.Entry.{Entry}
 use Rattle.history.specs.declared.entry.Entry.TheVariants.{First, Confirmation}
 use Rattle.history.specs.declared.span.IdSpan.{IdSpan}

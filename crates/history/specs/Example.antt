@@ -8,7 +8,7 @@ use Rattle.history.specs.Arrival.{Arrival}
 use Rattle.history.specs.Firsts.{Kind, kind_of, firsts_of}
 use Rattle.history.specs.Answers.{answers_of}
 use Rattle.history.specs.Kept.{first_entry}
-use Rattle.history.specs.Looking.{Told, look_of}
+use Rattle.history.specs.Looking.{Looked, look_of}
 
 -- the ids from one to another
 abbrev pub to : ℕ → ℕ → IdSpan
@@ -45,5 +45,5 @@ abbrev pub confirmed_ids : ℕ → ℕ → Entry
 confirmed_ids first last = Confirmation (to first last ∷ [])
 
 -- what is told of a command
-abbrev pub told : List Entry → ℕ → ℕ → Told
+abbrev pub told : List Entry → ℕ → ℕ → Looked
 told entries id now = look_of most_firsts entries id now

@@ -1,6 +1,6 @@
 -- What a history keeps: firsts and confirmations in the order in which they came.
 use Rattle.std.specs.Prelude.{ℕ, ◌≤◌, if◌then◌else◌, Bool, false, List, [], ◌∷◌, ◌++◌, filter, flat_map, AllPairs}
-use Rattle.history.specs.declared.entry.First.{First as KeptFirst}
+use Rattle.history.specs.declared.entry.KeptFirst.{KeptFirst}
 use Rattle.history.specs.declared.entry.Entry.{Entry}
 use Rattle.history.specs.declared.entry.Entry.TheVariants.{First, Confirmation}
 use Rattle.history.specs.Memory.{is_young}

@@ -2,7 +2,7 @@
 use Rattle.std.specs.Prelude.{ℕ, ◌==◌, ◌&&◌, nat_lt, if◌then◌else◌, Bool, true, false, List, [], ◌∷◌, length, Option, Some, None, option_map}
 use Rattle.std.specs.Option.{option_or}
 use Rattle.std.specs.List.{list_any}
-use Rattle.history.specs.declared.entry.First.{First as KeptFirst}
+use Rattle.history.specs.declared.entry.KeptFirst.{KeptFirst}
 use Rattle.history.specs.declared.entry.Entry.{Entry}
 use Rattle.history.specs.declared.entry.Entry.TheVariants.{First, Confirmation}
 use Rattle.history.specs.declared.look.Look.{Look}
@@ -47,31 +47,31 @@ abbrev pub recalled : List Entry → ℕ → ℕ → Option Recalled
 recalled entries id now = option_map (recalled_from id) (latest entries id now)
 
 -- what is told of a command
-pub data Told : Type 0 where
-  new : Told
-  repeat : (answer : List ℕ) → Told
-  confirmed : Told
-  full : Told
+pub data Looked : Type 0 where
+  new : Looked
+  repeat : (answer : List ℕ) → Looked
+  confirmed : Looked
+  full : Looked
 
 -- what the code answers, as what is told
-abbrev pub told_in : Look → Told
-told_in looks.New = new
-told_in (looks.Repeat answer) = repeat answer.now
-told_in looks.Confirmed = confirmed
-told_in looks.Full = full
+abbrev pub looked_in : Look → Looked
+looked_in looks.New = new
+looked_in (looks.Repeat answer) = repeat answer.now
+looked_in looks.Confirmed = confirmed
+looked_in looks.Full = full
 
 -- a copy is told of first, however many are young
-abbrev pub told_by : Option Recalled → Bool → Told
+abbrev pub told_by : Option Recalled → Bool → Looked
 told_by (Some found) has_room = if found.confirmed then confirmed else repeat found.answer
 told_by None true = new
 told_by None false = full
 
 -- what is told of a command that arrives now with this id, where no more firsts than the limit are young at a time
-unfoldable pub look_of : ℕ → List Entry → ℕ → ℕ → Told
+unfoldable pub look_of : ℕ → List Entry → ℕ → ℕ → Looked
 look_of limit entries id now = told_by (recalled entries id now) (nat_lt (length (young_firsts now entries)) limit)
 
 -- what is told of an arrival, by what it is
-abbrev pub told_as : ℕ → Kind → Told
+abbrev pub told_as : ℕ → Kind → Looked
 told_as id a_first = new
 told_as id (a_repeat copied) = if is_confirmed id copied.after then confirmed else repeat copied.original.answer
 told_as id lost = full

@@ -5,7 +5,7 @@ use Rattle.history.specs.Memory.{most_firsts}
 use Rattle.history.specs.Arrival.{Arrival}
 use Rattle.history.specs.Firsts.{kind_of, firsts_of}
 use Rattle.history.specs.Kept.{young_firsts, entries_of}
-use Rattle.history.specs.Looking.{recalled, Told, told_as, look_of}
+use Rattle.history.specs.Looking.{recalled, Looked, told_as, look_of}
 
 -- what is kept recalls all that came, at every moment from this one on: of each id the same answer, confirmed or not,
 -- and as many young firsts, up to the most that there may be
@@ -19,7 +19,7 @@ abbrev pub Remembers : List Entry → List Arrival → ℕ → Type 0
 Remembers kept arrivals since = Recalls kept (entries_of (firsts_of most_firsts arrivals)) since
 
 -- what is told of a command that arrives now with this id is what it is, after all that arrived, where that is recalled
-abbrev pub TellsArrival : Told → List Entry → ℕ → ℕ → Type 0
+abbrev pub TellsArrival : Looked → List Entry → ℕ → ℕ → Type 0
 TellsArrival told kept id now =
     (earlier : List Arrival) (a : Arrival) (since : ℕ) → Remembers kept earlier since → since ≤ now
     → a.id ≡ id → a.moment ≡ now → told ≡ told_as id (kind_of most_firsts (firsts_of most_firsts earlier) a)

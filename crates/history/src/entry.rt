@@ -11,7 +11,7 @@ use mg_bytes::{Sequence, Text};
 
 /// A transaction that was executed: when its command first came, and the answer to it (RFC 3435, 3.5.1).
 #[derive(Drop)]
-pub struct First {
+pub struct KeptFirst {
     pub id: u32,
     /// In ms.
     pub moment: u64,
@@ -21,7 +21,7 @@ pub struct First {
 /// What a history keeps (RFC 3435, 3.5.1).
 #[derive(Drop)]
 pub enum Entry {
-    First(First),
+    First(KeptFirst),
     /// The firsts before it that one of these spans names are confirmed (3.2.2.1).
     Confirmation(Sequence<IdSpan>),
 }
@@ -66,7 +66,7 @@ pub(crate) fn count_firsts(entries: &[Entry]) -> usize
 }
 
 /// The first that the entry is, where a copy with this id repeats it.
-pub(crate) fn repeated(entry: &Entry, id: u32, now: u64) -> Option<&First>
+pub(crate) fn repeated(entry: &Entry, id: u32, now: u64) -> Option<&KeptFirst>
     ensures { option_map (λ first. first.now) result ≡ repeated entry.now id now }
 {
     match entry {

@@ -5,11 +5,11 @@ ghost use Rattle.history.specs.declared.entry.Entry.TheVariants.{Confirmation};
 ghost use Rattle.history.specs.Memory.{most_firsts};
 ghost use Rattle.history.specs.Kept.{settled_at, first_entry, kept_with, firsts_in, AreInOrder};
 ghost use Rattle.history.specs.Kept.{is_young_first, young_firsts, from_young};
-ghost use Rattle.history.specs.Looking.{told_in, recalled, look_of};
+ghost use Rattle.history.specs.Looking.{looked_in, recalled, look_of};
 ghost use Rattle.history.specs.Spots.{recalled_in};
 ghost use Rattle.history.specs.Recalling.{TellsArrival, TellsAlike};
 
-use crate::entry::{Entry, First, count_firsts, is_young_first};
+use crate::entry::{Entry, KeptFirst, count_firsts, is_young_first};
 use crate::look::Look;
 use crate::recall::{Recollection, has_room, recall_kept};
 use crate::span::IdSpan;
@@ -83,16 +83,16 @@ impl History {
     /// What a command is that arrives now with this id: a copy is sought first, so a repeat is never lost (RFC 3435,
     /// 3.5.1). This takes no memory.
     pub fn look(&self, id: u32, now: u64) -> Look<'_>
-        ensures kept { told_in result ≡ look_of most_firsts self.now.kept id now }
+        ensures kept { looked_in result ≡ look_of most_firsts self.now.kept id now }
         // Where they recall all that arrived, this is what the command is of it.
-        ensures arrived { TellsArrival (told_in result) self.now.kept id now }
+        ensures arrived { TellsArrival (looked_in result) self.now.kept id now }
     {
         self.tell(id, now)
     }
 
     #[tactic(auto, unfolding(crate::specs::Looking::look_of))]
     fn tell(&self, id: u32, now: u64) -> Look<'_>
-        ensures { told_in result ≡ look_of most_firsts self.now.kept id now }
+        ensures { looked_in result ≡ look_of most_firsts self.now.kept id now }
     {
         match self.recall(id, now) {
             Some(recollection) if recollection.confirmed => Look::Confirmed,
@@ -124,7 +124,7 @@ impl History {
     {
         self.spots.reserve(self.entries.len() - self.settled + 1)?;
         self.entries
-            .push(Entry::First(First { id, moment, answer }))?;
+            .push(Entry::First(KeptFirst { id, moment, answer }))?;
         self.firsts += 1;
         self.reached = later(self.reached, moment);
         Ok(())

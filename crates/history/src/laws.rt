@@ -1,7 +1,7 @@
 //! Laws of transactions, over the whole list of what arrived (RFC 3435, 3.5.1), and of what a history keeps of it.
 ghost use Rattle.std.specs.Prelude.{◌≡◌, ◌≢◌, ◌↔◌, ◌-◌, ◌<◌, ◌≤◌, ◌++◌, ◌∷◌, [], ℕ, List, length, map, fold, All, AllPairs, Any};
 ghost use Rattle.std.specs.Prelude.{Some, None, IfSome};
-ghost use Rattle.history.specs.declared.entry.First.{First as KeptFirst};
+ghost use Rattle.history.specs.declared.entry.KeptFirst.{KeptFirst};
 ghost use Rattle.history.specs.declared.entry.Entry.{Entry};
 ghost use Rattle.history.specs.declared.entry.Entry.TheVariants.{Confirmation};
 ghost use Rattle.history.specs.Memory.{memory_time, most_firsts};

@@ -15,7 +15,7 @@ mod recall;
 mod span;
 mod spots;
 
-pub use crate::entry::{Entry, First};
+pub use crate::entry::{Entry, KeptFirst};
 pub use crate::history::History;
 pub use crate::look::Look;
 pub use crate::span::IdSpan;

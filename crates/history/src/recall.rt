@@ -8,7 +8,7 @@ ghost use Rattle.history.specs.declared.entry.Entry.{Entry as KeptEntry};
 ghost use Rattle.history.specs.Looking.{latest, repeated, confirms, recalled};
 ghost use Rattle.history.specs.Spots.{Indexes, recalled_in, also};
 
-use crate::entry::{Entry, First, are_confirming, count_young, is_young_first, repeated};
+use crate::entry::{Entry, KeptFirst, are_confirming, count_young, is_young_first, repeated};
 use crate::spots::{Spots, spot_of};
 use mg_bytes::Text;
 
@@ -23,7 +23,7 @@ pub(crate) struct Recollection<'a> {
 }
 
 // The first that a copy with this id repeats, and the entries after it.
-fn latest(entries: &[Entry], id: u32, now: u64) -> Option<(&First, &[Entry])>
+fn latest(entries: &[Entry], id: u32, now: u64) -> Option<(&KeptFirst, &[Entry])>
     ensures { option_map (λ found. record { first = found.0.now; after = found.1.now }) result
         ≡ latest entries.now id now }
 {
@@ -47,7 +47,7 @@ fn recall(entries: &[Entry], id: u32, now: u64) -> Option<Recollection<'_>>
 }
 
 // The first at this place, where a copy with this id repeats it.
-fn repeated_at(entries: &[Entry], place: usize, id: u32, now: u64) -> Option<&First>
+fn repeated_at(entries: &[Entry], place: usize, id: u32, now: u64) -> Option<&KeptFirst>
     requires { place < length entries.now }
     ensures { (entry : KeptEntry) → slice_get entries.now place ≡ Some entry →
         option_map (λ first. first.now) result ≡ repeated entry id now }

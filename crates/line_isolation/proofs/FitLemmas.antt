@@ -13,7 +13,7 @@ use Rattle.transmission.specs.Confirming.{spans_of}
 use Rattle.plain_machine.specs.declared.setup.Setup.{Setup}
 use Rattle.plain_machine.specs.Event.{GatewayEvent}
 use Rattle.plain_machine.specs.Machine.{opening}
-use Rattle.plain_machine.specs.Arriving.{Arrival, arrivals_of}
+use Rattle.plain_machine.specs.Arriving.{TextArrival, arrivals_of}
 use Rattle.plain_machine.specs.Answering.{line_of_name}
 use Rattle.plain_machine.specs.Transactions.{Asked, asked_as, commands_of}
 use Rattle.machine_laws.proofs.EachLemmas.{Each, each_weaker, each_unflat, each_unmapped}
@@ -101,7 +101,7 @@ module _ (line : ℕ) (commands : List ReadCommand) where
     by_named i other kept true e =
         absurd (both_ways (is_kept_by line commands i) (none_own c i other (λ b is keeps. read_alike c b keeps (named_id c b i is e)) apart) kept)
 
-arrival_fits : (setup : Setup) (line : ℕ) (commands : List ReadCommand) (a : Arrival) → is_for_one setup a.outcome ≡ true
+arrival_fits : (setup : Setup) (line : ℕ) (commands : List ReadCommand) (a : TextArrival) → is_for_one setup a.outcome ≡ true
     → Each (CommandFits line commands) (commands_at setup a) → Fits setup (is_kept_by line commands) line a.outcome
 arrival_fits setup line commands a one each = by_outcome a.outcome one each where
   by_outcome : (outcome : Outcome) → is_for_one setup outcome ≡ true
@@ -125,8 +125,8 @@ lines_that_keep_apart setup line events h =
     let fit : Each (CommandFits line commands) commands =
     each_weaker (λ (c : ReadCommand). ApartFrom c × Among commands c) (CommandFits line commands) (λ c is. command_fits line commands c is.0 is.1) commands both in
     let reads = each_unflat (CommandFits line commands) (commands_at setup) (arrivals_of events) fit in
-    let singles = each_passes (λ (a : Arrival). is_for_one setup a.outcome) (arrivals_of events) h.one_each in
-    let arrivals = each_weaker (λ (a : Arrival). (is_for_one setup a.outcome ≡ true) × Each (CommandFits line commands) (commands_at setup a))
-    (λ (a : Arrival). Fits setup keep line a.outcome) (λ a is. arrival_fits setup line commands a is.0 is.1) (arrivals_of events)
-    (each_two (λ (a : Arrival). is_for_one setup a.outcome ≡ true) (λ (a : Arrival). Each (CommandFits line commands) (commands_at setup a)) (arrivals_of events) singles reads) in
+    let singles = each_passes (λ (a : TextArrival). is_for_one setup a.outcome) (arrivals_of events) h.one_each in
+    let arrivals = each_weaker (λ (a : TextArrival). (is_for_one setup a.outcome ≡ true) × Each (CommandFits line commands) (commands_at setup a))
+    (λ (a : TextArrival). Fits setup keep line a.outcome) (λ a is. arrival_fits setup line commands a is.0 is.1) (arrivals_of events)
+    (each_two (λ (a : TextArrival). is_for_one setup a.outcome ≡ true) (λ (a : TextArrival). Each (CommandFits line commands) (commands_at setup a)) (arrivals_of events) singles reads) in
     as_under_its_own setup keep line events (events_fit setup keep line (opening setup) events [] refl arrivals h.remembered)

@@ -18,8 +18,8 @@ use Rattle.restart.specs.declared.restart.Restart.{Restart}
 use Rattle.restart.specs.declared.restart.Restart.TheVariants.{Waiting, Announced, Serving}
 use Rattle.restart.specs.declared.heard.Heard.{Heard}
 use Rattle.restart.specs.declared.heard.Heard.TheVariants.{Nothing, PutOff, Redirected, Answered}
-use Rattle.plain_machine.specs.declared.due_item.Due.{Due}
-use Rattle.plain_machine.specs.declared.due_item.Due.TheVariants.{OfLine, Resend, Announce}
+use Rattle.plain_machine.specs.declared.due_item.StationDue.{StationDue}
+use Rattle.plain_machine.specs.declared.due_item.StationDue.TheVariants.{OfLine, Resend, Announce}
 use Rattle.plain_machine.specs.declared.due_item.DueItem.{DueItem}
 use Rattle.plain_machine.specs.declared.line_deed.LineDeed.{LineDeed}
 use Rattle.plain_machine.specs.declared.own.Own.{Own}
@@ -89,13 +89,13 @@ announced_owned setup line moment post = by_restart post.restart where
   by_restart Announced = none_owned line
   by_restart Serving = none_owned line
 
-pub happened_owned : (due : Due) (setup : Setup) (line moment : ℕ) (station : Station) → OwnedBy line (happened_on due setup line moment station).sent
+pub happened_owned : (due : StationDue) (setup : Setup) (line moment : ℕ) (station : Station) → OwnedBy line (happened_on due setup line moment station).sent
 unfolding happened_on
 happened_owned (OfLine due) setup line moment station = noted_owned setup line moment station (fired station.line due moment)
 happened_owned Resend setup line moment station = resent_owned setup line moment station.post
 happened_owned Announce setup line moment station = announced_owned setup line moment station.post
 
-pub own_happened_owned : (due : Due) (setup : Setup) (moment : ℕ) (own : Own) → OwnedBy 0 (own_happened due setup moment own).sent
+pub own_happened_owned : (due : StationDue) (setup : Setup) (moment : ℕ) (own : Own) → OwnedBy 0 (own_happened due setup moment own).sent
 unfolding own_happened
 own_happened_owned (OfLine due) setup moment own = none_owned 0
 own_happened_owned Resend setup moment own = resent_owned setup 0 moment own.post

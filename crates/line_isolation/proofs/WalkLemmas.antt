@@ -13,7 +13,7 @@ use Rattle.transmission.specs.Texts.{texts_of}
 use Rattle.plain_machine.specs.declared.setup.Setup.{Setup}
 use Rattle.plain_machine.specs.Event.{GatewayEvent, datagram, phone, tick}
 use Rattle.plain_machine.specs.Machine.{Machine}
-use Rattle.plain_machine.specs.Arriving.{Arrival, arrival, arrivals_at, clock_after, arrivals_from}
+use Rattle.plain_machine.specs.Arriving.{TextArrival, arrival, arrivals_at, clock_after, arrivals_from}
 use Rattle.plain_machine.specs.Answering.{Transaction, transaction_of, handled}
 use Rattle.plain_machine.specs.Happening.{effect}
 use Rattle.plain_machine.specs.Transactions.{command_arrival, arriving, commands_in, commands_with, commands_from}
@@ -55,8 +55,8 @@ not_full id (a_repeat copied) has = by_confirmed (is_confirmed id copied.after) 
   by_confirmed false = λ e. cc
 
 module _ (setup : Setup) (keep : ℕ → Bool) (line : ℕ) where
-  abbrev AllFit : List Arrival → Type 0
-  AllFit arrivals = Each (λ (a : Arrival). Fits setup keep line a.outcome) arrivals
+  abbrev AllFit : List TextArrival → Type 0
+  AllFit arrivals = Each (λ (a : TextArrival). Fits setup keep line a.outcome) arrivals
 
   finds_room : (m : Machine) (earlier : List Command) (found : Option Transaction) → Keeps m earlier
       → NoneLost (firsts_of most_firsts earlier) (arriving m found) → IfSome found (λ t. look_of most_firsts m.history t.id m.now ≢ full)
@@ -92,7 +92,7 @@ module _ (setup : Setup) (keep : ℕ → Bool) (line : ℕ) where
   events_fit m [] earlier keeps fit none = tt
   events_fit m (event ∷ events) earlier keeps fit none =
       let next : Machine = (effect setup m event).machine in
-      let fits : Arrival → Type 0 = λ a. Fits setup keep line a.outcome in
+      let fits : TextArrival → Type 0 = λ a. Fits setup keep line a.outcome in
       let both = none_both (firsts_of most_firsts earlier) (commands_with setup m event) (commands_from setup next events) none in (
         event_fits m event earlier keeps (each_front fits (arrivals_at m.now event) (arrivals_from (clock_after m.now event) events) fit) both.0,
         events_fit next events (earlier ++ commands_with setup m event) (event_on setup m event earlier keeps)

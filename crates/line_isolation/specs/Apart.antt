@@ -13,7 +13,7 @@ use Rattle.history.specs.Span.{is_named}
 use Rattle.mgcp_text.specs.declared.message.Message.TheVariants as messages
 use Rattle.mgcp_text.specs.Reading.{Outcome, message, no_header, bad_version, bad_body}
 use Rattle.plain_machine.specs.declared.setup.Setup.{Setup}
-use Rattle.plain_machine.specs.Arriving.{Arrival as TextArrival, arrivals_of}
+use Rattle.plain_machine.specs.Arriving.{TextArrival, arrivals_of}
 use Rattle.plain_machine.specs.Event.{GatewayEvent}
 use Rattle.plain_machine.specs.Transactions.{Asked, asked, commands_of}
 use Rattle.line_isolation.specs.OwnEvents.{line_read}

@@ -6,7 +6,7 @@ use Rattle.std.proofs.lemmas.Grind.{flat_map-append}
 use Rattle.std.proofs.lemmas.List.Elements.{All-nil, All-head, All-tail, filter-append}
 use Rattle.std.specs.declared.net.socket_addr.SocketAddrV4.{SocketAddrV4}
 use Rattle.history.specs.Memory.{most_firsts}
-use Rattle.history.specs.Looking.{Told as Looked, new, repeat, confirmed, full, look_of}
+use Rattle.history.specs.Looking.{Looked, new, repeat, confirmed, full, look_of}
 use Rattle.mgcp_text.specs.declared.confirmation.KValue.{KValue}
 use Rattle.mgcp_text.specs.declared.confirmation.KValue.TheVariants.{Absent, Unreadable, Items}
 use Rattle.mgcp_text.specs.Confirmation.{k_of}

@@ -1,10 +1,10 @@
 -- A command in flight is one that was issued.
 use Rattle.std.proofs.Common.{◌≡◌}
 use Rattle.outbound.specs.Flight.{InFlight}
-use Rattle.machine_laws.specs.Saying.{Issued}
+use Rattle.machine_laws.specs.Saying.{Begun}
 
 -- it is this command that was issued
-pub record IsSame (flight : InFlight) (one : Issued) : Type 0 where
+pub record IsSame (flight : InFlight) (one : Begun) : Type 0 where
   pub id : one.id ≡ flight.id
   pub text : one.text ≡ flight.text
   pub moment : one.moment ≡ flight.first

@@ -14,12 +14,12 @@ use Rattle.mgcp_text.proofs.AnswerLemmas.{answer_writable}
 use Rattle.mgcp_text.proofs.IdLemmas.{IsId, read_id}
 use Rattle.mgcp_text.proofs.RoundLaws.{read_again}
 use Rattle.command_forms.specs.Command.{Command}
-use Rattle.history.specs.declared.entry.First.{First as KeptFirst}
+use Rattle.history.specs.declared.entry.KeptFirst.{KeptFirst}
 use Rattle.history.specs.declared.entry.Entry.{Entry}
 use Rattle.history.specs.declared.entry.Entry.TheVariants.{First, Confirmation}
 use Rattle.history.specs.Memory.{most_firsts}
 use Rattle.history.specs.Kept.{firsts_in}
-use Rattle.history.specs.Looking.{Told as Looked, new, repeat, confirmed, full, look_of}
+use Rattle.history.specs.Looking.{Looked, new, repeat, confirmed, full, look_of}
 use Rattle.history.proofs.LookLaws.{repeat_kept}
 use Rattle.outbound.specs.Flight.{InFlight}
 use Rattle.plain_machine.specs.declared.own.Own.{Own as Itself}
@@ -51,35 +51,35 @@ use Rattle.machine_laws.proofs.GatewayTurns.{OwnStands, Stationed, log_turns}
 use Rattle.machine_laws.proofs.LogTurns.{Goes, Stands, acted_goes, command_goes, log_both, on_later, pass_goes, responded_goes}
 use Rattle.machine_laws.proofs.PostLogs.{InLog, Logged, Own, Posted, WasBegun}
 use Rattle.machine_laws.proofs.TellsLemmas.{AreAnswers, tells_on}
-use Rattle.machine_laws.specs.Saying.{IsAnswerTo, Issued, OneOf, Tells, begun_in}
+use Rattle.machine_laws.specs.Saying.{IsAnswerTo, Begun, OneOf, Tells, begun_in}
 
 -- what is sent by this moment
-abbrev pub Said : List Issued → List KeptFirst → ℕ → Sent → Type 0
+abbrev pub Said : List Begun → List KeptFirst → ℕ → Sent → Type 0
 Said log firsts until sent = Tells log firsts (text_of sent.said) sent.moment × (sent.moment ≤ until)
 
-pub said_on : (log more : List Issued) (firsts later : List KeptFirst) (until : ℕ) (sent : Sent) → Said log firsts until sent → Said (log ++ more) (firsts ++ later) until sent
+pub said_on : (log more : List Begun) (firsts later : List KeptFirst) (until : ℕ) (sent : Sent) → Said log firsts until sent → Said (log ++ more) (firsts ++ later) until sent
 said_on log more firsts later until sent s = (tells_on log more firsts later (text_of sent.said) sent.moment s.0, s.1)
 
 -- the endpoints by this moment
-pub record EndpointsStand (until : ℕ) (log : List Issued) (endpoints : Endpoints) : Type 0 where
+pub record EndpointsStand (until : ℕ) (log : List Begun) (endpoints : Endpoints) : Type 0 where
   pub logged : Logged until log
   pub stations : OnAll (Stationed until log) 1 endpoints.stations
   pub own : OwnStands until log endpoints.own
 
 -- what is done is said by the gateway's lines and itself alone
-pub record ToldGoes (until : ℕ) (log : List Issued) (is : Told) : Type 0 where
+pub record ToldGoes (until : ℕ) (log : List Begun) (is : Told) : Type 0 where
   pub stands : EndpointsStand until (log ++ begun_in is.sent) is.endpoints
   pub sent_own : Each (Own until (log ++ begun_in is.sent)) is.sent
 
 -- what a text does
-pub record TextGoes (log : List Issued) (m : Machine) (done : Effect) : Type 0 where
+pub record TextGoes (log : List Begun) (m : Machine) (done : Effect) : Type 0 where
   pub stands : EndpointsStand m.now (log ++ begun_in done.sent) done.machine.endpoints
   pub more : List KeptFirst
   pub grown : firsts_in done.machine.history ≡ firsts_in m.history ++ more
   pub answers : AreAnswers (firsts_in done.machine.history)
   pub sent_says : Each (Said (log ++ begun_in done.sent) (firsts_in done.machine.history) m.now) done.sent
 
-own_said : (until : ℕ) (log : List Issued) (firsts : List KeptFirst) (sent : List Sent) → Each (Own until log) sent → Each (Said log firsts until) sent
+own_said : (until : ℕ) (log : List Begun) (firsts : List KeptFirst) (sent : List Sent) → Each (Own until log) sent → Each (Said log firsts until) sent
 own_said until log firsts sent own = each_weaker (Own until log) (Said log firsts until) (λ one is. (inl is.carries, is.early)) sent own
 
 firsts_append : (some more : List Entry) → firsts_in (some ++ more) ≡ firsts_in some ++ firsts_in more
@@ -105,23 +105,23 @@ answer_is t has is =
     let given = t.done.answer in
     record { code = given.code; params = given.params; body = given.body; reads = read_again (response_to t) (answer_writable t.id given has.0 has.1 is) }
 
-endpoints_same : (until : ℕ) (log : List Issued) (endpoints : Endpoints) (sent : List Sent) → begun_in sent ≡ [] → EndpointsStand until log endpoints → EndpointsStand until (log ++ begun_in sent) endpoints
+endpoints_same : (until : ℕ) (log : List Begun) (endpoints : Endpoints) (sent : List Sent) → begun_in sent ≡ [] → EndpointsStand until log endpoints → EndpointsStand until (log ++ begun_in sent) endpoints
 endpoints_same until log endpoints sent none s =
-    subst (λ (x : List Issued). EndpointsStand until x endpoints) (sym (ap (λ (x : List Issued). log ++ x) none ∙ append-nil log)) s
+    subst (λ (x : List Begun). EndpointsStand until x endpoints) (sym (ap (λ (x : List Begun). log ++ x) none ∙ append-nil log)) s
 
-still_goes : (log : List Issued) (m : Machine) (sent : List Sent) → begun_in sent ≡ [] → EndpointsStand m.now log m.endpoints → AreAnswers (firsts_in m.history)
+still_goes : (log : List Begun) (m : Machine) (sent : List Sent) → begun_in sent ≡ [] → EndpointsStand m.now log m.endpoints → AreAnswers (firsts_in m.history)
     → Each (Said log (firsts_in m.history) m.now) sent → TextGoes log m (record { machine = m; sent = sent })
 still_goes log m sent none stands answered says =
-    let same : log ≡ log ++ begun_in sent = sym (ap (λ (x : List Issued). log ++ x) none ∙ append-nil log) in
+    let same : log ≡ log ++ begun_in sent = sym (ap (λ (x : List Begun). log ++ x) none ∙ append-nil log) in
     record {
       stands = endpoints_same m.now log m.endpoints sent none stands;
       more = [];
       grown = sym (append-nil (firsts_in m.history));
       answers = answered;
-      sent_says = subst (λ (x : List Issued). Each (Said x (firsts_in m.history) m.now) sent) same says;
+      sent_says = subst (λ (x : List Begun). Each (Said x (firsts_in m.history) m.now) sent) same says;
     }
 
-transacted_goes : (log : List Issued) (looked : Looked) (m : Machine) (source : SocketAddrV4) (t : Transaction) → EndpointsStand m.now log m.endpoints
+transacted_goes : (log : List Begun) (looked : Looked) (m : Machine) (source : SocketAddrV4) (t : Transaction) → EndpointsStand m.now log m.endpoints
     → AreAnswers (firsts_in m.history) → IsAnswerTo t.id (answer_text t) → ToldGoes m.now log t.done.told → looked ≡ look_of most_firsts m.history t.id m.now
     → TextGoes log m (transacted_by looked m source t)
 unfolding executed
@@ -143,7 +143,7 @@ transacted_goes log (repeat text) m source t stands answered is goes at =
 transacted_goes log confirmed m source t stands answered is goes at = still_goes log m [] refl stands answered tt
 transacted_goes log full m source t stands answered is goes at = still_goes log m [] refl stands answered tt
 
-only_goes : (log : List Issued) (until : ℕ) (endpoints : Endpoints) → EndpointsStand until log endpoints → ToldGoes until log (told endpoints [])
+only_goes : (log : List Begun) (until : ℕ) (endpoints : Endpoints) → EndpointsStand until log endpoints → ToldGoes until log (told endpoints [])
 only_goes log until endpoints stands = record { stands = endpoints_same until log endpoints [] refl stands; sent_own = tt }
 
 none_acknowledged : (now : ℕ) (source : SocketAddrV4) (code id : ℕ) (params : List Param) → begun_in (acknowledged now source code id params) ≡ []
@@ -152,7 +152,7 @@ none_acknowledged now source code id params = by_test (asks_for_acknowledgement 
   by_test true = refl
   by_test false = refl
 
-acknowledged_says : (log : List Issued) (firsts : List KeptFirst) (now : ℕ) (source : SocketAddrV4) (code id : ℕ) (params : List Param) → IsId id
+acknowledged_says : (log : List Begun) (firsts : List KeptFirst) (now : ℕ) (source : SocketAddrV4) (code id : ℕ) (params : List Param) → IsId id
     → Each (Said log firsts now) (acknowledged now source code id params)
 acknowledged_says log firsts now source code id params has = by_test (asks_for_acknowledgement code params) where
   by_test : (b : Bool) → Each (Said log firsts now) (if b then (record { to = source; moment = now; owner = of_none; said = acknowledgement (messages.Response 0 id [] []) }) ∷ [] else [])
@@ -160,16 +160,16 @@ acknowledged_says log firsts now source code id params has = by_test (asks_for_a
   by_test false = tt
 
 -- what a turn of the endpoints gives
-from_goes : (setup : Setup) (until : ℕ) (set_up : IsSetUp setup) (log : List Issued) (is : Told)
+from_goes : (setup : Setup) (until : ℕ) (set_up : IsSetUp setup) (log : List Begun) (is : Told)
     → Goes setup until (Stationed until) (OwnStands until) (Own until) (Logged until) (log_turns setup until set_up) log is → ToldGoes until log is
 from_goes setup until set_up log is goes =
     record { stands = record { logged = goes.stands.log_holds; stations = goes.stands.stations; own = goes.stands.own }; sent_own = goes.sent }
 
-to_stands : (setup : Setup) (until : ℕ) (set_up : IsSetUp setup) (log : List Issued) (endpoints : Endpoints) → EndpointsStand until log endpoints
+to_stands : (setup : Setup) (until : ℕ) (set_up : IsSetUp setup) (log : List Begun) (endpoints : Endpoints) → EndpointsStand until log endpoints
     → Stands setup until (Stationed until) (OwnStands until) (Own until) (Logged until) (log_turns setup until set_up) log endpoints
 to_stands setup until set_up log endpoints s = record { log_holds = s.logged; stations = s.stations; own = s.own }
 
-handled_goes : (setup : Setup) (log : List Issued) (m : Machine) (source : SocketAddrV4) (outcome : Outcome) → Fits setup m → EndpointsStand m.now log m.endpoints
+handled_goes : (setup : Setup) (log : List Begun) (m : Machine) (source : SocketAddrV4) (outcome : Outcome) → Fits setup m → EndpointsStand m.now log m.endpoints
     → AreAnswers (firsts_in m.history) → IfSome (id_in outcome) IsId → TextGoes log m (handled setup m source outcome)
 unfolding handled
 handled_goes setup log m source no_header fits stands answered has = still_goes log m [] refl stands answered tt
@@ -192,18 +192,18 @@ handled_goes setup log m source (message (messages.Response code id params body)
     let own = (responded setup m.endpoints m.now response).sent in
     let ack = acknowledged m.now source code id params in
     let same : log ++ begun_in own ≡ log ++ begun_in (ack ++ own) =
-    sym (log_both log ack own ∙ ap (λ (x : List Issued). (log ++ x) ++ begun_in own) (none_acknowledged m.now source code id params) ∙ ap (λ (x : List Issued). x ++ begun_in own) (append-nil log)) in
+    sym (log_both log ack own ∙ ap (λ (x : List Begun). (log ++ x) ++ begun_in own) (none_acknowledged m.now source code id params) ∙ ap (λ (x : List Begun). x ++ begun_in own) (append-nil log)) in
     record {
-      stands = subst (λ (x : List Issued). EndpointsStand m.now x (responded setup m.endpoints m.now response).endpoints) same goes.stands;
+      stands = subst (λ (x : List Begun). EndpointsStand m.now x (responded setup m.endpoints m.now response).endpoints) same goes.stands;
       more = [];
       grown = sym (append-nil (firsts_in m.history));
       answers = answered;
       sent_says = each_both (Said (log ++ begun_in (ack ++ own)) (firsts_in m.history) m.now) ack own
           (acknowledged_says (log ++ begun_in (ack ++ own)) (firsts_in m.history) m.now source code id params has)
-          (subst (λ (x : List Issued). Each (Said x (firsts_in m.history) m.now) own) same (own_said m.now (log ++ begun_in own) (firsts_in m.history) own goes.sent_own));
+          (subst (λ (x : List Begun). Each (Said x (firsts_in m.history) m.now) own) same (own_said m.now (log ++ begun_in own) (firsts_in m.history) own goes.sent_own));
     }
 
-texts_go : (setup : Setup) (log : List Issued) (m : Machine) (source : SocketAddrV4) (texts : List (List ℕ)) → Fits setup m → EndpointsStand m.now log m.endpoints
+texts_go : (setup : Setup) (log : List Begun) (m : Machine) (source : SocketAddrV4) (texts : List (List ℕ)) → Fits setup m → EndpointsStand m.now log m.endpoints
     → AreAnswers (firsts_in m.history) → TextGoes log m (took_all setup m source texts)
 unfolding took_all
 texts_go setup log m source [] fits stands answered = still_goes log m [] refl stands answered tt
@@ -217,12 +217,12 @@ texts_go setup log m source (text ∷ texts) fits stands answered =
     let others = took_all setup one.machine source texts in
     let is = sym (log_both log one.sent others.sent) in
     record {
-      stands = subst (λ (x : List Issued). EndpointsStand m.now x others.machine.endpoints) is
+      stands = subst (λ (x : List Begun). EndpointsStand m.now x others.machine.endpoints) is
           (subst (λ (t : ℕ). EndpointsStand t (log' ++ begun_in others.sent) others.machine.endpoints) now rest.stands);
       more = first.more ++ rest.more;
       grown = rest.grown ∙ ap (λ (x : List KeptFirst). x ++ rest.more) first.grown ∙ append_assoc (firsts_in m.history) first.more rest.more;
       answers = rest.answers;
-      sent_says = subst (λ (x : List Issued). Each (Said x (firsts_in others.machine.history) m.now) (one.sent ++ others.sent)) is
+      sent_says = subst (λ (x : List Begun). Each (Said x (firsts_in others.machine.history) m.now) (one.sent ++ others.sent)) is
           (each_both (Said (log' ++ begun_in others.sent) (firsts_in others.machine.history) m.now) one.sent others.sent
           (subst (λ (f : List KeptFirst). Each (Said (log' ++ begun_in others.sent) f m.now) one.sent) (sym rest.grown)
           (each_weaker (Said log' (firsts_in one.machine.history) m.now) (Said (log' ++ begun_in others.sent) (firsts_in one.machine.history ++ rest.more) m.now)
@@ -233,23 +233,23 @@ texts_go setup log m source (text ∷ texts) fits stands answered =
 -- An event
 
 -- what holds of a gateway whose commands began so
-pub record GatewayHolds (setup : Setup) (log : List Issued) (m : Machine) : Type 0 where
+pub record GatewayHolds (setup : Setup) (log : List Begun) (m : Machine) : Type 0 where
   pub fits : Fits setup m
   pub stands : EndpointsStand m.now log m.endpoints
   pub kept : AreKept m.history
   pub answers : AreAnswers (firsts_in m.history)
 
-pub record EventGoes (setup : Setup) (log : List Issued) (m : Machine) (done : Effect) : Type 0 where
+pub record EventGoes (setup : Setup) (log : List Begun) (m : Machine) (done : Effect) : Type 0 where
   pub holds : GatewayHolds setup (log ++ begun_in done.sent) done.machine
   pub more : List KeptFirst
   pub grown : firsts_in done.machine.history ≡ firsts_in m.history ++ more
   pub sent_says : Each (Said (log ++ begun_in done.sent) (firsts_in done.machine.history) done.machine.now) done.sent
 
-flight_later : (now later : ℕ) → now ≤ later → (log : List Issued) (found : Option InFlight) → IfSome found (InLog now log) → IfSome found (InLog later log)
+flight_later : (now later : ℕ) → now ≤ later → (log : List Begun) (found : Option InFlight) → IfSome found (InLog now log) → IfSome found (InLog later log)
 flight_later now later past log None is = tt
 flight_later now later past log (Some flight) is = record { known = is.known; later = is.later; past = omega (arith, past, is.past) }
 
-stands_later : (now later : ℕ) → now ≤ later → (log : List Issued) (endpoints : Endpoints) → EndpointsStand now log endpoints → EndpointsStand later log endpoints
+stands_later : (now later : ℕ) → now ≤ later → (log : List Begun) (endpoints : Endpoints) → EndpointsStand now log endpoints → EndpointsStand later log endpoints
 stands_later now later past log endpoints s = record {
   logged = record {
     begun = each_weaker (WasBegun now) (WasBegun later) (λ b w. record { name = w.name; reads = w.reads; past = omega (arith, past, w.past) }) log s.logged.begun;
@@ -275,7 +275,7 @@ tick_on m moment taken = by_far (nat_lt (m.now + 1000) moment || nat_le (2 ^ 62)
   by_far true e = absurd (none-some TickTooFar (sym e))
   by_far false e = by_back (nat_lt moment m.now) refl e
 
-pub event_holds : (setup : Setup) (log : List Issued) (m : Machine) (event : GatewayEvent) → GatewayHolds setup log m → refusal_of m event ≡ None → EventGoes setup log m (effect setup m event)
+pub event_holds : (setup : Setup) (log : List Begun) (m : Machine) (event : GatewayEvent) → GatewayHolds setup log m → refusal_of m event ≡ None → EventGoes setup log m (effect setup m event)
 unfolding effect
 event_holds setup log m (datagram source bytes) h taken =
     let goes = texts_go setup log m source (texts_of bytes) h.fits h.stands h.answers in

@@ -2,7 +2,7 @@
 use Rattle.std.proofs.Common.{◌≡◌, ◌≢◌, ℕ, ◌<◌, ◌≤◌, true, List, [], ◌∷◌, ◌++◌, sym, ap, ◌∙◌, subst, arith, append-nil, append_assoc}
 use Rattle.std.specs.Prelude.{All, AllPairs, is_none}
 use Rattle.std.proofs.lemmas.Bool.{and_parts}
-use Rattle.history.specs.declared.entry.First.{First as KeptFirst}
+use Rattle.history.specs.declared.entry.KeptFirst.{KeptFirst}
 use Rattle.history.specs.Kept.{firsts_in}
 use Rattle.plain_machine.specs.declared.setup.Setup.{Setup}
 use Rattle.plain_machine.specs.Setup.{IsSetUp}
@@ -16,22 +16,22 @@ use Rattle.plain_machine.proofs.EffectLaws.{effect_now}
 use Rattle.machine_laws.proofs.EachLemmas.{Each, all_from_each, each_both, each_weaker, is_none-None}
 use Rattle.machine_laws.proofs.GatewayEvents.{GatewayHolds, Said, event_holds, gateway_forward, opening_gateway, said_on}
 use Rattle.machine_laws.proofs.LogTurns.{log_both}
-use Rattle.machine_laws.specs.Saying.{HasNumbersLeft, IsAnswerTo, Issued, Tells, begun_in}
+use Rattle.machine_laws.specs.Saying.{HasNumbersLeft, IsAnswerTo, Begun, Tells, begun_in}
 
-record ListGoes (setup : Setup) (log : List Issued) (m n : Machine) (sent : List Sent) : Type 0 where
+record ListGoes (setup : Setup) (log : List Begun) (m n : Machine) (sent : List Sent) : Type 0 where
   holds : GatewayHolds setup (log ++ begun_in sent) n
   more : List KeptFirst
   grown : firsts_in n.history ≡ firsts_in m.history ++ more
   time : m.now ≤ n.now
   says : Each (Said (log ++ begun_in sent) (firsts_in n.history) n.now) sent
 
-said_later : (log : List Issued) (firsts : List KeptFirst) (now later : ℕ) → now ≤ later → (sent : Sent) → Said log firsts now sent → Said log firsts later sent
+said_later : (log : List Begun) (firsts : List KeptFirst) (now later : ℕ) → now ≤ later → (sent : Sent) → Said log firsts now sent → Said log firsts later sent
 said_later log firsts now later past sent s = (s.0, omega (arith, past, s.1))
 
-events_hold : (setup : Setup) (log : List Issued) (m : Machine) (es : List GatewayEvent) → GatewayHolds setup log m → are_taken setup m es ≡ true → ListGoes setup log m (machine_after setup m es) (sent_from setup m es)
+events_hold : (setup : Setup) (log : List Begun) (m : Machine) (es : List GatewayEvent) → GatewayHolds setup log m → are_taken setup m es ≡ true → ListGoes setup log m (machine_after setup m es) (sent_from setup m es)
 unfolding are_taken machine_after sent_from
 events_hold setup log m [] h taken =
-    record { holds = subst (λ (x : List Issued). GatewayHolds setup x m) (sym (append-nil log)) h; more = []; grown = sym (append-nil (firsts_in m.history)); time = omega arith; says = tt }
+    record { holds = subst (λ (x : List Begun). GatewayHolds setup x m) (sym (append-nil log)) h; more = []; grown = sym (append-nil (firsts_in m.history)); time = omega arith; says = tt }
 events_hold setup log m (e ∷ es) h taken =
     let both = and_parts (is_none (refusal_of m e)) (are_taken setup (effect setup m e).machine es) taken in
     let may = is_none-None (refusal_of m e) both.0 in
@@ -44,11 +44,11 @@ events_hold setup log m (e ∷ es) h taken =
     let last = machine_after setup next es in
     let is = sym (log_both log here more) in
     record {
-      holds = subst (λ (x : List Issued). GatewayHolds setup x last) is rest.holds;
+      holds = subst (λ (x : List Begun). GatewayHolds setup x last) is rest.holds;
       more = first.more ++ rest.more;
       grown = rest.grown ∙ ap (λ (x : List KeptFirst). x ++ rest.more) first.grown ∙ append_assoc (firsts_in m.history) first.more rest.more;
       time = (let past = gateway_forward m e may in let now = effect_now setup m e in omega (arith, past, now, rest.time));
-      says = subst (λ (x : List Issued). Each (Said x (firsts_in last.history) last.now) (here ++ more)) is
+      says = subst (λ (x : List Begun). Each (Said x (firsts_in last.history) last.now) (here ++ more)) is
           (each_both (Said (log' ++ begun_in more) (firsts_in last.history) last.now) here more
           (subst (λ (f : List KeptFirst). Each (Said (log' ++ begun_in more) f last.now) here) (sym rest.grown)
           (each_weaker (Said log' (firsts_in next.history) next.now) (Said (log' ++ begun_in more) (firsts_in next.history ++ rest.more) last.now)
@@ -69,5 +69,5 @@ pub all_answers : (setup : Setup) (es : List GatewayEvent) → IsSetUp setup →
 all_answers setup es set_up taken = all_from_each (λ (first : KeptFirst). IsAnswerTo first.id first.answer) (firsts_in (plain setup es).history) (all_hold setup es set_up taken).holds.answers
 
 pub all_apart : (setup : Setup) (es : List GatewayEvent) → IsSetUp setup → are_taken setup (opening setup) es ≡ true → HasNumbersLeft (begun_in (sent_of setup es))
-    → AllPairs (λ (a b : Issued). a.id ≢ b.id) (begun_in (sent_of setup es))
+    → AllPairs (λ (a b : Begun). a.id ≢ b.id) (begun_in (sent_of setup es))
 all_apart setup es set_up taken few = (all_hold setup es set_up taken).holds.stands.logged.apart few

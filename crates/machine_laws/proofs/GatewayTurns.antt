@@ -25,9 +25,9 @@ use Rattle.mg_line.specs.Acting.{phoned}
 use Rattle.mg_line.specs.Answering.{answered}
 use Rattle.mg_line.specs.Opening.{opened}
 use Rattle.mg_line.specs.Falling.{fired}
-use Rattle.mg_line.specs.declared.due.Due.{Due as LineDue}
+use Rattle.mg_line.specs.declared.due.LineDue.{LineDue}
 use Rattle.mg_line.specs.declared.phone.Act.{Act}
-use Rattle.plain_machine.specs.declared.due_item.Due.TheVariants.{OfLine, Resend, Announce}
+use Rattle.plain_machine.specs.declared.due_item.StationDue.TheVariants.{OfLine, Resend, Announce}
 use Rattle.plain_machine.specs.declared.due_item.DueItem.{DueItem}
 use Rattle.plain_machine.specs.declared.own.Own.{Own as Itself}
 use Rattle.plain_machine.specs.declared.post.Post.{Post}
@@ -50,21 +50,21 @@ use Rattle.plain_machine.proofs.FirstLemmas.{OfItsLine, OfItsCommand, OfItsAnnou
 use Rattle.machine_laws.proofs.EachLemmas.{Each}
 use Rattle.machine_laws.proofs.LogTurns.{Good, LogTurns, OwnGood}
 use Rattle.machine_laws.proofs.PostLogs.{InLog, Logged, Own, PostGood, Posted, announcing_good, command_good, others_stay, own_more, post_still, replied_good, resent_good}
-use Rattle.machine_laws.specs.Saying.{Issued, begun_in}
+use Rattle.machine_laws.specs.Saying.{Begun, begun_in}
 
-pub record Stationed (until : ℕ) (log : List Issued) (line : ℕ) (station : Station) : Type 0 where
+pub record Stationed (until : ℕ) (log : List Begun) (line : ℕ) (station : Station) : Type 0 where
   pub sound : Sound line station
   pub post : Posted until log line station.post
 
-pub record OwnStands (until : ℕ) (log : List Issued) (own : Itself) : Type 0 where
+pub record OwnStands (until : ℕ) (log : List Begun) (own : Itself) : Type 0 where
   pub sound : OwnSound own
   pub post : Posted until log 0 own.post
 
-abbrev GoodTurn : ℕ → List Issued → ℕ → Turn → Type 0
+abbrev GoodTurn : ℕ → List Begun → ℕ → Turn → Type 0
 GoodTurn until log line turn = Good (Stationed until) (Own until) (Logged until) log line turn
 
 -- a turn of its post, after which the station is sound
-post_turn : (until : ℕ) (log : List Issued) (line : ℕ) (station : Station) (turn : PostTurn) → Sound line (posted station turn).station → PostGood until log line turn
+post_turn : (until : ℕ) (log : List Begun) (line : ℕ) (station : Station) (turn : PostTurn) → Sound line (posted station turn).station → PostGood until log line turn
     → GoodTurn until log line (posted station turn)
 post_turn until log line station turn sound good = record {
   log_holds = good.log_holds;
@@ -74,16 +74,16 @@ post_turn until log line station turn sound good = record {
 }
 
 -- a turn in which nothing is sent
-still : (until : ℕ) (log : List Issued) (line : ℕ) (station : Station) → Logged until log → Stationed until log line station → GoodTurn until log line (silent station)
+still : (until : ℕ) (log : List Begun) (line : ℕ) (station : Station) → Logged until log → Stationed until log line station → GoodTurn until log line (silent station)
 still until log line station logged s = record {
   log_holds = subst (Logged until) (sym (append-nil log)) logged;
   of = tt;
-  station_holds = subst (λ (x : List Issued). Stationed until x line station) (sym (append-nil log)) s;
+  station_holds = subst (λ (x : List Begun). Stationed until x line station) (sym (append-nil log)) s;
   sent_holds = tt;
 }
 
 -- the same of the gateway itself
-own_turn : (until : ℕ) (log : List Issued) (own : Itself) (turn : PostTurn) → OwnSound (own_posted own turn).own → PostGood until log 0 turn
+own_turn : (until : ℕ) (log : List Begun) (own : Itself) (turn : PostTurn) → OwnSound (own_posted own turn).own → PostGood until log 0 turn
     → OwnGood (OwnStands until) (Own until) (Logged until) log (own_posted own turn)
 own_turn until log own turn sound good = record {
   log_holds = good.log_holds;
@@ -93,7 +93,7 @@ own_turn until log own turn sound good = record {
 }
 
 -- with another notified entity it stands as well
-entity_stands : (until : ℕ) (log : List Issued) (line : ℕ) (station : Station) (agent : Option Entity) → Stationed until log line station → Stationed until log line (with_entity agent station)
+entity_stands : (until : ℕ) (log : List Begun) (line : ℕ) (station : Station) (agent : Option Entity) → Stationed until log line station → Stationed until log line (with_entity agent station)
 entity_stands until log line station agent s = record {
   sound = record { some = s.sound.some; few = s.sound.few; below = s.sound.below; fine = s.sound.fine; flight = s.sound.flight };
   post = record { below = s.post.below; counts = s.post.counts; flight = s.post.flight };
@@ -101,7 +101,7 @@ entity_stands until log line station agent s = record {
 
 -- A notification
 
-noted_good : (setup : Setup) (until : ℕ) → IsSetUp setup → (log : List Issued) (line moment : ℕ) (station : Station) (done : LineDone) → moment ≤ until → Logged until log
+noted_good : (setup : Setup) (until : ℕ) → IsSetUp setup → (log : List Begun) (line moment : ℕ) (station : Station) (done : LineDone) → moment ≤ until → Logged until log
     → Stationed until log line station → IsDone done → GoodTurn until log line (noted setup line moment station done)
 unfolding noted notification
 noted_good setup until set_up log line moment station done past logged s is =
@@ -123,7 +123,7 @@ noted_good setup until set_up log line moment station done past logged s is =
 some_id : (line : ℕ) (station : Station) → Sound line station → 1 ≤ id_on line station.post.number
 some_id line station s = let one : 1 ≤ line = s.some in omega (arith, one)
 
-happening_good : (setup : Setup) (until : ℕ) → IsSetUp setup → (log : List Issued) (line : ℕ) (item : DueItem) (station : Station) → Logged until log → Stationed until log line station
+happening_good : (setup : Setup) (until : ℕ) → IsSetUp setup → (log : List Begun) (line : ℕ) (item : DueItem) (station : Station) → Logged until log → Stationed until log line station
     → due_on (line, station) ≡ Some item → item.moment ≤ until → GoodTurn until log line (happened_on item.due setup line item.moment station)
 unfolding happened_on
 happening_good setup until set_up log line item station logged s due past = by_case (due_cases line station item due) where
@@ -154,7 +154,7 @@ happening_good setup until set_up log line item station logged s due past = by_c
   by_case (inl of) = subst Happens of.same (λ by sound. of_line of.found.1 of.found.0 by) past sounds
   by_case (inr is) = by_post (post_cases line station.post item is)
 
-own_happening_good : (setup : Setup) (until : ℕ) → IsSetUp setup → (log : List Issued) (item : DueItem) (own : Itself) → Logged until log → OwnStands until log own
+own_happening_good : (setup : Setup) (until : ℕ) → IsSetUp setup → (log : List Begun) (item : DueItem) (own : Itself) → Logged until log → OwnStands until log own
     → own_due own ≡ Some item → item.moment ≤ until → OwnGood (OwnStands until) (Own until) (Logged until) log (own_happened item.due setup item.moment own)
 unfolding own_happened
 own_happening_good setup until set_up log item own logged s due past = by_post (post_cases 0 own.post item due) where
@@ -181,7 +181,7 @@ own_happening_good setup until set_up log item own logged s due past = by_post (
 
 -- A response
 
-responded_good : (setup : Setup) (until : ℕ) → IsSetUp setup → (log : List Issued) (line : ℕ) (response : Response) (station : Station) → Logged until log → Stationed until log line station
+responded_good : (setup : Setup) (until : ℕ) → IsSetUp setup → (log : List Begun) (line : ℕ) (response : Response) (station : Station) → Logged until log → Stationed until log line station
     → GoodTurn until log line (responded_on setup line until response station)
 unfolding responded_on replied
 responded_good setup until set_up log line response station logged s = by_heard (heard_on station.post response) (responded_sound setup set_up line until response station s.sound).0 where
@@ -201,7 +201,7 @@ responded_good setup until set_up log line response station logged s = by_heard 
       })
       (answered_done station.line until s.sound.fine)
 
-own_responded_good : (setup : Setup) (until : ℕ) → IsSetUp setup → (log : List Issued) (response : Response) (own : Itself) → Logged until log → OwnStands until log own
+own_responded_good : (setup : Setup) (until : ℕ) → IsSetUp setup → (log : List Begun) (response : Response) (own : Itself) → Logged until log → OwnStands until log own
     → OwnGood (OwnStands until) (Own until) (Logged until) log (own_responded setup until response own)
 unfolding own_responded
 own_responded_good setup until set_up log response own logged s =
@@ -210,13 +210,13 @@ own_responded_good setup until set_up log response own logged s =
 
 -- The lines hear of the gateway's answer
 
-redirected_good : (until : ℕ) (log : List Issued) (agent : Entity) (line : ℕ) (station : Station) → Logged until log → Stationed until log line station
+redirected_good : (until : ℕ) (log : List Begun) (agent : Entity) (line : ℕ) (station : Station) → Logged until log → Stationed until log line station
     → GoodTurn until log line (redirected_on agent line station)
 unfolding redirected_on
 redirected_good until log agent line station logged s =
     still until log line (with_entity (Some agent) station) logged (entity_stands until log line station (Some agent) s)
 
-opened_good : (setup : Setup) (until : ℕ) → IsSetUp setup → (log : List Issued) (agent : Option Entity) (line : ℕ) (station : Station) → Logged until log → Stationed until log line station
+opened_good : (setup : Setup) (until : ℕ) → IsSetUp setup → (log : List Begun) (agent : Option Entity) (line : ℕ) (station : Station) → Logged until log → Stationed until log line station
     → GoodTurn until log line (opened_on agent setup until line station)
 unfolding opened_on
 opened_good setup until set_up log agent line station logged s =
@@ -226,7 +226,7 @@ opened_good setup until set_up log agent line station logged s =
 -- A deed
 
 deed_good : (setup : Setup) (until : ℕ) → IsSetUp setup → (command : Command) (confirms : KValue) (target : Target) (deed : Deed)
-    → form_of command confirms setup.names ≡ Ok (Does target deed) → (log : List Issued) (line : ℕ) (station : Station) → Logged until log → Stationed until log line station
+    → form_of command confirms setup.names ≡ Ok (Does target deed) → (log : List Begun) (line : ℕ) (station : Station) → Logged until log → Stationed until log line station
     → GoodTurn until log line (deed_on setup (line_deed deed) until line station)
 unfolding deed_on
 deed_good setup until set_up command confirms target deed is log line station logged s =

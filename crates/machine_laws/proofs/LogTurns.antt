@@ -40,7 +40,7 @@ use Rattle.plain_machine.proofs.AllLemmas.{OnAll}
 use Rattle.plain_machine.proofs.TurnLemmas.{of_line}
 use Rattle.plain_machine.proofs.FirstLemmas.{IsDueOn, first_on, by_moment, station_is, post_line, station_line}
 use Rattle.machine_laws.proofs.EachLemmas.{Each, each_both, each_weaker}
-use Rattle.machine_laws.specs.Saying.{Issued, begun_at, begun_in}
+use Rattle.machine_laws.specs.Saying.{Begun, begun_at, begun_in}
 
 -- Of all stations from this line on
 
@@ -64,70 +64,70 @@ on_turned P P' n (first ∷ stations) (suc place) station step is all =
 
 -- What began with some messages, and with more
 
-pub log_both : (log : List Issued) (some more : List Sent) → log ++ begun_in (some ++ more) ≡ (log ++ begun_in some) ++ begun_in more
+pub log_both : (log : List Begun) (some more : List Sent) → log ++ begun_in (some ++ more) ≡ (log ++ begun_in some) ++ begun_in more
 log_both log some more =
-    ap (λ (x : List Issued). log ++ x) (flat_map-append begun_at some more) ∙ sym (append_assoc log (begun_in some) (begun_in more))
+    ap (λ (x : List Begun). log ++ x) (flat_map-append begun_at some more) ∙ sym (append_assoc log (begun_in some) (begun_in more))
 
 -- What a turn keeps: P of a line, R of the gateway itself, Q of what is sent, and L of all that began
 
-pub record Good (P : List Issued → ℕ → Station → Type 0) (Q : List Issued → Sent → Type 0) (L : List Issued → Type 0) (log : List Issued) (line : ℕ) (turn : Turn) : Type 0 where
+pub record Good (P : List Begun → ℕ → Station → Type 0) (Q : List Begun → Sent → Type 0) (L : List Begun → Type 0) (log : List Begun) (line : ℕ) (turn : Turn) : Type 0 where
   pub log_holds : L (log ++ begun_in turn.sent)
-  pub of : Each (λ (b : Issued). line_of_id b.id ≡ line) (begun_in turn.sent)
+  pub of : Each (λ (b : Begun). line_of_id b.id ≡ line) (begun_in turn.sent)
   pub station_holds : P (log ++ begun_in turn.sent) line turn.station
   pub sent_holds : Each (Q (log ++ begun_in turn.sent)) turn.sent
 
-pub record OwnGood (R : List Issued → Itself → Type 0) (Q : List Issued → Sent → Type 0) (L : List Issued → Type 0) (log : List Issued) (turn : OwnTurn) : Type 0 where
+pub record OwnGood (R : List Begun → Itself → Type 0) (Q : List Begun → Sent → Type 0) (L : List Begun → Type 0) (log : List Begun) (turn : OwnTurn) : Type 0 where
   pub log_holds : L (log ++ begun_in turn.sent)
-  pub of : Each (λ (b : Issued). line_of_id b.id ≡ 0) (begun_in turn.sent)
+  pub of : Each (λ (b : Begun). line_of_id b.id ≡ 0) (begun_in turn.sent)
   pub own_holds : R (log ++ begun_in turn.sent) turn.own
   pub sent_holds : Each (Q (log ++ begun_in turn.sent)) turn.sent
 
 -- each turn by this moment keeps what holds
-pub record LogTurns (setup : Setup) (until : ℕ) (P : List Issued → ℕ → Station → Type 0) (R : List Issued → Itself → Type 0) (Q : List Issued → Sent → Type 0) (L : List Issued → Type 0) : Type 0 where
-  pub act : (log : List Issued) (line : ℕ) (act : Act) (station : Station) → L log → P log line station → Good P Q L log line (acted_on setup line until act station)
+pub record LogTurns (setup : Setup) (until : ℕ) (P : List Begun → ℕ → Station → Type 0) (R : List Begun → Itself → Type 0) (Q : List Begun → Sent → Type 0) (L : List Begun → Type 0) : Type 0 where
+  pub act : (log : List Begun) (line : ℕ) (act : Act) (station : Station) → L log → P log line station → Good P Q L log line (acted_on setup line until act station)
   pub deed : (command : Command) (confirms : KValue) (target : Target) (deed : Deed) → form_of command confirms setup.names ≡ Ok (Does target deed)
-      → (log : List Issued) (line : ℕ) (station : Station) → L log → P log line station → Good P Q L log line (deed_on setup (line_deed deed) until line station)
-  pub response : (log : List Issued) (line : ℕ) (response : Response) (station : Station) → L log → P log line station → Good P Q L log line (responded_on setup line until response station)
-  pub happening : (log : List Issued) (line : ℕ) (item : DueItem) (station : Station) → L log → P log line station → due_on (line, station) ≡ Some item → item.moment ≤ until
+      → (log : List Begun) (line : ℕ) (station : Station) → L log → P log line station → Good P Q L log line (deed_on setup (line_deed deed) until line station)
+  pub response : (log : List Begun) (line : ℕ) (response : Response) (station : Station) → L log → P log line station → Good P Q L log line (responded_on setup line until response station)
+  pub happening : (log : List Begun) (line : ℕ) (item : DueItem) (station : Station) → L log → P log line station → due_on (line, station) ≡ Some item → item.moment ≤ until
       → Good P Q L log line (happened_on item.due setup line item.moment station)
-  pub redirecting : (log : List Issued) (agent : Entity) (line : ℕ) (station : Station) → L log → P log line station → Good P Q L log line (redirected_on agent line station)
-  pub opening : (log : List Issued) (agent : Option Entity) (line : ℕ) (station : Station) → L log → P log line station → Good P Q L log line (opened_on agent setup until line station)
-  pub own_response : (log : List Issued) (response : Response) (own : Itself) → L log → R log own → OwnGood R Q L log (own_responded setup until response own)
-  pub own_happening : (log : List Issued) (item : DueItem) (own : Itself) → L log → R log own → own_due own ≡ Some item → item.moment ≤ until
+  pub redirecting : (log : List Begun) (agent : Entity) (line : ℕ) (station : Station) → L log → P log line station → Good P Q L log line (redirected_on agent line station)
+  pub opening : (log : List Begun) (agent : Option Entity) (line : ℕ) (station : Station) → L log → P log line station → Good P Q L log line (opened_on agent setup until line station)
+  pub own_response : (log : List Begun) (response : Response) (own : Itself) → L log → R log own → OwnGood R Q L log (own_responded setup until response own)
+  pub own_happening : (log : List Begun) (item : DueItem) (own : Itself) → L log → R log own → own_due own ≡ Some item → item.moment ≤ until
       → OwnGood R Q L log (own_happened item.due setup item.moment own)
   -- what others begin changes nothing of it
-  pub others : (log new : List Issued) (line : ℕ) (station : Station) → Each (λ (b : Issued). line_of_id b.id ≢ line) new → P log line station → P (log ++ new) line station
-  pub own_others : (log new : List Issued) (own : Itself) → Each (λ (b : Issued). line_of_id b.id ≢ 0) new → R log own → R (log ++ new) own
-  pub more : (log new : List Issued) (sent : Sent) → Q log sent → Q (log ++ new) sent
+  pub others : (log new : List Begun) (line : ℕ) (station : Station) → Each (λ (b : Begun). line_of_id b.id ≢ line) new → P log line station → P (log ++ new) line station
+  pub own_others : (log new : List Begun) (own : Itself) → Each (λ (b : Begun). line_of_id b.id ≢ 0) new → R log own → R (log ++ new) own
+  pub more : (log new : List Begun) (sent : Sent) → Q log sent → Q (log ++ new) sent
 
-module _ (setup : Setup) (until : ℕ) (P : List Issued → ℕ → Station → Type 0) (R : List Issued → Itself → Type 0) (Q : List Issued → Sent → Type 0) (L : List Issued → Type 0)
+module _ (setup : Setup) (until : ℕ) (P : List Begun → ℕ → Station → Type 0) (R : List Begun → Itself → Type 0) (Q : List Begun → Sent → Type 0) (L : List Begun → Type 0)
     (turns : LogTurns setup until P R Q L) where
-  pub record Stands (log : List Issued) (endpoints : Endpoints) : Type 0 where
+  pub record Stands (log : List Begun) (endpoints : Endpoints) : Type 0 where
     pub log_holds : L log
     pub stations : OnAll (P log) 1 endpoints.stations
     pub own : R log endpoints.own
 
-  pub record Goes (log : List Issued) (is : Told) : Type 0 where
+  pub record Goes (log : List Begun) (is : Told) : Type 0 where
     pub stands : Stands (log ++ begun_in is.sent) is.endpoints
     pub sent : Each (Q (log ++ begun_in is.sent)) is.sent
 
-  stays : (log : List Issued) (endpoints : Endpoints) → Stands log endpoints → Goes log (told endpoints [])
-  stays log endpoints s = record { stands = subst (λ (x : List Issued). Stands x endpoints) (sym (append-nil log)) s; sent = tt }
+  stays : (log : List Begun) (endpoints : Endpoints) → Stands log endpoints → Goes log (told endpoints [])
+  stays log endpoints s = record { stands = subst (λ (x : List Begun). Stands x endpoints) (sym (append-nil log)) s; sent = tt }
 
   -- one thing, and then what comes after it
-  both_go : (log : List Issued) (first next : Told) → Goes log first → Goes (log ++ begun_in first.sent) next → Goes log (told next.endpoints (first.sent ++ next.sent))
+  both_go : (log : List Begun) (first next : Told) → Goes log first → Goes (log ++ begun_in first.sent) next → Goes log (told next.endpoints (first.sent ++ next.sent))
   both_go log first next one two =
       let is = sym (log_both log first.sent next.sent) in
       record {
-        stands = subst (λ (x : List Issued). Stands x next.endpoints) is two.stands;
-        sent = subst (λ (x : List Issued). Each (Q x) (first.sent ++ next.sent)) is
+        stands = subst (λ (x : List Begun). Stands x next.endpoints) is two.stands;
+        sent = subst (λ (x : List Begun). Each (Q x) (first.sent ++ next.sent)) is
             (each_both (Q ((log ++ begun_in first.sent) ++ begun_in next.sent)) first.sent next.sent
             (each_weaker (Q (log ++ begun_in first.sent)) (Q ((log ++ begun_in first.sent) ++ begun_in next.sent))
             (λ sent is. turns.more (log ++ begun_in first.sent) (begun_in next.sent) sent is) first.sent one.sent)
             two.sent);
       }
 
-  turned : (log : List Issued) (endpoints : Endpoints) (line : ℕ) (station : Station) (turn : Turn) → Stands log endpoints → station_at endpoints line ≡ Some station
+  turned : (log : List Begun) (endpoints : Endpoints) (line : ℕ) (station : Station) (turn : Turn) → Stands log endpoints → station_at endpoints line ≡ Some station
       → Good P Q L log line turn → Goes log (with_turn endpoints line turn)
   turned log endpoints line station turn s at good = by_zero (line == 0) refl at where
     one_more : (line == 0) ≡ false → line ≡ 1 + (line - 1)
@@ -140,20 +140,20 @@ module _ (setup : Setup) (until : ℕ) (P : List Issued → ℕ → Station → 
         log_holds = good.log_holds;
         stations = on_turned (P log) (P (log ++ begun_in turn.sent)) 1 endpoints.stations (line - 1) turn.station
             (λ i other apart holds. turns.others log (begun_in turn.sent) i other
-            (each_weaker (λ (b : Issued). line_of_id b.id ≡ line) (λ (b : Issued). line_of_id b.id ≢ i) (λ b of. λ same. apart (sym same ∙ of ∙ one_more e)) (begun_in turn.sent) good.of) holds)
+            (each_weaker (λ (b : Begun). line_of_id b.id ≡ line) (λ (b : Begun). line_of_id b.id ≢ i) (λ b of. λ same. apart (sym same ∙ of ∙ one_more e)) (begun_in turn.sent) good.of) holds)
             (subst (λ (i : ℕ). P (log ++ begun_in turn.sent) i turn.station) (one_more e) good.station_holds) s.stations;
         own = turns.own_others log (begun_in turn.sent) endpoints.own
-            (each_weaker (λ (b : Issued). line_of_id b.id ≡ line) (λ (b : Issued). line_of_id b.id ≢ 0)
+            (each_weaker (λ (b : Begun). line_of_id b.id ≡ line) (λ (b : Begun). line_of_id b.id ≢ 0)
             (λ b of. λ none. absurd (let some : line ≡ 1 + (line - 1) = one_more e in omega (arith, of, none, some))) (begun_in turn.sent) good.of)
             s.own;
       };
       sent = good.sent_holds;
     }
 
-  abbrev LineGoes : List Issued → ℕ → (Station → Turn) → Type 0
+  abbrev LineGoes : List Begun → ℕ → (Station → Turn) → Type 0
   LineGoes log line turn = (station : Station) → L log → P log line station → Good P Q L log line (turn station)
 
-  turned_goes : (log : List Issued) (endpoints : Endpoints) (line : ℕ) (turn : Station → Turn) → Stands log endpoints → LineGoes log line turn → Goes log (on_line endpoints line turn)
+  turned_goes : (log : List Begun) (endpoints : Endpoints) (line : ℕ) (turn : Station → Turn) → Stands log endpoints → LineGoes log line turn → Goes log (on_line endpoints line turn)
   unfolding on_line
   turned_goes log endpoints line turn s good = by_station (station_at endpoints line) refl where
     by_station : (found : Option Station) → station_at endpoints line ≡ found → Goes log (turned_at found endpoints line turn)
@@ -161,13 +161,13 @@ module _ (setup : Setup) (until : ℕ) (P : List Issued → ℕ → Station → 
     by_station (Some station) e = turned log endpoints line station _ s e (good station s.log_holds (of_line (P log) endpoints line station s.stations e))
 
   -- the gateway itself has its turn
-  own_turned : (log : List Issued) (endpoints : Endpoints) (turn : Itself → OwnTurn) → Stands log endpoints → OwnGood R Q L log (turn endpoints.own) → Goes log (on_own endpoints turn)
+  own_turned : (log : List Begun) (endpoints : Endpoints) (turn : Itself → OwnTurn) → Stands log endpoints → OwnGood R Q L log (turn endpoints.own) → Goes log (on_own endpoints turn)
   own_turned log endpoints turn s good = record {
     stands = record {
       log_holds = good.log_holds;
       stations = on_later (P log) (P (log ++ begun_in (turn endpoints.own).sent)) 1 endpoints.stations
           (λ i station low holds. turns.others log (begun_in (turn endpoints.own).sent) i station
-          (each_weaker (λ (b : Issued). line_of_id b.id ≡ 0) (λ (b : Issued). line_of_id b.id ≢ i) (λ b of. λ same. absurd (omega (arith, of, same, low))) (begun_in (turn endpoints.own).sent) good.of) holds)
+          (each_weaker (λ (b : Begun). line_of_id b.id ≡ 0) (λ (b : Begun). line_of_id b.id ≢ i) (λ b of. λ same. absurd (omega (arith, of, same, low))) (begun_in (turn endpoints.own).sent) good.of) holds)
           s.stations;
       own = good.own_holds;
     };
@@ -175,7 +175,7 @@ module _ (setup : Setup) (until : ℕ) (P : List Issued → ℕ → Station → 
   }
 
   -- several lines have theirs
-  several_go : (lines : List ℕ) (log : List Issued) (endpoints : Endpoints) (turn : ℕ → Station → Turn) → Stands log endpoints → ((log : List Issued) (line : ℕ) → LineGoes log line (turn line))
+  several_go : (lines : List ℕ) (log : List Begun) (endpoints : Endpoints) (turn : ℕ → Station → Turn) → Stands log endpoints → ((log : List Begun) (line : ℕ) → LineGoes log line (turn line))
       → Goes log (on_lines lines endpoints turn)
   unfolding on_lines
   several_go [] log endpoints turn s good = stays log endpoints s
@@ -184,12 +184,12 @@ module _ (setup : Setup) (until : ℕ) (P : List Issued → ℕ → Station → 
       let here = on_line endpoints line (turn line) in
       both_go log here (on_lines lines here.endpoints turn) first (several_go lines (log ++ begun_in here.sent) here.endpoints turn first.stands good)
 
-  pub acted_goes : (log : List Issued) (endpoints : Endpoints) (line : ℕ) (act : Act) → Stands log endpoints → Goes log (acted setup endpoints line until act)
+  pub acted_goes : (log : List Begun) (endpoints : Endpoints) (line : ℕ) (act : Act) → Stands log endpoints → Goes log (acted setup endpoints line until act)
   acted_goes log endpoints line act s = turned_goes log endpoints line (acted_on setup line until act) s (λ station holds has. turns.act log line act station holds has)
 
   -- A response
 
-  lines_go : (heard : Heard) (log : List Issued) (endpoints : Endpoints) → Stands log endpoints → Goes log (lines_told heard setup until endpoints)
+  lines_go : (heard : Heard) (log : List Begun) (endpoints : Endpoints) → Stands log endpoints → Goes log (lines_told heard setup until endpoints)
   lines_go Nothing log endpoints s = stays log endpoints s
   lines_go PutOff log endpoints s = stays log endpoints s
   lines_go (Redirected agent) log endpoints s =
@@ -197,14 +197,14 @@ module _ (setup : Setup) (until : ℕ) (P : List Issued → ℕ → Station → 
   lines_go (Answered agent) log endpoints s =
       several_go (lines_meant endpoints AllLines) log endpoints (opened_on agent setup until) s (λ log line station holds has. turns.opening log agent line station holds has)
 
-  own_heard_goes : (log : List Issued) (endpoints : Endpoints) (response : Response) → Stands log endpoints → Goes log (own_heard setup endpoints until response)
+  own_heard_goes : (log : List Begun) (endpoints : Endpoints) (response : Response) → Stands log endpoints → Goes log (own_heard setup endpoints until response)
   own_heard_goes log endpoints response s =
       let first = own_turned log endpoints (own_responded setup until response) s (turns.own_response log response endpoints.own s.log_holds s.own) in
       let here = on_own endpoints (own_responded setup until response) in
       both_go log here (lines_told (heard_on endpoints.own.post response) setup until here.endpoints) first
       (lines_go (heard_on endpoints.own.post response) (log ++ begun_in here.sent) here.endpoints first.stands)
 
-  pub responded_goes : (log : List Issued) (endpoints : Endpoints) (response : Response) → Stands log endpoints → Goes log (responded setup endpoints until response)
+  pub responded_goes : (log : List Begun) (endpoints : Endpoints) (response : Response) → Stands log endpoints → Goes log (responded setup endpoints until response)
   responded_goes log endpoints response s = by_test (line_of_id response.id == 0) where
     by_test : (b : Bool) → Goes log (if b then own_heard setup endpoints until response
         else on_line endpoints (line_of_id response.id) (responded_on setup (line_of_id response.id) until response))
@@ -214,7 +214,7 @@ module _ (setup : Setup) (until : ℕ) (P : List Issued → ℕ → Station → 
 
   -- What falls due
 
-  happened_goes : (log : List Issued) (endpoints : Endpoints) (item : DueItem) → due_by endpoints until ≡ Some item → Stands log endpoints → Goes log (happened setup endpoints item)
+  happened_goes : (log : List Begun) (endpoints : Endpoints) (item : DueItem) → due_by endpoints until ≡ Some item → Stands log endpoints → Goes log (happened setup endpoints item)
   unfolding on_line
   happened_goes log endpoints item due s = by_case (first_on endpoints item by.0) where
     by : (first_due endpoints ≡ Some item) × (item.moment ≤ until)
@@ -235,7 +235,7 @@ module _ (setup : Setup) (until : ℕ) (P : List Issued → ℕ → Station → 
         (own_turned log endpoints (own_happened item.due setup item.moment) s (turns.own_happening log item endpoints.own s.log_holds s.own is by.1))
     by_case (inr on) = subst Happens (sym (station_line endpoints item on)) (at_station on)
 
-  passed_goes : (n : ℕ) (log : List Issued) (endpoints : Endpoints) → Stands log endpoints → Goes log (passed n setup endpoints until)
+  passed_goes : (n : ℕ) (log : List Begun) (endpoints : Endpoints) → Stands log endpoints → Goes log (passed n setup endpoints until)
   unfolding passed
   passed_goes zero log endpoints s = stays log endpoints s
   passed_goes (suc n) log endpoints s = by_due (due_by endpoints until) refl
@@ -248,25 +248,25 @@ module _ (setup : Setup) (until : ℕ) (P : List Issued → ℕ → Station → 
             let first = happened_goes log endpoints item e s in
             both_go log (happened setup endpoints item) (passed n setup (happened setup endpoints item).endpoints until) first (rest item first)
 
-  pub pass_goes : (log : List Issued) (endpoints : Endpoints) → Stands log endpoints → Goes log (pass setup endpoints until)
+  pub pass_goes : (log : List Begun) (endpoints : Endpoints) → Stands log endpoints → Goes log (pass setup endpoints until)
   unfolding pass
   pass_goes log endpoints s = passed_goes (room endpoints until) log endpoints s
 
   -- A command
 
-  unless_goes : (log : List Issued) (refusal : Option ℕ) (endpoints : Endpoints) (done : Done) → Stands log endpoints → Goes log done.told → Goes log (unless_refused refusal endpoints done).told
+  unless_goes : (log : List Begun) (refusal : Option ℕ) (endpoints : Endpoints) (done : Done) → Stands log endpoints → Goes log done.told → Goes log (unless_refused refusal endpoints done).told
   unless_goes log None endpoints done s goes = goes
   unless_goes log (Some code) endpoints done s goes = stays log endpoints s
 
   abbrev DeedGoes : LineDeed → Type 0
-  DeedGoes deed = (log : List Issued) (line : ℕ) → LineGoes log line (deed_on setup deed until line)
+  DeedGoes deed = (log : List Begun) (line : ℕ) → LineGoes log line (deed_on setup deed until line)
 
-  deed_goes : (log : List Issued) (endpoints : Endpoints) (lines : Target) (more : List Param) (deed : LineDeed) → Stands log endpoints → DeedGoes deed
+  deed_goes : (log : List Begun) (endpoints : Endpoints) (lines : Target) (more : List Param) (deed : LineDeed) → Stands log endpoints → DeedGoes deed
       → Goes log (deed_done setup endpoints lines more deed until).told
   deed_goes log endpoints lines more deed s good =
       unless_goes log (refused_by endpoints lines deed) endpoints _ s (several_go (lines_meant endpoints lines) log endpoints (deed_on setup deed until) s good)
 
-  target_goes : (log : List Issued) (endpoints : Endpoints) (target : Target) (deed : LineDeed) → Stands log endpoints → DeedGoes deed → Goes log (done_for setup endpoints target deed until).told
+  target_goes : (log : List Begun) (endpoints : Endpoints) (target : Target) (deed : LineDeed) → Stands log endpoints → DeedGoes deed → Goes log (done_for setup endpoints target deed until).told
   target_goes log endpoints (One line) deed s good = deed_goes log endpoints (One line) [] deed s good
   target_goes log endpoints AllLines deed s good = deed_goes log endpoints AllLines [] deed s good
   target_goes log endpoints AnyLine deed s good = by_line (line_with_place endpoints) where
@@ -275,7 +275,7 @@ module _ (setup : Setup) (until : ℕ) (P : List Issued → ℕ → Station → 
     by_line (Some line) = deed_goes log endpoints (One line) _ deed s good
 
   form_goes : (serving : Bool) (command : Command) (confirms : KValue) (asks : Result Asks ℕ) → form_while serving command confirms setup.names ≡ asks
-      → (log : List Issued) (endpoints : Endpoints) (id : ℕ) → Stands log endpoints → Goes log (done_by asks setup endpoints until id).told
+      → (log : List Begun) (endpoints : Endpoints) (id : ℕ) → Stands log endpoints → Goes log (done_by asks setup endpoints until id).told
   form_goes serving command confirms (Err code) is log endpoints id s = stays log endpoints s
   form_goes serving command confirms (Ok (Reports target audit)) is log endpoints id s = stays log endpoints s
   form_goes false command confirms (Ok (Does target deed)) is log endpoints id s = absurd (while_none command confirms setup.names target deed is)
@@ -283,7 +283,7 @@ module _ (setup : Setup) (until : ℕ) (P : List Issued → ℕ → Station → 
       target_goes log endpoints target (line_deed deed) s
       (λ log line station holds has. turns.deed command confirms target deed (while_taken true command confirms setup.names (Does target deed) is) log line station holds has)
 
-  pub command_goes : (command : Command) (confirms : KValue) (log : List Issued) (endpoints : Endpoints) (id : ℕ) → Stands log endpoints
+  pub command_goes : (command : Command) (confirms : KValue) (log : List Begun) (endpoints : Endpoints) (id : ℕ) → Stands log endpoints
       → Goes log (commanded setup endpoints until id command confirms).told
   command_goes command confirms log endpoints id s =
       form_goes (serves endpoints) command confirms (form_while (serves endpoints) command confirms setup.names) refl log endpoints id s

@@ -21,7 +21,7 @@ use Rattle.outbound.specs.declared.repeat.Repeat.{Repeat}
 use Rattle.outbound.specs.declared.repeat.Repeat.TheVariants.{Sent as SentAgain, GivenUp}
 use Rattle.outbound.specs.declared.reply.Reply.{Reply}
 use Rattle.outbound.specs.declared.reply.Reply.TheVariants.{Answered as AnsweredReply, Provisional, Stranger}
-use Rattle.outbound.specs.Flight.{InFlight, begun as sent_first, repeat_of, repeated, reply_of, heard_as, heard}
+use Rattle.outbound.specs.Flight.{InFlight, sent_first, repeat_of, repeated, reply_of, heard_as, heard}
 use Rattle.outbound.proofs.LifeLaws.{repeat_same, sent_later, sent_soon}
 use Rattle.restart.specs.declared.restart.Restart.{Restart}
 use Rattle.restart.specs.declared.restart.Restart.TheVariants.{Waiting, Announced, Serving}
@@ -38,52 +38,52 @@ use Rattle.plain_machine.proofs.FlightLaws.{next_below}
 use Rattle.plain_machine.proofs.AnnouncementLemmas.{announcement_writable}
 use Rattle.machine_laws.proofs.EachLemmas.{Each, all_from_each, each_both, each_push, each_weaker, one_before, one_behind, one_weaker}
 use Rattle.machine_laws.proofs.FlightLemmas.{IsSame}
-use Rattle.machine_laws.specs.Saying.{Carries, Issued, OneOf, begun_in, count_of, is_command_as}
+use Rattle.machine_laws.specs.Saying.{Carries, Begun, OneOf, begun_in, count_of, is_command_as}
 
 -- a command of a gateway's own: it is read as a command with its id, and began by this moment
-pub record WasBegun (until : ℕ) (one : Issued) : Type 0 where
+pub record WasBegun (until : ℕ) (one : Begun) : Type 0 where
   pub name : List ℕ
   pub reads : is_command_as one.id name (read_text one.text) ≡ true
   pub past : one.moment ≤ until
 
 -- fewer than all numbers of a line are used up
-abbrev pub Few : ℕ → List Issued → Type 0
+abbrev pub Few : ℕ → List Begun → Type 0
 Few line log = first_number line + count_of line log < numbers
 
-abbrev pub AllFew : List Issued → Type 0
+abbrev pub AllFew : List Begun → Type 0
 AllFew log = (line : ℕ) → Few line log
 
-abbrev pub Apart : List Issued → Type 0
-Apart log = AllPairs (λ (a b : Issued). a.id ≢ b.id) log
+abbrev pub Apart : List Begun → Type 0
+Apart log = AllPairs (λ (a b : Begun). a.id ≢ b.id) log
 
-pub record Logged (until : ℕ) (log : List Issued) : Type 0 where
+pub record Logged (until : ℕ) (log : List Begun) : Type 0 where
   pub begun : Each (WasBegun until) log
   pub apart : AllFew log → Apart log
 
 -- the command in flight is one that began
-pub record InLog (until : ℕ) (log : List Issued) (flight : InFlight) : Type 0 where
+pub record InLog (until : ℕ) (log : List Begun) (flight : InFlight) : Type 0 where
   pub known : OneOf (IsSame flight) log
   pub later : flight.first ≤ flight.due
   pub past : flight.first ≤ until
 
 -- the line's ids so far are below its next
-pub record Counts (line number : ℕ) (log : List Issued) : Type 0 where
+pub record Counts (line number : ℕ) (log : List Begun) : Type 0 where
   pub count : number ≡ first_number line + count_of line log
-  pub below : Each (λ (b : Issued). line_of_id b.id ≡ line → b.id < id_on line number) log
+  pub below : Each (λ (b : Begun). line_of_id b.id ≡ line → b.id < id_on line number) log
 
-pub record Posted (until : ℕ) (log : List Issued) (line : ℕ) (post : Post) : Type 0 where
+pub record Posted (until : ℕ) (log : List Begun) (line : ℕ) (post : Post) : Type 0 where
   pub below : post.number < numbers
   pub counts : Few line log → Counts line post.number log
   pub flight : IfSome post.pending (InLog until log)
 
-pub record Own (until : ℕ) (log : List Issued) (sent : Sent) : Type 0 where
+pub record Own (until : ℕ) (log : List Begun) (sent : Sent) : Type 0 where
   pub carries : OneOf (Carries (text_of sent.said) sent.moment) log
   pub early : sent.moment ≤ until
 
 -- a turn of a post keeps all that
-pub record PostGood (until : ℕ) (log : List Issued) (line : ℕ) (turn : PostTurn) : Type 0 where
+pub record PostGood (until : ℕ) (log : List Begun) (line : ℕ) (turn : PostTurn) : Type 0 where
   pub log_holds : Logged until (log ++ begun_in turn.sent)
-  pub of : Each (λ (b : Issued). line_of_id b.id ≡ line) (begun_in turn.sent)
+  pub of : Each (λ (b : Begun). line_of_id b.id ≡ line) (begun_in turn.sent)
   pub post_holds : Posted until (log ++ begun_in turn.sent) line turn.post
   pub sent_holds : Each (Own until (log ++ begun_in turn.sent)) turn.sent
 
@@ -92,32 +92,32 @@ pub record PostGood (until : ℕ) (log : List Issued) (line : ℕ) (turn : PostT
 line_is : (line number : ℕ) → number < numbers → line_of_id (id_on line number) ≡ line
 line_is line number below = div-mul-add line numbers number below
 
-count_both : (line : ℕ) (log more : List Issued) → count_of line (log ++ more) ≡ count_of line log + count_of line more
+count_both : (line : ℕ) (log more : List Begun) → count_of line (log ++ more) ≡ count_of line log + count_of line more
 count_both line log more =
-    ap (λ (x : List Issued). length x) (filter-append (λ (one : Issued). line_of_id one.id == line) log more)
-    ∙ length-append (filter (λ (one : Issued). line_of_id one.id == line) log) (filter (λ (one : Issued). line_of_id one.id == line) more)
+    ap (λ (x : List Begun). length x) (filter-append (λ (one : Begun). line_of_id one.id == line) log more)
+    ∙ length-append (filter (λ (one : Begun). line_of_id one.id == line) log) (filter (λ (one : Begun). line_of_id one.id == line) more)
 
-pub few_before : (line : ℕ) (log more : List Issued) → Few line (log ++ more) → Few line log
+pub few_before : (line : ℕ) (log more : List Begun) → Few line (log ++ more) → Few line log
 few_before line log more few = let both = count_both line log more in omega (arith, both, few)
 
-count_one : (line : ℕ) (one : Issued) → line_of_id one.id ≡ line → count_of line (one ∷ []) ≡ 1
+count_one : (line : ℕ) (one : Begun) → line_of_id one.id ≡ line → count_of line (one ∷ []) ≡ 1
 count_one line one is = rw (eq-eqb (line_of_id one.id) line is) refl
 
-count_none : (line : ℕ) (new : List Issued) → Each (λ (b : Issued). line_of_id b.id ≢ line) new → count_of line new ≡ 0
+count_none : (line : ℕ) (new : List Begun) → Each (λ (b : Begun). line_of_id b.id ≢ line) new → count_of line new ≡ 0
 count_none line [] all = refl
 count_none line (b ∷ new) all = rw (ne_eqb (line_of_id b.id) line all.0) (count_none line new all.1)
 
 -- A log that grows
 
-known_on : (log new : List Issued) (flight : InFlight) → OneOf (IsSame flight) log → OneOf (IsSame flight) (log ++ new)
+known_on : (log new : List Begun) (flight : InFlight) → OneOf (IsSame flight) log → OneOf (IsSame flight) (log ++ new)
 known_on log new flight known = one_before (IsSame flight) log new known
 
-in_log_on : (until : ℕ) (log new : List Issued) (found : Option InFlight) → IfSome found (InLog until log) → IfSome found (InLog until (log ++ new))
+in_log_on : (until : ℕ) (log new : List Begun) (found : Option InFlight) → IfSome found (InLog until log) → IfSome found (InLog until (log ++ new))
 in_log_on until log new None is = tt
 in_log_on until log new (Some flight) is = record { known = known_on log new flight is.known; later = is.later; past = is.past }
 
 -- what other lines begin changes nothing
-pub others_stay : (until : ℕ) (log new : List Issued) (line : ℕ) (post : Post) → Each (λ (b : Issued). line_of_id b.id ≢ line) new → Posted until log line post
+pub others_stay : (until : ℕ) (log new : List Begun) (line : ℕ) (post : Post) → Each (λ (b : Begun). line_of_id b.id ≢ line) new → Posted until log line post
     → Posted until (log ++ new) line post
 others_stay until log new line post apart s = record {
   below = s.below;
@@ -125,25 +125,25 @@ others_stay until log new line post apart s = record {
       let was = s.counts (few_before line log new few) in
       record {
         count = let both = count_both line log new in let none = count_none line new apart in omega (arith, was.count, both, none);
-        below = both_each log new was.below (each_weaker (λ (b : Issued). line_of_id b.id ≢ line) (λ (b : Issued). line_of_id b.id ≡ line → b.id < id_on line post.number)
+        below = both_each log new was.below (each_weaker (λ (b : Begun). line_of_id b.id ≢ line) (λ (b : Begun). line_of_id b.id ≡ line → b.id < id_on line post.number)
             (λ b other. λ same. absurd (other same)) new apart);
       };
   flight = in_log_on until log new post.pending s.flight;
 } where
-  both_each : (xs ys : List Issued) → Each (λ (b : Issued). line_of_id b.id ≡ line → b.id < id_on line post.number) xs
-      → Each (λ (b : Issued). line_of_id b.id ≡ line → b.id < id_on line post.number) ys → Each (λ (b : Issued). line_of_id b.id ≡ line → b.id < id_on line post.number) (xs ++ ys)
-  both_each xs ys one two = each_both (λ (b : Issued). line_of_id b.id ≡ line → b.id < id_on line post.number) xs ys one two
+  both_each : (xs ys : List Begun) → Each (λ (b : Begun). line_of_id b.id ≡ line → b.id < id_on line post.number) xs
+      → Each (λ (b : Begun). line_of_id b.id ≡ line → b.id < id_on line post.number) ys → Each (λ (b : Begun). line_of_id b.id ≡ line → b.id < id_on line post.number) (xs ++ ys)
+  both_each xs ys one two = each_both (λ (b : Begun). line_of_id b.id ≡ line → b.id < id_on line post.number) xs ys one two
 
-pub own_more : (until : ℕ) (log new : List Issued) (sent : Sent) → Own until log sent → Own until (log ++ new) sent
+pub own_more : (until : ℕ) (log new : List Begun) (sent : Sent) → Own until log sent → Own until (log ++ new) sent
 own_more until log new sent own = record { carries = one_before (Carries (text_of sent.said) sent.moment) log new own.carries; early = own.early }
 
 -- A turn in which nothing begins and nothing is sent
 
-pub post_still : (until : ℕ) (log : List Issued) (line : ℕ) (post : Post) → Logged until log → Posted until log line post → PostGood until log line (unsent post)
+pub post_still : (until : ℕ) (log : List Begun) (line : ℕ) (post : Post) → Logged until log → Posted until log line post → PostGood until log line (unsent post)
 post_still until log line post logged s = record {
   log_holds = subst (Logged until) (sym (append-nil log)) logged;
   of = tt;
-  post_holds = subst (λ (x : List Issued). Posted until x line post) (sym (append-nil log)) s;
+  post_holds = subst (λ (x : List Begun). Posted until x line post) (sym (append-nil log)) s;
   sent_holds = tt;
 }
 
@@ -156,16 +156,16 @@ next_number : (line number count : ℕ) → number ≡ first_number line + count
 next_number line number count is few =
     ap (λ (b : Bool). if b then first_number line else number + 1) (ne_eqb (number + 1) numbers (λ same. absurd (omega (arith, is, few, same))))
 
-pub command_good : (until : ℕ) (log : List Issued) (line moment : ℕ) (post : Post) (verb : Verb) (name : List ℕ) (params : List Param) (body : List ℕ)
+pub command_good : (until : ℕ) (log : List Begun) (line moment : ℕ) (post : Post) (verb : Verb) (name : List ℕ) (params : List Param) (body : List ℕ)
     → is_writable (messages.Command verb (id_on line post.number) name params body) ≡ true → moment ≤ until → Logged until log → Posted until log line post
     → PostGood until log line (with_command line moment post (messages.Command verb (id_on line post.number) name params body))
 command_good until log line moment post verb name params body writable past logged s = record {
   log_holds = record {
     begun = each_push (WasBegun until) log b logged.begun
         (record { name = name; reads = ap (is_command_as id name) reads ∙ same_command id name; past = past });
-    apart = λ few. all_pairs_push (λ (a c : Issued). a.id ≢ c.id) log b (logged.apart (λ i. few_before i log (b ∷ []) (few i)))
-        (all_from_each (λ (a : Issued). a.id ≢ id) log
-        (each_weaker (λ (a : Issued). line_of_id a.id ≡ line → a.id < id) (λ (a : Issued). a.id ≢ id)
+    apart = λ few. all_pairs_push (λ (a c : Begun). a.id ≢ c.id) log b (logged.apart (λ i. few_before i log (b ∷ []) (few i)))
+        (all_from_each (λ (a : Begun). a.id ≢ id) log
+        (each_weaker (λ (a : Begun). line_of_id a.id ≡ line → a.id < id) (λ (a : Begun). a.id ≢ id)
         (λ a below. λ same. absurd (let less : a.id < id = below (ap (λ (x : ℕ). line_of_id x) same ∙ of_line) in omega (arith, less, same)))
         log (s.counts (few_before line log (b ∷ []) (few line))).below));
   };
@@ -179,8 +179,8 @@ command_good until log line moment post verb name params body writable past logg
         next_number line post.number (count_of line log) old.count (let f : first_number line + count_of line (log ++ b ∷ []) < numbers = few in omega (arith, f, total)) in
         record {
           count = omega (arith, next, total, old.count);
-          below = each_push (λ (a : Issued). line_of_id a.id ≡ line → a.id < id_on line (number_after line post.number)) log b
-              (each_weaker (λ (a : Issued). line_of_id a.id ≡ line → a.id < id) (λ (a : Issued). line_of_id a.id ≡ line → a.id < id_on line (number_after line post.number))
+          below = each_push (λ (a : Begun). line_of_id a.id ≡ line → a.id < id_on line (number_after line post.number)) log b
+              (each_weaker (λ (a : Begun). line_of_id a.id ≡ line → a.id < id) (λ (a : Begun). line_of_id a.id ≡ line → a.id < id_on line (number_after line post.number))
               (λ a below. λ of. let less : a.id < id = below of in omega (arith, less, next)) log old.below)
               (λ of. omega (arith, next));
         };
@@ -194,7 +194,7 @@ command_good until log line moment post verb name params body writable past logg
   text : List ℕ
   text = written (messages.Command verb (id_on line post.number) name params body)
 
-  b : Issued
+  b : Begun
   b = record { id = id; moment = moment; text = text }
 
   flight : InFlight
@@ -208,7 +208,7 @@ command_good until log line moment post verb name params body writable past logg
 
 -- What falls due of a post
 
-pub resent_good : (setup : Setup) (until : ℕ) (log : List Issued) (line moment : ℕ) (post : Post) (flight : InFlight) → post.pending ≡ Some flight → moment ≡ flight.due → moment ≤ until
+pub resent_good : (setup : Setup) (until : ℕ) (log : List Begun) (line moment : ℕ) (post : Post) (flight : InFlight) → post.pending ≡ Some flight → moment ≡ flight.due → moment ≤ until
     → Logged until log → Posted until log line post → PostGood until log line (resent_on setup line moment post)
 resent_good setup until log line moment post flight pending due past logged s =
     subst (λ (found : Option InFlight). PostGood until log line (resent_by found setup line moment post)) (sym pending) (by_repeat (repeat_of flight moment) refl) where
@@ -224,7 +224,7 @@ resent_good setup until log line moment post flight pending due past logged s =
           record {
             log_holds = subst (Logged until) (sym (append-nil log)) logged;
             of = tt;
-            post_holds = subst (λ (x : List Issued). Posted until x line (record post { pending = Some (repeated flight moment) })) (sym (append-nil log)) (record {
+            post_holds = subst (λ (x : List Begun). Posted until x line (record post { pending = Some (repeated flight moment) })) (sym (append-nil log)) (record {
               below = s.below;
               counts = s.counts;
               flight = record {
@@ -234,7 +234,7 @@ resent_good setup until log line moment post flight pending due past logged s =
                 past = omega (arith, in_log.past, same.same_start);
               };
             });
-            sent_holds = subst (λ (x : List Issued). Own until x (record { to = flight.to; moment = moment; owner = own_of line; said = resent flight.text }) × Unit {0}) (sym (append-nil log)) (
+            sent_holds = subst (λ (x : List Begun). Own until x (record { to = flight.to; moment = moment; owner = own_of line; said = resent flight.text }) × Unit {0}) (sym (append-nil log)) (
               record {
                 carries = one_weaker (IsSame flight) (Carries flight.text moment)
                     (λ one e. record { text = sym e.text; since = omega (arith, e.moment, in_log.later, due); within = omega (arith, e.moment, few, in_log.later, due) }) log in_log.known;
@@ -246,7 +246,7 @@ resent_good setup until log line moment post flight pending due past logged s =
 
 -- An announcement
 
-pub announced_good : (setup : Setup) (until : ℕ) (log : List Issued) (line moment : ℕ) (post : Post) → IsSetUp setup → line ≤ most_lines → 1 ≤ id_on line post.number → moment ≤ until → Logged until log
+pub announced_good : (setup : Setup) (until : ℕ) (log : List Begun) (line moment : ℕ) (post : Post) → IsSetUp setup → line ≤ most_lines → 1 ≤ id_on line post.number → moment ≤ until → Logged until log
     → Posted until log line post → PostGood until log line (announced setup line moment post)
 unfolding announced announcement
 announced_good setup until log line moment post set_up few some past logged s =
@@ -254,7 +254,7 @@ announced_good setup until log line moment post set_up few some past logged s =
     ((record { code = codes "RM"; value = method_of line }) ∷ []) [] (announcement_writable setup line post.number set_up few s.below some) past logged
     (record { below = s.below; counts = s.counts; flight = s.flight })
 
-pub announcing_good : (setup : Setup) (until : ℕ) (log : List Issued) (line moment : ℕ) (post : Post) → IsSetUp setup → line ≤ most_lines → 1 ≤ id_on line post.number → moment ≤ until → Logged until log
+pub announcing_good : (setup : Setup) (until : ℕ) (log : List Begun) (line moment : ℕ) (post : Post) → IsSetUp setup → line ≤ most_lines → 1 ≤ id_on line post.number → moment ≤ until → Logged until log
     → Posted until log line post → PostGood until log line (announced_on setup line moment post)
 announcing_good setup until log line moment post set_up few some past logged s = by_restart post.restart where
   by_restart : (restart : Restart) → PostGood until log line (announced_by restart setup line moment post)
@@ -264,7 +264,7 @@ announcing_good setup until log line moment post set_up few some past logged s =
 
 -- A response
 
-heard_in_log : (until : ℕ) (log : List Issued) (flight : InFlight) (id code : ℕ) → InLog until log flight → InLog until log (heard flight id code until)
+heard_in_log : (until : ℕ) (log : List Begun) (flight : InFlight) (id code : ℕ) → InLog until log flight → InLog until log (heard flight id code until)
 unfolding heard
 heard_in_log until log flight id code is = by_reply (reply_of flight id code) where
   by_reply : (reply : Reply) → InLog until log (heard_as reply flight until)
@@ -276,14 +276,14 @@ heard_in_log until log flight id code is = by_reply (reply_of flight id code) wh
   }
   by_reply Stranger = is
 
-put_off_stands : (until : ℕ) (log : List Issued) (line : ℕ) (response : Response) (post : Post) → Posted until log line post → Posted until log line (put_off response until post)
+put_off_stands : (until : ℕ) (log : List Begun) (line : ℕ) (response : Response) (post : Post) → Posted until log line post → Posted until log line (put_off response until post)
 put_off_stands until log line response post s = by_pending post.pending s.flight where
   by_pending : (pending : Option InFlight) → IfSome pending (InLog until log)
       → Posted until log line (record post { pending = option_map (λ message. heard message response.id response.code until) pending })
   by_pending None is = record { below = s.below; counts = s.counts; flight = tt }
   by_pending (Some flight) is = record { below = s.below; counts = s.counts; flight = heard_in_log until log flight response.id response.code is }
 
-pub replied_good : (heard : Heard) (setup : Setup) (until : ℕ) (log : List Issued) (line : ℕ) (response : Response) (post : Post) → IsSetUp setup → line ≤ most_lines → 1 ≤ id_on line post.number → Logged until log
+pub replied_good : (heard : Heard) (setup : Setup) (until : ℕ) (log : List Begun) (line : ℕ) (response : Response) (post : Post) → IsSetUp setup → line ≤ most_lines → 1 ≤ id_on line post.number → Logged until log
     → Posted until log line post → PostGood until log line (replied heard setup line until response post)
 unfolding replied
 replied_good Nothing setup until log line response post set_up few some logged s = post_still until log line post logged s

@@ -3,20 +3,20 @@ use Rattle.std.proofs.Common.{◌≡◌, ℕ, ◌≤◌, true, List, ◌++◌, i
 use Rattle.mgcp_text.specs.declared.message.Param.{Param}
 use Rattle.mgcp_text.specs.declared.message.Message.TheVariants as messages
 use Rattle.mgcp_text.specs.Reading.{Outcome, message, no_header, bad_version, bad_body, read_text}
-use Rattle.history.specs.declared.entry.First.{First as KeptFirst}
+use Rattle.history.specs.declared.entry.KeptFirst.{KeptFirst}
 use Rattle.machine_laws.proofs.EachLemmas.{Each, one_before, one_of_each, one_to, one_weaker}
-use Rattle.machine_laws.specs.Saying.{Carries, IsAnswerTo, Issued, OneOf, Tells, is_command_as}
+use Rattle.machine_laws.specs.Saying.{Carries, IsAnswerTo, Begun, OneOf, Tells, is_command_as}
 
 abbrev pub AreAnswers : List KeptFirst → Type 0
 AreAnswers firsts = Each (λ (first : KeptFirst). IsAnswerTo first.id first.answer) firsts
 
-pub tells_on : (log more : List Issued) (firsts later : List KeptFirst) (text : List ℕ) (moment : ℕ) → Tells log firsts text moment → Tells (log ++ more) (firsts ++ later) text moment
+pub tells_on : (log more : List Begun) (firsts later : List KeptFirst) (text : List ℕ) (moment : ℕ) → Tells log firsts text moment → Tells (log ++ more) (firsts ++ later) text moment
 tells_on log more firsts later text moment (inl one) = inl (one_before (Carries text moment) log more one)
 tells_on log more firsts later text moment (inr (inl one)) = inr (inl (one_before (λ (first : KeptFirst). first.answer ≡ text) firsts later one))
 tells_on log more firsts later text moment (inr (inr is)) = inr (inr is)
 
 -- a command that is read as one, with its id
-pub record IsCommand (one : Issued) : Type 0 where
+pub record IsCommand (one : Begun) : Type 0 where
   pub name : List ℕ
   pub reads : is_command_as one.id name (read_text one.text) ≡ true
 
@@ -43,10 +43,10 @@ abbrev pub IsAnsweredBy : ℕ → List ℕ → KeptFirst → Type 0
 IsAnsweredBy id text first = (first.id ≡ id) × (first.answer ≡ text)
 
 -- a final response that an end says is the answer to a first with its id
-pub final_answers : (log : List Issued) (firsts : List KeptFirst) (text : List ℕ) (moment code id : ℕ) (params : List Param) (body : List ℕ) → Each IsCommand log → AreAnswers firsts
+pub final_answers : (log : List Begun) (firsts : List KeptFirst) (text : List ℕ) (moment code id : ℕ) (params : List Param) (body : List ℕ) → Each IsCommand log → AreAnswers firsts
     → Tells log firsts text moment → read_text text ≡ message (messages.Response code id params body) → 200 ≤ code → OneOf (IsAnsweredBy id text) firsts
 final_answers log firsts text moment code id params body commands answers (inl carried) reads high =
-    one_to (λ (b : Issued). IsCommand b × Carries text moment b) (OneOf (IsAnsweredBy id text) firsts)
+    one_to (λ (b : Begun). IsCommand b × Carries text moment b) (OneOf (IsAnsweredBy id text) firsts)
     (λ b both. absurd (no_response b.id both.0.name (read_text b.text) code id params body both.0.reads (sym (ap read_text both.1.text) ∙ reads)))
     log (one_of_each IsCommand (Carries text moment) log commands carried)
 final_answers log firsts text moment code id params body commands answers (inr (inl answered)) reads high =

@@ -5,10 +5,10 @@ use Rattle.std.proofs.lemmas.Bool.Decides.{Decides-eqb}
 use Rattle.std.specs.declared.net.socket_addr.SocketAddrV4.{SocketAddrV4}
 use Rattle.outbound.specs.Flight.{InFlight}
 use Rattle.mgcp_text.specs.Reading.{Outcome, read_text}
-use Rattle.mg_line.specs.declared.due.Due.{Due as LineDue}
+use Rattle.mg_line.specs.declared.due.LineDue.{LineDue}
 use Rattle.mg_line.specs.declared.phone.Act.{Act}
-use Rattle.plain_machine.specs.declared.due_item.Due.{Due}
-use Rattle.plain_machine.specs.declared.due_item.Due.TheVariants.{OfLine, Resend}
+use Rattle.plain_machine.specs.declared.due_item.StationDue.{StationDue}
+use Rattle.plain_machine.specs.declared.due_item.StationDue.TheVariants.{OfLine, Resend}
 use Rattle.plain_machine.specs.declared.due_item.DueItem.{DueItem}
 use Rattle.plain_machine.specs.declared.setup.Setup.{Setup}
 use Rattle.plain_machine.specs.declared.station.Station.{Station}
@@ -92,19 +92,19 @@ on_the_line : (setup : Setup) (endpoints : Endpoints) (item : DueItem) (station 
 on_the_line setup endpoints item station at =
     either_line endpoints item.line (own_happened item.due setup item.moment) (happened_on item.due setup item.line item.moment) (some_line endpoints item.line station at)
 
-line_turned : (setup : Setup) (endpoints : Endpoints) (item : DueItem) (due : Due) (station : Station) → item.due ≡ due → station_at endpoints item.line ≡ Some station
+line_turned : (setup : Setup) (endpoints : Endpoints) (item : DueItem) (due : StationDue) (station : Station) → item.due ≡ due → station_at endpoints item.line ≡ Some station
     → station_at (happened setup endpoints item).endpoints item.line ≡ Some (happened_on due setup item.line item.moment station).station
 line_turned setup endpoints item due station is at =
     ap (λ (x : Told). station_at x.endpoints item.line) (on_the_line setup endpoints item station at)
     ∙ this_turns endpoints item.line (happened_on item.due setup item.line item.moment)
     ∙ ap (option_map (λ (s : Station). (happened_on item.due setup item.line item.moment s).station)) at
-    ∙ ap (λ (which : Due). Some (happened_on which setup item.line item.moment station).station) is
+    ∙ ap (λ (which : StationDue). Some (happened_on which setup item.line item.moment station).station) is
 
-line_sent : (setup : Setup) (endpoints : Endpoints) (item : DueItem) (due : Due) (station : Station) → item.due ≡ due → station_at endpoints item.line ≡ Some station
+line_sent : (setup : Setup) (endpoints : Endpoints) (item : DueItem) (due : StationDue) (station : Station) → item.due ≡ due → station_at endpoints item.line ≡ Some station
     → (happened setup endpoints item).sent ≡ (happened_on due setup item.line item.moment station).sent
 line_sent setup endpoints item due station is at =
     ap (λ (x : Told). x.sent) (on_the_line setup endpoints item station at ∙ on_this endpoints item.line station (happened_on item.due setup item.line item.moment) at)
-    ∙ ap (λ (which : Due). (happened_on which setup item.line item.moment station).sent) is
+    ∙ ap (λ (which : StationDue). (happened_on which setup item.line item.moment station).sent) is
 
 pub line_silent : (setup : Setup) (endpoints : Endpoints) (item : DueItem) (due : LineDue) (station : Station) (message : InFlight) → KeepOrder endpoints → item.due ≡ OfLine due
     → station_at endpoints item.line ≡ Some station → in_flight station ≡ Some message
@@ -149,7 +149,7 @@ pub own_again : (setup : Setup) (endpoints : Endpoints) (item : DueItem) (messag
     → All (Carries 0 message) (happened setup endpoints item).sent × IfSome (happened setup endpoints item).endpoints.own.post.pending (IsSame message)
 own_again setup endpoints item message is line flight =
     let here : happened setup endpoints item ≡ on_own endpoints (own_happened Resend setup item.moment) =
-    at_own setup endpoints item line ∙ ap (λ (which : Due). on_own endpoints (own_happened which setup item.moment)) is in
+    at_own setup endpoints item line ∙ ap (λ (which : StationDue). on_own endpoints (own_happened which setup item.moment)) is in
     subst (λ (x : Told). All (Carries 0 message) x.sent × IfSome x.endpoints.own.post.pending (IsSame message)) (sym here)
     (own_carries setup item.moment endpoints.own message flight, own_keeps setup item.moment endpoints.own message flight)
 

@@ -3,7 +3,7 @@ use Rattle.std.specs.Prelude.{◌≡◌, ℕ, ◌<◌, Bool, true, false, List, 
 use Rattle.std.specs.declared.net.socket_addr.SocketAddrV4.{SocketAddrV4}
 use Rattle.mgcp_text.specs.declared.message.Message.TheVariants as messages
 use Rattle.mgcp_text.specs.Reading.{Outcome, message, no_header, bad_version, bad_body}
-use Rattle.plain_machine.specs.Arriving.{Arrival}
+use Rattle.plain_machine.specs.Arriving.{TextArrival}
 use Rattle.plain_machine.specs.Message.{own_of, of_none, answer, again, command, resent, acknowledgement, Said, Sent}
 use Rattle.plain_machine.specs.Responding.{acknowledged}
 
@@ -28,7 +28,7 @@ acknowledged_as moment source (message (messages.Command verb id name params bod
 acknowledged_as moment source (message (messages.Response code id params body)) =
     acknowledged moment source code id params
 
-abbrev pub acknowledgements_to : Arrival → List Sent
+abbrev pub acknowledgements_to : TextArrival → List Sent
 acknowledgements_to a = acknowledged_as a.moment a.source a.outcome
 
 -- it is a command of a line's own

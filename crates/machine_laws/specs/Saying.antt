@@ -5,12 +5,12 @@ use Rattle.mgcp_text.specs.declared.message.Param.{Param}
 use Rattle.mgcp_text.specs.declared.message.Message.TheVariants as messages
 use Rattle.mgcp_text.specs.Reading.{Outcome, message, no_header, bad_version, bad_body, read_text}
 use Rattle.mgcp_text.specs.Writing.{written}
-use Rattle.history.specs.declared.entry.First.{First as KeptFirst}
+use Rattle.history.specs.declared.entry.KeptFirst.{KeptFirst}
 use Rattle.plain_machine.specs.Message.{Said, answer, again, command, resent, acknowledgement, Sent}
 use Rattle.plain_machine.specs.Posting.{numbers, first_number, line_of_id}
 
 -- a command that an end began: its id, when it was first sent, and its text
-pub record Issued : Type 0 where
+pub record Begun : Type 0 where
   pub id : ℕ
   pub moment : ℕ
   pub text : List ℕ
@@ -25,7 +25,7 @@ is_command_as id name (bad_body other) = false
 
 -- The commands of a gateway's own that begin, each at its first send
 
-abbrev pub begun_by : ℕ → Said → List Issued
+abbrev pub begun_by : ℕ → Said → List Begun
 begun_by moment (command (messages.Command verb id name params body)) =
     (record { id = id; moment = moment; text = written (messages.Command verb id name params body) }) ∷ []
 begun_by moment (command (messages.Response code id params body)) = []
@@ -34,18 +34,18 @@ begun_by moment (again text) = []
 begun_by moment (resent text) = []
 begun_by moment (acknowledgement response) = []
 
-abbrev pub begun_at : Sent → List Issued
+abbrev pub begun_at : Sent → List Begun
 begun_at one = begun_by one.moment one.said
 
-abbrev pub begun_in : List Sent → List Issued
+abbrev pub begun_in : List Sent → List Begun
 begun_in sent = flat_map begun_at sent
 
 -- how many of them are of this line; of the gateway itself, which is line 0
-abbrev pub count_of : ℕ → List Issued → ℕ
+abbrev pub count_of : ℕ → List Begun → ℕ
 count_of line begun = length (filter (λ one. line_of_id one.id == line) begun)
 
 -- not all numbers of its commands are used up: a line has 10,000,000, and the gateway itself one fewer, since 0 is no id
-abbrev pub HasNumbersLeft : List Issued → Type 0
+abbrev pub HasNumbersLeft : List Begun → Type 0
 HasNumbersLeft begun = (line : ℕ) → first_number line + count_of line begun < numbers
 
 -- Of what is said
@@ -55,7 +55,7 @@ OneOf P [] = ⊥
 OneOf P (x ∷ xs) = P x ⊎ OneOf P xs
 
 -- what is sent is this command, less than 20,000 ms after it was issued
-pub record Carries (bytes : List ℕ) (moment : ℕ) (one : Issued) : Type 0 where
+pub record Carries (bytes : List ℕ) (moment : ℕ) (one : Begun) : Type 0 where
   pub text : bytes ≡ one.text
   pub since : one.moment ≤ moment
   pub within : moment < one.moment + 20000
@@ -71,6 +71,6 @@ pub record IsAcknowledgement (text : List ℕ) : Type 0 where
   pub id : ℕ
   pub reads : read_text text ≡ message (messages.Response 0 id [] [])
 
-abbrev pub Tells : List Issued → List KeptFirst → List ℕ → ℕ → Type 0
+abbrev pub Tells : List Begun → List KeptFirst → List ℕ → ℕ → Type 0
 Tells log firsts text moment =
     OneOf (Carries text moment) log ⊎ (OneOf (λ (first : KeptFirst). first.answer ≡ text) firsts ⊎ IsAcknowledgement text)

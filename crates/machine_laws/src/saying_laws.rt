@@ -1,6 +1,6 @@
 //! What a gateway says, and for how long.
 ghost use Rattle.std.specs.Prelude.{◌≡◌, ◌≢◌, ◌≤◌, ◌<◌, ℕ, List, All, AllPairs, true};
-ghost use Rattle.history.specs.declared.entry.First.{First as KeptFirst};
+ghost use Rattle.history.specs.declared.entry.KeptFirst.{KeptFirst};
 ghost use Rattle.history.specs.Kept.{firsts_in};
 ghost use Rattle.plain_machine.specs.declared.setup.Setup.{Setup};
 ghost use Rattle.plain_machine.specs.Setup.{IsSetUp};
@@ -8,7 +8,7 @@ ghost use Rattle.plain_machine.specs.Event.{GatewayEvent};
 ghost use Rattle.plain_machine.specs.Message.{Sent, text_of};
 ghost use Rattle.plain_machine.specs.Machine.{opening};
 ghost use Rattle.plain_machine.specs.Lists.{are_taken, plain, sent_of};
-ghost use Rattle.machine_laws.specs.Saying.{Issued, begun_in, count_of, HasNumbersLeft, Tells, IsAnswerTo};
+ghost use Rattle.machine_laws.specs.Saying.{Begun, begun_in, count_of, HasNumbersLeft, Tells, IsAnswerTo};
 
 /// What a gateway sends are commands of its own, each for less than 20,000 ms and under an id of its own, the answers that it
 /// keeps, each in its transaction, and acknowledgements; nothing is sent later than its clock.
@@ -20,10 +20,10 @@ pub fn a_gateway_says_so()
         All (λ (first : KeptFirst). IsAnswerTo first.id first.answer) (firsts_in (plain setup events).history) }
     ensures apart { (setup : Setup) (events : List GatewayEvent) → IsSetUp setup → are_taken setup (opening setup) events ≡ true →
         HasNumbersLeft (begun_in (sent_of setup events)) →
-        AllPairs (λ (a b : Issued). a.id ≢ b.id) (begun_in (sent_of setup events)) }
+        AllPairs (λ (a b : Begun). a.id ≢ b.id) (begun_in (sent_of setup events)) }
 {}
 
 /// Not all numbers are used up where a line has begun fewer than 10,000,000 commands, and the gateway itself fewer than 9,999,999.
 pub fn numbers_are_left_so_long()
-    ensures { (begun : List Issued) → count_of 0 begun < 9999999 → ((line : ℕ) → count_of line begun < 10000000) → HasNumbersLeft begun }
+    ensures { (begun : List Begun) → count_of 0 begun < 9999999 → ((line : ℕ) → count_of line begun < 10000000) → HasNumbersLeft begun }
 {}

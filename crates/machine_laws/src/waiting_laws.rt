@@ -1,11 +1,11 @@
 //! A line has one command in flight at each thing that happens, within an event too (RFC 3435, 3.2.1.2, 3.5 and 4.4.1).
 ghost use Rattle.std.specs.Prelude.{◌≡◌, ◌≢◌, [], ℕ, List, Some, IfSome, All};
 ghost use Rattle.std.specs.declared.net.socket_addr.SocketAddrV4.{SocketAddrV4};
-ghost use Rattle.mg_line.specs.declared.due.Due.{Due as LineDue};
+ghost use Rattle.mg_line.specs.declared.due.LineDue.{LineDue};
 ghost use Rattle.mg_line.specs.declared.phone.Act.{Act};
 ghost use Rattle.mgcp_text.specs.Reading.{Outcome};
 ghost use Rattle.outbound.specs.Flight.{InFlight};
-ghost use Rattle.plain_machine.specs.declared.due_item.Due.TheVariants.{OfLine, Resend};
+ghost use Rattle.plain_machine.specs.declared.due_item.StationDue.TheVariants.{OfLine, Resend};
 ghost use Rattle.plain_machine.specs.declared.due_item.DueItem.{DueItem};
 ghost use Rattle.plain_machine.specs.declared.setup.Setup.{Setup};
 ghost use Rattle.plain_machine.specs.declared.station.Station.{Station};

@@ -10,7 +10,7 @@ use Rattle.outbound.specs.declared.repeat.Repeat.TheVariants.{Sent, GivenUp}
 use Rattle.outbound.specs.declared.reply.Reply.{Reply}
 use Rattle.outbound.specs.declared.reply.Reply.TheVariants.{Answered, Provisional, Stranger}
 use Rattle.outbound.specs.Sends.{wait_after, may_repeat}
-use Rattle.outbound.specs.Flight.{InFlight, begun, repeat_of, repeated, reply_by, reply_of, heard}
+use Rattle.outbound.specs.Flight.{InFlight, sent_first, repeat_of, repeated, reply_by, reply_of, heard}
 use Rattle.outbound.specs.Life.{Happening, falls_due, responds, resent, is_answered, IsNoAnswer}
 
 -- ---- one thing that happens
@@ -152,11 +152,11 @@ bounded message (responds id code moment ∷ more) few = by_reply (reply_of mess
       let rest = others (omega arith) in
       rw is (carried same start rest)
 
-pub eight_sends : (id : ℕ) (to : SocketAddrV4) (text : List ℕ) (first : ℕ) (happenings : List Happening) → length (first ∷ resent (begun id to text first) happenings) ≤ 8
-eight_sends id to text first happenings = let b = (bounded (begun id to text first) happenings (omega arith)).few in omega (arith, b)
+pub eight_sends : (id : ℕ) (to : SocketAddrV4) (text : List ℕ) (first : ℕ) (happenings : List Happening) → length (first ∷ resent (sent_first id to text first) happenings) ≤ 8
+eight_sends id to text first happenings = let b = (bounded (sent_first id to text first) happenings (omega arith)).few in omega (arith, b)
 
-pub within_time : (id : ℕ) (to : SocketAddrV4) (text : List ℕ) (first : ℕ) (happenings : List Happening) → All (λ moment. moment < first + 20000) (resent (begun id to text first) happenings)
-within_time id to text first happenings = (bounded (begun id to text first) happenings (omega arith)).soon
+pub within_time : (id : ℕ) (to : SocketAddrV4) (text : List ℕ) (first : ℕ) (happenings : List Happening) → All (λ moment. moment < first + 20000) (resent (sent_first id to text first) happenings)
+within_time id to text first happenings = (bounded (sent_first id to text first) happenings (omega arith)).soon
 
 pub never_answered : (message : InFlight) (happenings : List Happening) → All IsNoAnswer happenings → is_answered message happenings ≡ false
 unfolding is_answered

@@ -4,14 +4,14 @@ use Rattle.std.specs.declared.net.socket_addr.SocketAddrV4.{SocketAddrV4}
 use Rattle.outbound.specs.declared.repeat.Repeat.{Repeat}
 use Rattle.outbound.specs.declared.repeat.Repeat.TheVariants.{Sent, GivenUp}
 use Rattle.outbound.specs.Sends.{Occasion, Sends}
-use Rattle.outbound.specs.Flight.{InFlight, begun, repeat_of, repeated}
+use Rattle.outbound.specs.Flight.{InFlight, sent_first, repeat_of, repeated}
 
 abbrev pub agent : SocketAddrV4
 agent = record { ip = record { octets = 127 ∷ 0 ∷ 0 ∷ 1 ∷ [] }; port = 2727 }
 
 -- a notification that is first sent at this moment
 abbrev pub notified_at : ℕ → InFlight
-notified_at moment = begun 10000000 agent (codes "NTFY 10000000 aaln/1@rgw.example.net MGCP 1.0\r\n") moment
+notified_at moment = sent_first 10000000 agent (codes "NTFY 10000000 aaln/1@rgw.example.net MGCP 1.0\r\n") moment
 
 -- the same that was repeated so often
 abbrev pub repeated_times : ℕ → ℕ → InFlight

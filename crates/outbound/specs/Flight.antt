@@ -24,22 +24,22 @@ pub record Follows (message : InFlight) (sends : Sends) : Type 0 where
   pub next : message.due ≡ due_of sends
 
 -- a message that is first sent at this moment
-abbrev pub begun : ℕ → SocketAddrV4 → List ℕ → ℕ → InFlight
-begun id to text moment =
+abbrev pub sent_first : ℕ → SocketAddrV4 → List ℕ → ℕ → InFlight
+sent_first id to text moment =
     record { id = id; to = to; text = text; first = moment; repeats = 0; due = moment + wait_after 0 }
 
 -- what is done with it where something is due: it is sent again, or given up
 abbrev pub repeat_of : InFlight → ℕ → Repeat
 repeat_of message moment = if may_repeat message.first message.repeats moment then Sent else GivenUp
 
-abbrev pub repeated_as : Repeat → InFlight → ℕ → InFlight
-repeated_as Sent message moment =
+abbrev pub again_as : Repeat → InFlight → ℕ → InFlight
+again_as Sent message moment =
     record message { repeats = message.repeats + 1; due = moment + wait_after (message.repeats + 1) }
-repeated_as GivenUp message moment = message
+again_as GivenUp message moment = message
 
 -- the message after that: one that is given up is as it was
 unfoldable pub repeated : InFlight → ℕ → InFlight
-repeated message moment = repeated_as (repeat_of message moment) message moment
+repeated message moment = again_as (repeat_of message moment) message moment
 
 -- what a response with this return code is (RFC 3435, 2.4): 100 to 199 is provisional, 200 to 999 final
 abbrev pub reply_by : ℕ → Reply

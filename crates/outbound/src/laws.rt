@@ -3,7 +3,7 @@ ghost use Rattle.std.specs.Prelude.{◌≡◌, ◌≢◌, ◌↔◌, ◌+◌, �
 ghost use Rattle.std.specs.declared.net.socket_addr.SocketAddrV4.{SocketAddrV4};
 ghost use Rattle.outbound.specs.declared.repeat.Repeat.TheVariants as repeats;
 ghost use Rattle.outbound.specs.declared.reply.Reply.TheVariants as replies;
-ghost use Rattle.outbound.specs.Flight.{InFlight, begun, repeat_of, repeated, reply_of, heard};
+ghost use Rattle.outbound.specs.Flight.{InFlight, sent_first, repeat_of, repeated, reply_of, heard};
 ghost use Rattle.outbound.specs.Life.{Happening, resent, is_answered, IsNoAnswer};
 
 /// A provisional response never counts as the answer (RFC 3435, 3.5.6): a response does exactly where it has the message's
@@ -22,19 +22,19 @@ pub fn other_responses_answer_nothing()
 /// A message is sent eight times at most, whatever happens.
 pub fn there_are_at_most_eight_sends()
     ensures { (id : ℕ) (to : SocketAddrV4) (text : List ℕ) (first : ℕ) (happenings : List Happening) →
-        length (first ∷ resent (begun id to text first) happenings) ≤ 8 }
+        length (first ∷ resent (sent_first id to text first) happenings) ≤ 8 }
 {}
 
 /// It is sent again less than 20,000 ms after it was first sent, whatever happens (RFC 3435, 4.3).
 pub fn repeats_go_out_within_20_seconds()
     ensures one { (message : InFlight) (moment : ℕ) → repeat_of message moment ≡ repeats.Sent → moment - message.first < 20000 }
     ensures all { (id : ℕ) (to : SocketAddrV4) (text : List ℕ) (first : ℕ) (happenings : List Happening) →
-        All (λ moment. moment < first + 20000) (resent (begun id to text first) happenings) }
+        All (λ moment. moment < first + 20000) (resent (sent_first id to text first) happenings) }
 {}
 
 /// What is due next is later than what made it due: than the send, or than the provisional response.
 pub fn what_is_due_comes_later()
-    ensures first { (id : ℕ) (to : SocketAddrV4) (text : List ℕ) (moment : ℕ) → moment < (begun id to text moment).due }
+    ensures first { (id : ℕ) (to : SocketAddrV4) (text : List ℕ) (moment : ℕ) → moment < (sent_first id to text moment).due }
     ensures repeat { (message : InFlight) (moment : ℕ) → repeat_of message moment ≡ repeats.Sent →
         moment < (repeated message moment).due }
     ensures provisional { (message : InFlight) (id code moment : ℕ) → reply_of message id code ≡ replies.Provisional →

@@ -2,7 +2,7 @@
 ghost use Rattle.std.specs.Prelude.{◌≡◌, ◌<◌, ◌^◌, ◌==◌, if◌then◌else◌, [], IfOk};
 ghost use Rattle.outbound.specs.declared.reply.Reply.TheVariants.{Stranger};
 ghost use Rattle.outbound.specs.Sends.{wait_after, may_repeat, Sends, due_of, repeat_at, after_repeat, after_reply};
-ghost use Rattle.outbound.specs.Flight.{Follows, begun, repeat_of, repeated, reply_by, reply_of, heard};
+ghost use Rattle.outbound.specs.Flight.{Follows, sent_first, repeat_of, repeated, reply_by, reply_of, heard};
 
 use crate::repeat::Repeat;
 use crate::reply::Reply;
@@ -55,7 +55,7 @@ impl Pending {
         moment: u64,
     ) -> Result<Pending, OutOfMemory>
         requires { moment < 2 ^ 62 }
-        ensures kept { IfOk result (λ pending. pending ≡ begun id to text.now moment) }
+        ensures kept { IfOk result (λ pending. pending ≡ sent_first id to text.now moment) }
         // It follows its sends: so far there is the first one.
         ensures sends { IfOk result (λ pending. Follows pending (record { first = moment; since = [] })) }
     {
@@ -176,7 +176,7 @@ fn started(
     moment: u64,
 ) -> Result<Pending, OutOfMemory>
     requires { moment < 2 ^ 62 }
-    ensures { IfOk result (λ pending. pending ≡ begun id to text.now moment) }
+    ensures { IfOk result (λ pending. pending ≡ sent_first id to text.now moment) }
 {
     Ok(Pending {
         alloc,

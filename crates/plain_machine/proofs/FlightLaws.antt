@@ -24,14 +24,14 @@ use Rattle.outbound.specs.declared.repeat.Repeat.TheVariants.{Sent as SentAgain,
 use Rattle.outbound.specs.declared.reply.Reply.{Reply}
 use Rattle.outbound.specs.declared.reply.Reply.TheVariants as replies
 use Rattle.outbound.specs.declared.reply.Reply.TheVariants.{Provisional, Stranger}
-use Rattle.outbound.specs.Flight.{InFlight, begun as sent_first, repeat_of, repeated, repeated_as as again_as, reply_by, reply_of, heard, heard_as}
+use Rattle.outbound.specs.Flight.{InFlight, sent_first, repeat_of, repeated, again_as, reply_by, reply_of, heard, heard_as}
 use Rattle.restart.specs.declared.restart.Restart.{Restart}
 use Rattle.restart.specs.declared.restart.Restart.TheVariants.{Waiting, Announced, Serving}
 use Rattle.restart.specs.declared.heard.Heard.{Heard}
 use Rattle.restart.specs.declared.heard.Heard.TheVariants.{Nothing, PutOff, Redirected, Answered}
 use Rattle.restart.specs.Restarting.{is_serving, answer_of, heard_of}
-use Rattle.mg_line.specs.declared.due.Due.{Due as LineDue}
-use Rattle.mg_line.specs.declared.due.Due.TheVariants.{DigitTimer, SignalEnd}
+use Rattle.mg_line.specs.declared.due.LineDue.{LineDue}
+use Rattle.mg_line.specs.declared.due.LineDue.TheVariants.{DigitTimer, SignalEnd}
 use Rattle.mg_line.specs.declared.phone.Act.{Act}
 use Rattle.mg_line.specs.declared.phone.Act.TheVariants.{OffHook, OnHook, Flash, Key}
 use Rattle.mg_line.specs.declared.request.Request.{Request}
@@ -46,8 +46,8 @@ use Rattle.mg_line.specs.Opening.{opened}
 use Rattle.mg_line.specs.Falling.{ended_by, fired}
 use Rattle.mg_line.specs.Laws.{AwaitsIfNotified}
 use Rattle.mg_line.proofs.OnceLemmas.{notifies_once}
-use Rattle.plain_machine.specs.declared.due_item.Due.{Due}
-use Rattle.plain_machine.specs.declared.due_item.Due.TheVariants.{OfLine, Resend, Announce}
+use Rattle.plain_machine.specs.declared.due_item.StationDue.{StationDue}
+use Rattle.plain_machine.specs.declared.due_item.StationDue.TheVariants.{OfLine, Resend, Announce}
 use Rattle.plain_machine.specs.declared.line_deed.LineDeed.{LineDeed}
 use Rattle.plain_machine.specs.declared.own.Own.{Own}
 use Rattle.plain_machine.specs.declared.post.Post.{Post}
@@ -283,7 +283,7 @@ deed_orders setup deed line moment station orders =
 -- what falls due of a post
 
 -- nothing is in flight of a line that is closed
-happened_closed : (setup : Setup) (due : Due) (line moment : ℕ) (station : Station) → Orders false line station → Orders false line (happened_on due setup line moment station).station
+happened_closed : (setup : Setup) (due : StationDue) (line moment : ℕ) (station : Station) → Orders false line station → Orders false line (happened_on due setup line moment station).station
 unfolding happened_on
 happened_closed setup (OfLine due) line moment station orders =
     noted_closed setup line moment station (fired station.line due moment) orders (fired_waits station.line due moment orders.order.state)
@@ -292,7 +292,7 @@ happened_closed setup Resend line moment station orders =
 happened_closed setup Announce line moment station orders =
     subst (λ (r : Restart). Orders false line (posted station (announced_by r setup line moment station.post)).station) (sym orders.order.restart) orders
 
-happened_open : (setup : Setup) (due : Due) (line moment : ℕ) (station : Station) → Orders true line station → Orders true line (happened_on due setup line moment station).station
+happened_open : (setup : Setup) (due : StationDue) (line moment : ℕ) (station : Station) → Orders true line station → Orders true line (happened_on due setup line moment station).station
 unfolding happened_on announced
 happened_open setup (OfLine due) line moment station orders =
     noted_orders setup line moment station (fired station.line due moment) orders (notifies_once.firing station.line due moment) (fired_waits station.line due moment)
@@ -316,7 +316,7 @@ happened_open setup Announce line moment station orders = by_restart station.pos
   by_restart Announced order = orders
   by_restart Serving order = orders
 
-happened_orders : (setup : Setup) (serving : Bool) (due : Due) (line moment : ℕ) (station : Station) → Orders serving line station → Orders serving line (happened_on due setup line moment station).station
+happened_orders : (setup : Setup) (serving : Bool) (due : StationDue) (line moment : ℕ) (station : Station) → Orders serving line station → Orders serving line (happened_on due setup line moment station).station
 happened_orders setup false due line moment station orders = happened_closed setup due line moment station orders
 happened_orders setup true due line moment station orders = happened_open setup due line moment station orders
 
@@ -421,7 +421,7 @@ own_put_off (Waiting until) response moment None order = order
 own_put_off Announced response moment None order = absurd (none-some order.message order.flies)
 own_put_off Serving response moment None order = order
 
-own_happened_orders : (setup : Setup) (due : Due) (moment : ℕ) (own : Own) → OwnOrders own → OwnOrders (own_happened due setup moment own).own
+own_happened_orders : (setup : Setup) (due : StationDue) (moment : ℕ) (own : Own) → OwnOrders own → OwnOrders (own_happened due setup moment own).own
 unfolding own_happened announced
 own_happened_orders setup (OfLine due) moment own orders = orders
 own_happened_orders setup Resend moment own orders = by_pending own.post.pending orders.order where

@@ -14,7 +14,7 @@ use Rattle.mgcp_text.specs.declared.message.Param.{Param}
 use Rattle.connections.specs.declared.answer.Created.{Created}
 use Rattle.connections.specs.declared.codec.Encoding.{Encoding}
 use Rattle.connections.specs.declared.connection.Creation.{Creation}
-use Rattle.connections.specs.Standing.{Standing, Done as Left, created, left_by}
+use Rattle.connections.specs.Standing.{Standing, Left, created, left_by}
 use Rattle.connections.specs.Life.{after_one, after}
 use Rattle.connections.proofs.LifeLaws.{next_number, never_less}
 use Rattle.command_forms.specs.declared.forms.ConnectionDeed.{ConnectionDeed}

@@ -25,7 +25,7 @@ use Rattle.plain_machine.specs.declared.station.Station.{Station}
 use Rattle.plain_machine.specs.Event.{GatewayEvent}
 use Rattle.plain_machine.specs.Machine.{Endpoints, Machine, serves, port_of, opening, station_at}
 use Rattle.plain_machine.specs.Lists.{machine_after, plain, connections_of}
-use Rattle.plain_machine.specs.Calls.{connection_at, port_at, Stands}
+use Rattle.plain_machine.specs.Calls.{connection_at, port_at, IsOnLine}
 use Rattle.plain_machine.proofs.ListLaws.{machine_on}
 use Rattle.plain_machine.proofs.AllLemmas.{OnAll}
 use Rattle.plain_machine.proofs.TurnLemmas.{Holds, of_line, events_on_all}
@@ -430,7 +430,7 @@ back setup m events line is at =
 
 -- a number that is old stands later only if it stood
 old_stands : (setup : Setup) (m : Machine) (events : List GatewayEvent) (line number : ℕ) (was : Station) → station_at m.endpoints line ≡ Some was → number ≤ was.connections.last
-    → Stands (machine_after setup m events) line number → Stands m line number
+    → IsOnLine (machine_after setup m events) line number → IsOnLine m line number
 old_stands setup m events line number was before low stands =
     let seen = seen_at (machine_after setup m events) line stands.place stands.connection stands.here in
     let later = grown setup m events line was seen.station before seen.at in
@@ -442,14 +442,14 @@ old_stands setup m events line number was before low stands =
       has = has.has;
     }
 
-pub never_again : (setup : Setup) (before between later : List GatewayEvent) (line number : ℕ) → Stands (plain setup before) line number
-    → (Stands (plain setup (before ++ between)) line number → ⊥) → Stands (plain setup ((before ++ between) ++ later)) line number → ⊥
+pub never_again : (setup : Setup) (before between later : List GatewayEvent) (line number : ℕ) → IsOnLine (plain setup before) line number
+    → (IsOnLine (plain setup (before ++ between)) line number → ⊥) → IsOnLine (plain setup ((before ++ between) ++ later)) line number → ⊥
 never_again setup before between later line number stood gone stands =
     let one : plain setup (before ++ between) ≡ machine_after setup (plain setup before) between = machine_on setup (opening setup) before between in
     let two : plain setup ((before ++ between) ++ later) ≡ machine_after setup (plain setup (before ++ between)) later = machine_on setup (opening setup) (before ++ between) later in
     let seen = seen_at (plain setup before) line stood.place stood.connection stood.here in
     let low : stood.connection.number ≤ seen.station.connections.last = (line_numbered setup before line seen.station seen.at).below stood.place stood.connection seen.here in
-    let after_all : Stands (machine_after setup (plain setup (before ++ between)) later) line number = subst (λ (m : Machine). Stands m line number) two stands in
+    let after_all : IsOnLine (machine_after setup (plain setup (before ++ between)) later) line number = subst (λ (m : Machine). IsOnLine m line number) two stands in
     let late = seen_at (machine_after setup (plain setup (before ++ between)) later) line after_all.place after_all.connection after_all.here in
     let mid = back setup (plain setup (before ++ between)) later line late.station late.at in
     let more = grown setup (plain setup before) between line seen.station mid.0 seen.at (subst (λ (m : Machine). station_at m.endpoints line ≡ Some mid.0) one mid.1) in

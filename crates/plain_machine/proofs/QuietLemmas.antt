@@ -27,8 +27,8 @@ use Rattle.restart.specs.declared.restart.Restart.{Restart}
 use Rattle.restart.specs.declared.restart.Restart.TheVariants.{Waiting, Announced, Serving}
 use Rattle.restart.specs.declared.heard.Heard.{Heard}
 use Rattle.restart.specs.declared.heard.Heard.TheVariants.{Nothing, PutOff, Redirected, Answered}
-use Rattle.plain_machine.specs.declared.due_item.Due.{Due}
-use Rattle.plain_machine.specs.declared.due_item.Due.TheVariants.{OfLine, Resend, Announce}
+use Rattle.plain_machine.specs.declared.due_item.StationDue.{StationDue}
+use Rattle.plain_machine.specs.declared.due_item.StationDue.TheVariants.{OfLine, Resend, Announce}
 use Rattle.plain_machine.specs.declared.due_item.DueItem.{DueItem}
 use Rattle.plain_machine.specs.declared.line_deed.LineDeed.{LineDeed}
 use Rattle.plain_machine.specs.declared.own.Own.{Own}
@@ -94,13 +94,13 @@ announced_quiet setup line moment post = by_restart post.restart where
   by_restart Announced = refl
   by_restart Serving = refl
 
-happened_on_quiet : (due : Due) (setup : Setup) (line moment : ℕ) (station : Station) → Quiet (happened_on due setup line moment station).sent
+happened_on_quiet : (due : StationDue) (setup : Setup) (line moment : ℕ) (station : Station) → Quiet (happened_on due setup line moment station).sent
 unfolding happened_on
 happened_on_quiet (OfLine due) setup line moment station = noted_quiet setup line moment station (fired station.line due moment)
 happened_on_quiet Resend setup line moment station = resent_quiet setup line moment station.post
 happened_on_quiet Announce setup line moment station = announced_quiet setup line moment station.post
 
-own_happened_quiet : (due : Due) (setup : Setup) (moment : ℕ) (own : Own) → Quiet (own_happened due setup moment own).sent
+own_happened_quiet : (due : StationDue) (setup : Setup) (moment : ℕ) (own : Own) → Quiet (own_happened due setup moment own).sent
 unfolding own_happened
 own_happened_quiet (OfLine due) setup moment own = refl
 own_happened_quiet Resend setup moment own = resent_quiet setup 0 moment own.post

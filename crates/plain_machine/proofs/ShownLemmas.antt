@@ -18,7 +18,7 @@ use Rattle.mgcp_text.specs.Writing.{param_line, is_writable_param, is_writable_b
 use Rattle.mgcp_text.proofs.ValueLaws.{word_writable}
 use Rattle.sdp_subset.specs.declared.session.Session.{Session}
 use Rattle.sdp_subset.specs.Payloads.{are_payloads}
-use Rattle.sdp_subset.specs.Writing.{written, IsSession}
+use Rattle.sdp_subset.specs.Writing.{session_text, IsSession}
 use Rattle.sdp_subset.proofs.WholeLemmas.{whole_written, first_written, dotless_written, two_written}
 use Rattle.connections.specs.declared.codec.Codec.TheVariants.{Pcmu, Pcma}
 use Rattle.connections.specs.declared.codec.Codecs.{Codecs}
@@ -184,11 +184,11 @@ module _ (setup : Setup) (set_up : IsSetUp setup) (line : ℕ) (standing : Stand
       }
 
   text_shown : (place : ℕ) (connection : Connection) → place < 4
-      → (is_writable_body (written (described standing place connection)) ≡ true) × (length (written (described standing place connection)) ≤ 400)
+      → (is_writable_body (session_text (described standing place connection)) ≡ true) × (length (session_text (described standing place connection)) ≤ 400)
   text_shown place connection inside =
       let is = described_is place connection inside in
       let session : Session = described standing place connection in
-      (body_writable (written session) (whole_written session is) (first_written session is) (dotless_written session is), two_written session is (codecs_few connection.codecs.in_force))
+      (body_writable (session_text session) (whole_written session is) (first_written session is) (dotless_written session is), two_written session is (codecs_few connection.codecs.in_force))
 
   found_inside : (test : Option Connection → Bool) (n place : ℕ) (places : List (Option Connection)) → place_from n test places ≡ Some place → place < n + length places
   unfolding place_from
@@ -217,7 +217,7 @@ module _ (setup : Setup) (set_up : IsSetUp setup) (line : ℕ) (standing : Stand
   created_is (Some place) e true (Err code) = nothing_is
   created_is (Some place) e true (Ok connection) =
       let text = text_shown place connection (where_inside is_free place e) in
-      id_shown (standing.last + 1) (written (described standing place connection)) text.0 text.1
+      id_shown (standing.last + 1) (session_text (described standing place connection)) text.0 text.1
 
   shown_is : (b : Bool) (place : ℕ) (connection : Connection) → place < 4 → IsShown (modified_shown (shown_if b (described standing place connection)))
   shown_is false place connection inside = nothing_is

@@ -12,7 +12,7 @@ use Rattle.connections.specs.declared.connection.Connection.{Connection}
 use Rattle.connections.specs.Numbers.{greatest}
 use Rattle.connections.specs.Connection.{begun, renewed}
 use Rattle.connections.specs.Places.{is_free, place_where}
-use Rattle.connections.specs.Standing.{Standing, Done as Left, no_connections, left_by, left_of, created, created_from, place_of, modified, modified_at, modified_held, modified_from, refused, deleted, without}
+use Rattle.connections.specs.Standing.{Standing, Left, no_connections, left_by, left_of, created, created_from, place_of, modified, modified_at, modified_held, modified_from, refused, deleted, without}
 use Rattle.connections.specs.Life.{Happening, creates, modifies, deletes, after_one, after}
 use Rattle.command_forms.specs.declared.forms.ConnectionDeed.{ConnectionDeed}
 use Rattle.command_forms.specs.declared.forms.ConnectionDeed.TheVariants.{Keep, Create, Modify, Delete}
@@ -24,8 +24,8 @@ use Rattle.mg_line.specs.Opening.{opened}
 use Rattle.restart.specs.declared.heard.Heard.{Heard}
 use Rattle.restart.specs.declared.heard.Heard.TheVariants.{Nothing, PutOff, Redirected, Answered}
 use Rattle.endpoint_names.specs.declared.entity.Entity.{Entity}
-use Rattle.plain_machine.specs.declared.due_item.Due.{Due}
-use Rattle.plain_machine.specs.declared.due_item.Due.TheVariants.{OfLine, Resend, Announce}
+use Rattle.plain_machine.specs.declared.due_item.StationDue.{StationDue}
+use Rattle.plain_machine.specs.declared.due_item.StationDue.TheVariants.{OfLine, Resend, Announce}
 use Rattle.plain_machine.specs.declared.line_deed.LineDeed.{LineDeed}
 use Rattle.plain_machine.specs.declared.own.Own.{Own}
 use Rattle.plain_machine.specs.declared.response.Response.{Response}
@@ -84,7 +84,7 @@ deed_connections setup deed moment line station =
     noted_same setup line moment (with_connections deed (with_entity deed.entity station)) (asked_if deed.request station.line moment)
     ∙ connected_after deed.connections (encoding_with deed station) station.connections
 
-pub happened_same : (setup : Setup) (due : Due) (line moment : ℕ) (station : Station) → (happened_on due setup line moment station).station.connections ≡ station.connections
+pub happened_same : (setup : Setup) (due : StationDue) (line moment : ℕ) (station : Station) → (happened_on due setup line moment station).station.connections ≡ station.connections
 unfolding happened_on
 happened_same setup (OfLine due) line moment station = noted_same setup line moment station (fired station.line due moment)
 happened_same setup Resend line moment station = refl

@@ -7,7 +7,7 @@ use Rattle.std.proofs.lemmas.List.Elements.{All-nil, All-append}
 use Rattle.std.proofs.lemmas.Option.{none-some}
 use Rattle.std.specs.declared.net.socket_addr.SocketAddrV4.{SocketAddrV4}
 use Rattle.history.specs.Memory.{most_firsts}
-use Rattle.history.specs.Looking.{Told as Looked, new, repeat, confirmed, full, look_of}
+use Rattle.history.specs.Looking.{Looked, new, repeat, confirmed, full, look_of}
 use Rattle.endpoint_names.specs.declared.entity.Entity.{Entity}
 use Rattle.endpoint_names.specs.Entity.{entity_of}
 use Rattle.mgcp_text.specs.declared.message.Message.TheVariants as messages
@@ -35,8 +35,8 @@ use Rattle.restart.specs.declared.restart.Restart.TheVariants.{Waiting, Announce
 use Rattle.restart.specs.declared.heard.Heard.{Heard}
 use Rattle.restart.specs.declared.heard.Heard.TheVariants.{Nothing, PutOff, Redirected, Answered}
 use Rattle.restart.specs.Restarting.{is_serving, answer_by, answer_of, heard_of}
-use Rattle.plain_machine.specs.declared.due_item.Due.{Due}
-use Rattle.plain_machine.specs.declared.due_item.Due.TheVariants.{OfLine, Resend, Announce}
+use Rattle.plain_machine.specs.declared.due_item.StationDue.{StationDue}
+use Rattle.plain_machine.specs.declared.due_item.StationDue.TheVariants.{OfLine, Resend, Announce}
 use Rattle.plain_machine.specs.declared.due_item.DueItem.{DueItem}
 use Rattle.plain_machine.specs.declared.own.Own.{Own}
 use Rattle.plain_machine.specs.declared.post.Post.{Post}
@@ -154,7 +154,7 @@ pub record Turns (setup : Setup) (P : Bool → ℕ → Station → Type 0) (Q : 
       → (line moment : ℕ) (station : Station) → P true line station → Good (P true) Q line (deed_on setup (line_deed deed) moment line station)
   pub response : (serving : Bool) (line moment : ℕ) (response : Response) (station : Station) → IsRead setup response → P serving line station
       → Good (P serving) Q line (responded_on setup line moment response station)
-  pub happening : (serving : Bool) (due : Due) (line moment : ℕ) (station : Station) → P serving line station → Good (P serving) Q line (happened_on due setup line moment station)
+  pub happening : (serving : Bool) (due : StationDue) (line moment : ℕ) (station : Station) → P serving line station → Good (P serving) Q line (happened_on due setup line moment station)
   pub redirecting : (agent : Entity) (line : ℕ) (station : Station) → IsEntity setup agent → P false line station → Good (P false) Q line (redirected_on agent line station)
   pub opening : (agent : Option Entity) (line moment : ℕ) (station : Station) → IfSome agent (IsEntity setup) → P false line station
       → Good (P true) Q line (opened_on agent setup moment line station)
@@ -176,10 +176,10 @@ pub record OwnTurns (setup : Setup) (P : Bool → ℕ → Station → Type 0) (R
   pub free : (own : Own) → R own → IsFree own ⊎ IsEqual P
   pub response : (moment : ℕ) (response : Response) (own : Own) → IsRead setup response → R own
       → R (own_responded setup moment response own).own × All Q (own_responded setup moment response own).sent
-  pub happening : (due : Due) (moment : ℕ) (own : Own) → R own → R (own_happened due setup moment own).own × All Q (own_happened due setup moment own).sent
+  pub happening : (due : StationDue) (moment : ℕ) (own : Own) → R own → R (own_happened due setup moment own).own × All Q (own_happened due setup moment own).sent
 
 -- what falls due of the gateway itself leaves it serving, or not yet
-pub happening_serves : (setup : Setup) (due : Due) (moment : ℕ) (own : Own) → IsFree own → is_serving (own_happened due setup moment own).own.post.restart ≡ is_serving own.post.restart
+pub happening_serves : (setup : Setup) (due : StationDue) (moment : ℕ) (own : Own) → IsFree own → is_serving (own_happened due setup moment own).own.post.restart ≡ is_serving own.post.restart
 unfolding own_happened announced
 happening_serves setup (OfLine due) moment own free = refl
 happening_serves setup Resend moment own free = by_serving (is_serving own.post.restart) refl where

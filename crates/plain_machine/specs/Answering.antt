@@ -12,7 +12,7 @@ use Rattle.history.specs.declared.span.IdSpan.{IdSpan}
 use Rattle.history.specs.declared.entry.Entry.{Entry}
 use Rattle.history.specs.declared.entry.Entry.TheVariants.{First, Confirmation}
 use Rattle.history.specs.Memory.{most_firsts}
-use Rattle.history.specs.Looking.{Told as Looked, new, repeat, confirmed, full, look_of}
+use Rattle.history.specs.Looking.{Looked, new, repeat, confirmed, full, look_of}
 use Rattle.transmission.specs.Confirming.{spans_of}
 use Rattle.endpoint_names.specs.declared.name.Pattern.{Pattern}
 use Rattle.endpoint_names.specs.declared.name.Pattern.TheVariants.{One, All, Any}

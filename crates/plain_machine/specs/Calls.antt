@@ -25,7 +25,7 @@ NumbersGoOn were are = (line : ℕ) (was : Standing) → standing_at were line �
     (is : Standing) × (standing_at are line ≡ Some is) × (was.last ≤ is.last)
 
 -- a connection with this number stands on a line
-pub record Stands (m : Machine) (line number : ℕ) : Type 0 where
+pub record IsOnLine (m : Machine) (line number : ℕ) : Type 0 where
   pub place : ℕ
   pub connection : Connection
   pub here : connection_at m line place ≡ Some connection

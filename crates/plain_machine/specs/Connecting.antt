@@ -2,13 +2,13 @@
 use Rattle.std.specs.Prelude.{ℕ, codes, List, [], ◌∷◌, Option, Some, None, Result, Ok, Err}
 use Rattle.mgcp_text.specs.declared.message.Param.{Param}
 use Rattle.sdp_subset.specs.declared.session.Session.{Session}
-use Rattle.sdp_subset.specs.Writing.{written}
+use Rattle.sdp_subset.specs.Writing.{session_text}
 use Rattle.connections.specs.declared.answer.Created.{Created}
 use Rattle.connections.specs.declared.codec.Encoding.{Encoding}
 use Rattle.connections.specs.declared.deletion.Deletion.{Deletion}
 use Rattle.connections.specs.declared.deletion.Deletion.TheVariants.{All, OfCall, One}
 use Rattle.connections.specs.Numbers.{number_text}
-use Rattle.connections.specs.Standing.{Standing, Done as Left, created, modified, deleted}
+use Rattle.connections.specs.Standing.{Standing, Left, created, modified, deleted}
 use Rattle.command_forms.specs.declared.forms.ConnectionDeed.{ConnectionDeed}
 use Rattle.command_forms.specs.declared.forms.ConnectionDeed.TheVariants.{Keep, Create, Modify, Delete}
 
@@ -27,12 +27,12 @@ abbrev pub id_param : ℕ → Param
 id_param number = record { code = codes "I"; value = number_text number }
 
 abbrev pub created_shown : Created → Shown
-created_shown created = record { params = id_param created.number ∷ []; body = written created.description }
+created_shown created = record { params = id_param created.number ∷ []; body = session_text created.description }
 
 -- of one that is modified its local description, where that has changed (2.3.6)
 abbrev pub modified_shown : Option Session → Shown
 modified_shown None = nothing_shown
-modified_shown (Some description) = record { params = []; body = written description }
+modified_shown (Some description) = record { params = []; body = session_text description }
 
 -- of one that is deleted by its identifier the counts of its packets, all 0, since this gateway has no media (2.3.7 and
 -- 3.2.2: ConnectionParameters)

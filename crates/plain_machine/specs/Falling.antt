@@ -1,12 +1,12 @@
 -- What falls due: on a line the end of timer T and the ends of signals; and of it and of the gateway itself the repeats of
 -- the command that is in flight, and the announcement, each at its own moment (RFC 3435, 2.1.5, 2.1.7, 3.5.3 and 4.4.6).
 use Rattle.std.specs.Prelude.{ℕ, ◌+◌, ◌*◌, ◌==◌, zero, suc, nat_le, if◌then◌else◌, Bool, [], length, fold, Option, Some, None, is_some, option_map, option_and_then}
-use Rattle.mg_line.specs.declared.due.Due.{Due as LineDue}
+use Rattle.mg_line.specs.declared.due.LineDue.{LineDue}
 use Rattle.mg_line.specs.Falling.{due_of, fired}
 use Rattle.outbound.specs.Flight.{InFlight}
-use Rattle.restart.specs.Restarting.{due_of as announced_at}
-use Rattle.plain_machine.specs.declared.due_item.Due.{Due}
-use Rattle.plain_machine.specs.declared.due_item.Due.TheVariants.{OfLine, Resend, Announce}
+use Rattle.restart.specs.Restarting.{announced_at}
+use Rattle.plain_machine.specs.declared.due_item.StationDue.{StationDue}
+use Rattle.plain_machine.specs.declared.due_item.StationDue.TheVariants.{OfLine, Resend, Announce}
 use Rattle.plain_machine.specs.declared.due_item.DueItem.{DueItem}
 use Rattle.plain_machine.specs.declared.own.Own.{Own}
 use Rattle.plain_machine.specs.declared.post.Post.{Post}
@@ -72,13 +72,13 @@ is_due endpoints moment = is_some (due_by endpoints moment)
 -- What then happens
 
 -- what falls due on a station, at this moment: where its command is given up, or an announcement begins, the line waits on
-unfoldable pub happened_on : Due → Setup → ℕ → ℕ → Station → Turn
+unfoldable pub happened_on : StationDue → Setup → ℕ → ℕ → Station → Turn
 happened_on (OfLine due) setup line moment station = noted setup line moment station (fired station.line due moment)
 happened_on Resend setup line moment station = posted station (resent_on setup line moment station.post)
 happened_on Announce setup line moment station = posted station (announced_on setup line moment station.post)
 
 -- what falls due of the gateway itself, at this moment: of what falls due of lines there is nothing
-unfoldable pub own_happened : Due → Setup → ℕ → Own → OwnTurn
+unfoldable pub own_happened : StationDue → Setup → ℕ → Own → OwnTurn
 own_happened (OfLine due) setup moment own = own_posted own (unsent own.post)
 own_happened Resend setup moment own = own_posted own (resent_on setup 0 moment own.post)
 own_happened Announce setup moment own = own_posted own (announced_on setup 0 moment own.post)

@@ -5,7 +5,7 @@ use Rattle.mgcp_text.specs.declared.message.Message.{Message}
 use Rattle.mgcp_text.specs.Writing.{written}
 use Rattle.outbound.specs.declared.repeat.Repeat.{Repeat}
 use Rattle.outbound.specs.declared.repeat.Repeat.TheVariants.{Sent as SentAgain, GivenUp}
-use Rattle.outbound.specs.Flight.{InFlight, begun as sent_first, repeat_of, repeated}
+use Rattle.outbound.specs.Flight.{InFlight, sent_first, repeat_of, repeated}
 use Rattle.restart.specs.Restarting.{begun}
 use Rattle.plain_machine.specs.declared.post.Post.{Post}
 use Rattle.plain_machine.specs.declared.setup.Setup.{Setup}

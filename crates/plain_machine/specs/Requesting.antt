@@ -10,7 +10,7 @@ use Rattle.mgcp_text.specs.Answer.{Answer, plain_code}
 use Rattle.endpoint_names.specs.declared.entity.Entity.{Entity}
 use Rattle.connections.specs.declared.codec.Encoding.{Encoding}
 use Rattle.connections.specs.Places.{is_free}
-use Rattle.connections.specs.Standing.{Done as Left, left_by}
+use Rattle.connections.specs.Standing.{Left, left_by}
 use Rattle.command_forms.specs.declared.forms.Target.{Target}
 use Rattle.command_forms.specs.declared.forms.Target.TheVariants.{One, All, Any}
 use Rattle.command_forms.specs.Meaning.{is_for}

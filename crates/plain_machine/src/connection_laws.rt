@@ -41,7 +41,7 @@ ghost use Rattle.plain_machine.specs.Requesting.{has_place, line_with_place};
 ghost use Rattle.plain_machine.specs.Responding.{responded};
 ghost use Rattle.plain_machine.specs.Commanding.{line_deed, commanded};
 ghost use Rattle.plain_machine.specs.Lists.{plain, connections_of};
-ghost use Rattle.plain_machine.specs.Calls.{connection_at, port_at, standing_at, NumbersGoOn, Stands};
+ghost use Rattle.plain_machine.specs.Calls.{connection_at, port_at, standing_at, NumbersGoOn, IsOnLine};
 
 /// A line has four places for connections, and so at most four connections. What stands there is what creations,
 /// modifications and deletions left, one after the other, on a line that had none.
@@ -90,8 +90,8 @@ pub fn a_number_is_never_given_twice_on_a_line()
         connection_at (plain setup events) line other ≡ Some next → names_number id connection.number ≡ true →
         names_number id next.number ≡ true → place ≡ other }
     ensures again { (setup : Setup) (before between later : List GatewayEvent) (line number : ℕ) →
-        Stands (plain setup before) line number → (Stands (plain setup (before ++ between)) line number → ⊥) →
-        Stands (plain setup ((before ++ between) ++ later)) line number → ⊥ }
+        IsOnLine (plain setup before) line number → (IsOnLine (plain setup (before ++ between)) line number → ⊥) →
+        IsOnLine (plain setup ((before ++ between) ++ later)) line number → ⊥ }
 {}
 
 /// Within an event, too, a number is given once. A connection that is created gets the number after the last one of its

@@ -13,10 +13,10 @@ abbrev pub begun : ℕ → ℕ → Restart
 begun moment wait = Waiting (moment + wait)
 
 -- the moment at which it is sent, where it waits
-abbrev pub due_of : Restart → Option ℕ
-due_of (Waiting until) = Some until
-due_of Announced = None
-due_of Serving = None
+abbrev pub announced_at : Restart → Option ℕ
+announced_at (Waiting until) = Some until
+announced_at Announced = None
+announced_at Serving = None
 
 -- it was answered
 abbrev pub is_serving : Restart → Bool

@@ -3,16 +3,16 @@ ghost use Rattle.std.specs.Prelude.{◌≡◌, true, false, Some, None};
 ghost use Rattle.outbound.specs.declared.reply.Reply.TheVariants as replies;
 ghost use Rattle.restart.specs.declared.restart.Restart.TheVariants.{Waiting, Announced, Serving};
 ghost use Rattle.restart.specs.declared.heard.Heard.TheVariants.{Nothing, PutOff, Redirected, Answered};
-ghost use Rattle.restart.specs.Restarting.{begun, due_of, is_serving, heard_of};
+ghost use Rattle.restart.specs.Restarting.{begun, announced_at, is_serving, heard_of};
 ghost use Rattle.restart.specs.Example.{other_agent};
 
 /// An announcement waits from its moment on, and is due at the end of the wait; then nothing is due.
 pub fn an_announcement_waits()
     ensures begun { begun 1000 500 ≡ Waiting 1500 }
     ensures at_once { begun 7 0 ≡ Waiting 7 }
-    ensures due { due_of (begun 1000 500) ≡ Some 1500 }
-    ensures sent { due_of Announced ≡ None }
-    ensures answered { due_of Serving ≡ None }
+    ensures due { announced_at (begun 1000 500) ≡ Some 1500 }
+    ensures sent { announced_at Announced ≡ None }
+    ensures answered { announced_at Serving ≡ None }
 {}
 
 /// It serves once its announcement is answered.

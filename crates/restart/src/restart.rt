@@ -1,6 +1,6 @@
 //! Where an announcement is.
 ghost use Rattle.std.specs.Prelude.{◌≡◌, ◌<◌, ◌^◌};
-ghost use Rattle.restart.specs.Restarting.{begun, due_of, is_serving, heard_of, answer_of, answer_by};
+ghost use Rattle.restart.specs.Restarting.{begun, announced_at, is_serving, heard_of, answer_of, answer_by};
 
 use crate::heard::Heard;
 use endpoint_names::Entity;
@@ -34,7 +34,7 @@ impl Restart {
 
     /// The moment, in ms, at which the announcement is sent; `None` where none waits.
     pub fn due(self) -> Option<u64>
-        ensures { result ≡ due_of self }
+        ensures { result ≡ announced_at self }
     {
         match self {
             Restart::Waiting(until) => Some(until),

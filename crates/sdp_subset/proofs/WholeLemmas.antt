@@ -11,22 +11,22 @@ use Rattle.mg_bytes.specs.Lines.{cut, line_of, lines_of, is_dot_line, ended}
 use Rattle.sdp_subset.specs.declared.session.Origin.{Origin}
 use Rattle.sdp_subset.specs.declared.session.Session.{Session}
 use Rattle.sdp_subset.specs.Payloads.{is_payload}
-use Rattle.sdp_subset.specs.Writing.{address_text, origin_line, connection_line, payloads_text, audio_line, ptime_line, session_lines, written, IsSession}
+use Rattle.sdp_subset.specs.Writing.{address_text, origin_line, connection_line, payloads_text, audio_line, ptime_line, session_lines, session_text, IsSession}
 use Rattle.sdp_subset.proofs.PayloadLemmas.{payloads_are}
 use Rattle.sdp_subset.proofs.WrittenLaws.{HasOctets, octets_are, dotted, address_is, session_with_parts, lines_written}
 
 -- ---- its lines
 
 -- the lines of what is written, each with CRLF, are the text again
-pub whole_written : (session : Session) → IsSession session → flat_map (λ line. line ++ codes "\r\n") (lines_of (written session)) ≡ written session
-unfolding written
+pub whole_written : (session : Session) → IsSession session → flat_map (λ line. line ++ codes "\r\n") (lines_of (session_text session)) ≡ session_text session
+unfolding session_text
 whole_written session is = ap (flat_map ended) (lines_written session is)
 
 first_line : (session : Session) → slice_get (session_lines session) 0 ≡ Some (codes "v=0")
 unfolding session_lines
 first_line session = refl
 
-pub first_written : (session : Session) → IsSession session → slice_get (lines_of (written session)) 0 ≡ Some (codes "v=0")
+pub first_written : (session : Session) → IsSession session → slice_get (lines_of (session_text session)) 0 ≡ Some (codes "v=0")
 first_written session is = ap (λ (lines : List (List ℕ)). slice_get lines 0) (lines_written session is) ∙ first_line session
 
 abbrev is_dot : List ℕ → Bool
@@ -45,9 +45,9 @@ dotless address port payloads None (Some ms) = refl
 dotless address port payloads (Some origin) None = refl
 dotless address port payloads (Some origin) (Some ms) = refl
 
-pub dotless_written : (session : Session) → IsSession session → list_any is_dot_line (cut (written session)) ≡ false
+pub dotless_written : (session : Session) → IsSession session → list_any is_dot_line (cut (session_text session)) ≡ false
 dotless_written session is =
-    dots_among (cut (written session)) ∙ ap (list_any is_dot) (lines_written session is)
+    dots_among (cut (session_text session)) ∙ ap (list_any is_dot) (lines_written session is)
     ∙ dotless session.address session.port session.payloads session.origin session.ptime
 
 -- ---- its length
@@ -141,8 +141,8 @@ module _ (address : Ipv4Addr) (port : ℕ) (payloads : List ℕ) (o : HasOctets 
       omega (arith, origin_length most origin address o has, connection_length address o, audio_length port payloads low all, ptime_length most ms short)
 
 length_written : (most : ℕ) (session : Session) → IsSession session → IfSome session.origin (HasDigits most) → IfSome session.ptime (HasTime most)
-    → length (written session) ≤ 106 + 3 * most + 4 * length session.payloads
-unfolding written
+    → length (session_text session) ≤ 106 + 3 * most + 4 * length session.payloads
+unfolding session_text
 length_written most session is has short =
     let o = octets_are session.address is.four is.each in
     let are = payloads_are session.payloads is.types in
@@ -157,10 +157,10 @@ any_time : (ptime : Option ℕ) → IfSome ptime (HasTime 64)
 any_time None = tt
 any_time (Some ms) = decimal_length ms
 
-pub two_written : (session : Session) → IsSession session → length session.payloads ≤ 2 → length (written session) ≤ 400
+pub two_written : (session : Session) → IsSession session → length session.payloads ≤ 2 → length (session_text session) ≤ 400
 two_written session is few = omega (arith, length_written 64 session is (any_digits session.origin) (any_time session.ptime))
 
-pub any_written : (session : Session) → IsSession session → length (written session) ≤ 500
+pub any_written : (session : Session) → IsSession session → length (session_text session) ≤ 500
 any_written session is =
     let few = (payloads_are session.payloads is.types).few in
     omega (arith, length_written 64 session is (any_digits session.origin) (any_time session.ptime))
@@ -178,7 +178,7 @@ own_time None low = tt
 own_time (Some ms) low = ten_digits ms (omega arith)
 
 pub own_written : (session : Session) → IsSession session → IfSome session.origin (λ o. (o.number ≤ 4294967295) × (o.version ≤ 4294967295)) → IfSome session.ptime (λ ms. ms ≤ 65535)
-    → length (written session) ≤ 300
+    → length (session_text session) ≤ 300
 own_written session is numbers time =
     let few = (payloads_are session.payloads is.types).few in
     omega (arith, length_written 10 session is (own_digits session.origin numbers) (own_time session.ptime time))

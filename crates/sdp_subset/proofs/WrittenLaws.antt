@@ -20,7 +20,7 @@ use Rattle.sdp_subset.specs.Payloads.{is_payload, are_payloads, payloads_from}
 use Rattle.sdp_subset.specs.Fields.{are_fields, from_audio, first_connection, connection_of}
 use Rattle.sdp_subset.specs.Reading.{port_of, payload_of, each_payload, payloads_of, audio_of, address_of, session_with, session_in, session_of}
 use Rattle.sdp_subset.specs.Spelling.{Reads}
-use Rattle.sdp_subset.specs.Writing.{address_text, origin_line, connection_line, payloads_text, audio_line, ptime_line, ptime_lines, session_lines, written, as_read, IsSession}
+use Rattle.sdp_subset.specs.Writing.{address_text, origin_line, connection_line, payloads_text, audio_line, ptime_line, ptime_lines, session_lines, session_text, as_read, IsSession}
 use Rattle.sdp_subset.proofs.PayloadLemmas.{payloads_are}
 use Rattle.sdp_subset.proofs.DecimalLemmas.{decimal_some, decimal_full, decimal_plain, decimal_feedless, decimal_again, decimal_split}
 use Rattle.sdp_subset.proofs.SpellingLaws.{reads_some}
@@ -314,14 +314,14 @@ module _ (address : Ipv4Addr) (port : ℕ) (payloads : List ℕ) where
       is_read_in origin ptime ∙ rw (audio_again port payloads low are, is_used origin ptime, connection_again address o) refl
 
 -- the lines of what is written are those of the session
-pub lines_written : (session : Session) → IsSession session → lines_of (written session) ≡ session_lines session
-unfolding written
+pub lines_written : (session : Session) → IsSession session → lines_of (session_text session) ≡ session_lines session
+unfolding session_text
 lines_written session is =
     let o = octets_are session.address is.four is.each in
     lines_again (session_lines session) (are_lines session.address session.port session.payloads session.origin session.ptime o)
 
 -- what is written is read as the same session, without its origin and packet time
-pub read_again : (session : Session) → IsSession session → session_of (written session) ≡ Some (as_read session)
+pub read_again : (session : Session) → IsSession session → session_of (session_text session) ≡ Some (as_read session)
 unfolding session_of
 read_again session is =
     let o = octets_are session.address is.four is.each in
@@ -329,11 +329,11 @@ read_again session is =
     ∙ lines_read session.address session.port session.payloads session.origin session.ptime o is.low is.types
 
 -- and the text describes that one
-pub reads_again : (session : Session) → IsSession session → Reads (written session) (Some (as_read session))
-reads_again session is = subst (λ (outcome : Option Session). Reads (written session) outcome) (read_again session is) (reads_some (written session))
+pub reads_again : (session : Session) → IsSession session → Reads (session_text session) (Some (as_read session))
+reads_again session is = subst (λ (outcome : Option Session). Reads (session_text session) outcome) (read_again session is) (reads_some (session_text session))
 
 -- what holds of a session's text holds of what was written of it
-pub ok_written : {E : Type 0} (P : List ℕ → Type 0) (session : Session) (given : Result (List ℕ) E) → P (written session) → IfOk given (λ text. text ≡ written session)
+pub ok_written : {E : Type 0} (P : List ℕ → Type 0) (session : Session) (given : Result (List ℕ) E) → P (session_text session) → IfOk given (λ text. text ≡ session_text session)
     → IfOk given P
 ok_written P session (Ok text) holds e = rw e holds
 ok_written P session (Err fault) holds e = tt

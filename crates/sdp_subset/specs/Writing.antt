@@ -55,8 +55,8 @@ session_lines session =
     ∷ (time_lines session.origin ++ (audio_line session.port session.payloads ∷ ptime_lines session.ptime))))
 
 -- the text of a session
-unfoldable pub written : Session → List ℕ
-written session = flat_map ended (session_lines session)
+unfoldable pub session_text : Session → List ℕ
+session_text session = flat_map ended (session_lines session)
 
 -- what is read of a session that was written: neither an origin nor a packet time is read
 abbrev pub as_read : Session → Session

@@ -10,7 +10,7 @@ ghost use Rattle.sdp_subset.specs.Fields.{is_media, is_audio, is_connection};
 ghost use Rattle.sdp_subset.specs.Fields.{from_audio, first_connection, connection_of};
 ghost use Rattle.sdp_subset.specs.Reading.{port_of, payload_of, payloads_of, audio_of, address_of};
 ghost use Rattle.sdp_subset.specs.Reading.{session_of, answer_of, session_read, sdp_fault_number};
-ghost use Rattle.sdp_subset.specs.Writing.{address_text, written, as_read};
+ghost use Rattle.sdp_subset.specs.Writing.{address_text, session_text, as_read};
 ghost use Rattle.sdp_subset.specs.Example.{host, offered, from_host, read_with_audio, read_with_connection};
 ghost use Rattle.sdp_subset.specs.Example.{originated, timed, greatest};
 
@@ -245,14 +245,14 @@ pub fn a_reader_answers_a_session_or_a_fault()
 
 /// A session of our own is written with its origin and its packet time, one that was read without.
 pub fn sessions_are_written_line_by_line()
-    ensures own { written (timed 20 (originated 1 2 (offered 1 3000 (0 ∷ 8 ∷ []))))
+    ensures own { session_text (timed 20 (originated 1 2 (offered 1 3000 (0 ∷ 8 ∷ []))))
         ≡ codes "v=0\r\no=- 1 2 IN IP4 10.0.0.1\r\ns=-\r\nc=IN IP4 10.0.0.1\r\nt=0 0\r\n"
         ++ codes "m=audio 3000 RTP/AVP 0 8\r\na=ptime:20\r\n" }
-    ensures read { written (offered 255 65535 (127 ∷ []))
+    ensures read { session_text (offered 255 65535 (127 ∷ []))
         ≡ codes "v=0\r\nc=IN IP4 10.0.0.255\r\nm=audio 65535 RTP/AVP 127\r\n" }
-    ensures timed { written (timed 30 (offered 1 0 (0 ∷ [])))
+    ensures timed { session_text (timed 30 (offered 1 0 (0 ∷ [])))
         ≡ codes "v=0\r\nc=IN IP4 10.0.0.1\r\nm=audio 0 RTP/AVP 0\r\na=ptime:30\r\n" }
-    ensures originated { written (originated 4294967295 4294967295 (offered 1 0 (0 ∷ [])))
+    ensures originated { session_text (originated 4294967295 4294967295 (offered 1 0 (0 ∷ [])))
         ≡ codes "v=0\r\no=- 4294967295 4294967295 IN IP4 10.0.0.1\r\ns=-\r\nc=IN IP4 10.0.0.1\r\nt=0 0\r\n"
         ++ codes "m=audio 0 RTP/AVP 0\r\n" }
     ensures address { address_text (host 12) ≡ codes "10.0.0.12" }
@@ -261,8 +261,8 @@ pub fn sessions_are_written_line_by_line()
 
 /// The greatest numbers are written in 259 bytes, and in 139 with two payload types.
 pub fn the_greatest_numbers_are_written_in_259_bytes()
-    ensures all { length (written (greatest 32)) ≡ 259 }
-    ensures two { length (written (greatest 2)) ≡ 139 }
+    ensures all { length (session_text (greatest 32)) ≡ 259 }
+    ensures two { length (session_text (greatest 2)) ≡ 139 }
 {}
 
 /// The longest datagram's worth of text is read as any other.

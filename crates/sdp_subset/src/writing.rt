@@ -5,7 +5,7 @@ ghost use Rattle.mg_bytes.specs.Lines.{cut, lines_of, is_dot_line, ended};
 ghost use Rattle.sdp_subset.specs.declared.session.Session.{Session};
 ghost use Rattle.sdp_subset.specs.Writing.{address_text, origin_line, origin_lines, connection_line, time_lines};
 ghost use Rattle.sdp_subset.specs.Writing.{payloads_text, audio_line, ptime_lines};
-ghost use Rattle.sdp_subset.specs.Writing.{written, as_read, IsSession};
+ghost use Rattle.sdp_subset.specs.Writing.{session_text, as_read, IsSession};
 ghost use Rattle.sdp_subset.specs.Spelling.{Reads};
 
 use crate::session::{Origin, Session};
@@ -136,9 +136,9 @@ fn put_ptime_lines(alloc: Global, out: &mut Vec<u8>, ptime: Option<u16>) -> Resu
     Ok(())
 }
 
-#[tactic(auto, unfolding(crate::specs::Writing::written, crate::specs::Writing::session_lines))]
+#[tactic(auto, unfolding(crate::specs::Writing::session_text, crate::specs::Writing::session_lines))]
 fn session_text(alloc: Global, session: &Session) -> Result<Text, OutOfMemory>
-    ensures { IfOk result (λ text. text ≡ written session.now) }
+    ensures { IfOk result (λ text. text ≡ session_text session.now) }
 {
     let mut out = Vec::new(alloc);
     out.extend_from_slice(b"v=0\r\n")?;
@@ -193,7 +193,7 @@ fn bounds_of(session: &Session)
 /// `s=-`; `c=IN IP4 a.b.c.d`; with an origin `t=0 0`; `m=audio port RTP/AVP` and the payload types; with a packet time
 /// `a=ptime:ms`. Each line has CRLF. An error is for want of memory only.
 pub fn write_sdp(alloc: Global, session: &Session) -> Result<Text, OutOfMemory>
-    ensures form { IfOk result (λ text. text ≡ written session.now) }
+    ensures form { IfOk result (λ text. text ≡ session_text session.now) }
     // It is read with the same address, port and payload types.
     ensures reads { IfOk result (λ text. Reads text (Some (as_read session.now))) }
     // Its lines each have CRLF and no blanks round them; the first is `v=0`, and none is a single dot (RFC 3435, 3.5.5).

@@ -2,9 +2,9 @@
 use Rattle.std.specs.Prelude.{⊤}
 use Rattle.mg_packages.specs.Looking.{kind_of, time_of, refused_in}
 use Rattle.signals.specs.Stopping.{without_time_outs, allowed_in, without}
-use Rattle.signals.specs.Applying.{refusal_of, after_start, after_entries, applied}
+use Rattle.signals.specs.Applying.{signals_refusal, after_start, after_entries, applied}
 use Rattle.signals.specs.Due.{due_first}
 
 unfoldable pub on_examples : ⊤
-unfolding kind_of time_of refused_in without_time_outs allowed_in without refusal_of after_start after_entries applied due_first
+unfolding kind_of time_of refused_in without_time_outs allowed_in without signals_refusal after_start after_entries applied due_first
 on_examples = tt

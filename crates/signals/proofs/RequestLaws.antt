@@ -13,7 +13,7 @@ use Rattle.event_values.specs.declared.signals.SignalRequest.{SignalRequest}
 use Rattle.signals.specs.declared.active.ActiveSignal.{ActiveSignal}
 use Rattle.signals.specs.Active.{among, is_time_out, is_forbidden, IsInTableOrder}
 use Rattle.signals.specs.Stopping.{without_time_outs, allowed_in, without}
-use Rattle.signals.specs.Applying.{refused_entry, refusal_of, end_after, goes_on, after_start, after_setting, after_entry, entries_for, after_entries, applied}
+use Rattle.signals.specs.Applying.{refused_entry, signals_refusal, end_after, goes_on, after_start, after_setting, after_entry, entries_for, after_entries, applied}
 use Rattle.signals.proofs.RequestLemmas.{after_requests, same_true, IsOf-after_requests}
 use Rattle.signals.proofs.AmongLaws.{same_itself, other_false, IsOf-among, among-filter, among-filter_map, in_order-filter_map, in_order-filter}
 
@@ -215,8 +215,8 @@ setting_allowed hook moment request Start was is never allowed = start_allowed h
 setting_allowed hook moment request (Lasting ms) was is never allowed = start_allowed hook moment request.signal ms was (rw is at allowed)
 
 -- no entry is refused
-pub none_refused : (requests : List SignalRequest) (hook : Hook) → refusal_of requests hook ≡ None → All (λ request. refused_entry hook request ≡ None) requests
-unfolding refusal_of
+pub none_refused : (requests : List SignalRequest) (hook : Hook) → signals_refusal requests hook ≡ None → All (λ request. refused_entry hook request ≡ None) requests
+unfolding signals_refusal
 none_refused [] hook none = All-nil (λ request. refused_entry hook request ≡ None)
 none_refused (request ∷ requests) hook none = by_first (refused_entry hook request) refl none (none_refused requests hook)
   where
@@ -226,8 +226,8 @@ none_refused (request ∷ requests) hook none = by_first (refused_entry hook req
     by_first (Some code) e none rest = absurd cc
 
 pub first_refused : (before after : List SignalRequest) (request : SignalRequest) (hook : Hook) (code : ℕ) → All (λ earlier. refused_entry hook earlier ≡ None) before → refused_entry hook request ≡ Some code
-    → refusal_of (before ++ request ∷ after) hook ≡ Some code
-unfolding refusal_of
+    → signals_refusal (before ++ request ∷ after) hook ≡ Some code
+unfolding signals_refusal
 first_refused [] after request hook code all here = rw here refl
 first_refused (earlier ∷ before) after request hook code all here =
     let first : refused_entry hook earlier ≡ None = All-head (λ earlier. refused_entry hook earlier ≡ None) earlier before all in
@@ -238,7 +238,7 @@ one_allowed [] after request hook all = All-head (λ request. refused_entry hook
 one_allowed (r ∷ before) after request hook all = one_allowed before after request hook (All-tail (λ request. refused_entry hook request ≡ None) r (before ++ request ∷ after) all)
 
 pub among-starts : (before after : List SignalRequest) (request : SignalRequest) (hook : Hook) (moment : ℕ) (active : List ActiveSignal)
-    → refusal_of (before ++ request ∷ after) hook ≡ None → request.setting ≢ Stop → All (λ later. later.setting ≢ Stop) (entries_for request.signal after)
+    → signals_refusal (before ++ request ∷ after) hook ≡ None → request.setting ≢ Stop → All (λ later. later.setting ≢ Stop) (entries_for request.signal after)
     → IsSome (among request.signal (applied (before ++ request ∷ after) hook moment active))
 among-starts before after request hook moment active none start later =
     let was : Option ActiveSignal = fold (after_entry hook moment) (among request.signal active) (entries_for request.signal before) in

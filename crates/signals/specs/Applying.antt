@@ -24,8 +24,8 @@ abbrev pub refused_entry : Hook → SignalRequest → Option ℕ
 refused_entry hook request = unless_stopped request.setting (refused_in hook request.signal)
 
 -- the code of the first entry that is refused
-unfoldable pub refusal_of : List SignalRequest → Hook → Option ℕ
-refusal_of requests hook = first_fault (map (refused_entry hook) requests)
+unfoldable pub signals_refusal : List SignalRequest → Hook → Option ℕ
+signals_refusal requests hook = first_fault (map (refused_entry hook) requests)
 
 -- What S makes of one signal
 

@@ -7,7 +7,7 @@ ghost use Rattle.mg_packages.specs.declared.signal.Signal.TheVariants.{DialTone,
 ghost use Rattle.mg_packages.specs.declared.signal.Signal.TheVariants.{MessageWaiting, Ringback, Congestion, Confirm};
 ghost use Rattle.signals.specs.Active.{table};
 ghost use Rattle.signals.specs.Stopping.{without_time_outs, allowed_in, without};
-ghost use Rattle.signals.specs.Applying.{refusal_of};
+ghost use Rattle.signals.specs.Applying.{signals_refusal};
 ghost use Rattle.signals.specs.Due.{due_first};
 ghost use Rattle.signals.specs.Example.{until, endless, starts, stops, lasts, on_hook, off_hook, all_active};
 
@@ -95,17 +95,17 @@ pub fn a_forbidden_start_changes_nothing()
 
 /// Off hook L/rg and L/rs are refused with 401; on hook all others but L/vmwi are, with 402. To stop is never refused.
 pub fn starts_are_refused_by_the_hook()
-    ensures off_hook { map (λ signal. refusal_of (starts signal ∷ []) OffHook) table
+    ensures off_hook { map (λ signal. signals_refusal (starts signal ∷ []) OffHook) table
         ≡ None ∷ None ∷ None ∷ Some 401 ∷ Some 401 ∷ None ∷ None ∷ None ∷ None ∷ [] }
-    ensures on_hook { map (λ signal. refusal_of (starts signal ∷ []) OnHook) table
+    ensures on_hook { map (λ signal. signals_refusal (starts signal ∷ []) OnHook) table
         ≡ Some 402 ∷ Some 402 ∷ Some 402 ∷ None ∷ None ∷ None ∷ Some 402 ∷ Some 402 ∷ Some 402 ∷ [] }
-    ensures stops_off_hook { map (λ signal. refusal_of (stops signal ∷ []) OffHook) table ≡ replicate 9 None }
-    ensures stops_on_hook { map (λ signal. refusal_of (stops signal ∷ []) OnHook) table ≡ replicate 9 None }
-    ensures for_a_time { refusal_of (lasts 5 Ringing ∷ []) OffHook ≡ Some 401 }
-    ensures no_time { refusal_of (lasts 0 DialTone ∷ []) OnHook ≡ Some 402 }
-    ensures last { refusal_of (starts MessageWaiting ∷ stops Busy ∷ starts Ringing ∷ starts Busy ∷ []) OnHook ≡ Some 402 }
-    ensures first { refusal_of (starts Ringing ∷ starts DialTone ∷ []) OffHook ≡ Some 401 }
-    ensures empty { refusal_of [] OnHook ≡ None }
+    ensures stops_off_hook { map (λ signal. signals_refusal (stops signal ∷ []) OffHook) table ≡ replicate 9 None }
+    ensures stops_on_hook { map (λ signal. signals_refusal (stops signal ∷ []) OnHook) table ≡ replicate 9 None }
+    ensures for_a_time { signals_refusal (lasts 5 Ringing ∷ []) OffHook ≡ Some 401 }
+    ensures no_time { signals_refusal (lasts 0 DialTone ∷ []) OnHook ≡ Some 402 }
+    ensures last { signals_refusal (starts MessageWaiting ∷ stops Busy ∷ starts Ringing ∷ starts Busy ∷ []) OnHook ≡ Some 402 }
+    ensures first { signals_refusal (starts Ringing ∷ starts DialTone ∷ []) OffHook ≡ Some 401 }
+    ensures empty { signals_refusal [] OnHook ≡ None }
 {}
 
 /// Time-out signals stop together.

@@ -10,7 +10,7 @@ ghost use Rattle.event_values.specs.declared.signals.SignalRequest.{SignalReques
 ghost use Rattle.signals.specs.declared.active.ActiveSignal.{ActiveSignal};
 ghost use Rattle.signals.specs.Active.{among, is_time_out, is_forbidden, IsInTableOrder};
 ghost use Rattle.signals.specs.Stopping.{without_time_outs, allowed_in, without};
-ghost use Rattle.signals.specs.Applying.{refused_entry, refusal_of, after_entry, entries_for, after_entries, applied};
+ghost use Rattle.signals.specs.Applying.{refused_entry, signals_refusal, after_entry, entries_for, after_entries, applied};
 ghost use Rattle.signals.specs.Due.{due_first, IsDueFirst};
 
 /// What S makes of a signal depends on that signal and on the entries that name it, and on nothing else.
@@ -66,7 +66,7 @@ pub fn new_ends_are_later()
 pub fn what_is_not_refused_starts()
     ensures starts { (before after : List SignalRequest) (request : SignalRequest) (hook : Hook) (moment : ℕ)
         (active : List ActiveSignal) →
-        refusal_of (before ++ request ∷ after) hook ≡ None → request.setting ≢ Stop →
+        signals_refusal (before ++ request ∷ after) hook ≡ None → request.setting ≢ Stop →
         All (λ later. later.setting ≢ Stop) (entries_for request.signal after) →
         IsSome (among request.signal (applied (before ++ request ∷ after) hook moment active)) }
     ensures forbidden { (requests : List SignalRequest) (hook : Hook) (moment : ℕ)
@@ -79,9 +79,9 @@ pub fn what_is_not_refused_starts()
 pub fn the_first_refused_entry_counts()
     ensures some { (before after : List SignalRequest) (request : SignalRequest) (hook : Hook) (code : ℕ) →
         All (λ earlier. refused_entry hook earlier ≡ None) before → refused_entry hook request ≡ Some code →
-        refusal_of (before ++ request ∷ after) hook ≡ Some code }
+        signals_refusal (before ++ request ∷ after) hook ≡ Some code }
     ensures none { (requests : List SignalRequest) (hook : Hook) →
-        refusal_of requests hook ≡ None → All (λ request. refused_entry hook request ≡ None) requests }
+        signals_refusal requests hook ≡ None → All (λ request. refused_entry hook request ≡ None) requests }
 {}
 
 /// Time-out signals alone stop at once; the others are as they were. An S without entries does the same.

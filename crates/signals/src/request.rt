@@ -2,7 +2,7 @@
 ghost use Rattle.std.specs.Prelude.{◌≡◌, ◌<◌, ◌^◌, fold};
 ghost use Rattle.std.specs.List.{list_any};
 ghost use Rattle.mg_packages.specs.Looking.{is_same_signal};
-ghost use Rattle.signals.specs.Applying.{refused_entry, refusal_of, end_after, goes_on, after_start, after_entry, entries_for, after_entries};
+ghost use Rattle.signals.specs.Applying.{refused_entry, signals_refusal, end_after, goes_on, after_start, after_entry, entries_for, after_entries};
 
 use crate::active::{ActiveSignal, is_forbidden, is_time_out};
 use event_values::{Setting, SignalRequest};
@@ -19,9 +19,9 @@ fn refused_entry(hook: Hook, request: SignalRequest) -> Option<u16>
 
 /// The code of the first entry of S, from left to right, that this state of the hook refuses (RFC 3435, 2.4): 401 off
 /// hook, 402 on hook; `None` where it refuses none. An entry that stops its signal is never refused.
-#[tactic(auto, unfolding(crate::specs::Applying::refusal_of))]
+#[tactic(auto, unfolding(crate::specs::Applying::signals_refusal))]
 pub fn refused(requests: &[SignalRequest], hook: Hook) -> Option<u16>
-    ensures { result ≡ refusal_of requests.now hook }
+    ensures { result ≡ signals_refusal requests.now hook }
 {
     for request in requests {
         if let Some(code) = refused_entry(hook, *request) {

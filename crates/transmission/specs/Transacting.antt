@@ -4,7 +4,7 @@ use Rattle.std.specs.declared.net.socket_addr.SocketAddrV4.{SocketAddrV4}
 use Rattle.history.specs.declared.span.IdSpan.{IdSpan}
 use Rattle.history.specs.declared.entry.Entry.TheVariants.{Confirmation}
 use Rattle.history.specs.Kept.{HistoryState, first_entry, kept_with}
-use Rattle.history.specs.Looking.{Told as Looked, new, repeat, confirmed, full}
+use Rattle.history.specs.Looking.{Looked, new, repeat, confirmed, full}
 use Rattle.transmission.specs.declared.output.OutDatagram.{OutDatagram}
 
 -- a message in a datagram of its own

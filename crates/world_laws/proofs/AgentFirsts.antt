@@ -14,7 +14,7 @@ use Rattle.history.specs.Memory.{most_firsts}
 use Rattle.history.specs.Firsts.{Kind, a_first, a_repeat, lost, kind_of, added, firsts_of}
 use Rattle.history.specs.Answers.{is_confirmed}
 use Rattle.history.specs.Kept.{entries_of, entries_of_first}
-use Rattle.history.specs.Looking.{Told as Looked, new, repeat, confirmed, full, look_of, told_as}
+use Rattle.history.specs.Looking.{Looked, new, repeat, confirmed, full, look_of, told_as}
 use Rattle.history.specs.Recalling.{Remembers}
 use Rattle.history.proofs.RecallLaws.{recalls_itself}
 use Rattle.history.proofs.EntryLaws.{remembers_tells}

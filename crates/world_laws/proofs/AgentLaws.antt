@@ -23,18 +23,18 @@ use Rattle.mgcp_text.proofs.RoundLaws.{read_again}
 use Rattle.mgcp_text.proofs.WholeLemmas.{whole_written}
 use Rattle.piggyback.proofs.PackingLaws.{joinable-from}
 use Rattle.piggyback.specs.Packing.{is_joinable}
-use Rattle.history.specs.declared.entry.First.{First as KeptFirst}
+use Rattle.history.specs.declared.entry.KeptFirst.{KeptFirst}
 use Rattle.history.specs.declared.entry.Entry.{Entry}
 use Rattle.history.specs.declared.entry.Entry.TheVariants.{First, Confirmation}
 use Rattle.history.specs.Kept.{first_entry, firsts_in}
 use Rattle.history.proofs.LookLaws.{repeat_kept}
 use Rattle.history.specs.Memory.{most_firsts}
-use Rattle.history.specs.Looking.{Told as Looked, new, repeat, confirmed, full, look_of}
+use Rattle.history.specs.Looking.{Looked, new, repeat, confirmed, full, look_of}
 use Rattle.outbound.specs.declared.repeat.Repeat.{Repeat}
 use Rattle.outbound.specs.declared.repeat.Repeat.TheVariants.{Sent as SentAgain, GivenUp}
 use Rattle.outbound.specs.declared.reply.Reply.{Reply}
 use Rattle.outbound.specs.declared.reply.Reply.TheVariants.{Answered, Provisional, Stranger}
-use Rattle.outbound.specs.Flight.{InFlight, begun, repeat_of, repeated, reply_of, heard}
+use Rattle.outbound.specs.Flight.{InFlight, sent_first, repeat_of, repeated, reply_of, heard}
 use Rattle.outbound.proofs.LifeLaws.{repeat_same, reply_same, sent_later, held_later, sent_soon}
 use Rattle.transmission.specs.declared.output.OutDatagram.{OutDatagram}
 use Rattle.transmission.specs.Acknowledging.{asks_for_acknowledgement, acknowledgement_text, acknowledgements}
@@ -44,7 +44,7 @@ use Rattle.plain_machine.specs.Event.{datagram, phone, tick}
 use Rattle.machine_laws.proofs.EachLemmas.{Each, all_from_each, each_both, each_push, each_weaker, one_before, one_behind, one_from_any, one_of_each, one_to, one_weaker}
 use Rattle.machine_laws.proofs.FlightLemmas.{IsSame}
 use Rattle.machine_laws.proofs.TellsLemmas.{tells_on}
-use Rattle.machine_laws.specs.Saying.{Carries, IsAnswerTo, Issued, OneOf, Tells, is_command_as}
+use Rattle.machine_laws.specs.Saying.{Carries, IsAnswerTo, Begun, OneOf, Tells, is_command_as}
 use Rattle.transmission.specs.Transacting.{message_to}
 use Rattle.agent_core.specs.declared.setup.AgentSetup.{AgentSetup}
 use Rattle.agent_core.specs.Agent.{AgentEffect, AgentMachine, agent_opening}
@@ -60,19 +60,19 @@ use Rattle.agent_core.proofs.EventLemmas.{agent_clock, tick_forward}
 abbrev pub Goes : List ℕ → Type 0
 Goes text = is_joinable largest_datagram text ≡ true
 
-pub record Flies (all : List Issued) (now : ℕ) (flight : InFlight) : Type 0 where
+pub record Flies (all : List Begun) (now : ℕ) (flight : InFlight) : Type 0 where
   pub known : OneOf (IsSame flight) all
   pub later : flight.first ≤ flight.due
   pub past : flight.first ≤ now
   pub goes : Goes flight.text
 
 -- what is sent by this moment
-pub record Speaks (all : List Issued) (firsts : List KeptFirst) (now : ℕ) (sent : OutDatagram) : Type 0 where
+pub record Speaks (all : List Begun) (firsts : List KeptFirst) (now : ℕ) (sent : OutDatagram) : Type 0 where
   pub says : Tells all firsts sent.bytes sent.moment
   pub early : sent.moment ≤ now
   pub goes : Goes sent.bytes
 
-flies_on : (all more : List Issued) (now later : ℕ) → now ≤ later → (flight : InFlight) → Flies all now flight → Flies (all ++ more) later flight
+flies_on : (all more : List Begun) (now later : ℕ) → now ≤ later → (flight : InFlight) → Flies all now flight → Flies (all ++ more) later flight
 flies_on all more now later past flight f = record {
   known = one_before (IsSame flight) all more f.known;
   later = f.later;
@@ -80,9 +80,9 @@ flies_on all more now later past flight f = record {
   goes = f.goes;
 }
 
-pub speaks_on : (all : List Issued) (firsts later : List KeptFirst) (now : ℕ) (sent : OutDatagram) → Speaks all firsts now sent → Speaks all (firsts ++ later) now sent
+pub speaks_on : (all : List Begun) (firsts later : List KeptFirst) (now : ℕ) (sent : OutDatagram) → Speaks all firsts now sent → Speaks all (firsts ++ later) now sent
 speaks_on all firsts later now sent s = record {
-  says = subst (λ (x : List Issued). Tells x (firsts ++ later) sent.bytes sent.moment) (append-nil all) (tells_on all [] firsts later sent.bytes sent.moment s.says);
+  says = subst (λ (x : List Begun). Tells x (firsts ++ later) sent.bytes sent.moment) (append-nil all) (tells_on all [] firsts later sent.bytes sent.moment s.says);
   early = s.early;
   goes = s.goes;
 }
@@ -127,11 +127,11 @@ without_each P id (flight ∷ flights) all = by_test (flight.id == id) (without_
 -- Falling due
 
 -- flights and what they sent are so
-pub record FliesOn (all : List Issued) (firsts : List KeptFirst) (now : ℕ) (done : Flown) : Type 0 where
+pub record FliesOn (all : List Begun) (firsts : List KeptFirst) (now : ℕ) (done : Flown) : Type 0 where
   pub flights : Each (Flies all now) done.flights
   pub sent : Each (Speaks all firsts now) done.sent
 
-repeated_flies : (all : List Issued) (now : ℕ) (flight : InFlight) → Flies all now flight → repeat_of flight flight.due ≡ SentAgain → Flies all now (repeated flight flight.due)
+repeated_flies : (all : List Begun) (now : ℕ) (flight : InFlight) → Flies all now flight → repeat_of flight flight.due ≡ SentAgain → Flies all now (repeated flight flight.due)
 repeated_flies all now flight f is =
     let same = repeat_same flight flight.due in
     let later = sent_later flight flight.due is in
@@ -143,7 +143,7 @@ repeated_flies all now flight f is =
       goes = ap (is_joinable largest_datagram) same.same_text ∙ f.goes;
     }
 
-flown_flies : (all : List Issued) (firsts : List KeptFirst) (now : ℕ) (flights : List InFlight) (flight : InFlight) → Each (Flies all now) flights → Flies all now flight → flight.due ≤ now
+flown_flies : (all : List Begun) (firsts : List KeptFirst) (now : ℕ) (flights : List InFlight) (flight : InFlight) → Each (Flies all now) flights → Flies all now flight → flight.due ≤ now
     → (repeat : Repeat) → repeat_of flight flight.due ≡ repeat → FliesOn all firsts now (flown_on repeat flights flight)
 flown_flies all firsts now flights flight each f due SentAgain is = record {
   flights = with_each (Flies all now) (repeated flight flight.due) flights (repeated_flies all now flight f is) each;
@@ -164,7 +164,7 @@ flown_flies all firsts now flights flight each f due SentAgain is = record {
 flown_flies all firsts now flights flight each f due GivenUp is =
     record { flights = without_each (Flies all now) flight.id flights each; sent = tt }
 
-passed_flies : (all : List Issued) (firsts : List KeptFirst) (now n : ℕ) (flights : List InFlight) → Each (Flies all now) flights → FliesOn all firsts now (passed n flights now)
+passed_flies : (all : List Begun) (firsts : List KeptFirst) (now n : ℕ) (flights : List InFlight) → Each (Flies all now) flights → FliesOn all firsts now (passed n flights now)
 unfolding passed
 passed_flies all firsts now zero flights each = record { flights = each; sent = tt }
 passed_flies all firsts now (suc n) flights each =
@@ -177,7 +177,7 @@ passed_flies all firsts now (suc n) flights each =
           let rest = on (flown_on (repeat_of flight flight.due) flights flight).flights first.flights in
           record { flights = rest.flights; sent = each_both (Speaks all firsts now) (flown_on (repeat_of flight flight.due) flights flight).sent _ first.sent rest.sent }
 
-pass_flies : (all : List Issued) (firsts : List KeptFirst) (now : ℕ) (flights : List InFlight) → Each (Flies all now) flights → FliesOn all firsts now (pass flights now)
+pass_flies : (all : List Begun) (firsts : List KeptFirst) (now : ℕ) (flights : List InFlight) → Each (Flies all now) flights → FliesOn all firsts now (pass flights now)
 unfolding pass
 pass_flies all firsts now flights each = passed_flies all firsts now (8 * length flights) flights each
 
@@ -245,28 +245,28 @@ again_goes text firsts all one =
 
 -- What holds of an agent that issued these
 
-pub record WasIssued (now next : ℕ) (one : Issued) : Type 0 where
+pub record WasIssued (now next : ℕ) (one : Begun) : Type 0 where
   pub goes : Goes one.text
   pub name : List ℕ
   pub reads : is_command_as one.id name (read_text one.text) ≡ true
   pub past : one.moment ≤ now
   pub below : one.id < next
 
-pub record Holds (all : List Issued) (m : AgentMachine) : Type 0 where
+pub record Holds (all : List Begun) (m : AgentMachine) : Type 0 where
   pub flights : Each (Flies all m.now) m.flights
   pub issued : Each (WasIssued m.now m.next) all
-  pub apart : AllPairs (λ (a b : Issued). a.id ≢ b.id) all
+  pub apart : AllPairs (λ (a b : Begun). a.id ≢ b.id) all
   pub kept : AreKept m.history
 
 -- it goes on so, at the same moment, and what it sends is so
-pub record GoesOn (all : List Issued) (m : AgentMachine) (done : AgentEffect) : Type 0 where
+pub record GoesOn (all : List Begun) (m : AgentMachine) (done : AgentEffect) : Type 0 where
   pub holds : Holds all done.machine
   pub now : done.machine.now ≡ m.now
   pub more : List KeptFirst
   pub grown : firsts_in done.machine.history ≡ firsts_in m.history ++ more
   pub sent : Each (Speaks all (firsts_in done.machine.history) m.now) done.sent
 
-one_fine : (all : List Issued) (firsts : List KeptFirst) (now : ℕ) (to : SocketAddrV4) (text : List ℕ) → OneOf (λ (first : KeptFirst). first.answer ≡ text) firsts → Goes text
+one_fine : (all : List Begun) (firsts : List KeptFirst) (now : ℕ) (to : SocketAddrV4) (text : List ℕ) → OneOf (λ (first : KeptFirst). first.answer ≡ text) firsts → Goes text
     → Each (Speaks all firsts now) (message_to to now text ∷ [])
 one_fine all firsts now to text one goes = (record { says = inr (inl one); early = omega arith; goes = goes }, tt)
 
@@ -277,7 +277,7 @@ one_first m command =
     firsts_append (m.history ++ Confirmation command.confirms ∷ []) (first_entry command.id m.now (answer_to command) ∷ [])
     ∙ ap (λ (x : List KeptFirst). x ++ (record { id = command.id; moment = m.now; answer = answer_to command }) ∷ []) (firsts_append m.history (Confirmation command.confirms ∷ []) ∙ append-nil (firsts_in m.history))
 
-transacted_on : (all : List Issued) (looked : Looked) (m : AgentMachine) (source : SocketAddrV4) (command : GatewayCommand) → Holds all m → IsId command.id → command.code ≤ 999
+transacted_on : (all : List Begun) (looked : Looked) (m : AgentMachine) (source : SocketAddrV4) (command : GatewayCommand) → Holds all m → IsId command.id → command.code ≤ 999
     → looked ≡ look_of most_firsts m.history command.id m.now → GoesOn all m (transacted_by looked m source command)
 transacted_on all new m source command h has small is =
     let fine = code_fine command.code command.id has small in
@@ -308,7 +308,7 @@ transacted_on all (repeat text) m source command h has small is =
 transacted_on all confirmed m source command h has small is = record { holds = h; now = refl; more = []; grown = sym (append-nil (firsts_in m.history)); sent = tt }
 transacted_on all full m source command h has small is = record { holds = h; now = refl; more = []; grown = sym (append-nil (firsts_in m.history)); sent = tt }
 
-acknowledged_fine : (all : List Issued) (firsts : List KeptFirst) (now : ℕ) (source : SocketAddrV4) (code id : ℕ) (params : List Param) → IsId id
+acknowledged_fine : (all : List Begun) (firsts : List KeptFirst) (now : ℕ) (source : SocketAddrV4) (code id : ℕ) (params : List Param) → IsId id
     → Each (Speaks all firsts now) (acknowledgements now source code id params)
 acknowledged_fine all firsts now source code id params has = by_test (asks_for_acknowledgement code params) where
   by_test : (b : Bool)
@@ -323,7 +323,7 @@ acknowledged_fine all firsts now source code id params has = by_test (asks_for_a
   )
   by_test false = tt
 
-heard_flies : (all : List Issued) (now : ℕ) (flight : InFlight) (id code : ℕ) → Flies all now flight → reply_of flight id code ≡ Provisional → Flies all now (heard flight id code now)
+heard_flies : (all : List Begun) (now : ℕ) (flight : InFlight) (id code : ℕ) → Flies all now flight → reply_of flight id code ≡ Provisional → Flies all now (heard flight id code now)
 heard_flies all now flight id code f is =
     let same = reply_same flight id code now in
     let later = held_later flight id code now is in
@@ -335,7 +335,7 @@ heard_flies all now flight id code f is =
       goes = ap (is_joinable largest_datagram) same.same_text ∙ f.goes;
     }
 
-replied_holds : (all : List Issued) (m : AgentMachine) (flight : InFlight) (code id : ℕ) (text : List ℕ) → Holds all m → Flies all m.now flight
+replied_holds : (all : List Begun) (m : AgentMachine) (flight : InFlight) (code id : ℕ) (text : List ℕ) → Holds all m → Flies all m.now flight
     → (reply : Reply) → reply_of flight id code ≡ reply → Holds all (replied reply m (heard flight id code m.now) code text)
 replied_holds all m flight code id text h f Answered is =
     record { flights = without_each (Flies all m.now) (heard flight id code m.now).id m.flights h.flights; issued = h.issued; apart = h.apart; kept = h.kept }
@@ -360,7 +360,7 @@ found_is P id (flight ∷ flights) all = by_test (has_id id flight) (found_is P 
   by_test true rest = all.0
   by_test false rest = rest
 
-responded_on : (all : List Issued) (m : AgentMachine) (source : SocketAddrV4) (code id : ℕ) (params : List Param) (text : List ℕ) → Holds all m → IsId id
+responded_on : (all : List Begun) (m : AgentMachine) (source : SocketAddrV4) (code id : ℕ) (params : List Param) (text : List ℕ) → Holds all m → IsId id
     → GoesOn all m (responded m source code id params text)
 unfolding responded
 responded_on all m source code id params text h has = by_found (find (has_id id) m.flights) (found_is (Flies all m.now) id m.flights h.flights) where
@@ -387,7 +387,7 @@ small_code Auep = omega arith
 small_code Aucx = omega arith
 small_code Other = omega arith
 
-handled_by : (setup : AgentSetup) (all : List Issued) (m : AgentMachine) (source : SocketAddrV4) (text : List ℕ) (outcome : Outcome) → Holds all m → IfSome (id_in outcome) IsId
+handled_by : (setup : AgentSetup) (all : List Begun) (m : AgentMachine) (source : SocketAddrV4) (text : List ℕ) (outcome : Outcome) → Holds all m → IfSome (id_in outcome) IsId
     → GoesOn all m (handled_as (command_of setup outcome) outcome m source text)
 handled_by setup all m source text no_header h has = record { holds = h; now = refl; more = []; grown = sym (append-nil (firsts_in m.history)); sent = tt }
 handled_by setup all m source text (bad_version id) h has = transacted_on all _ m source _ h has (omega arith) refl
@@ -395,11 +395,11 @@ handled_by setup all m source text (bad_body id) h has = transacted_on all _ m s
 handled_by setup all m source text (message (messages.Command verb id name params body)) h has = transacted_on all _ m source _ h has (small_code verb) refl
 handled_by setup all m source text (message (messages.Response code id params body)) h has = responded_on all m source code id params text h has
 
-handled_on : (setup : AgentSetup) (all : List Issued) (m : AgentMachine) (source : SocketAddrV4) (text : List ℕ) → Holds all m → GoesOn all m (handled setup m source text)
+handled_on : (setup : AgentSetup) (all : List Begun) (m : AgentMachine) (source : SocketAddrV4) (text : List ℕ) → Holds all m → GoesOn all m (handled setup m source text)
 unfolding handled
 handled_on setup all m source text h = handled_by setup all m source text (read_text text) h (read_id text)
 
-texts_on : (setup : AgentSetup) (all : List Issued) (m : AgentMachine) (source : SocketAddrV4) (texts : List (List ℕ)) → Holds all m → GoesOn all m (took_all setup m source texts)
+texts_on : (setup : AgentSetup) (all : List Begun) (m : AgentMachine) (source : SocketAddrV4) (texts : List (List ℕ)) → Holds all m → GoesOn all m (took_all setup m source texts)
 unfolding took_all
 texts_on setup all m source [] h = record { holds = h; now = refl; more = []; grown = sym (append-nil (firsts_in m.history)); sent = tt }
 texts_on setup all m source (text ∷ texts) h =
@@ -419,7 +419,7 @@ texts_on setup all m source (text ∷ texts) h =
 
 -- An event
 
-pub record AgentGoesOn (all : List Issued) (m : AgentMachine) (moment : ℕ) (done : AgentEffect) : Type 0 where
+pub record AgentGoesOn (all : List Begun) (m : AgentMachine) (moment : ℕ) (done : AgentEffect) : Type 0 where
   pub holds : Holds all done.machine
   pub now : done.machine.now ≡ moment
   pub more : List KeptFirst
@@ -435,19 +435,19 @@ may_issue true c x y e = absurd (none-some x (sym e))
 may_issue false true x y e = refl
 may_issue false false x y e = absurd (none-some y (sym e))
 
-issued_on : (setup : AgentSetup) (all : List Issued) (m : AgentMachine) (verb name rest : List ℕ) → Holds all m → issue_refusal m verb name rest ≡ None
+issued_on : (setup : AgentSetup) (all : List Begun) (m : AgentMachine) (verb name rest : List ℕ) → Holds all m → issue_refusal m verb name rest ≡ None
     → AgentGoesOn (all ++ (record { id = m.next; moment = m.now; text = command_text verb m.next name rest }) ∷ []) m m.now (issued setup m (command_text verb m.next name rest))
 issued_on setup all m verb name rest h taken = record {
   holds = record {
-    flights = each_push (Flies (all ++ one ∷ []) m.now) m.flights (begun m.next setup.gateway text m.now)
+    flights = each_push (Flies (all ++ one ∷ []) m.now) m.flights (sent_first m.next setup.gateway text m.now)
         (each_weaker (Flies all m.now) (Flies (all ++ one ∷ []) m.now) (flies_on all (one ∷ []) m.now m.now (omega arith)) m.flights h.flights)
-        (record { known = one_behind (IsSame (begun m.next setup.gateway text m.now)) all (one ∷ []) (inl (record { id = refl; text = refl; moment = refl })); later = omega arith; past = omega arith; goes = goes });
+        (record { known = one_behind (IsSame (sent_first m.next setup.gateway text m.now)) all (one ∷ []) (inl (record { id = refl; text = refl; moment = refl })); later = omega arith; past = omega arith; goes = goes });
     issued = each_push (WasIssued m.now (m.next + 1)) all one
         (each_weaker (WasIssued m.now m.next) (WasIssued m.now (m.next + 1)) (λ b w. record { goes = w.goes; name = w.name; reads = w.reads; past = w.past; below = omega (arith, w.below) }) all h.issued)
         (record { goes = goes; name = name; reads = both.1; past = omega arith; below = omega arith });
-    apart = all_pairs_push (λ (a b : Issued). a.id ≢ b.id) all one h.apart
-        (all_from_each (λ (a : Issued). a.id ≢ m.next) all
-        (each_weaker (WasIssued m.now m.next) (λ (a : Issued). a.id ≢ m.next) (λ a w. λ same. absurd (let below : a.id < m.next = w.below in omega (arith, below, same))) all h.issued));
+    apart = all_pairs_push (λ (a b : Begun). a.id ≢ b.id) all one h.apart
+        (all_from_each (λ (a : Begun). a.id ≢ m.next) all
+        (each_weaker (WasIssued m.now m.next) (λ (a : Begun). a.id ≢ m.next) (λ a w. λ same. absurd (let below : a.id < m.next = w.below in omega (arith, below, same))) all h.issued));
     kept = h.kept;
   };
   now = refl;
@@ -465,7 +465,7 @@ issued_on setup all m verb name rest h taken = record {
   text : List ℕ
   text = command_text verb m.next name rest
 
-  one : Issued
+  one : Begun
   one = record { id = m.next; moment = m.now; text = text }
 
   both : (is_joinable largest_datagram text ≡ true) × (is_command_as m.next name (read_text text) ≡ true)
@@ -479,7 +479,7 @@ never_refused : (refusal : Option IssueRefusal) → issue_refused refusal ≡ No
 never_refused None none = refl
 never_refused (Some refusal) some = absurd (none-some _ (sym some))
 
-holds_later : (all : List Issued) (m : AgentMachine) (later : ℕ) (flights : List InFlight) → Holds all m → m.now ≤ later → Each (Flies all later) flights → Holds all (record m { now = later; flights = flights })
+holds_later : (all : List Begun) (m : AgentMachine) (later : ℕ) (flights : List InFlight) → Holds all m → m.now ≤ later → Each (Flies all later) flights → Holds all (record m { now = later; flights = flights })
 holds_later all m later flights h past flies = record {
   flights = flies;
   issued = each_weaker (WasIssued m.now m.next) (WasIssued later m.next) (λ b w. record { goes = w.goes; name = w.name; reads = w.reads; past = omega (arith, w.past, past); below = w.below }) all h.issued;
@@ -487,10 +487,10 @@ holds_later all m later flights h past flies = record {
   kept = h.kept;
 }
 
-flies_later : (all : List Issued) (now later : ℕ) → now ≤ later → (flight : InFlight) → Flies all now flight → Flies all later flight
+flies_later : (all : List Begun) (now later : ℕ) → now ≤ later → (flight : InFlight) → Flies all now flight → Flies all later flight
 flies_later all now later past flight f = record { known = f.known; later = f.later; past = omega (arith, past, f.past); goes = f.goes }
 
-pub event_on : (setup : AgentSetup) (all : List Issued) (m : AgentMachine) (event : AgentEvent) → Holds all m → agent_refusal m event ≡ None
+pub event_on : (setup : AgentSetup) (all : List Begun) (m : AgentMachine) (event : AgentEvent) → Holds all m → agent_refusal m event ≡ None
     → AgentGoesOn (all ++ issued_with m event) m (agent_clock m.now event) (agent_effect setup m event)
 unfolding agent_effect agent_refusal
 event_on setup all m (issues verb name rest) h taken = issued_on setup all m verb name rest h (never_refused (issue_refusal m verb name rest) taken)
@@ -513,7 +513,7 @@ pub issued_more : (setup : AgentSetup) (m : AgentMachine) (es : List AgentEvent)
 unfolding agent_after issued_from
 issued_more setup m [] e = append-nil (issued_with m e)
 issued_more setup m (x ∷ es) e =
-    ap (λ (rest : List Issued). issued_with m x ++ rest) (issued_more setup (agent_effect setup m x).machine es e)
+    ap (λ (rest : List Begun). issued_with m x ++ rest) (issued_more setup (agent_effect setup m x).machine es e)
     ∙ sym (append_assoc (issued_with m x) (issued_from setup (agent_effect setup m x).machine es) (issued_with (agent_after setup (agent_effect setup m x).machine es) e))
 
 pub alone : (setup : AgentSetup) (m : AgentMachine) (event : AgentEvent) → agent_after setup m (event ∷ []) ≡ (agent_effect setup m event).machine

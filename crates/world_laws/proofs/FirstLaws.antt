@@ -11,7 +11,7 @@ use Rattle.history.specs.Kept.{entries_of, firsts_in}
 use Rattle.history.proofs.BareLaws.{firsts_bare}
 use Rattle.plain_machine.specs.declared.setup.Setup.{Setup}
 use Rattle.plain_machine.specs.Event.{GatewayEvent}
-use Rattle.plain_machine.specs.Arriving.{Arrival as TextArrival, arrivals_of}
+use Rattle.plain_machine.specs.Arriving.{TextArrival, arrivals_of}
 use Rattle.plain_machine.specs.Machine.{opening}
 use Rattle.plain_machine.specs.Lists.{plain}
 use Rattle.plain_machine.specs.Transactions.{Asked, asked, commands_of}

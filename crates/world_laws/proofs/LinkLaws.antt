@@ -8,10 +8,10 @@ use Rattle.std.specs.declared.net.socket_addr.SocketAddrV4.{SocketAddrV4}
 use Rattle.mgcp_text.specs.declared.message.Param.{Param}
 use Rattle.mgcp_text.specs.declared.message.Message.TheVariants as messages
 use Rattle.mgcp_text.specs.Reading.{Outcome, message, no_header, bad_version, bad_body, read_text}
-use Rattle.history.specs.declared.entry.First.{First as KeptFirst}
+use Rattle.history.specs.declared.entry.KeptFirst.{KeptFirst}
 use Rattle.history.specs.Memory.{most_firsts}
 use Rattle.history.specs.Kept.{firsts_in}
-use Rattle.history.specs.Looking.{Told as Looked, new, repeat, confirmed, full, look_of}
+use Rattle.history.specs.Looking.{Looked, new, repeat, confirmed, full, look_of}
 use Rattle.outbound.specs.declared.reply.Reply.{Reply}
 use Rattle.outbound.specs.declared.reply.Reply.TheVariants.{Answered, Provisional, Stranger}
 use Rattle.outbound.specs.Flight.{InFlight, reply_by, reply_of, heard}
@@ -22,7 +22,7 @@ use Rattle.plain_machine.specs.Event.{GatewayEvent, datagram, phone, tick}
 use Rattle.plain_machine.specs.Message.{Sent, datagram_of, datagrams_of}
 use Rattle.plain_machine.specs.Machine.{Machine, opening}
 use Rattle.transmission.specs.Texts.{texts_of}
-use Rattle.plain_machine.specs.Arriving.{Arrival as TextArrival, arrival, clock_after, arrivals_at, arrivals_from, arrivals_of}
+use Rattle.plain_machine.specs.Arriving.{TextArrival, arrival, clock_after, arrivals_at, arrivals_from, arrivals_of}
 use Rattle.transmission.specs.Packing.{same_address}
 use Rattle.plain_machine.specs.Packing.{put_out}
 use Rattle.plain_machine.specs.Refusing.{refusal_of, tick_refusal}
@@ -37,7 +37,7 @@ use Rattle.machine_laws.proofs.EachLemmas.{Each, all_from_each, any_from_one, ea
 use Rattle.machine_laws.proofs.GatewayEvents.{EventGoes, GatewayHolds, event_holds, opening_gateway, gateway_forward}
 use Rattle.machine_laws.proofs.PostLogs.{Logged, WasBegun}
 use Rattle.machine_laws.proofs.TellsLemmas.{AreAnswers, IsAnsweredBy, IsCommand, final_answers}
-use Rattle.machine_laws.specs.Saying.{HasNumbersLeft, Issued, OneOf, Tells, begun_at, begun_in}
+use Rattle.machine_laws.specs.Saying.{HasNumbersLeft, Begun, OneOf, Tells, begun_at, begun_in}
 use Rattle.agent_core.specs.Hearing.{AgentEvent, agent_after, agent_effect, agent_refusal, handled, handled_as, heard_with, hears, issued_with, issues, took_all}
 use Rattle.agent_core.specs.declared.setup.AgentSetup.{AgentSetup}
 use Rattle.agent_core.specs.Agent.{AgentMachine, FinalAnswer, agent_opening}
@@ -57,11 +57,11 @@ use Rattle.world_laws.proofs.WorldLaws.{Holding, hold_on, packed_hold, Came, Com
 
 -- The packets of the gateway
 
-abbrev pub GatewayPosts : List Issued → List KeptFirst → ℕ → End → Packet → Type 0
+abbrev pub GatewayPosts : List Begun → List KeptFirst → ℕ → End → Packet → Type 0
 GatewayPosts log firsts now gateway_end packet = Holding (Tells log firsts) now packet.bytes packet.moment
 GatewayPosts log firsts now agent_end packet = Unit {0}
 
-abbrev pub GatewaySends : List Issued → List KeptFirst → ℕ → Posted → Type 0
+abbrev pub GatewaySends : List Begun → List KeptFirst → ℕ → Posted → Type 0
 GatewaySends log firsts now post = GatewayPosts log firsts now post.end post.packet
 
 -- an answer that the agent has is that of a first with its id
@@ -138,7 +138,7 @@ final_is flight id code is = by_id (flight.id == id) refl is where
   by_id true same e = (eqb-true flight.id id same, by_low (nat_le 100 code && nat_le code 199) e)
   by_id false other e = absurd cc
 
-module _ (log : List Issued) (firsts : List KeptFirst) (moment : ℕ) (commands : Each IsCommand log) (kept : AreAnswers firsts) where
+module _ (log : List Begun) (firsts : List KeptFirst) (moment : ℕ) (commands : Each IsCommand log) (kept : AreAnswers firsts) where
   replied_answers : (m : AgentMachine) (flight : InFlight) (code id : ℕ) (params : List Param) (body text : List ℕ) → Each (HasAnswer firsts) m.answers → Tells log firsts text moment
       → read_text text ≡ message (messages.Response code id params body) → (reply : Reply) → reply_of flight id code ≡ reply
       → Each (HasAnswer firsts) (replied reply m (heard flight id code m.now) code text).answers
@@ -223,7 +223,7 @@ has_on firsts more one has = record {
 
 -- Both ends
 
-pub record Links (setup : Setup) (w : World) (log : List Issued) (g : Machine) (m : AgentMachine) : Type 0 where
+pub record Links (setup : Setup) (w : World) (log : List Begun) (g : Machine) (m : AgentMachine) : Type 0 where
   pub gateway : GatewayHolds setup log g
   pub posted : Each (GatewaySends log (firsts_in g.history) g.now) w.posted
   pub came : Each (Came log) (flat_map reached (arrivals_of (heard_in w)))
@@ -235,7 +235,7 @@ pub record Linked (setup : Setup) (w : World) : Type 0 where
   pub sound : Sound setup w
   pub links : Links setup w (own_in setup w) (gateway_in setup w) (agent_in setup w)
 
-log_commands : (until : ℕ) (log : List Issued) → Logged until log → Each IsCommand log
+log_commands : (until : ℕ) (log : List Begun) → Logged until log → Each IsCommand log
 log_commands until log logged = each_weaker (WasBegun until) IsCommand (λ b w. record { name = w.name; reads = w.reads }) log logged.begun
 
 -- the gateway takes an event
@@ -257,17 +257,17 @@ own_more setup w event =
 gateway_more : (setup : Setup) (w : World) (event : GatewayEvent) → gateway_in setup (to_gateway setup w event) ≡ (effect setup (gateway_in setup w) event).machine
 gateway_more setup w event = machine_on setup (opening setup) w.gateway_took (event ∷ []) ∙ gateway_alone setup (gateway_in setup w) event
 
-gateway_sends_on : (log more : List Issued) (firsts later : List KeptFirst) (now next : ℕ) → now ≤ next → (post : Posted) → GatewaySends log firsts now post → GatewaySends (log ++ more) (firsts ++ later) next post
+gateway_sends_on : (log more : List Begun) (firsts later : List KeptFirst) (now next : ℕ) → now ≤ next → (post : Posted) → GatewaySends log firsts now post → GatewaySends (log ++ more) (firsts ++ later) next post
 gateway_sends_on log more firsts later now next past post sends = by_end post.end post.packet sends where
   by_end : (end : End) (packet : Packet) → GatewayPosts log firsts now end packet → GatewayPosts (log ++ more) (firsts ++ later) next end packet
   by_end agent_end packet sends = tt
   by_end gateway_end packet sends = hold_on log more firsts later now next past packet sends
 
-agent_posts : (log : List Issued) (firsts : List KeptFirst) (now : ℕ) (from : SocketAddrV4) (outs : List OutDatagram) → Each (GatewaySends log firsts now) (map (posted_as agent_end from) outs)
+agent_posts : (log : List Begun) (firsts : List KeptFirst) (now : ℕ) (from : SocketAddrV4) (outs : List OutDatagram) → Each (GatewaySends log firsts now) (map (posted_as agent_end from) outs)
 agent_posts log firsts now from [] = tt
 agent_posts log firsts now from (out ∷ outs) = (tt, agent_posts log firsts now from outs)
 
-gateway_links : (setup : Setup) (w : World) (event : GatewayEvent) (log : List Issued) (g : Machine) (m : AgentMachine) → gateway_in setup w ≡ g → Links setup w log g m
+gateway_links : (setup : Setup) (w : World) (event : GatewayEvent) (log : List Begun) (g : Machine) (m : AgentMachine) → gateway_in setup w ≡ g → Links setup w log g m
     → refusal_of g event ≡ None → (effect setup g event).machine.now ≡ clock_after g.now event → Each (Returns (firsts_in m.history)) (arrivals_at g.now event)
     → Links setup (to_gateway setup w event) (log ++ begun_in (effect setup g event).sent) (effect setup g event).machine m
 gateway_links setup w event log g m is l taken now returns = record {
@@ -296,7 +296,7 @@ gateway_links setup w event log g m is l taken now returns = record {
   g' : Machine
   g' = (effect setup g event).machine
 
-  log' : List Issued
+  log' : List Begun
   log' = log ++ begun_in (effect setup g event).sent
 
   firsts' : List KeptFirst
@@ -304,7 +304,7 @@ gateway_links setup w event log g m is l taken now returns = record {
 
 -- the agent takes an event
 
-agent_links : (setup : Setup) (w : World) (event : AgentEvent) (log : List Issued) (g : Machine) (m : AgentMachine) (all : List Issued) → Links setup w log g m → Holds all m → agent_refusal m event ≡ None
+agent_links : (setup : Setup) (w : World) (event : AgentEvent) (log : List Begun) (g : Machine) (m : AgentMachine) (all : List Begun) → Links setup w log g m → Holds all m → agent_refusal m event ≡ None
     → Each (Came log) (flat_map reached (arrives_with m.now event)) → Each (HasAnswer (firsts_in g.history)) (agent_effect (agent_of setup) m event).machine.answers
     → Links setup (to_agent setup w event) log g (agent_effect (agent_of setup) m event).machine
 agent_links setup w event log g m all l h taken came answers = record {
@@ -329,7 +329,7 @@ LinksIn setup w = Links setup w (own_in setup w) (gateway_in setup w) (agent_in 
 gateway_linked : (setup : Setup) (w : World) (event : GatewayEvent) → LinksIn setup w → refusal_of (gateway_in setup w) event ≡ None
     → Each (Returns (firsts_in (agent_in setup w).history)) (arrivals_at (now_in setup w) event) → LinksIn setup (to_gateway setup w event)
 gateway_linked setup w event l taken returns =
-    subst (λ (log : List Issued). Links setup (to_gateway setup w event) log (gateway_in setup (to_gateway setup w event)) (agent_in setup w)) (sym (own_more setup w event))
+    subst (λ (log : List Begun). Links setup (to_gateway setup w event) log (gateway_in setup (to_gateway setup w event)) (agent_in setup w)) (sym (own_more setup w event))
     (subst (λ (g : Machine). Links setup (to_gateway setup w event) (own_in setup w ++ begun_in (effect setup (gateway_in setup w) event).sent) g (agent_in setup w)) (sym (gateway_more setup w event))
     (gateway_links setup w event (own_in setup w) (gateway_in setup w) (agent_in setup w) refl l taken (effect_now setup (gateway_in setup w) event) returns))
 
@@ -474,15 +474,15 @@ taken_once setup steps set_up taken few = λ i j d less within same.
     absurd (omega (arith, far, near))
 
 pub taken_as_sent : (setup : Setup) (steps : List WorldStep) → IsSetUp setup → steps_are_taken setup world_opening steps ≡ true
-    → All (λ (one : Reached). Any (λ (b : Issued). (b.id ≡ one.asked.id) × (one.outcome ≡ read_text b.text)) (own_in setup (plain_world setup steps))) (taken_in (plain_world setup steps))
+    → All (λ (one : Reached). Any (λ (b : Begun). (b.id ≡ one.asked.id) × (one.outcome ≡ read_text b.text)) (own_in setup (plain_world setup steps))) (taken_in (plain_world setup steps))
 taken_as_sent setup steps set_up taken =
     let w = plain_world setup steps in
     let l = world_linked setup steps set_up taken in
     let log = own_in setup w in
-    all_from_each (λ (one : Reached). Any (λ (b : Issued). (b.id ≡ one.asked.id) × (one.outcome ≡ read_text b.text)) log) (taken_in w)
-    (each_weaker (Came log) (λ (one : Reached). Any (λ (b : Issued). (b.id ≡ one.asked.id) × (one.outcome ≡ read_text b.text)) log)
-    (λ one came. any_from_one (λ (b : Issued). (b.id ≡ one.asked.id) × (one.outcome ≡ read_text b.text)) log
-    (one_weaker (Comes one) (λ (b : Issued). (b.id ≡ one.asked.id) × (one.outcome ≡ read_text b.text)) (λ b c. (c.id, c.read)) log came))
+    all_from_each (λ (one : Reached). Any (λ (b : Begun). (b.id ≡ one.asked.id) × (one.outcome ≡ read_text b.text)) log) (taken_in w)
+    (each_weaker (Came log) (λ (one : Reached). Any (λ (b : Begun). (b.id ≡ one.asked.id) × (one.outcome ≡ read_text b.text)) log)
+    (λ one came. any_from_one (λ (b : Begun). (b.id ≡ one.asked.id) × (one.outcome ≡ read_text b.text)) log
+    (one_weaker (Comes one) (λ (b : Begun). (b.id ≡ one.asked.id) × (one.outcome ≡ read_text b.text)) (λ b c. (c.id, c.read)) log came))
     (taken_in w) (executed_each (Came log) (flat_map reached (arrivals_of (heard_in w))) l.links.came))
 
 -- What the gateway hears as final is the answer to a first of the agent

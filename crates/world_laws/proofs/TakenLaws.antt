@@ -7,13 +7,13 @@ use Rattle.std.proofs.lemmas.List.Elements.{All-weaker}
 use Rattle.mgcp_text.specs.declared.message.Message.TheVariants as messages
 use Rattle.mgcp_text.specs.declared.message.Param.{Param}
 use Rattle.mgcp_text.specs.Reading.{message}
-use Rattle.history.specs.declared.entry.First.{First as KeptFirst}
+use Rattle.history.specs.declared.entry.KeptFirst.{KeptFirst}
 use Rattle.history.specs.Memory.{most_firsts}
 use Rattle.history.specs.Firsts.{firsts_of}
 use Rattle.history.specs.Kept.{firsts_in}
 use Rattle.plain_machine.specs.Setup.{IsSetUp}
 use Rattle.plain_machine.specs.Event.{datagram, tick}
-use Rattle.plain_machine.specs.Arriving.{Arrival as TextArrival, arrivals_from, arrivals_of}
+use Rattle.plain_machine.specs.Arriving.{TextArrival, arrivals_from, arrivals_of}
 use Rattle.transmission.specs.Packing.{same_address}
 use Rattle.plain_machine.specs.declared.setup.Setup.{Setup}
 use Rattle.machine_laws.proofs.EachLemmas.{all_from_each, any_from_one, each_weaker, is_none-None, one_from_any, one_mapped, one_unmapped, one_weaker}

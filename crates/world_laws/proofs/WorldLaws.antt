@@ -29,7 +29,7 @@ use Rattle.plain_machine.proofs.EffectLaws.{effect_now}
 use Rattle.plain_machine.specs.declared.setup.Setup.{Setup}
 use Rattle.machine_laws.proofs.EachLemmas.{Each, all_from_each, any_from_one, each_at, each_both, each_mapped, each_unflat, each_unmapped, each_weaker, one_before, one_of_each, one_to, one_weaker, is_none-None}
 use Rattle.machine_laws.proofs.TellsLemmas.{AreAnswers, IsCommand, tells_on}
-use Rattle.machine_laws.specs.Saying.{Carries, IsAnswerTo, Issued, OneOf, Tells, is_command_as}
+use Rattle.machine_laws.specs.Saying.{Carries, IsAnswerTo, Begun, OneOf, Tells, is_command_as}
 use Rattle.agent_core.specs.Hearing.{AgentEvent, AgentRefusal, agent_after, agent_effect, agent_refusal, hears, issued_from, issued_with, issues}
 use Rattle.agent_core.specs.Agent.{AgentMachine, agent_opening}
 use Rattle.agent_core.specs.declared.packet.End.{End}
@@ -40,7 +40,7 @@ use Rattle.agent_core.specs.World.{World, WorldStep, agent_in, agent_of, agent_r
 use Rattle.world_laws.specs.Reached.{Reached, executed_in, issued_in, reached, reached_as}
 use Rattle.agent_core.proofs.EventLemmas.{agent_clock, after_on, forward}
 use Rattle.world_laws.proofs.AgentLaws.{Goes, Speaks, WasIssued, Fine, Holds, AgentGoesOn, event_on, opening_holds, issued_more, alone, never, tick_taken}
-use Rattle.history.specs.declared.entry.First.{First as KeptFirst}
+use Rattle.history.specs.declared.entry.KeptFirst.{KeptFirst}
 use Rattle.history.specs.Kept.{firsts_in}
 use Rattle.world_laws.proofs.ReachedLaws.{executed_each, executed_apart}
 
@@ -69,38 +69,38 @@ packed_hold S now messages goes says =
     (each_unmapped Q (λ text. record out { bytes = text }) (parts_of out.bytes) each))
     (packed messages) (each_unflat Q messages_in (packed messages) inside)
 
-abbrev pub Posts : List Issued → List KeptFirst → ℕ → End → Packet → Type 0
+abbrev pub Posts : List Begun → List KeptFirst → ℕ → End → Packet → Type 0
 Posts all firsts now agent_end packet = Holding (Tells all firsts) now packet.bytes packet.moment
 Posts all firsts now gateway_end packet = Unit {0}
 
-abbrev pub Sends : List Issued → List KeptFirst → ℕ → Posted → Type 0
+abbrev pub Sends : List Begun → List KeptFirst → ℕ → Posted → Type 0
 Sends all firsts now post = Posts all firsts now post.end post.packet
 
 -- What arrives at the gateway
 
 -- a command that arrived is this one, which was issued less than 30,000 ms before
-pub record Comes (one : Reached) (b : Issued) : Type 0 where
+pub record Comes (one : Reached) (b : Begun) : Type 0 where
   pub id : b.id ≡ one.asked.id
   pub read : one.outcome ≡ read_text b.text
   pub since : b.moment ≤ one.asked.moment
   pub within : one.asked.moment < b.moment + 30000
 
-abbrev pub Came : List Issued → Reached → Type 0
+abbrev pub Came : List Begun → Reached → Type 0
 Came all one = OneOf (Comes one) all
 
 -- the agent and what came to the gateway
-pub record Agrees (all : List Issued) (m : AgentMachine) (w : World) : Type 0 where
+pub record Agrees (all : List Begun) (m : AgentMachine) (w : World) : Type 0 where
   pub agent : Holds all m
   pub posted : Each (Sends all (firsts_in m.history) m.now) w.posted
   pub came : Each (Came all) (flat_map reached (arrivals_of w.gateway_took))
 
-pub hold_on : (log more : List Issued) (firsts later : List KeptFirst) (now next : ℕ) → now ≤ next → (packet : Packet) → Holding (Tells log firsts) now packet.bytes packet.moment
+pub hold_on : (log more : List Begun) (firsts later : List KeptFirst) (now next : ℕ) → now ≤ next → (packet : Packet) → Holding (Tells log firsts) now packet.bytes packet.moment
     → Holding (Tells (log ++ more) (firsts ++ later)) next packet.bytes packet.moment
 hold_on log more firsts later now next past packet sends =
     each_weaker (λ (text : List ℕ). Tells log firsts text packet.moment × (packet.moment ≤ now)) (λ (text : List ℕ). Tells (log ++ more) (firsts ++ later) text packet.moment × (packet.moment ≤ next))
     (λ text s. (tells_on log more firsts later text packet.moment s.0, omega (arith, s.1, past))) (texts_of packet.bytes) sends
 
-sends_on : (all more : List Issued) (firsts later : List KeptFirst) (now next : ℕ) → now ≤ next → (post : Posted) → Sends all firsts now post → Sends (all ++ more) (firsts ++ later) next post
+sends_on : (all more : List Begun) (firsts later : List KeptFirst) (now next : ℕ) → now ≤ next → (post : Posted) → Sends all firsts now post → Sends (all ++ more) (firsts ++ later) next post
 sends_on all more firsts later now next past post sends = by_end post.end post.packet sends where
   by_end : (end : End) (packet : Packet) → Posts all firsts now end packet → Posts (all ++ more) (firsts ++ later) next end packet
   by_end gateway_end packet sends = tt
@@ -131,10 +131,10 @@ agent_agrees setup w event a taken =
       m : AgentMachine
       m = agent_in setup w
 
-      all : List Issued
+      all : List Begun
       all = issued_in setup w
 
-      more : List Issued
+      more : List Begun
       more = all ++ issued_with m event
 
       then' : ℕ
@@ -154,11 +154,11 @@ agent_agrees setup w event a taken =
 pub arrived_on : (setup : Setup) (w : World) (event : GatewayEvent) → arrivals_of (w.gateway_took ++ event ∷ []) ≡ arrivals_of w.gateway_took ++ arrivals_at (now_in setup w) event
 arrived_on setup w event = arrivals_on setup (opening setup) w.gateway_took event
 
-gateway_posts : (all : List Issued) (firsts : List KeptFirst) (now : ℕ) (from : SocketAddrV4) (outs : List OutDatagram) → Each (Sends all firsts now) (map (posted_as gateway_end from) outs)
+gateway_posts : (all : List Begun) (firsts : List KeptFirst) (now : ℕ) (from : SocketAddrV4) (outs : List OutDatagram) → Each (Sends all firsts now) (map (posted_as gateway_end from) outs)
 gateway_posts all firsts now from [] = tt
 gateway_posts all firsts now from (out ∷ outs) = (tt, gateway_posts all firsts now from outs)
 
-gateway_agrees : (setup : Setup) (w : World) (event : GatewayEvent) (all : List Issued) (m : AgentMachine) → Agrees all m w
+gateway_agrees : (setup : Setup) (w : World) (event : GatewayEvent) (all : List Begun) (m : AgentMachine) → Agrees all m w
     → Each (Came all) (flat_map reached (arrivals_at (now_in setup w) event)) → Agrees all m (to_gateway setup w event)
 gateway_agrees setup w event all m a came = record {
   agent = a.agent;
@@ -170,7 +170,7 @@ gateway_agrees setup w event all m a came = record {
 
 -- a text of the agent's arrives
 
-command_came : (all : List Issued) (now : ℕ) (source : SocketAddrV4) (b : Issued) (name : List ℕ) (outcome : Outcome) → is_command_as b.id name outcome ≡ true
+command_came : (all : List Begun) (now : ℕ) (source : SocketAddrV4) (b : Begun) (name : List ℕ) (outcome : Outcome) → is_command_as b.id name outcome ≡ true
     → outcome ≡ read_text b.text → b.moment ≤ now → now < b.moment + 30000 → Each (λ (one : Reached). Comes one b) (map (reached_as outcome) (asked_as source now outcome))
 command_came all now source b name no_header is read since within = absurd cc
 command_came all now source b name (bad_version id) is read since within = absurd cc
@@ -186,18 +186,18 @@ command_came all now source b name (message (messages.Command verb id of params 
   tt,
 )
 
-each_of_one : (all : List Issued) (b : Issued) (found : List Reached) → ((P : Issued → Type 0) → P b → OneOf P all) → Each (λ (one : Reached). Comes one b) found → Each (Came all) found
+each_of_one : (all : List Begun) (b : Begun) (found : List Reached) → ((P : Begun → Type 0) → P b → OneOf P all) → Each (λ (one : Reached). Comes one b) found → Each (Came all) found
 each_of_one all b [] is each = tt
 each_of_one all b (one ∷ found) is each = (is (Comes one) each.0, each_of_one all b found is each.1)
 
 -- an issued command, and that it is one of them
-one_with : (P : Issued → Type 0) (R : Type 0) (all : List Issued) → OneOf P all → ((b : Issued) → P b → ((Q : Issued → Type 0) → Q b → OneOf Q all) → R) → R
+one_with : (P : Begun → Type 0) (R : Type 0) (all : List Begun) → OneOf P all → ((b : Begun) → P b → ((Q : Begun → Type 0) → Q b → OneOf Q all) → R) → R
 one_with P R [] one step = absurd one
 one_with P R (b ∷ all) (inl is) step = step b is (λ Q q. inl q)
 one_with P R (b ∷ all) (inr one) step = one_with P R all one (λ c p is. step c p (λ Q q. inr (is Q q)))
 
 -- a text that an end says arrives within 10,000 ms
-pub text_came : (all : List Issued) (firsts : List KeptFirst) (moment now : ℕ) (source : SocketAddrV4) (text : List ℕ) → Each IsCommand all → AreAnswers firsts → Tells all firsts text moment
+pub text_came : (all : List Begun) (firsts : List KeptFirst) (moment now : ℕ) (source : SocketAddrV4) (text : List ℕ) → Each IsCommand all → AreAnswers firsts → Tells all firsts text moment
     → moment ≤ now → now - moment ≤ 10000 → Each (Came all) (reached (arrival now source text))
 text_came all firsts moment now source text commands answers (inr (inl answered)) early late =
     one_to (λ (first : KeptFirst). IsAnswerTo first.id first.answer × (first.answer ≡ text)) (Each (Came all) (reached (arrival now source text)))
@@ -205,7 +205,7 @@ text_came all firsts moment now source text commands answers (inr (inl answered)
     (one_of_each (λ (first : KeptFirst). IsAnswerTo first.id first.answer) (λ (first : KeptFirst). first.answer ≡ text) firsts answers answered)
 text_came all firsts moment now source text commands answers (inr (inr is)) early late = rw is.reads tt
 text_came all firsts moment now source text commands answers (inl carried) early late =
-    one_with (λ (b : Issued). IsCommand b × Carries text moment b) (Each (Came all) (reached (arrival now source text))) all
+    one_with (λ (b : Begun). IsCommand b × Carries text moment b) (Each (Came all) (reached (arrival now source text))) all
     (one_of_each IsCommand (Carries text moment) all commands carried)
     (λ b both is. each_of_one all b (reached (arrival now source text)) is
     (let reads : is_command_as b.id both.0.name (read_text text) ≡ true = ap (λ (t : List ℕ). is_command_as b.id both.0.name (read_text t)) both.1.text ∙ both.0.reads in
@@ -213,7 +213,7 @@ text_came all firsts moment now source text commands answers (inl carried) early
     let within : now < b.moment + 30000 = omega (arith, both.1.within, early, late) in
     command_came all now source b both.0.name (read_text text) reads (ap read_text both.1.text) since within))
 
-pub texts_came : (all : List Issued) (firsts : List KeptFirst) (moment now : ℕ) (source : SocketAddrV4) (texts : List (List ℕ)) → Each IsCommand all → AreAnswers firsts
+pub texts_came : (all : List Begun) (firsts : List KeptFirst) (moment now : ℕ) (source : SocketAddrV4) (texts : List (List ℕ)) → Each IsCommand all → AreAnswers firsts
     → Each (λ (text : List ℕ). Tells all firsts text moment × (moment ≤ now)) texts → now - moment ≤ 10000 → Each (Came all) (flat_map reached (map (arrival now source) texts))
 texts_came all firsts moment now source [] commands answers each late = tt
 texts_came all firsts moment now source (text ∷ texts) commands answers each late =
@@ -221,10 +221,10 @@ texts_came all firsts moment now source (text ∷ texts) commands answers each l
     (texts_came all firsts moment now source texts commands answers each.1 late)
 
 -- what an agent issued are commands, and what it keeps are answers
-pub agent_commands : (all : List Issued) (m : AgentMachine) → Holds all m → Each IsCommand all
+pub agent_commands : (all : List Begun) (m : AgentMachine) → Holds all m → Each IsCommand all
 agent_commands all m h = each_weaker (WasIssued m.now m.next) IsCommand (λ b w. record { name = w.name; reads = w.reads }) all h.issued
 
-pub agent_answers : (all : List Issued) (m : AgentMachine) → Holds all m → AreAnswers (firsts_in m.history)
+pub agent_answers : (all : List Begun) (m : AgentMachine) → Holds all m → AreAnswers (firsts_in m.history)
 agent_answers all m h = each_weaker (λ (first : KeptFirst). Fine first.id first.answer) (λ (first : KeptFirst). IsAnswerTo first.id first.answer) (λ first f. f.response) (firsts_in m.history) h.kept
 
 -- A step
@@ -355,19 +355,19 @@ world_sound setup steps taken = steps_sound setup world_opening steps (opening_s
 
 -- Each command is executed once at most
 
-head_apart : (all : List Issued) (b : Issued) → AllPairs (λ (a c : Issued). a.id ≢ c.id) (b ∷ all) → (one : Reached) → Came all one → b.id ≢ one.asked.id
+head_apart : (all : List Begun) (b : Begun) → AllPairs (λ (a c : Begun). a.id ≢ c.id) (b ∷ all) → (one : Reached) → Came all one → b.id ≢ one.asked.id
 head_apart all b apart one came same =
     let any = any_from_one (Comes one) all came in
     let less : suc any.0 < length (b ∷ all) = (let k : any.0 < length all = any.2 in omega arith) in
     let far = apart zero (suc any.0) any.1 (omega arith) less in
     let here : slice_index_or all any.0 any.1 ≡ any.1 = any.3 in
-    far (same ∙ sym (ap (λ (c : Issued). c.id) here ∙ any.4.id))
+    far (same ∙ sym (ap (λ (c : Begun). c.id) here ∙ any.4.id))
 
-tail_apart : (all : List Issued) (b : Issued) → AllPairs (λ (a c : Issued). a.id ≢ c.id) (b ∷ all) → AllPairs (λ (a c : Issued). a.id ≢ c.id) all
+tail_apart : (all : List Begun) (b : Begun) → AllPairs (λ (a c : Begun). a.id ≢ c.id) (b ∷ all) → AllPairs (λ (a c : Begun). a.id ≢ c.id) all
 tail_apart all b apart = λ i j d less within. apart (suc i) (suc j) d (omega (arith, less)) (omega (arith, within))
 
 -- two that come from issued commands with one id come within 30,000 ms
-pub same_issued : (all : List Issued) → AllPairs (λ (a b : Issued). a.id ≢ b.id) all → (one other : Reached) → Came all one → Came all other → one.asked.id ≡ other.asked.id
+pub same_issued : (all : List Begun) → AllPairs (λ (a b : Begun). a.id ≢ b.id) all → (one other : Reached) → Came all one → Came all other → one.asked.id ≡ other.asked.id
     → other.asked.moment - one.asked.moment < 30000
 same_issued [] apart one other came comes same = absurd came
 same_issued (b ∷ all) apart one other (inl here) (inl there) same = omega (arith, here.since, there.within)
@@ -387,17 +387,17 @@ once setup steps taken = λ i j d less within same.
     absurd (omega (arith, far, near))
 
 pub as_issued : (setup : Setup) (steps : List WorldStep) → steps_are_taken setup world_opening steps ≡ true
-    → All (λ (one : Reached). Any (λ (b : Issued). (b.id ≡ one.asked.id) × (one.outcome ≡ read_text b.text)) (issued_in setup (plain_world setup steps))) (executed_in (plain_world setup steps))
+    → All (λ (one : Reached). Any (λ (b : Begun). (b.id ≡ one.asked.id) × (one.outcome ≡ read_text b.text)) (issued_in setup (plain_world setup steps))) (executed_in (plain_world setup steps))
 as_issued setup steps taken =
     let w = plain_world setup steps in
     let s = world_sound setup steps taken in
     let all = issued_in setup w in
-    all_from_each (λ (one : Reached). Any (λ (b : Issued). (b.id ≡ one.asked.id) × (one.outcome ≡ read_text b.text)) all) (executed_in w)
-    (each_weaker (Came all) (λ (one : Reached). Any (λ (b : Issued). (b.id ≡ one.asked.id) × (one.outcome ≡ read_text b.text)) all)
-    (λ one came. any_from_one (λ (b : Issued). (b.id ≡ one.asked.id) × (one.outcome ≡ read_text b.text)) all
-    (one_weaker (Comes one) (λ (b : Issued). (b.id ≡ one.asked.id) × (one.outcome ≡ read_text b.text)) (λ b c. (c.id, c.read)) all came))
+    all_from_each (λ (one : Reached). Any (λ (b : Begun). (b.id ≡ one.asked.id) × (one.outcome ≡ read_text b.text)) all) (executed_in w)
+    (each_weaker (Came all) (λ (one : Reached). Any (λ (b : Begun). (b.id ≡ one.asked.id) × (one.outcome ≡ read_text b.text)) all)
+    (λ one came. any_from_one (λ (b : Begun). (b.id ≡ one.asked.id) × (one.outcome ≡ read_text b.text)) all
+    (one_weaker (Comes one) (λ (b : Begun). (b.id ≡ one.asked.id) × (one.outcome ≡ read_text b.text)) (λ b c. (c.id, c.read)) all came))
     (executed_in w) (executed_each (Came all) (flat_map reached (arrivals_of w.gateway_took)) s.agrees.came))
 
 pub ids_apart : (setup : Setup) (steps : List WorldStep) → steps_are_taken setup world_opening steps ≡ true
-    → AllPairs (λ (a b : Issued). a.id ≢ b.id) (issued_in setup (plain_world setup steps))
+    → AllPairs (λ (a b : Begun). a.id ≢ b.id) (issued_in setup (plain_world setup steps))
 ids_apart setup steps taken = (world_sound setup steps taken).agrees.agent.apart

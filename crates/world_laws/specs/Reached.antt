@@ -1,16 +1,16 @@
 -- The firsts among all that arrived, each with what it was read as, and the commands that an end began (RFC 3435, 3.5.1).
 use Rattle.std.specs.Prelude.{ℕ, ◌==◌, if◌then◌else◌, List, [], ◌∷◌, ◌++◌, map, flat_map, fold, Option, Some, None}
-use Rattle.history.specs.declared.entry.First.{First as KeptFirst}
+use Rattle.history.specs.declared.entry.KeptFirst.{KeptFirst}
 use Rattle.history.specs.Arrival.{Arrival}
 use Rattle.history.specs.Memory.{most_firsts}
 use Rattle.history.specs.Firsts.{Kind, a_first, a_repeat, lost, kind_of}
 use Rattle.mgcp_text.specs.Reading.{Outcome}
 use Rattle.plain_machine.specs.declared.setup.Setup.{Setup}
 use Rattle.plain_machine.specs.Event.{GatewayEvent}
-use Rattle.plain_machine.specs.Arriving.{Arrival as TextArrival, arrivals_of}
+use Rattle.plain_machine.specs.Arriving.{TextArrival, arrivals_of}
 use Rattle.plain_machine.specs.Lists.{sent_of}
 use Rattle.plain_machine.specs.Transactions.{Asked, asked}
-use Rattle.machine_laws.specs.Saying.{Issued, begun_in}
+use Rattle.machine_laws.specs.Saying.{Begun, begun_in}
 use Rattle.event_values.specs.declared.observed.Observed.{Observed}
 use Rattle.agent_core.specs.declared.setup.AgentSetup.{AgentSetup}
 use Rattle.agent_core.specs.declared.taking.Taken.{Taken}
@@ -69,7 +69,7 @@ key_reached one = (one.asked.id, one.asked.moment)
 -- What the laws of a world speak of
 
 -- the commands that the agent issued
-abbrev pub issued_in : Setup → World → List Issued
+abbrev pub issued_in : Setup → World → List Begun
 issued_in setup w = issued_from (agent_of setup) (agent_opening (agent_of setup)) w.agent_took
 
 -- the commands that the gateway executed
@@ -85,5 +85,5 @@ abbrev pub taken_in : World → List Reached
 taken_in w = executed_of (arrivals_of (heard_in w))
 
 -- the commands of its own that the gateway sent
-abbrev pub own_in : Setup → World → List Issued
+abbrev pub own_in : Setup → World → List Begun
 own_in setup w = begun_in (sent_of setup w.gateway_took)

@@ -4,7 +4,7 @@ ghost use Rattle.std.specs.declared.net.socket_addr.SocketAddrV4.{SocketAddrV4};
 ghost use Rattle.mgcp_text.specs.declared.message.Message.TheVariants as messages;
 ghost use Rattle.mgcp_text.specs.declared.message.Param.{Param};
 ghost use Rattle.mgcp_text.specs.Reading.{message, read_text};
-ghost use Rattle.history.specs.declared.entry.First.{First as KeptFirst};
+ghost use Rattle.history.specs.declared.entry.KeptFirst.{KeptFirst};
 ghost use Rattle.history.specs.Kept.{firsts_in};
 ghost use Rattle.outbound.specs.declared.reply.Reply.TheVariants.{Answered};
 ghost use Rattle.outbound.specs.Flight.{InFlight, repeat_of, reply_of};
@@ -12,10 +12,10 @@ ghost use Rattle.plain_machine.specs.declared.setup.Setup.{Setup};
 ghost use Rattle.plain_machine.specs.Setup.{IsSetUp};
 ghost use Rattle.plain_machine.specs.Event.{GatewayEvent};
 ghost use Rattle.plain_machine.specs.Message.{Sent, text_of};
-ghost use Rattle.plain_machine.specs.Arriving.{Arrival as TextArrival, arrivals_of};
+ghost use Rattle.plain_machine.specs.Arriving.{TextArrival, arrivals_of};
 ghost use Rattle.plain_machine.specs.Machine.{opening};
 ghost use Rattle.plain_machine.specs.Lists.{are_taken, plain, sent_of};
-ghost use Rattle.machine_laws.specs.Saying.{HasNumbersLeft, IsAnswerTo, Issued, Tells, begun_in};
+ghost use Rattle.machine_laws.specs.Saying.{HasNumbersLeft, IsAnswerTo, Begun, Tells, begun_in};
 ghost use Rattle.agent_core.specs.declared.setup.AgentSetup.{AgentSetup};
 ghost use Rattle.agent_core.specs.Agent.{AgentMachine, FinalAnswer, agent_opening, answer_for, nothing_taken, observed_on};
 ghost use Rattle.agent_core.specs.Taking.{with_taken};
@@ -38,10 +38,10 @@ pub fn each_command_is_executed_once()
     ensures once { (setup : Setup) (steps : List WorldStep) → steps_are_taken setup world_opening steps ≡ true →
         AllPairs (λ (first later : Reached). first.asked.id ≢ later.asked.id) (executed_in (plain_world setup steps)) }
     ensures as_issued { (setup : Setup) (steps : List WorldStep) → steps_are_taken setup world_opening steps ≡ true →
-        All (λ (one : Reached). Any (λ (b : Issued). (b.id ≡ one.asked.id) × (one.outcome ≡ read_text b.text))
+        All (λ (one : Reached). Any (λ (b : Begun). (b.id ≡ one.asked.id) × (one.outcome ≡ read_text b.text))
         (issued_in setup (plain_world setup steps))) (executed_in (plain_world setup steps)) }
     ensures ids { (setup : Setup) (steps : List WorldStep) → steps_are_taken setup world_opening steps ≡ true →
-        AllPairs (λ (a b : Issued). a.id ≢ b.id) (issued_in setup (plain_world setup steps)) }
+        AllPairs (λ (a b : Begun). a.id ≢ b.id) (issued_in setup (plain_world setup steps)) }
 {}
 
 /// What the agent has for the answer to a command is the stored answer to the gateway's first with its id, text for text;
@@ -65,7 +65,7 @@ pub fn each_notification_is_taken_once()
         HasNumbersLeft (own_in setup (plain_world setup steps)) →
         AllPairs (λ (first later : Reached). first.asked.id ≢ later.asked.id) (taken_in (plain_world setup steps)) }
     ensures as_sent { (setup : Setup) (steps : List WorldStep) → IsSetUp setup → steps_are_taken setup world_opening steps ≡ true →
-        All (λ (one : Reached). Any (λ (b : Issued). (b.id ≡ one.asked.id) × (one.outcome ≡ read_text b.text))
+        All (λ (one : Reached). Any (λ (b : Begun). (b.id ≡ one.asked.id) × (one.outcome ≡ read_text b.text))
         (own_in setup (plain_world setup steps))) (taken_in (plain_world setup steps)) }
     ensures answered { (setup : Setup) (steps : List WorldStep) → IsSetUp setup → steps_are_taken setup world_opening steps ≡ true →
         All (λ (a : TextArrival). (code id : ℕ) (params : List Param) (body : List ℕ) →

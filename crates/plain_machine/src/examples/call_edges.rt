@@ -11,7 +11,7 @@ ghost use Rattle.connections.specs.Standing.{no_connections};
 ghost use Rattle.plain_machine.specs.Connecting.{id_param};
 ghost use Rattle.plain_machine.specs.Commanding.{audited};
 ghost use Rattle.plain_machine.specs.Machine.{opening, opening_endpoints, opening_station, port_of};
-ghost use Rattle.plain_machine.specs.Calls.{connection_at, port_at, standing_at, NumbersGoOn, Stands};
+ghost use Rattle.plain_machine.specs.Calls.{connection_at, port_at, standing_at, NumbersGoOn, IsOnLine};
 ghost use Rattle.plain_machine.specs.Lists.{machine_after, outputs_from, connections_of, signals_of};
 ghost use Rattle.plain_machine.specs.Example.{example, one_line, two_lines, other_host, elsewhere, to_agent_at, response, rqnt, ready_station, ready_endpoints};
 ghost use Rattle.plain_machine.specs.Example.{ntfy, lifted, lifted_on_2, crcx, mdcx, dlcx, epcf, ready_machine, one_sends};
@@ -55,9 +55,9 @@ pub fn connections_stand_at_places()
         ≡ Some 3010 }
     ensures connection { connection_at second_called 2 0 ≡ Some first_connection }
     ensures no_place { connection_at second_called 2 4 ≡ None }
-    ensures there { Stands second_called 2 1 }
-    ensures other_number { Stands second_called 2 2 → ⊥ }
-    ensures elsewhere { Stands second_called 1 1 → ⊥ }
+    ensures there { IsOnLine second_called 2 1 }
+    ensures other_number { IsOnLine second_called 2 2 → ⊥ }
+    ensures elsewhere { IsOnLine second_called 1 1 → ⊥ }
 {}
 
 /// The last number of a line is known where there is such a line; it may grow or stay.

@@ -2,7 +2,7 @@
 #![tactic(auto, unfolding(crate::proofs::Computing::on_examples))]
 
 ghost use Rattle.std.specs.Prelude.{codes, [], ◌∷◌, None, Some, false, true};
-ghost use Rattle.outbound.specs.Flight.{begun};
+ghost use Rattle.outbound.specs.Flight.{sent_first};
 ghost use Rattle.mg_line.specs.declared.state.State.TheVariants.{Normal, Notification, Lockstep};
 ghost use Rattle.restart.specs.declared.restart.Restart.TheVariants.{Waiting, Announced, Serving};
 ghost use Rattle.plain_machine.specs.Message.{resent};
@@ -33,15 +33,15 @@ pub fn the_gateway_has_ids_of_its_own()
 pub fn what_is_in_flight_of_a_line_agrees_with_its_announcement()
     ensures waits { InOrderBy (Waiting 6000) 1 None Notification }
     ensures waits_normal { InOrderBy (Waiting 6000) 1 None Normal → ⊥ }
-    ensures waits_with { InOrderBy (Waiting 6000) 1 (Some (begun 10000000 agent lifted 1000)) Notification → ⊥ }
-    ensures announced { InOrderBy Announced 1 (Some (begun 10000001 agent lifted 1000)) Notification }
-    ensures announced_normal { InOrderBy Announced 1 (Some (begun 10000001 agent lifted 1000)) Normal → ⊥ }
+    ensures waits_with { InOrderBy (Waiting 6000) 1 (Some (sent_first 10000000 agent lifted 1000)) Notification → ⊥ }
+    ensures announced { InOrderBy Announced 1 (Some (sent_first 10000001 agent lifted 1000)) Notification }
+    ensures announced_normal { InOrderBy Announced 1 (Some (sent_first 10000001 agent lifted 1000)) Normal → ⊥ }
     ensures announced_without { InOrderBy Announced 1 None Notification → ⊥ }
-    ensures announced_by_another { InOrderBy Announced 2 (Some (begun 10000001 agent lifted 1000)) Notification → ⊥ }
-    ensures serves { InOrderBy Serving 1 (Some (begun 10000000 agent lifted 1000)) Notification }
+    ensures announced_by_another { InOrderBy Announced 2 (Some (sent_first 10000001 agent lifted 1000)) Notification → ⊥ }
+    ensures serves { InOrderBy Serving 1 (Some (sent_first 10000000 agent lifted 1000)) Notification }
     ensures serves_normal { InOrderBy Serving 1 None Normal }
-    ensures serves_in_lockstep { InOrderBy Serving 1 (Some (begun 10000000 agent lifted 1000)) Lockstep → ⊥ }
-    ensures serves_another { InOrderBy Serving 2 (Some (begun 10000000 agent lifted 1000)) Notification → ⊥ }
+    ensures serves_in_lockstep { InOrderBy Serving 1 (Some (sent_first 10000000 agent lifted 1000)) Lockstep → ⊥ }
+    ensures serves_another { InOrderBy Serving 2 (Some (sent_first 10000000 agent lifted 1000)) Notification → ⊥ }
     ensures station { IsInOrder 1 (lost_station 6000) }
     ensures station_with { IsInOrder 1 (waiting 6000 (record (lost_station 6000) { post = flying 1 10000000 lifted (Some 1500) })) → ⊥ }
     ensures station_normal { IsInOrder 1 (waiting 6000 (ready_station example 1)) → ⊥ }
@@ -50,12 +50,12 @@ pub fn what_is_in_flight_of_a_line_agrees_with_its_announcement()
 /// The gateway itself sends nothing but announcements.
 pub fn what_is_in_flight_of_the_gateway_is_its_announcement()
     ensures waits { OwnInOrderBy (Waiting 1) None }
-    ensures waits_with { OwnInOrderBy (Waiting 1) (Some (begun 1 agent announced 1000)) → ⊥ }
-    ensures announced { OwnInOrderBy Announced (Some (begun 1 agent announced 1000)) }
+    ensures waits_with { OwnInOrderBy (Waiting 1) (Some (sent_first 1 agent announced 1000)) → ⊥ }
+    ensures announced { OwnInOrderBy Announced (Some (sent_first 1 agent announced 1000)) }
     ensures announced_without { OwnInOrderBy Announced None → ⊥ }
-    ensures announced_by_a_line { OwnInOrderBy Announced (Some (begun 10000001 agent (disconnected 10000001) 1000)) → ⊥ }
+    ensures announced_by_a_line { OwnInOrderBy Announced (Some (sent_first 10000001 agent (disconnected 10000001) 1000)) → ⊥ }
     ensures serves { OwnInOrderBy Serving None }
-    ensures serves_with { OwnInOrderBy Serving (Some (begun 1 agent announced 1000)) → ⊥ }
+    ensures serves_with { OwnInOrderBy Serving (Some (sent_first 1 agent announced 1000)) → ⊥ }
     ensures opening { OwnIsInOrder (opening_own example) }
     ensures flies { OwnIsInOrder (announcing (Some 1500)) }
     ensures still_flies { OwnIsInOrder (record { post = flying 2 1 announced (Some 1500) }) → ⊥ }
@@ -93,18 +93,18 @@ pub fn a_line_may_begin_nothing()
 
 /// A message is the same where its id, its address and its bytes are, whenever it was sent and is due again.
 pub fn a_message_stays_the_same()
-    ensures same { IsSame (begun 10000000 agent lifted 1000)
+    ensures same { IsSame (sent_first 10000000 agent lifted 1000)
         (record { id = 10000000; to = agent; text = lifted; first = 1000; repeats = 1; due = 2500 }) }
-    ensures other_id { IsSame (begun 10000000 agent lifted 1000) (begun 10000001 agent lifted 1000) → ⊥ }
-    ensures other_address { IsSame (begun 10000000 agent lifted 1000) (begun 10000000 other_agent lifted 1000) → ⊥ }
-    ensures other_text { IsSame (begun 10000000 agent lifted 1000) (begun 10000000 agent announced 1000) → ⊥ }
+    ensures other_id { IsSame (sent_first 10000000 agent lifted 1000) (sent_first 10000001 agent lifted 1000) → ⊥ }
+    ensures other_address { IsSame (sent_first 10000000 agent lifted 1000) (sent_first 10000000 other_agent lifted 1000) → ⊥ }
+    ensures other_text { IsSame (sent_first 10000000 agent lifted 1000) (sent_first 10000000 agent announced 1000) → ⊥ }
 {}
 
 /// What is sent is a message in flight where it goes to its address, has its bytes and is a command of that line's own.
 pub fn what_is_sent_is_in_flight()
-    ensures carries { Carries 1 (begun 10000000 agent lifted 1000) (own_at 1 1500 (resent lifted)) }
-    ensures of_the_gateway { Carries 0 (begun 1 agent announced 1000) (own_at 0 1500 (resent announced)) }
-    ensures other_address { Carries 1 (begun 10000000 other_agent lifted 1000) (own_at 1 1500 (resent lifted)) → ⊥ }
-    ensures other_text { Carries 1 (begun 10000000 agent lifted 1000) (own_at 1 1500 (resent announced)) → ⊥ }
-    ensures other_line { Carries 1 (begun 10000000 agent lifted 1000) (own_at 2 1500 (resent lifted)) → ⊥ }
+    ensures carries { Carries 1 (sent_first 10000000 agent lifted 1000) (own_at 1 1500 (resent lifted)) }
+    ensures of_the_gateway { Carries 0 (sent_first 1 agent announced 1000) (own_at 0 1500 (resent announced)) }
+    ensures other_address { Carries 1 (sent_first 10000000 other_agent lifted 1000) (own_at 1 1500 (resent lifted)) → ⊥ }
+    ensures other_text { Carries 1 (sent_first 10000000 agent lifted 1000) (own_at 1 1500 (resent announced)) → ⊥ }
+    ensures other_line { Carries 1 (sent_first 10000000 agent lifted 1000) (own_at 2 1500 (resent lifted)) → ⊥ }
 {}

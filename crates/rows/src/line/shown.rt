@@ -3,7 +3,7 @@ use crate::events::spelled;
 use crate::texts::text_of;
 use digit_map::MapText;
 use event_syntax::{Handling, write_handling};
-use mg_line::{Due, Line, Notice};
+use mg_line::{Line, LineDue, Notice};
 use mg_packages::{Hook, signal_name};
 use std::alloc::Global;
 use std::io;
@@ -16,11 +16,11 @@ pub fn told(alloc: Global, notice: &Notice) -> io::Result<String> {
 }
 
 // The moment at which something falls due, and what it is.
-fn put_due(alloc: Global, out: &mut String, due: Option<(u64, Due)>) -> io::Result<()> {
+fn put_due(alloc: Global, out: &mut String, due: Option<(u64, LineDue)>) -> io::Result<()> {
     match due {
         None => out.push_str("due -")?,
-        Some((moment, Due::DigitTimer)) => write!(out, "due {moment} T")?,
-        Some((moment, Due::SignalEnd(signal))) => {
+        Some((moment, LineDue::DigitTimer)) => write!(out, "due {moment} T")?,
+        Some((moment, LineDue::SignalEnd(signal))) => {
             let name = text_of(alloc, signal_name(signal))?;
             write!(out, "due {moment} {name}")?;
         }
