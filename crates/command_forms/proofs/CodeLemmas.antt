@@ -12,17 +12,16 @@ use Rattle.event_syntax.specs.Requested.{requested_of}
 use Rattle.event_syntax.specs.Detect.{detected_of}
 use Rattle.event_values.specs.Signals.{signals_of}
 use Rattle.connections.specs.Options.{options_of}
-use Rattle.command_forms.specs.declared.forms.Target.{Target}
 use Rattle.command_forms.specs.declared.refused.Place.{Place}
 use Rattle.command_forms.specs.declared.refused.Place.TheVariants.{Line, Value}
 use Rattle.command_forms.specs.declared.refused.Refused.{Refused}
 use Rattle.command_forms.specs.declared.verbs.Connecting.{Connecting}
 use Rattle.command_forms.specs.declared.verbs.Connecting.TheVariants.{Keeps, Creates, Modifies, Deletes}
 use Rattle.command_forms.specs.declared.verbs.Meant.{Meant}
-use Rattle.command_forms.specs.declared.verbs.Purpose.{Purpose}
-use Rattle.command_forms.specs.declared.verbs.Purpose.TheVariants.{ForReport, ForDeed}
 use Rattle.command_forms.specs.declared.verbs.Reporting.{Reporting}
 use Rattle.command_forms.specs.declared.verbs.Reporting.TheVariants.{Endpoint, Connection}
+use Rattle.command_forms.specs.declared.verbs.Task.{Task}
+use Rattle.command_forms.specs.declared.verbs.Task.TheVariants.{ReportOf, DeedOn}
 use Rattle.command_forms.specs.declared.verbs.VerbRow.{VerbRow}
 use Rattle.command_forms.specs.Command.{Command}
 use Rattle.mg_bytes.specs.Steps.{◌>>=◌}
@@ -179,11 +178,10 @@ audit_coded Endpoint params = tt
 audit_coded Connection params =
     coded_on _ (identifier_from (value_at (codes "I") params)) _ (identifier_coded (value_at (codes "I") params)) (λ identifier. tt)
 
-asked_for_coded : (purpose : Purpose) (target : Target) (params : List Param) (text : List ℕ) (hosts : List Host)
-    → Refusable (asked_for purpose target params text hosts)
-asked_for_coded (ForReport reporting) target params text hosts =
+asked_for_coded : (task : Task) (params : List Param) (text : List ℕ) (hosts : List Host) → Refusable (asked_for task params text hosts)
+asked_for_coded (ReportOf reporting target) params text hosts =
     refusable_on (audit_of reporting params) _ (audit_coded reporting params) (λ audit. tt)
-asked_for_coded (ForDeed connecting) target params text hosts =
+asked_for_coded (DeedOn connecting target) params text hosts =
     refusable_on (deed_of connecting params text hosts) _ (deed_coded connecting params text hosts) (λ deed. tt)
 
 checked_coded : {A : Type 0} (fault : Option Refused) (next : Result A Refused) → IfSome fault IsParamRefusal → Refusable next → Refusable (checked fault next)
@@ -195,11 +193,11 @@ asked_coded : (found : Meant) (params : List Param) (body : List ℕ) (confirms 
 unfolding asked
 asked_coded found params body confirms hosts =
     let text : List ℕ = counted found.row.described body in
-    checked_coded _ (asked_for found.row.purpose found.target params text hosts)
+    checked_coded _ (asked_for found.task params text hosts)
     (first_gives (params_fault found.row 1 [] params) _ (params_give found.row 1 [] params)
     (first_gives (option_map absence (absent_letter found.row params)) _ (missing_gives (absent_letter found.row params))
     (unreadable_gives (is_readable confirms))))
-    (asked_for_coded found.row.purpose found.target params text hosts)
+    (asked_for_coded found.task params text hosts)
 
 pub param_code : (found : Meant) (params : List Param) (body : List ℕ) (confirms : KValue) (hosts : List Host) (refused : Refused)
     → asked found params body confirms hosts ≡ Err refused → has_code param_codes refused.code ≡ true

@@ -31,6 +31,8 @@ use Rattle.connections.specs.Options.{options_of, no_options}
 use Rattle.command_forms.specs.declared.forms.Asks.{Asks}
 use Rattle.command_forms.specs.declared.forms.Asks.TheVariants.{Reports, Does}
 use Rattle.command_forms.specs.declared.forms.Audit.{Audit}
+use Rattle.command_forms.specs.declared.forms.AuditTarget.{AuditTarget}
+use Rattle.command_forms.specs.declared.forms.AuditTarget.TheVariants as audits
 use Rattle.command_forms.specs.declared.forms.ConnectionDeed.{ConnectionDeed}
 use Rattle.command_forms.specs.declared.forms.ConnectionDeed.TheVariants as deeds
 use Rattle.command_forms.specs.declared.forms.Deed.{Deed}
@@ -46,6 +48,8 @@ use Rattle.command_forms.specs.declared.verbs.Purpose.{Purpose}
 use Rattle.command_forms.specs.declared.verbs.Purpose.TheVariants.{ForReport, ForDeed}
 use Rattle.command_forms.specs.declared.verbs.Reporting.{Reporting}
 use Rattle.command_forms.specs.declared.verbs.Reporting.TheVariants.{Endpoint, Connection}
+use Rattle.command_forms.specs.declared.verbs.Task.{Task}
+use Rattle.command_forms.specs.declared.verbs.Task.TheVariants.{ReportOf, DeedOn}
 use Rattle.command_forms.specs.declared.verbs.VerbRow.{VerbRow}
 use Rattle.command_forms.specs.declared.verbs.Wildcard.{Wildcard}
 use Rattle.command_forms.specs.Verbs.{row_of}
@@ -58,7 +62,7 @@ use Rattle.command_forms.specs.Meaning.{takes_all, takes_any, meant}
 use Rattle.command_forms.specs.Values.{is_readable, said_at, entity_at, encoding_from, identifier_from, mode_from, handling_at, change_at, remote_of}
 use Rattle.command_forms.specs.Deeds.{request_of, request_at, creation_of, modification_of, deletion_by, deletion_of, connected_by, with_remote, deed_of}
 use Rattle.command_forms.specs.Order.{audit_of, names_call, are_requested as are_of_request, absent_letter, counted, asked_for, asked, judged_while, form_while, form_of}
-use Rattle.command_forms.specs.Codes.{Audits, target_in, AreOf, HasValues, IsAt, options_or, HasCreation, HasDeletion, HasConnections, connecting_in, may_connect_all, may_connect_any, MayBeOf, HasDeed}
+use Rattle.command_forms.specs.Codes.{Audits, target_for, target_in, target_meant, purpose_meant, AreOf, HasValues, IsAt, options_or, HasCreation, HasDeletion, HasConnections, connecting_in, may_connect_all, may_connect_any, MayBeOf, HasDeed}
 use Rattle.command_forms.proofs.StepLemmas.{is_ok}
 use Rattle.command_forms.proofs.RefusedLemmas.{on_ok, on_placed, coded_ok}
 
@@ -88,14 +92,14 @@ passed_letters missing call requested c x e = search rules
 record HasPassed (found : Meant) (params : List Param) (body : List ℕ) (hosts : List Host) (asks : Asks) : Type 0 where
   whole : missing_letter found.row.must params ≡ None
   together : names_call found.row.purpose params ≡ true
-  reads : asked_for found.row.purpose found.target params (counted found.row.described body) hosts ≡ Ok asks
+  reads : asked_for found.task params (counted found.row.described body) hosts ≡ Ok asks
 
 has_passed : (found : Meant) (params : List Param) (body : List ℕ) (confirms : KValue) (hosts : List Host) (asks : Asks)
     → asked found params body confirms hosts ≡ Ok asks → HasPassed found params body hosts asks
 unfolding asked absent_letter
 has_passed found params body confirms hosts asks e =
     let is = passed (params_fault found.row 1 [] params) (option_map absence (absent_letter found.row params)) (is_readable confirms)
-    (refusal (Value letter_k) 510) (asked_for found.row.purpose found.target params (counted found.row.described body) hosts) asks e in
+    (refusal (Value letter_k) 510) (asked_for found.task params (counted found.row.described body) hosts) asks e in
     let letters = passed_letters (missing_letter found.row.must params) (names_call found.row.purpose params) (are_of_request params) letter_c letter_x (is.0) in
     record { whole = letters.0; together = letters.1; reads = is.1 }
 
@@ -118,23 +122,23 @@ form_meant command confirms names asks e = by_meant (meant command names) refl w
 
 -- For which lines
 
-target_is : (purpose : Purpose) (within : Target) (params : List Param) (text : List ℕ) (hosts : List Host) (asks : Asks)
-    → asked_for purpose within params text hosts ≡ Ok asks → target_in asks ≡ within
-target_is (ForReport Endpoint) within params text hosts asks e = search rules
-target_is (ForReport Connection) within params text hosts asks e = search rules
-target_is (ForDeed connecting) within params text hosts asks e = search rules
+target_is : (task : Task) (params : List Param) (text : List ℕ) (hosts : List Host) (asks : Asks)
+    → asked_for task params text hosts ≡ Ok asks → target_in asks ≡ target_meant task
+target_is (ReportOf Endpoint within) params text hosts asks e = search rules
+target_is (ReportOf Connection within) params text hosts asks e = search rules
+target_is (DeedOn connecting within) params text hosts asks e = search rules
 
 pub same_target : (found : Meant) (params : List Param) (body : List ℕ) (confirms : KValue) (hosts : List Host) (asks : Asks)
-    → asked found params body confirms hosts ≡ Ok asks → target_in asks ≡ found.target
+    → asked found params body confirms hosts ≡ Ok asks → target_in asks ≡ target_meant found.task
 same_target found params body confirms hosts asks e =
-    target_is found.row.purpose found.target params (counted found.row.described body) hosts asks (has_passed found params body confirms hosts asks e).reads
+    target_is found.task params (counted found.row.described body) hosts asks (has_passed found params body confirms hosts asks e).reads
 
 line_named_within : (local : List ℕ) (lines line : ℕ) → line_named local lines ≡ Some line → (1 ≤ line) × (line ≤ lines)
 unfolding line_named
 line_named_within local zero line e = absurd cc
 line_named_within local (suc n) line e = search (rules, line_named_within local n line)
 
-meant_lines : (command : Command) (names : Names) (found : Meant) → meant command names ≡ Ok found → AreOf names.lines found.target
+meant_lines : (command : Command) (names : Names) (found : Meant) → meant command names ≡ Ok found → AreOf names.lines (target_meant found.task)
 unfolding meant name_of
 meant_lines command names found e = search (rules, line_named_within)
 
@@ -310,41 +314,48 @@ pub row_is : (command : Command) (names : Names) (found : Meant) → meant comma
 unfolding meant
 row_is command names found e = search rules
 
+pub purpose_is : (command : Command) (names : Names) (found : Meant) → meant command names ≡ Ok found → purpose_meant found.task ≡ found.row.purpose
+unfolding meant
+purpose_is command names found e = search rules
+
 -- in the rows in which a deed creates or modifies, a description counts
 row_counts : (verb : Verb) (row : VerbRow) (connecting : Connecting) (body : List ℕ) → row_of verb ≡ Some row → row.purpose ≡ ForDeed connecting
     → IsCounted connecting (counted row.described body) body
 row_counts verb row connecting body e p = search rules
 
--- the deed that was read, by what its row says of connections
-record IsRead (found : Meant) (params : List Param) (body : List ℕ) (hosts : List Host) (deed : Deed) : Type 0 where
+-- the deed that was read, by what is meant
+record IsRead (found : Meant) (params : List Param) (body : List ℕ) (hosts : List Host) (target : Target) (deed : Deed) : Type 0 where
   connecting : Connecting
-  purpose : found.row.purpose ≡ ForDeed connecting
-  together : names_call (ForDeed connecting) params ≡ true
+  of_task : found.task ≡ DeedOn connecting target
+  together : names_call found.row.purpose params ≡ true
   read : deed_of connecting params (counted found.row.described body) hosts ≡ Ok deed
 
-deed_asked : (connecting : Connecting) (within target : Target) (params : List Param) (text : List ℕ) (hosts : List Host) (deed : Deed)
-    → asked_for (ForDeed connecting) within params text hosts ≡ Ok (Does target deed) → deed_of connecting params text hosts ≡ Ok deed
-deed_asked connecting within target params text hosts deed e = search rules
-
-no_deed : {P : Type 0} (read : Result Audit Refused) (within target : Target) (deed : Deed)
+no_deed : {P : Type 0} (read : Result Audit Refused) (within : AuditTarget) (target : Target) (deed : Deed)
     → read >>= (λ audit. Ok (Reports within audit)) ≡ Ok (Does target deed) → P
 no_deed (Ok audit) within target deed e = absurd cc
 no_deed (Err refused) within target deed e = absurd cc
 
+deed_asked : (read : Result Deed Refused) (within target : Target) (deed : Deed)
+    → read >>= (λ made. Ok (Does within made)) ≡ Ok (Does target deed) → (within ≡ target) × (read ≡ Ok deed)
+deed_asked (Ok made) within target deed e = let lines : within ≡ target = cc in let same : made ≡ deed = cc in (lines, ap Ok same)
+deed_asked (Err refused) within target deed e = absurd cc
+
 asked_read : (found : Meant) (params : List Param) (body : List ℕ) (confirms : KValue) (hosts : List Host) (target : Target) (deed : Deed)
-    → asked found params body confirms hosts ≡ Ok (Does target deed) → IsRead found params body hosts deed
+    → asked found params body confirms hosts ≡ Ok (Does target deed) → IsRead found params body hosts target deed
 asked_read found params body confirms hosts target deed e =
     let passes = has_passed found params body confirms hosts (Does target deed) e in
-    by_purpose found.row.purpose refl passes.together passes.reads where
-      by_purpose : (purpose : Purpose) → found.row.purpose ≡ purpose → names_call purpose params ≡ true
-          → asked_for purpose found.target params (counted found.row.described body) hosts ≡ Ok (Does target deed) → IsRead found params body hosts deed
-      by_purpose (ForReport reporting) is together read = no_deed (audit_of reporting params) found.target target deed read
-      by_purpose (ForDeed connecting) is together read = record {
-        connecting = connecting;
-        purpose = is;
-        together = together;
-        read = deed_asked connecting found.target target params (counted found.row.described body) hosts deed read;
-      }
+    by_task found.task refl passes.together passes.reads where
+      by_task : (task : Task) → found.task ≡ task → names_call found.row.purpose params ≡ true
+          → asked_for task params (counted found.row.described body) hosts ≡ Ok (Does target deed) → IsRead found params body hosts target deed
+      by_task (ReportOf reporting within) is together read = no_deed (audit_of reporting params) within target deed read
+      by_task (DeedOn connecting within) is together read =
+          let made = deed_asked (deed_of connecting params (counted found.row.described body) hosts) within target deed read in
+          record { connecting = connecting; of_task = is ∙ ap (DeedOn connecting) (made.0); together = together; read = made.1 }
+
+-- the row of what is meant says so too
+deed_purpose : (command : Command) (names : Names) (found : Meant) (connecting : Connecting) (target : Target) → meant command names ≡ Ok found
+    → found.task ≡ DeedOn connecting target → found.row.purpose ≡ ForDeed connecting
+deed_purpose command names found connecting target means of_task = sym (purpose_is command names found means) ∙ ap purpose_meant of_task
 
 pub deed_has_values : (command : Command) (confirms : KValue) (names : Names) (target : Target) (deed : Deed)
     → form_of command confirms names ≡ Ok (Does target deed) → HasDeed command.params command.body names.table deed
@@ -353,11 +364,14 @@ deed_has_values command confirms names target deed e =
     let r = asked_read m.found command.params command.body confirms names.table target deed m.asked_there in
     let text : List ℕ = counted m.found.row.described command.body in
     let row = row_is command names m.found m.means in
+    let purpose = deed_purpose command names m.found r.connecting target m.means r.of_task in
+    let together : names_call (ForDeed r.connecting) command.params ≡ true =
+    subst (λ (of_row : Purpose). names_call of_row command.params ≡ true) purpose r.together in
     is_ok (HasDeed command.params command.body names.table) (deed_of r.connecting command.params text names.table) deed
     (deed_has r.connecting command.params text command.body names.table
-    (row_counts command.verb m.found.row r.connecting command.body row r.purpose) r.together) r.read
+    (row_counts command.verb m.found.row r.connecting command.body row purpose) together) r.read
 
--- the row says what becomes of connections
+-- what is meant says what becomes of connections
 connected_as : (connecting : Connecting) (params : List Param) (remote : Option Session)
     → IfOk (connected_by connecting params) (λ connections. connecting_in (with_remote remote connections) ≡ connecting)
 unfolding modification_of
@@ -376,14 +390,20 @@ deed_as connecting params text hosts =
     is_ok (λ made. connecting_in (with_remote remote made) ≡ connecting) (connected_by connecting params) connections
     (connected_as connecting params remote) c)))))
 
-pub deed_of_row : (found : Meant) (params : List Param) (body : List ℕ) (confirms : KValue) (hosts : List Host) (target : Target) (deed : Deed)
-    → asked found params body confirms hosts ≡ Ok (Does target deed) → found.row.purpose ≡ ForDeed (connecting_in deed.connections)
-deed_of_row found params body confirms hosts target deed e =
+pub deed_of_task : (found : Meant) (params : List Param) (body : List ℕ) (confirms : KValue) (hosts : List Host) (target : Target) (deed : Deed)
+    → asked found params body confirms hosts ≡ Ok (Does target deed) → found.task ≡ DeedOn (connecting_in deed.connections) target
+deed_of_task found params body confirms hosts target deed e =
     let r = asked_read found params body confirms hosts target deed e in
     let same : connecting_in deed.connections ≡ r.connecting =
     is_ok (λ made. connecting_in made.connections ≡ r.connecting) (deed_of r.connecting params (counted found.row.described body) hosts) deed
     (deed_as r.connecting params (counted found.row.described body) hosts) r.read in
-    r.purpose ∙ ap ForDeed (sym same)
+    r.of_task ∙ ap (λ (connecting : Connecting). DeedOn connecting target) (sym same)
+
+pub deed_of_row : (command : Command) (names : Names) (found : Meant) (confirms : KValue) (target : Target) (deed : Deed) → meant command names ≡ Ok found
+    → asked found command.params command.body confirms names.table ≡ Ok (Does target deed) → found.row.purpose ≡ ForDeed (connecting_in deed.connections)
+deed_of_row command names found confirms target deed means e =
+    deed_purpose command names found (connecting_in deed.connections) target means
+    (deed_of_task found command.params command.body confirms names.table target deed e)
 
 -- a verb that must have X requests something
 row_must : (verb : Verb) (row : VerbRow) → verb ≡ Rqnt → row_of verb ≡ Some row → row.must ≡ codes "X"
@@ -413,7 +433,7 @@ Takes wildcard params All = takes_all wildcard params ≡ true
 Takes wildcard params Any = takes_any wildcard ≡ true
 
 meant_takes : (command : Command) (names : Names) (found : Meant) → meant command names ≡ Ok found
-    → Takes found.row.wildcard command.params found.target
+    → Takes found.row.wildcard command.params (target_meant found.task)
 unfolding meant
 meant_takes command names found e = search rules
 
@@ -467,33 +487,38 @@ is_created (deeds.Create creation) e = refl
 is_created (deeds.Modify call id change) e = absurd cc
 is_created (deeds.Delete deletion) e = absurd cc
 
--- a report is of what its row says
-record IsReport (purpose : Purpose) (params : List Param) (audit : Audit) : Type 0 where
+-- the report that was read, by what is meant
+record IsReport (task : Task) (params : List Param) (target : AuditTarget) (audit : Audit) : Type 0 where
   reporting : Reporting
-  of_row : purpose ≡ ForReport reporting
+  of_task : task ≡ ReportOf reporting target
   read : audit_of reporting params ≡ Ok audit
 
-audit_asked : (read : Result Audit Refused) (within target : Target) (audit : Audit)
-    → read >>= (λ said. Ok (Reports within said)) ≡ Ok (Reports target audit) → read ≡ Ok audit
-audit_asked (Ok said) within target audit e = let same : said ≡ audit = cc in ap Ok same
+audit_asked : (read : Result Audit Refused) (within target : AuditTarget) (audit : Audit)
+    → read >>= (λ said. Ok (Reports within said)) ≡ Ok (Reports target audit) → (within ≡ target) × (read ≡ Ok audit)
+audit_asked (Ok said) within target audit e = let lines : within ≡ target = cc in let same : said ≡ audit = cc in (lines, ap Ok same)
 audit_asked (Err refused) within target audit e = absurd cc
 
-no_report : (read : Result Deed Refused) (within target : Target) (audit : Audit) → read >>= (λ deed. Ok (Does within deed)) ≡ Ok (Reports target audit) → ⊥
+no_report : (read : Result Deed Refused) (within : Target) (target : AuditTarget) (audit : Audit) → read >>= (λ deed. Ok (Does within deed)) ≡ Ok (Reports target audit) → ⊥
 no_report (Ok deed) within target audit e = absurd cc
 no_report (Err refused) within target audit e = absurd cc
 
-report_from : (purpose : Purpose) (within target : Target) (params : List Param) (text : List ℕ) (hosts : List Host) (audit : Audit)
-    → asked_for purpose within params text hosts ≡ Ok (Reports target audit) → IsReport purpose params audit
-report_from (ForReport reporting) within target params text hosts audit e =
-    record { reporting = reporting; of_row = refl; read = audit_asked (audit_of reporting params) within target audit e }
-report_from (ForDeed connecting) within target params text hosts audit e =
+report_from : (task : Task) (target : AuditTarget) (params : List Param) (text : List ℕ) (hosts : List Host) (audit : Audit)
+    → asked_for task params text hosts ≡ Ok (Reports target audit) → IsReport task params target audit
+report_from (ReportOf reporting within) target params text hosts audit e =
+    let made = audit_asked (audit_of reporting params) within target audit e in
+    record { reporting = reporting; of_task = ap (ReportOf reporting) (made.0); read = made.1 }
+report_from (DeedOn connecting within) target params text hosts audit e =
     absurd (no_report (deed_of connecting params text hosts) within target audit e)
 
-report_asked : (found : Meant) (params : List Param) (body : List ℕ) (confirms : KValue) (hosts : List Host) (target : Target) (audit : Audit)
-    → asked found params body confirms hosts ≡ Ok (Reports target audit) → IsReport found.row.purpose params audit
+report_asked : (found : Meant) (params : List Param) (body : List ℕ) (confirms : KValue) (hosts : List Host) (target : AuditTarget) (audit : Audit)
+    → asked found params body confirms hosts ≡ Ok (Reports target audit) → IsReport found.task params target audit
 report_asked found params body confirms hosts target audit e =
-    report_from found.row.purpose found.target target params (counted found.row.described body) hosts audit
+    report_from found.task target params (counted found.row.described body) hosts audit
     (has_passed found params body confirms hosts (Reports target audit) e).reads
+
+report_purpose : (command : Command) (names : Names) (found : Meant) (reporting : Reporting) (target : AuditTarget) → meant command names ≡ Ok found
+    → found.task ≡ ReportOf reporting target → found.row.purpose ≡ ForReport reporting
+report_purpose command names found reporting target means of_task = sym (purpose_is command names found means) ∙ ap purpose_meant of_task
 
 -- what a report has: the items of F, and of a connection its identifier
 abbrev IsOf : Reporting → List Param → Audit → Type 0
@@ -519,7 +544,7 @@ record IsReported (command : Command) (audit : Audit) : Type 0 where
   of_row : row.purpose ≡ ForReport reporting
   has_it : HasAudit reporting command.params audit
 
-form_reported : (command : Command) (confirms : KValue) (names : Names) (target : Target) (audit : Audit)
+form_reported : (command : Command) (confirms : KValue) (names : Names) (target : AuditTarget) (audit : Audit)
     → form_of command confirms names ≡ Ok (Reports target audit) → IsReported command audit
 form_reported command confirms names target audit e =
     let m = form_meant command confirms names (Reports target audit) e in
@@ -528,11 +553,11 @@ form_reported command confirms names target audit e =
       row = m.found.row;
       reporting = r.reporting;
       row_there = row_is command names m.found m.means;
-      of_row = r.of_row;
+      of_row = report_purpose command names m.found r.reporting target m.means r.of_task;
       has_it = is_ok (HasAudit r.reporting command.params) (audit_of r.reporting command.params) audit (audit_has r.reporting command.params) r.read;
     }
 
-pub audit_has_items : (command : Command) (confirms : KValue) (names : Names) (target : Target) (audit : Audit)
+pub audit_has_items : (command : Command) (confirms : KValue) (names : Names) (target : AuditTarget) (audit : Audit)
     → form_of command confirms names ≡ Ok (Reports target audit) → audit.items ≡ value_at (codes "F") command.params
 audit_has_items command confirms names target audit e = (form_reported command confirms names target audit e).has_it.items
 
@@ -548,27 +573,27 @@ row_of_connection : (verb : Verb) (row : VerbRow) (reporting : Reporting) → ve
     → reporting ≡ Connection
 row_of_connection verb row reporting is e p = search rules
 
-pub audit_has_verb : (command : Command) (confirms : KValue) (names : Names) (target : Target) (audit : Audit)
+pub audit_has_verb : (command : Command) (confirms : KValue) (names : Names) (target : AuditTarget) (audit : Audit)
     → form_of command confirms names ≡ Ok (Reports target audit) → Audits command.verb
 audit_has_verb command confirms names target audit e =
     let r = form_reported command confirms names target audit e in
     row_audits command.verb r.row r.reporting r.row_there r.of_row
 
-pub audit_of_endpoint : (command : Command) (confirms : KValue) (names : Names) (target : Target) (audit : Audit) → command.verb ≡ Auep
+pub audit_of_endpoint : (command : Command) (confirms : KValue) (names : Names) (target : AuditTarget) (audit : Audit) → command.verb ≡ Auep
     → form_of command confirms names ≡ Ok (Reports target audit) → audit.connection ≡ None
 audit_of_endpoint command confirms names target audit verb e =
     let r = form_reported command confirms names target audit e in
     subst (λ (reporting : Reporting). IsOf reporting command.params audit) (row_of_endpoint command.verb r.row r.reporting verb r.row_there r.of_row)
     r.has_it.connection
 
-pub audit_of_connection : (command : Command) (confirms : KValue) (names : Names) (target : Target) (audit : Audit) → command.verb ≡ Aucx
+pub audit_of_connection : (command : Command) (confirms : KValue) (names : Names) (target : AuditTarget) (audit : Audit) → command.verb ≡ Aucx
     → form_of command confirms names ≡ Ok (Reports target audit) → audit.connection ≡ Some (value_at (codes "I") command.params)
 audit_of_connection command confirms names target audit verb e =
     let r = form_reported command confirms names target audit e in
     (subst (λ (reporting : Reporting). IsOf reporting command.params audit) (row_of_connection command.verb r.row r.reporting verb r.row_there r.of_row)
     r.has_it.connection).0
 
-pub audit_has_digits : (command : Command) (confirms : KValue) (names : Names) (target : Target) (audit : Audit)
+pub audit_has_digits : (command : Command) (confirms : KValue) (names : Names) (target : AuditTarget) (audit : Audit)
     → form_of command confirms names ≡ Ok (Reports target audit) → IfSome audit.connection (λ identifier. is_hex_text identifier ≡ true)
 audit_has_digits command confirms names target audit e =
     let r = form_reported command confirms names target audit e in
@@ -586,28 +611,31 @@ pub form_may_be : (command : Command) (confirms : KValue) (names : Names) (asks 
 form_may_be command confirms names asks e =
     let m = form_meant command confirms names asks e in
     let same = same_target m.found command.params command.body confirms names.table asks m.asked_there in
-    by_asks m.found (row_is command names m.found m.means) asks
+    by_asks m.found m.means asks
     (subst (Takes m.found.row.wildcard command.params) (sym same) (meant_takes command names m.found m.means)) m.asked_there where
-      by_asks : (found : Meant) → row_of command.verb ≡ Some found.row → (asks : Asks) → Takes found.row.wildcard command.params (target_in asks)
+      all_of : (found : Meant) → meant command names ≡ Ok found → (purpose : Purpose) → found.row.purpose ≡ purpose
+          → takes_all found.row.wildcard command.params ≡ true → AllOf purpose command.params
+      all_of found means purpose of_row takes =
+          subst (λ (of_it : Purpose). AllOf of_it command.params) of_row
+          (row_all command.verb found.row command.params (row_is command names found means) takes)
+
+      by_asks : (found : Meant) → meant command names ≡ Ok found → (asks : Asks) → Takes found.row.wildcard command.params (target_in asks)
           → asked found command.params command.body confirms names.table ≡ Ok asks → MayBeOf asks
-      by_asks found row (Reports (One line) audit) takes read = tt
-      by_asks found row (Reports All audit) takes read =
-          let is = report_asked found command.params command.body confirms names.table All audit read in
-          let all = subst (λ (purpose : Purpose). AllOf purpose command.params) (is.of_row) (row_all command.verb found.row command.params row takes) in
-          report_all is.reporting command.params audit all
+      by_asks found means (Reports (audits.One line) audit) takes read = tt
+      by_asks found means (Reports audits.All audit) takes read =
+          let is = report_asked found command.params command.body confirms names.table audits.All audit read in
+          let of_row = report_purpose command names found is.reporting audits.All means is.of_task in
+          report_all is.reporting command.params audit (all_of found means (ForReport is.reporting) of_row takes)
           (is_ok (HasAudit is.reporting command.params) (audit_of is.reporting command.params) audit (audit_has is.reporting command.params) is.read)
-      by_asks found row (Reports Any audit) takes read =
-          let is = report_asked found command.params command.body confirms names.table Any audit read in
-          let no : ForReport is.reporting ≡ ForDeed Creates = sym (is.of_row) ∙ row_any command.verb found.row row takes in
-          absurd cc
-      by_asks found row (Does (One line) deed) takes read = tt
-      by_asks found row (Does All deed) takes read =
+      by_asks found means (Does (One line) deed) takes read = tt
+      by_asks found means (Does All deed) takes read =
           let r = asked_read found command.params command.body confirms names.table All deed read in
           let text : List ℕ = counted found.row.described command.body in
-          let all = subst (λ (purpose : Purpose). AllOf purpose command.params) (r.purpose) (row_all command.verb found.row command.params row takes) in
+          let of_row = deed_purpose command names found r.connecting All means r.of_task in
           is_ok (λ made. may_connect_all made.connections ≡ true) (deed_of r.connecting command.params text names.table) deed
-          (deed_all r.connecting command.params text names.table all) r.read
-      by_asks found row (Does Any deed) takes read =
+          (deed_all r.connecting command.params text names.table (all_of found means (ForDeed r.connecting) of_row takes)) r.read
+      by_asks found means (Does Any deed) takes read =
           let is : ForDeed (connecting_in deed.connections) ≡ ForDeed Creates =
-          sym (deed_of_row found command.params command.body confirms names.table Any deed read) ∙ row_any command.verb found.row row takes in
+          sym (deed_of_row command names found confirms Any deed means read)
+          ∙ row_any command.verb found.row (row_is command names found means) takes in
           is_created deed.connections cc

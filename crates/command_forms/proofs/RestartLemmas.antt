@@ -123,7 +123,7 @@ while_none command confirms names target deed e = by_meant (meant command names)
       let t = taken_behind (is_audit found.row.purpose) (refusal places.Verb 405) (asked found command.params command.body confirms names.table) (Does target deed)
       (sym (while_behind false command confirms names found is) ∙ e) in
       no_audit found.row.purpose _
-      (deed_of_row found command.params command.body confirms names.table target deed
+      (deed_of_row command names found confirms target deed is
       (coded_ok (asked found command.params command.body confirms names.table) (Does target deed) (t.1))) (t.0)
   by_meant (Err refused) is =
       let no : Err refused.code ≡ Ok (Does target deed) = sym (while_named false command confirms names refused is) ∙ e in

@@ -19,6 +19,8 @@ use Rattle.connections.specs.Modes.{mode_named}
 use Rattle.connections.specs.Options.{options_of, no_options}
 use Rattle.command_forms.specs.declared.forms.Asks.{Asks}
 use Rattle.command_forms.specs.declared.forms.Asks.TheVariants.{Reports, Does}
+use Rattle.command_forms.specs.declared.forms.AuditTarget.{AuditTarget}
+use Rattle.command_forms.specs.declared.forms.AuditTarget.TheVariants as audits
 use Rattle.command_forms.specs.declared.forms.ConnectionDeed.{ConnectionDeed}
 use Rattle.command_forms.specs.declared.forms.ConnectionDeed.TheVariants as deeds
 use Rattle.command_forms.specs.declared.forms.Deed.{Deed}
@@ -27,6 +29,10 @@ use Rattle.command_forms.specs.declared.forms.Target.{Target}
 use Rattle.command_forms.specs.declared.forms.Target.TheVariants.{One, All, Any}
 use Rattle.command_forms.specs.declared.verbs.Connecting.{Connecting}
 use Rattle.command_forms.specs.declared.verbs.Connecting.TheVariants.{Keeps, Creates, Modifies, Deletes}
+use Rattle.command_forms.specs.declared.verbs.Purpose.{Purpose}
+use Rattle.command_forms.specs.declared.verbs.Purpose.TheVariants.{ForReport, ForDeed}
+use Rattle.command_forms.specs.declared.verbs.Task.{Task}
+use Rattle.command_forms.specs.declared.verbs.Task.TheVariants.{ReportOf, DeedOn}
 use Rattle.command_forms.specs.Params.{has, value_at}
 use Rattle.command_forms.specs.Values.{said_at, entity_at, encoding_from, mode_from, handling_at, change_at, remote_of}
 
@@ -46,10 +52,24 @@ has_code known code = list_any (λ one. one == code) known
 abbrev pub Audits : Verb → Type 0
 Audits verb = (verb ≡ Auep) ⊎ (verb ≡ Aucx)
 
+-- the lines that an audit is for, as those of a command
+abbrev pub target_for : AuditTarget → Target
+target_for (audits.One line) = One line
+target_for audits.All = All
+
 -- the lines that a form is for
 abbrev pub target_in : Asks → Target
-target_in (Reports target audit) = target
+target_in (Reports target audit) = target_for target
 target_in (Does target deed) = target
+
+-- the lines that a verb and a name mean, and for what they are meant
+abbrev pub target_meant : Task → Target
+target_meant (ReportOf reporting target) = target_for target
+target_meant (DeedOn connecting target) = target
+
+abbrev pub purpose_meant : Task → Purpose
+purpose_meant (ReportOf reporting target) = ForReport reporting
+purpose_meant (DeedOn connecting target) = ForDeed connecting
 
 -- a line from 1 to the number of lines, or all of them, or any one
 abbrev pub AreOf : ℕ → Target → Type 0
@@ -76,9 +96,8 @@ may_connect_any (deeds.Delete deletion) = false
 -- what may be asked of more than one line: of all a report without items, and of no connection by itself, and such a
 -- deed; of any one such a deed
 abbrev pub MayBeOf : Asks → Type 0
-MayBeOf (Reports (One line) audit) = Unit {0}
-MayBeOf (Reports All audit) = (audit.items ≡ []) × (audit.connection ≡ None)
-MayBeOf (Reports Any audit) = ⊥
+MayBeOf (Reports (audits.One line) audit) = Unit {0}
+MayBeOf (Reports audits.All audit) = (audit.items ≡ []) × (audit.connection ≡ None)
 MayBeOf (Does (One line) deed) = Unit {0}
 MayBeOf (Does All deed) = may_connect_all deed.connections ≡ true
 MayBeOf (Does Any deed) = may_connect_any deed.connections ≡ true

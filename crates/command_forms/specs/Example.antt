@@ -37,6 +37,8 @@ use Rattle.command_forms.specs.declared.forms.ConnectionDeed.{ConnectionDeed}
 use Rattle.command_forms.specs.declared.forms.ConnectionDeed.TheVariants as deeds
 use Rattle.command_forms.specs.declared.forms.Deed.{Deed}
 use Rattle.command_forms.specs.declared.forms.RequestForm.{RequestForm}
+use Rattle.command_forms.specs.declared.forms.AuditTarget.{AuditTarget}
+use Rattle.command_forms.specs.declared.forms.AuditTarget.TheVariants as audits
 use Rattle.command_forms.specs.declared.forms.Target.{Target}
 use Rattle.command_forms.specs.declared.forms.Target.TheVariants.{One}
 use Rattle.command_forms.specs.declared.verbs.Connecting.TheVariants.{Keeps}
@@ -183,13 +185,13 @@ abbrev pub asks : Signal → Setting → SignalRequest
 asks signal setting = record { signal = signal; setting = setting }
 
 -- an audit of these lines, which asks for these items
-abbrev pub audit_of : Target → List ℕ → Reply
+abbrev pub audit_of : AuditTarget → List ℕ → Reply
 audit_of target items = Some (Ok (Reports target (record { items = items; connection = None })))
 
 -- an audit of this connection of line 1, which asks for these items
 abbrev pub audit_of_connection : List ℕ → List ℕ → Reply
 audit_of_connection identifier items =
-    Some (Ok (Reports (One 1) (record { items = items; connection = Some identifier })))
+    Some (Ok (Reports (audits.One 1) (record { items = items; connection = Some identifier })))
 
 -- why a text is refused, where it is a message, as a line for people
 abbrev pub why_from : Outcome → Option (List ℕ)

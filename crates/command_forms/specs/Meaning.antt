@@ -12,11 +12,17 @@ use Rattle.endpoint_names.specs.declared.name.NameFault.{NameFault}
 use Rattle.endpoint_names.specs.declared.name.NameFault.TheVariants.{Unknown, TooComplicated}
 use Rattle.endpoint_names.specs.declared.names.Names.{Names}
 use Rattle.endpoint_names.specs.Name.{name_of}
+use Rattle.command_forms.specs.declared.forms.AuditTarget.{AuditTarget}
+use Rattle.command_forms.specs.declared.forms.AuditTarget.TheVariants as audits
 use Rattle.command_forms.specs.declared.forms.Target.{Target}
 use Rattle.command_forms.specs.declared.forms.Target.TheVariants.{One, All, Any}
 use Rattle.command_forms.specs.declared.refused.Place.TheVariants.{Verb, Name}
 use Rattle.command_forms.specs.declared.refused.Refused.{Refused}
 use Rattle.command_forms.specs.declared.verbs.Meant.{Meant}
+use Rattle.command_forms.specs.declared.verbs.Purpose.{Purpose}
+use Rattle.command_forms.specs.declared.verbs.Purpose.TheVariants.{ForReport, ForDeed}
+use Rattle.command_forms.specs.declared.verbs.Task.{Task}
+use Rattle.command_forms.specs.declared.verbs.Task.TheVariants.{ReportOf, DeedOn}
 use Rattle.command_forms.specs.declared.verbs.Wildcard.{Wildcard}
 use Rattle.command_forms.specs.declared.verbs.Wildcard.TheVariants as wildcards
 use Rattle.command_forms.specs.Command.{Command, command_in}
@@ -47,7 +53,14 @@ takes_any wildcards.AllWithoutItems = false
 takes_any wildcards.AllWithoutCall = false
 takes_any wildcards.Any = true
 
--- the lines that it is for: one line, or all lines or any one line where its row says so. Any other wildcard is 503
+-- the lines that an audit is for: one line, or all lines where its row says so. Any other wildcard is 503
+abbrev pub audit_target_of : Wildcard → List Param → Pattern → Result AuditTarget ℕ
+audit_target_of wildcard params (patterns.One line) = Ok (audits.One line)
+audit_target_of wildcard params patterns.All = checked (unless (takes_all wildcard params) 503) (Ok audits.All)
+audit_target_of wildcard params patterns.Any = Err 503
+
+-- the lines that any other command is for: one line, or all lines or any one line where its row says so. Any other
+-- wildcard is 503
 abbrev pub target_of : Wildcard → List Param → Pattern → Result Target ℕ
 target_of wildcard params (patterns.One line) = Ok (One line)
 target_of wildcard params patterns.All = checked (unless (takes_all wildcard params) 503) (Ok All)
@@ -59,13 +72,21 @@ is_for (One number) line = number == line
 is_for All line = true
 is_for Any line = false
 
--- the row of the verb, and the lines of the name; a verb that has no row is 504 (unknown or unsupported command)
+-- what a command of this purpose is to do, and on which lines
+abbrev pub task_of : Purpose → Wildcard → List Param → Pattern → Result Task ℕ
+task_of (ForReport reporting) wildcard params pattern =
+    audit_target_of wildcard params pattern >>= λ target. Ok (ReportOf reporting target)
+task_of (ForDeed connecting) wildcard params pattern =
+    target_of wildcard params pattern >>= λ target. Ok (DeedOn connecting target)
+
+-- the row of the verb, and what is to be done on the lines of the name; a verb that has no row is 504 (unknown or
+-- unsupported command)
 unfoldable pub meant : Command → Names → Result Meant Refused
 meant command names = do
   row ← placed Verb (ok_or (row_of command.verb) 504)
   pattern ← placed Name (named (name_of command.name names.domain names.lines))
-  target ← placed Name (target_of row.wildcard command.params pattern)
-  Ok (record { row = row; target = target })
+  task ← placed Name (task_of row.purpose row.wildcard command.params pattern)
+  Ok (record { row = row; task = task })
 
 -- the same of a message: one that is no command has no verb that is served
 abbrev pub meant_in : Message → Names → Result Meant Refused

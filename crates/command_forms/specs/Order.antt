@@ -10,7 +10,6 @@ use Rattle.endpoint_names.specs.declared.table.Host.{Host}
 use Rattle.command_forms.specs.declared.forms.Asks.{Asks}
 use Rattle.command_forms.specs.declared.forms.Asks.TheVariants.{Reports, Does}
 use Rattle.command_forms.specs.declared.forms.Audit.{Audit}
-use Rattle.command_forms.specs.declared.forms.Target.{Target}
 use Rattle.command_forms.specs.declared.refused.Place.TheVariants.{Verb, Value}
 use Rattle.command_forms.specs.declared.refused.Refused.{Refused}
 use Rattle.command_forms.specs.declared.verbs.Connecting.TheVariants.{Keeps, Creates, Modifies, Deletes}
@@ -19,6 +18,8 @@ use Rattle.command_forms.specs.declared.verbs.Purpose.{Purpose}
 use Rattle.command_forms.specs.declared.verbs.Purpose.TheVariants.{ForReport, ForDeed}
 use Rattle.command_forms.specs.declared.verbs.Reporting.{Reporting}
 use Rattle.command_forms.specs.declared.verbs.Reporting.TheVariants.{Endpoint, Connection}
+use Rattle.command_forms.specs.declared.verbs.Task.{Task}
+use Rattle.command_forms.specs.declared.verbs.Task.TheVariants.{ReportOf, DeedOn}
 use Rattle.command_forms.specs.declared.verbs.VerbRow.{VerbRow}
 use Rattle.command_forms.specs.Command.{Command, command_in}
 use Rattle.mg_bytes.specs.Steps.{◌>>=◌}
@@ -60,11 +61,11 @@ abbrev pub counted : Bool → List ℕ → List ℕ
 counted false body = []
 counted true body = body
 
--- what these parameters and this text ask of these lines
-abbrev pub asked_for : Purpose → Target → List Param → List ℕ → List Host → Result Asks Refused
-asked_for (ForReport reporting) target params text hosts =
+-- what is to be done on these lines, by these parameters and this text
+abbrev pub asked_for : Task → List Param → List ℕ → List Host → Result Asks Refused
+asked_for (ReportOf reporting target) params text hosts =
     audit_of reporting params >>= λ audit. Ok (Reports target audit)
-asked_for (ForDeed connecting) target params text hosts =
+asked_for (DeedOn connecting target) params text hosts =
     deed_of connecting params text hosts >>= λ deed. Ok (Does target deed)
 
 -- What a command asks for whose verb and name mean this. The faults are in this order: those of the parameters from
@@ -77,7 +78,7 @@ asked found params body confirms hosts =
     ∷ option_map absence (absent_letter found.row params)
     ∷ unless (is_readable confirms) (refusal (Value letter_k) 510)
     ∷ []))
-    (asked_for found.row.purpose found.target params (counted found.row.described body) hosts)
+    (asked_for found.task params (counted found.row.described body) hosts)
 
 -- an audit asks for a report
 abbrev pub is_audit : Purpose → Bool

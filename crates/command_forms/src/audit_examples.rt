@@ -6,7 +6,7 @@ ghost use Rattle.mgcp_text.specs.declared.message.Message.TheVariants as message
 ghost use Rattle.mgcp_text.specs.declared.message.Verb.TheVariants.{Aucx};
 ghost use Rattle.mgcp_text.specs.declared.confirmation.KValue.TheVariants.{Unreadable};
 ghost use Rattle.command_forms.specs.declared.forms.Asks.TheVariants.{Reports};
-ghost use Rattle.command_forms.specs.declared.forms.Target.TheVariants as targets;
+ghost use Rattle.command_forms.specs.declared.forms.AuditTarget.TheVariants as audits;
 ghost use Rattle.command_forms.specs.Order.{form_in};
 ghost use Rattle.command_forms.specs.Example.{gateway, command_on, audit, audit_of, audit_connection_on, audit_connection};
 ghost use Rattle.command_forms.specs.Example.{audit_of_connection, described, refused};
@@ -26,8 +26,8 @@ pub fn connections_are_audited()
     ensures lower_case { command_on (codes "aucx") (codes "AALN/1") (codes "f: M\r\ni: 1\r\n")
         ≡ audit_of_connection (codes "1") (codes "M") }
     ensures last_line { audit_connection_on (codes "aaln/16") (codes "I: A\r\n")
-        ≡ Some (Ok (Reports (targets.One 16) (record { items = []; connection = Some (codes "A") }))) }
-    ensures endpoint { audit (codes "F: M\r\n") ≡ audit_of (targets.One 1) (codes "M") }
+        ≡ Some (Ok (Reports (audits.One 16) (record { items = []; connection = Some (codes "A") }))) }
+    ensures endpoint { audit (codes "F: M\r\n") ≡ audit_of (audits.One 1) (codes "M") }
 {}
 
 /// It must have I and may have F and K, each once; an extension isn't understood or is ignored, as ever.

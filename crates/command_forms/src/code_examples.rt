@@ -10,15 +10,17 @@ ghost use Rattle.connections.specs.declared.mode.Mode.TheVariants.{Inactive};
 ghost use Rattle.connections.specs.Options.{no_options};
 ghost use Rattle.connections.specs.Example.{asked_time};
 ghost use Rattle.command_forms.specs.declared.forms.Asks.TheVariants.{Reports, Does};
+ghost use Rattle.command_forms.specs.declared.forms.AuditTarget.TheVariants as audits;
 ghost use Rattle.command_forms.specs.declared.forms.ConnectionDeed.TheVariants as deeds;
 ghost use Rattle.command_forms.specs.declared.forms.Target.TheVariants.{One, All, Any};
 ghost use Rattle.command_forms.specs.declared.verbs.Connecting.TheVariants.{Keeps, Creates, Modifies, Deletes};
 ghost use Rattle.command_forms.specs.declared.verbs.Purpose.TheVariants.{ForReport, ForDeed};
 ghost use Rattle.command_forms.specs.declared.verbs.Reporting.TheVariants.{Endpoint, Connection};
+ghost use Rattle.command_forms.specs.declared.verbs.Task.TheVariants.{ReportOf, DeedOn};
 ghost use Rattle.command_forms.specs.Order.{is_audit};
 ghost use Rattle.command_forms.specs.Codes.{name_codes, param_codes, has_code, AreOf, may_connect_all, may_connect_any};
 ghost use Rattle.command_forms.specs.Codes.{MayBeOf, options_or, HasCreation, HasModification, HasDeletion, connecting_in};
-ghost use Rattle.command_forms.specs.Codes.{target_in, Audits};
+ghost use Rattle.command_forms.specs.Codes.{target_in, target_meant, purpose_meant, Audits};
 ghost use Rattle.command_forms.specs.Example.{all_deeds, connecting, asking_for, param, of_creation, of_connection, of_call};
 ghost use Rattle.command_forms.specs.Example.{of_audited, connection_alone, receiver, no_change, session};
 
@@ -61,8 +63,18 @@ pub fn a_line_is_one_that_there_is()
     ensures past { AreOf 2 (One 3) → ⊥ }
     ensures all { AreOf 2 All }
     ensures any { AreOf 2 Any }
-    ensures report { target_in (Reports (One 2) (asking_for [])) ≡ One 2 }
+    ensures report { target_in (Reports (audits.One 2) (asking_for [])) ≡ One 2 }
+    ensures report_of_all { target_in (Reports audits.All (asking_for [])) ≡ All }
     ensures deed { target_in (Does All (connecting deeds.Keep)) ≡ All }
+{}
+
+/// What is meant is a report or a deed, of the lines that the name has.
+pub fn a_task_has_its_lines()
+    ensures report { target_meant (ReportOf Endpoint (audits.One 2)) ≡ One 2 }
+    ensures report_of_all { target_meant (ReportOf Endpoint audits.All) ≡ All }
+    ensures deed { target_meant (DeedOn Creates Any) ≡ Any }
+    ensures purposes { map purpose_meant (ReportOf Connection (audits.One 1) ∷ DeedOn Deletes All ∷ [])
+        ≡ ForReport Connection ∷ ForDeed Deletes ∷ [] }
 {}
 
 /// On all lines connections stay, or all are deleted; on any one line one is created. A report of all lines is of no
@@ -76,13 +88,11 @@ pub fn deeds_are_for_more_than_one_line()
     ensures deed_on_any { MayBeOf (Does Any (connecting (deeds.Create receiver))) }
     ensures not_on_any { MayBeOf (Does Any (connecting deeds.Keep)) → ⊥ }
     ensures deed_on_one { MayBeOf (Does (One 1) (connecting (deeds.Create receiver))) }
-    ensures report_on_all { MayBeOf (Reports All (asking_for [])) }
-    ensures items_on_all { MayBeOf (Reports All (asking_for (codes "ES"))) → ⊥ }
-    ensures report_on_any { MayBeOf (Reports Any (asking_for [])) → ⊥ }
-    ensures report_on_one { MayBeOf (Reports (One 1) (asking_for (codes "ES"))) }
-    ensures connection_on_all { MayBeOf (Reports All of_audited) → ⊥ }
-    ensures connection_on_any { MayBeOf (Reports Any of_audited) → ⊥ }
-    ensures connection_on_one { MayBeOf (Reports (One 1) of_audited) }
+    ensures report_on_all { MayBeOf (Reports audits.All (asking_for [])) }
+    ensures items_on_all { MayBeOf (Reports audits.All (asking_for (codes "ES"))) → ⊥ }
+    ensures report_on_one { MayBeOf (Reports (audits.One 1) (asking_for (codes "ES"))) }
+    ensures connection_on_all { MayBeOf (Reports audits.All of_audited) → ⊥ }
+    ensures connection_on_one { MayBeOf (Reports (audits.One 1) of_audited) }
 {}
 
 /// A creation has the call, the mode, the options and the description of its command; without L the options are none.

@@ -16,6 +16,7 @@ ghost use Rattle.event_values.specs.declared.signals.Setting.TheVariants.{Start,
 ghost use Rattle.event_syntax.specs.Ranges.{letters_in};
 ghost use Rattle.mgcp_text.specs.declared.confirmation.KValue.TheVariants.{Absent, Unreadable};
 ghost use Rattle.connections.specs.declared.codec.Encoding.TheVariants.{Mu};
+ghost use Rattle.command_forms.specs.declared.forms.AuditTarget.TheVariants as audits;
 ghost use Rattle.command_forms.specs.declared.forms.Target.TheVariants as targets;
 ghost use Rattle.command_forms.specs.declared.refused.Place.TheVariants as places;
 ghost use Rattle.command_forms.specs.declared.verbs.Connecting.TheVariants.{Keeps};
@@ -77,12 +78,12 @@ pub fn requests_ask_for_events()
 
 /// An audit has the items that F asks for, with commas between them as they were given; an empty F is no F.
 pub fn audits_are_read()
-    ensures bare { audit [] ≡ audit_of (targets.One 1) [] }
-    ensures items { audit (codes "F: es , X\r\n") ≡ audit_of (targets.One 1) (codes "es , X") }
-    ensures no_items { audit (codes "F:\r\n") ≡ audit_of (targets.One 1) [] }
-    ensures description { audit (codes "F: ES\r\n\r\nv=1\r\n") ≡ audit_of (targets.One 1) (codes "ES") }
-    ensures confirming { audit (codes "K: 1\r\nf: ES\r\n") ≡ audit_of (targets.One 1) (codes "ES") }
-    ensures last_line { audit_on (codes "aaln/16") [] ≡ audit_of (targets.One 16) [] }
+    ensures bare { audit [] ≡ audit_of (audits.One 1) [] }
+    ensures items { audit (codes "F: es , X\r\n") ≡ audit_of (audits.One 1) (codes "es , X") }
+    ensures no_items { audit (codes "F:\r\n") ≡ audit_of (audits.One 1) [] }
+    ensures description { audit (codes "F: ES\r\n\r\nv=1\r\n") ≡ audit_of (audits.One 1) (codes "ES") }
+    ensures confirming { audit (codes "K: 1\r\nf: ES\r\n") ≡ audit_of (audits.One 1) (codes "ES") }
+    ensures last_line { audit_on (codes "aaln/16") [] ≡ audit_of (audits.One 16) [] }
 {}
 
 /// The verbs without a row are 504, and so is a message that is no command.
@@ -109,9 +110,9 @@ pub fn some_names_may_mean_all_lines()
     ensures request_all { request_on (codes "*") (codes "X: A2\r\n") ≡ bare_request targets.All (codes "A2") }
     ensures request_after { request_on (codes "aaln/*") (codes "X: A2\r\n") ≡ bare_request targets.All (codes "A2") }
     ensures request_any { request_on (codes "$") (codes "X: A2\r\n") ≡ refused 503 }
-    ensures audit_all { audit_on (codes "*") [] ≡ audit_of targets.All [] }
-    ensures audit_after { audit_on (codes "aaln/*") (codes "K: 1\r\n") ≡ audit_of targets.All [] }
-    ensures empty_items { audit_on (codes "*") (codes "F:\r\n") ≡ audit_of targets.All [] }
+    ensures audit_all { audit_on (codes "*") [] ≡ audit_of audits.All [] }
+    ensures audit_after { audit_on (codes "aaln/*") (codes "K: 1\r\n") ≡ audit_of audits.All [] }
+    ensures empty_items { audit_on (codes "*") (codes "F:\r\n") ≡ audit_of audits.All [] }
     ensures audit_items { audit_on (codes "*") (codes "F: ES\r\n") ≡ refused 503 }
     ensures lower_case { audit_on (codes "*") (codes "f: ES\r\n") ≡ refused 503 }
     ensures comma { audit_on (codes "*") (codes "F: ,\r\n") ≡ refused 503 }

@@ -34,6 +34,15 @@ impl Target {
     }
 }
 
+/// The lines that an audit is for. No audit is for any one line.
+#[derive(Clone, Copy, Debug, PartialEq, Eq)]
+pub enum AuditTarget {
+    /// The line with this number, from 1.
+    One(u16),
+    /// All lines.
+    All,
+}
+
 /// What is to be reported (RFC 3435, 2.3.10 and 2.3.11).
 #[derive(Drop)]
 pub struct Audit<'m> {
@@ -95,7 +104,7 @@ pub struct Deed {
 pub enum Asks<'m> {
     /// A report of these lines, or of a connection of one, which changes nothing: AuditEndpoint and AuditConnection
     /// (RFC 3435, 2.3.10 and 2.3.11).
-    Reports(Target, Audit<'m>),
+    Reports(AuditTarget, Audit<'m>),
     /// A deed on these lines: EndpointConfiguration, NotificationRequest, CreateConnection, ModifyConnection and
     /// DeleteConnection (RFC 3435, 2.3.2, 2.3.3, 2.3.5 to 2.3.7 and 2.3.9).
     Does(Target, Deed),

@@ -12,11 +12,12 @@ ghost use Rattle.endpoint_names.specs.declared.table.Host.{Host};
 ghost use Rattle.command_forms.specs.declared.forms.Asks.{Asks};
 ghost use Rattle.command_forms.specs.declared.forms.Asks.TheVariants.{Reports, Does};
 ghost use Rattle.command_forms.specs.declared.forms.Audit.{Audit};
+ghost use Rattle.command_forms.specs.declared.forms.AuditTarget.{AuditTarget};
 ghost use Rattle.command_forms.specs.declared.forms.Deed.{Deed};
 ghost use Rattle.command_forms.specs.declared.forms.Target.{Target};
 ghost use Rattle.command_forms.specs.declared.refused.Refused.{Refused};
 ghost use Rattle.command_forms.specs.declared.verbs.Meant.{Meant};
-ghost use Rattle.command_forms.specs.declared.verbs.Purpose.TheVariants.{ForDeed};
+ghost use Rattle.command_forms.specs.declared.verbs.Task.TheVariants.{DeedOn};
 ghost use Rattle.command_forms.specs.Command.{Command};
 ghost use Rattle.command_forms.specs.Refusing.{coded};
 ghost use Rattle.command_forms.specs.Verbs.{row_of};
@@ -24,7 +25,7 @@ ghost use Rattle.command_forms.specs.Params.{value_at};
 ghost use Rattle.command_forms.specs.Meaning.{meant};
 ghost use Rattle.command_forms.specs.Order.{asked, form_while, form_of, form_in};
 ghost use Rattle.command_forms.specs.Explaining.{explained_in, refused_code};
-ghost use Rattle.command_forms.specs.Codes.{name_codes, param_codes, has_code, target_in, AreOf, MayBeOf};
+ghost use Rattle.command_forms.specs.Codes.{name_codes, param_codes, has_code, target_in, target_meant, purpose_meant, AreOf, MayBeOf};
 ghost use Rattle.command_forms.specs.Codes.{Audits, HasDeed, connecting_in};
 
 /// The verb and the name are judged before all else: their faults are 500, 503 and 504, and no fault behind them is
@@ -42,7 +43,7 @@ pub fn the_name_is_judged_first()
         → has_code param_codes refused.code ≡ true }
     ensures apart { (code : ℕ) → has_code param_codes code ≡ true → has_code name_codes code ≡ false }
     ensures same { (found : Meant) (params : List Param) (body : List ℕ) (confirms : KValue) (hosts : List Host)
-        (asks : Asks) → asked found params body confirms hosts ≡ Ok asks → target_in asks ≡ found.target }
+        (asks : Asks) → asked found params body confirms hosts ≡ Ok asks → target_in asks ≡ target_meant found.task }
 {}
 
 /// What a form is for: a line from 1 to the number of lines, or all of them, or any one. Of all lines a report without
@@ -58,17 +59,17 @@ pub fn a_form_is_for_lines()
 /// An audit has the items of the first F. A report is asked for by AuditEndpoint and AuditConnection alone: that of the
 /// former is of no connection, and that of the latter of the connection that I names, by 1 to 32 hexadecimal digits.
 pub fn an_audit_has_its_items()
-    ensures items { (command : Command) (confirms : KValue) (names : Names) (target : Target) (audit : Audit)
+    ensures items { (command : Command) (confirms : KValue) (names : Names) (target : AuditTarget) (audit : Audit)
         → form_of command confirms names ≡ Ok (Reports target audit) → audit.items ≡ value_at (codes "F") command.params }
-    ensures verb { (command : Command) (confirms : KValue) (names : Names) (target : Target) (audit : Audit)
+    ensures verb { (command : Command) (confirms : KValue) (names : Names) (target : AuditTarget) (audit : Audit)
         → form_of command confirms names ≡ Ok (Reports target audit) → Audits command.verb }
-    ensures endpoint { (command : Command) (confirms : KValue) (names : Names) (target : Target) (audit : Audit)
+    ensures endpoint { (command : Command) (confirms : KValue) (names : Names) (target : AuditTarget) (audit : Audit)
         → command.verb ≡ Auep → form_of command confirms names ≡ Ok (Reports target audit)
         → audit.connection ≡ None }
-    ensures connection { (command : Command) (confirms : KValue) (names : Names) (target : Target) (audit : Audit)
+    ensures connection { (command : Command) (confirms : KValue) (names : Names) (target : AuditTarget) (audit : Audit)
         → command.verb ≡ Aucx → form_of command confirms names ≡ Ok (Reports target audit)
         → audit.connection ≡ Some (value_at (codes "I") command.params) }
-    ensures digits { (command : Command) (confirms : KValue) (names : Names) (target : Target) (audit : Audit)
+    ensures digits { (command : Command) (confirms : KValue) (names : Names) (target : AuditTarget) (audit : Audit)
         → form_of command confirms names ≡ Ok (Reports target audit)
         → IfSome audit.connection (λ identifier. is_hex_text identifier ≡ true) }
 {}
@@ -88,9 +89,11 @@ pub fn a_deed_has_its_values()
         → command.verb ≡ Rqnt → form_of command confirms names ≡ Ok (Does target deed) → is_some deed.request ≡ true }
     ensures row { (command : Command) (names : Names) (found : Meant) → meant command names ≡ Ok found
         → row_of command.verb ≡ Some found.row }
+    ensures purpose { (command : Command) (names : Names) (found : Meant) → meant command names ≡ Ok found
+        → purpose_meant found.task ≡ found.row.purpose }
     ensures connections { (found : Meant) (params : List Param) (body : List ℕ) (confirms : KValue) (hosts : List Host)
         (target : Target) (deed : Deed) → asked found params body confirms hosts ≡ Ok (Does target deed)
-        → found.row.purpose ≡ ForDeed (connecting_in deed.connections) }
+        → found.task ≡ DeedOn (connecting_in deed.connections) target }
 {}
 
 /// A gateway that doesn't serve yet judges the verb and the name as ever, and then each audit as ever; any other command

@@ -25,7 +25,7 @@ pub mod restart_examples;
 mod values;
 mod verbs;
 
-pub use crate::forms::{Asks, Audit, ConnectionDeed, Deed, RequestForm, Target};
+pub use crate::forms::{Asks, Audit, AuditTarget, ConnectionDeed, Deed, RequestForm, Target};
 pub use crate::meaning::meant;
 pub use crate::reading::{asked, explained, form, form_while};
 pub use crate::refused::{Place, Refused, Stop, explain};

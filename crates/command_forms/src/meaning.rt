@@ -3,12 +3,12 @@ ghost use Rattle.std.specs.Prelude.{◌≡◌};
 ghost use Rattle.mg_bytes.specs.CodeFault.{AnswersAs, answer_of};
 ghost use Rattle.endpoint_names.specs.Name.{name_of};
 ghost use Rattle.command_forms.specs.Refusing.{StopsAs, stop_of};
-ghost use Rattle.command_forms.specs.Meaning.{named, takes_all, takes_any, target_of, meant_in};
+ghost use Rattle.command_forms.specs.Meaning.{named, takes_all, takes_any, audit_target_of, target_of, task_of, meant_in};
 
-use crate::forms::Target;
+use crate::forms::{AuditTarget, Target};
 use crate::params::{has_code, value_at};
 use crate::refused::{Place, Stop, placed};
-use crate::verbs::{Meant, Wildcard, row_of};
+use crate::verbs::{Meant, Purpose, Task, Wildcard, row_of};
 use endpoint_names::{NameFault, Names, Pattern, read_name};
 use mg_bytes::{CodeFault, ReturnCode};
 use mgcp_text::{Message, Param};
@@ -46,7 +46,28 @@ fn takes_any(wildcard: Wildcard) -> bool
     }
 }
 
-// The lines that a command with these parameters is for.
+// The lines that an audit with these parameters is for.
+fn audit_target_of(
+    wildcard: Wildcard,
+    params: &[Param<'_>],
+    pattern: Pattern,
+) -> Result<AuditTarget, CodeFault>
+    ensures value { result ≡ answer_of (audit_target_of wildcard params.now pattern) }
+    ensures answers { AnswersAs (audit_target_of wildcard params.now pattern) result }
+{
+    match pattern {
+        Pattern::One(line) => Ok(AuditTarget::One(line)),
+        Pattern::All => {
+            if !takes_all(wildcard, params) {
+                return Err(CodeFault::of(ReturnCode::WildcardTooComplicated));
+            }
+            Ok(AuditTarget::All)
+        }
+        Pattern::Any => Err(CodeFault::of(ReturnCode::WildcardTooComplicated)),
+    }
+}
+
+// The lines that any other command with these parameters is for.
 fn target_of(
     wildcard: Wildcard,
     params: &[Param<'_>],
@@ -72,8 +93,30 @@ fn target_of(
     }
 }
 
-/// What the verb and the name of a command mean: a verb that is served, and the lines that the command is for (RFC 3435,
-/// 2.3 and 3.2.1).
+// What a command of this purpose with these parameters is to do, and on which lines.
+fn task_of(
+    purpose: Purpose,
+    wildcard: Wildcard,
+    params: &[Param<'_>],
+    pattern: Pattern,
+) -> Result<Task, CodeFault>
+    ensures value { result ≡ answer_of (task_of purpose wildcard params.now pattern) }
+    ensures answers { AnswersAs (task_of purpose wildcard params.now pattern) result }
+{
+    match purpose {
+        Purpose::ForReport(reporting) => {
+            let target = audit_target_of(wildcard, params, pattern)?;
+            Ok(Task::ReportOf(reporting, target))
+        }
+        Purpose::ForDeed(connecting) => {
+            let target = target_of(wildcard, params, pattern)?;
+            Ok(Task::DeedOn(connecting, target))
+        }
+    }
+}
+
+/// What the verb and the name of a command mean: a verb that is served, and what is to be done on the lines that the
+/// command is for (RFC 3435, 2.3 and 3.2.1).
 ///
 /// Else what is at fault: 504 and the verb where it isn't served, and of a message that is no command; 500 and the name
 /// where no endpoint has it; 503 and the name where its wildcard isn't taken. It takes no memory.
@@ -95,9 +138,9 @@ pub fn meant(message: &Message<'_>, names: &Names) -> Result<Meant, Stop>
         return Err(Stop::of(Place::Verb, ReturnCode::UnsupportedCommand));
     };
     let pattern = placed(Place::Name, named(name.as_slice(), names))?;
-    let target = placed(
+    let task = placed(
         Place::Name,
-        target_of(row.wildcard, params.as_slice(), pattern),
+        task_of(row.purpose, row.wildcard, params.as_slice(), pattern),
     )?;
-    Ok(Meant { row, target })
+    Ok(Meant { row, task })
 }

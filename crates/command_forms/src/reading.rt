@@ -12,7 +12,7 @@ use crate::meaning::meant;
 use crate::params::{has_code, has_none, missing_letter, params_fault, value_at};
 use crate::refused::{Place, Refused, Stop, placed};
 use crate::values::{identifier_from, is_readable};
-use crate::verbs::{Connecting, Meant, Purpose, Reporting, VerbRow};
+use crate::verbs::{Connecting, Meant, Purpose, Reporting, Task, VerbRow};
 use endpoint_names::{Names, Table};
 use mg_bytes::{CodeFault, OutOfMemory, ReturnCode};
 use mgcp_text::{Bytes, KValue, Message, Param};
@@ -76,19 +76,19 @@ fn audit_of<'m>(reporting: Reporting, params: &'m [Param<'_>]) -> Result<Audit<'
 // What the values of these parameters and this text ask for.
 fn asked_for<'m>(
     alloc: Global,
-    found: &Meant,
+    task: Task,
     params: &'m [Param<'_>],
     text: &[u8],
     table: &Table,
 ) -> Result<Asks<'m>, Stop>
-    ensures { StopsAs (asked_for found.now.row.purpose found.now.target params.now text.now table.now) result }
+    ensures { StopsAs (asked_for task params.now text.now table.now) result }
 {
-    match found.row.purpose {
-        Purpose::ForReport(reporting) => {
-            Ok(Asks::Reports(found.target, audit_of(reporting, params)?))
+    match task {
+        Task::ReportOf(reporting, target) => {
+            Ok(Asks::Reports(target, audit_of(reporting, params)?))
         }
-        Purpose::ForDeed(connecting) => Ok(Asks::Does(
-            found.target,
+        Task::DeedOn(connecting, target) => Ok(Asks::Does(
+            target,
             deed_of(alloc, connecting, params, text, table)?,
         )),
     }
@@ -124,7 +124,7 @@ pub fn asked<'m>(
         return Err(Stop::of(Place::Value(b'K'), ReturnCode::ProtocolError));
     }
     let text = counted(found.row.described, body);
-    asked_for(alloc, found, params, text, table)
+    asked_for(alloc, found.task, params, text, table)
 }
 
 fn is_audit(purpose: Purpose) -> bool

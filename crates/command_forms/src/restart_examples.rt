@@ -5,7 +5,7 @@ ghost use Rattle.std.specs.Prelude.{◌≡◌, ◌++◌, false, codes, [], ◌�
 ghost use Rattle.mgcp_text.specs.declared.message.Message.TheVariants as messages;
 ghost use Rattle.mgcp_text.specs.declared.message.Verb.TheVariants.{Auep, Rqnt};
 ghost use Rattle.mgcp_text.specs.declared.confirmation.KValue.TheVariants.{Absent, Unreadable};
-ghost use Rattle.command_forms.specs.declared.forms.Target.TheVariants as targets;
+ghost use Rattle.command_forms.specs.declared.forms.AuditTarget.TheVariants as audits;
 ghost use Rattle.command_forms.specs.declared.refused.Place.TheVariants as places;
 ghost use Rattle.command_forms.specs.Refusing.{letter_k, refusal};
 ghost use Rattle.command_forms.specs.Order.{judged_while_in, form_while_in};
@@ -69,9 +69,9 @@ pub fn nothing_else_is_judged_at_first()
 
 /// Audits are judged as ever, with each of their faults.
 pub fn audits_are_served_at_first()
-    ensures bare { first (codes "AUEP") [] ≡ audit_of (targets.One 1) [] }
-    ensures items { first (codes "AUEP") (codes "K: 1\r\nF: ES\r\n") ≡ audit_of (targets.One 1) (codes "ES") }
-    ensures all { first_on (codes "AUEP") (codes "*") [] ≡ audit_of targets.All [] }
+    ensures bare { first (codes "AUEP") [] ≡ audit_of (audits.One 1) [] }
+    ensures items { first (codes "AUEP") (codes "K: 1\r\nF: ES\r\n") ≡ audit_of (audits.One 1) (codes "ES") }
+    ensures all { first_on (codes "AUEP") (codes "*") [] ≡ audit_of audits.All [] }
     ensures connection { first (codes "AUCX") (codes "I: 1\r\nF: M\r\n") ≡ audit_of_connection (codes "1") (codes "M") }
     ensures beyond { first_on (codes "AUEP") (codes "aaln/17") [] ≡ refused 500 }
     ensures all_items { first_on (codes "AUEP") (codes "*") (codes "F: ES\r\n") ≡ refused 503 }

@@ -2,7 +2,7 @@
 ghost use Rattle.std.specs.Prelude.{◌≡◌};
 ghost use Rattle.command_forms.specs.Verbs.{row_of};
 
-use crate::forms::Target;
+use crate::forms::{AuditTarget, Target};
 use mgcp_text::{Bytes, Verb};
 
 /// Which wildcard the name of a command may have.
@@ -53,11 +53,19 @@ pub(crate) struct VerbRow {
     pub purpose: Purpose,
 }
 
-/// What the verb and the name of a command mean: a verb that is served, and the lines that the command is for.
+/// What a command is to do, and on which lines.
+#[derive(Clone, Copy)]
+pub(crate) enum Task {
+    ReportOf(Reporting, AuditTarget),
+    DeedOn(Connecting, Target),
+}
+
+/// What the verb and the name of a command mean: a verb that is served, and what is to be done on the lines that the
+/// command is for.
 #[derive(Drop)]
 pub struct Meant {
     pub(crate) row: VerbRow,
-    pub(crate) target: Target,
+    pub(crate) task: Task,
 }
 
 /// The row of a verb, if it is served.

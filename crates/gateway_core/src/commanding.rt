@@ -15,7 +15,7 @@ ghost use Rattle.gateway_floor.specs.Tells.{Tells};
 
 use crate::reporting::{name_alone, names_of};
 use audits::{Endpoint, connection_report, endpoint_report, fitting};
-use command_forms::{Asks, Audit, Deed, RequestForm, Target, form_while};
+use command_forms::{Asks, Audit, AuditTarget, Deed, RequestForm, Target, form_while};
 use event_requests::Request as EventRequest;
 use gateway_floor::{Floor, deed_on_all, line_with_place, news_of, refused_by};
 use gateway_stations::{Context, answer_with};
@@ -68,16 +68,15 @@ fn audited(
     context: Context<'_>,
     floor: &Floor,
     id: TransactionId,
-    target: Target,
+    target: AuditTarget,
     audit: &Audit<'_>,
 ) -> Result<Answer, CodeFault>
     requires { is_domain context.setup.now.names.domain ≡ true }
     ensures { AnswersAs (audited context.entry.setup.now floor.now.endpoints id target audit.now) result }
 {
     match target {
-        Target::One(line) => line_report(context, floor, line, id, audit),
-        Target::All => all_reported(context, floor, id),
-        Target::Any => Err(CodeFault::Code(ReturnCode::WildcardTooComplicated.number())),
+        AuditTarget::One(line) => line_report(context, floor, line, id, audit),
+        AuditTarget::All => all_reported(context, floor, id),
     }
 }
 
@@ -86,7 +85,7 @@ fn answer_to_audit(
     context: Context<'_>,
     floor: &Floor,
     id: TransactionId,
-    target: Target,
+    target: AuditTarget,
     audit: &Audit<'_>,
 ) -> Result<Answer, OutOfMemory>
     requires { is_domain context.setup.now.names.domain ≡ true }

@@ -5,13 +5,15 @@ use Rattle.std.proofs.lemmas.Bool.Decides.{Decides-eqb}
 use Rattle.mgcp_text.specs.Answer.{Answer, plain_code}
 use Rattle.mgcp_text.specs.declared.confirmation.KValue.{KValue}
 use Rattle.endpoint_names.specs.Name.{name_of}
-use Rattle.command_forms.specs.Codes.{target_in}
+use Rattle.command_forms.specs.Codes.{target_for, target_in}
 use Rattle.command_forms.specs.Command.{Command}
 use Rattle.command_forms.specs.Meaning.{is_for}
 use Rattle.command_forms.specs.Order.{form_while}
 use Rattle.command_forms.specs.declared.forms.Asks.{Asks}
 use Rattle.command_forms.specs.declared.forms.Asks.TheVariants.{Reports, Does}
 use Rattle.command_forms.specs.declared.forms.Audit.{Audit}
+use Rattle.command_forms.specs.declared.forms.AuditTarget.{AuditTarget}
+use Rattle.command_forms.specs.declared.forms.AuditTarget.TheVariants as audits
 use Rattle.command_forms.specs.declared.forms.Deed.{Deed}
 use Rattle.command_forms.specs.declared.forms.Target.{Target}
 use Rattle.command_forms.specs.declared.forms.Target.TheVariants.{One}
@@ -89,6 +91,10 @@ none_refuses endpoints deed line none other = by_test (other == line) refl where
   by_test true e = ap (refusal_at endpoints (One line) deed) ((Decides-eqb other line).0 e) ∙ none
   by_test false e = not_meant endpoints deed line other (λ same. (let t : (other == line) ≡ true = (Decides-eqb other line).1 same in absurd cc))
 
+audit_of_one : (target : AuditTarget) (line : ℕ) → target_for target ≡ One line → target ≡ audits.One line
+audit_of_one (audits.One n) line e = let same : n ≡ line = cc in ap audits.One same
+audit_of_one audits.All line e = absurd cc
+
 module _ (setup : Setup) (line : ℕ) (one other : Endpoints) (alike : AreAlike line one other) where
   -- a deed on the line
   deed_alike : (deed : LineDeed) (moment : ℕ)
@@ -120,18 +126,18 @@ module _ (setup : Setup) (line : ℕ) (one other : Endpoints) (alike : AreAlike 
 
   -- a report on the line
   report_alike : (id : ℕ) (audit : Audit)
-      → DoneAlike line (only_answer one (answer_by (audited setup one id (One line) audit))) (only_answer other (answer_by (audited setup other id (One line) audit)))
+      → DoneAlike line (only_answer one (answer_by (audited setup one id (audits.One line) audit))) (only_answer other (answer_by (audited setup other id (audits.One line) audit)))
   unfolding audited
   report_alike id audit =
       only_alike line one other _ _ alike (ap (λ (found : Option Station). answer_by (line_report found id audit)) alike.station)
 
-  asks_alike : (asks : Result Asks ℕ) (moment id : ℕ) → ((target : Target) (audit : Audit) → asks ≡ Ok (Reports target audit) → target ≡ One line)
+  asks_alike : (asks : Result Asks ℕ) (moment id : ℕ) → ((target : AuditTarget) (audit : Audit) → asks ≡ Ok (Reports target audit) → target_for target ≡ One line)
       → ((target : Target) (deed : Deed) → asks ≡ Ok (Does target deed) → target ≡ One line)
       → DoneAlike line (done_by asks setup one moment id) (done_by asks setup other moment id)
   asks_alike (Err code) moment id reports does = only_alike line one other _ _ alike refl
   asks_alike (Ok (Reports target audit)) moment id reports does =
-      subst (λ (t : Target). DoneAlike line (done_by (Ok (Reports t audit)) setup one moment id) (done_by (Ok (Reports t audit)) setup other moment id))
-      (sym (reports target audit refl)) (report_alike id audit)
+      subst (λ (t : AuditTarget). DoneAlike line (done_by (Ok (Reports t audit)) setup one moment id) (done_by (Ok (Reports t audit)) setup other moment id))
+      (sym (audit_of_one target line (reports target audit refl))) (report_alike id audit)
   asks_alike (Ok (Does target deed)) moment id reports does =
       subst (λ (t : Target). DoneAlike line (done_by (Ok (Does t deed)) setup one moment id) (done_by (Ok (Does t deed)) setup other moment id))
       (sym (does target deed refl)) (deed_alike (line_deed deed) moment)

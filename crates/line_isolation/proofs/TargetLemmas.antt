@@ -11,15 +11,19 @@ use Rattle.endpoint_names.specs.declared.name.NameFault.TheVariants.{Unknown, To
 use Rattle.endpoint_names.specs.declared.names.Names.{Names}
 use Rattle.endpoint_names.specs.Name.{name_of}
 use Rattle.command_forms.specs.declared.forms.Asks.{Asks}
+use Rattle.command_forms.specs.declared.forms.AuditTarget.TheVariants as audits
 use Rattle.command_forms.specs.declared.forms.Target.{Target}
 use Rattle.command_forms.specs.declared.forms.Target.TheVariants.{One, All, Any}
 use Rattle.command_forms.specs.declared.refused.Place.TheVariants.{Verb, Name}
 use Rattle.command_forms.specs.declared.refused.Refused.{Refused}
 use Rattle.command_forms.specs.declared.verbs.Meant.{Meant}
+use Rattle.command_forms.specs.declared.verbs.Purpose.{Purpose}
+use Rattle.command_forms.specs.declared.verbs.Purpose.TheVariants.{ForReport, ForDeed}
+use Rattle.command_forms.specs.declared.verbs.Task.TheVariants.{ReportOf, DeedOn}
 use Rattle.command_forms.specs.declared.verbs.VerbRow.{VerbRow}
-use Rattle.command_forms.specs.Codes.{target_in}
+use Rattle.command_forms.specs.Codes.{target_in, target_meant}
 use Rattle.command_forms.specs.Command.{Command}
-use Rattle.command_forms.specs.Meaning.{named, target_of, meant}
+use Rattle.command_forms.specs.Meaning.{named, task_of, meant}
 use Rattle.command_forms.specs.Order.{asked, form_while, form_of}
 use Rattle.mg_bytes.specs.Steps.{◌>>=◌}
 use Rattle.command_forms.specs.Refusing.{placed, coded}
@@ -42,18 +46,26 @@ abbrev meant_by : Option VerbRow → Result Pattern NameFault → List Param →
 meant_by found of params = do
   row ← placed Verb (ok_or found 504)
   pattern ← placed Name (named of)
-  target ← placed Name (target_of row.wildcard params pattern)
-  Ok (record { row = row; target = target })
+  task ← placed Name (task_of row.purpose row.wildcard params pattern)
+  Ok (record { row = row; task = task })
 
 meant_named : (found : Option VerbRow) (of : Result Pattern NameFault) (params : List Param) (means : Meant) → meant_by found of params ≡ Ok means
-    → IsNamed of means.target
+    → IsNamed of (target_meant means.task)
 meant_named None of params means e = absurd cc
 meant_named (Some row) (Err Unknown) params means e = absurd cc
 meant_named (Some row) (Err TooComplicated) params means e = absurd cc
-meant_named (Some row) (Ok (patterns.One line)) params means e =
-    let made : Meant = record { row = row; target = One line } in
-    let same : made ≡ means = cc in
-    sym (ap (λ (m : Meant). m.target) same)
+meant_named (Some row) (Ok (patterns.One line)) params means e = by_purpose row.purpose refl where
+  by_purpose : (purpose : Purpose) → row.purpose ≡ purpose → target_meant means.task ≡ One line
+  by_purpose (ForReport reporting) is =
+      let made : Meant = record { row = row; task = ReportOf reporting (audits.One line) } in
+      let given : Ok made ≡ Ok means = (rw is at e) in
+      let same : made ≡ means = cc in
+      sym (ap (λ (m : Meant). target_meant m.task) same)
+  by_purpose (ForDeed connecting) is =
+      let made : Meant = record { row = row; task = DeedOn connecting (One line) } in
+      let given : Ok made ≡ Ok means = (rw is at e) in
+      let same : made ≡ means = cc in
+      sym (ap (λ (m : Meant). target_meant m.task) same)
 meant_named (Some row) (Ok patterns.All) params means e = tt
 meant_named (Some row) (Ok patterns.Any) params means e = tt
 

@@ -15,6 +15,7 @@ use Rattle.command_forms.specs.Order.{form_while}
 use Rattle.command_forms.specs.declared.forms.Asks.{Asks}
 use Rattle.command_forms.specs.declared.forms.Asks.TheVariants.{Reports, Does}
 use Rattle.command_forms.specs.declared.forms.Audit.{Audit}
+use Rattle.command_forms.specs.declared.forms.AuditTarget.{AuditTarget}
 use Rattle.command_forms.specs.declared.forms.ConnectionDeed.{ConnectionDeed}
 use Rattle.command_forms.specs.declared.forms.ConnectionDeed.TheVariants.{Keep}
 use Rattle.command_forms.specs.declared.forms.Deed.{Deed}
@@ -260,7 +261,7 @@ pub deed_on_no_line : (setup : Setup) (endpoints : Endpoints) (deed : LineDeed) 
     → done_for setup endpoints AnyLine deed moment ≡ only_answer endpoints (plain_code 410)
 deed_on_no_line setup endpoints deed moment is = ap (λ (found : Option ℕ). done_there found setup endpoints deed moment) is
 
-pub audit_stays : (setup : Setup) (endpoints : Endpoints) (moment id : ℕ) (command : Command) (confirms : KValue) (lines : Target) (audit : Audit)
+pub audit_stays : (setup : Setup) (endpoints : Endpoints) (moment id : ℕ) (command : Command) (confirms : KValue) (lines : AuditTarget) (audit : Audit)
     → form_while (serves endpoints) command confirms setup.names ≡ Ok (Reports lines audit) → (commanded setup endpoints moment id command confirms).told ≡ told endpoints []
 audit_stays setup endpoints moment id command confirms lines audit is = ap (λ (x : Result Asks ℕ). (done_by x setup endpoints moment id).told) is
 

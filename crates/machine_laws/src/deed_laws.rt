@@ -9,6 +9,7 @@ ghost use Rattle.command_forms.specs.Meaning.{is_for};
 ghost use Rattle.command_forms.specs.Order.{form_while};
 ghost use Rattle.command_forms.specs.declared.forms.Asks.TheVariants.{Reports, Does};
 ghost use Rattle.command_forms.specs.declared.forms.Audit.{Audit};
+ghost use Rattle.command_forms.specs.declared.forms.AuditTarget.{AuditTarget};
 ghost use Rattle.command_forms.specs.declared.forms.ConnectionDeed.TheVariants.{Keep};
 ghost use Rattle.command_forms.specs.declared.forms.Deed.{Deed};
 ghost use Rattle.command_forms.specs.declared.forms.Target.{Target};
@@ -93,7 +94,7 @@ pub fn a_deed_on_one_line_changes_that_line_alone()
 /// An audit changes nothing and has nothing sent, nor does a command that has a fault.
 pub fn an_audit_changes_nothing()
     ensures audit { (setup : Setup) (endpoints : Endpoints) (moment id : ℕ) (command : Command) (confirms : KValue)
-        (lines : Target) (audit : Audit) → form_while (serves endpoints) command confirms setup.names ≡ Ok (Reports lines audit) →
+        (lines : AuditTarget) (audit : Audit) → form_while (serves endpoints) command confirms setup.names ≡ Ok (Reports lines audit) →
         (commanded setup endpoints moment id command confirms).told ≡ told endpoints [] }
     ensures fault { (setup : Setup) (endpoints : Endpoints) (moment id code : ℕ) (command : Command)
         (confirms : KValue) → form_while (serves endpoints) command confirms setup.names ≡ Err code →

@@ -182,7 +182,7 @@ encodes command confirms names target deed verb e = by_meant (meant command name
       let n : param_at (codes "N") command.params ≡ None = lacking found.row (codes "N") 1 [] command.params (lacks_n found.row row) fine in
       let x : param_at (codes "X") command.params ≡ None = lacking found.row (codes "X") 1 [] command.params (lacks_x found.row row) fine in
       let values = deed_has_values command confirms names target deed e in
-      let purpose : found.row.purpose ≡ ForDeed (connecting_in deed.connections) = deed_of_row found command.params command.body confirms names.table target deed reads in
+      let purpose : found.row.purpose ≡ ForDeed (connecting_in deed.connections) = deed_of_row command names found confirms target deed means reads in
       let keeps : ForDeed Keeps ≡ ForDeed (connecting_in deed.connections) =
       ap (λ (other : Option VerbRow). (row_in other found.row).purpose) row ∙ purpose in
       record {

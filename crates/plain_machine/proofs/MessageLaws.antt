@@ -32,6 +32,8 @@ use Rattle.history.specs.Memory.{most_firsts}
 use Rattle.history.specs.Kept.{firsts_in}
 use Rattle.history.specs.Looking.{Looked, new, repeat, confirmed, full, look_of}
 use Rattle.history.proofs.LookLaws.{repeat_kept}
+use Rattle.command_forms.specs.declared.forms.AuditTarget.{AuditTarget}
+use Rattle.command_forms.specs.declared.forms.AuditTarget.TheVariants as audits
 use Rattle.command_forms.specs.declared.forms.Target.{Target}
 use Rattle.command_forms.specs.declared.forms.Target.TheVariants.{One, All as AllLines, Any as AnyLine}
 use Rattle.plain_machine.specs.declared.setup.Setup.{Setup}
@@ -209,15 +211,14 @@ names_answered id names has each =
     })
     (λ code e. fitting_code id wanted code e)
 
-audit_answered : (setup : Setup) (m : Machine) (id : ℕ) (target : Target) (audit : Audit) → Fits setup m → IsId id
+audit_answered : (setup : Setup) (m : Machine) (id : ℕ) (target : AuditTarget) (audit : Audit) → Fits setup m → IsId id
     → IsFit id (answer_by (audited setup m.endpoints id target audit))
 unfolding audited names_of
-audit_answered setup m id (One line) audit fits has = line_answered setup m id line audit fits has
-audit_answered setup m id AllLines audit fits has =
+audit_answered setup m id (audits.One line) audit fits has = line_answered setup m id line audit fits has
+audit_answered setup m id audits.All audit fits has =
     let lines : setup.names.lines ≤ most_lines = fits.set_up.lines in
     let few : length m.endpoints.stations < 2 ^ 16 = omega (arith, fits.lines, lines) in
     names_answered id (map (name_param setup) (numbered m.endpoints)) has (names_writable setup m.endpoints.stations fits.set_up.domain few)
-audit_answered setup m id AnyLine audit fits has = code_fits 503 id has (omega arith)
 
 -- What a deed is answered
 

@@ -2,18 +2,16 @@
 //! come with a request, as theorems.
 #![tactic(auto, unfolding(crate::proofs::Computing::on_examples))]
 
-ghost use Rattle.std.specs.Prelude.{◌≡◌, codes, [], ◌∷◌, ◌++◌, map, replicate, option_map, None, Some, Err};
-ghost use Rattle.command_forms.specs.declared.forms.Target.TheVariants.{Any};
+ghost use Rattle.std.specs.Prelude.{◌≡◌, codes, [], ◌∷◌, ◌++◌, map, replicate, option_map, None, Some};
 ghost use Rattle.mg_line.specs.declared.phone.Act.TheVariants.{OffHook, OnHook};
 ghost use Rattle.mg_packages.specs.declared.signal.Signal.TheVariants as signal;
 ghost use Rattle.plain_machine.specs.Event.{phone};
 ghost use Rattle.connections.specs.Standing.{no_connections};
 ghost use Rattle.plain_machine.specs.Connecting.{id_param};
-ghost use Rattle.plain_machine.specs.Commanding.{audited};
 ghost use Rattle.plain_machine.specs.Machine.{opening, opening_endpoints, opening_station, port_of};
 ghost use Rattle.plain_machine.specs.Calls.{connection_at, port_at, standing_at, NumbersGoOn, IsOnLine};
 ghost use Rattle.plain_machine.specs.Lists.{machine_after, outputs_from, connections_of, signals_of};
-ghost use Rattle.plain_machine.specs.Example.{example, one_line, two_lines, other_host, elsewhere, to_agent_at, response, rqnt, ready_station, ready_endpoints};
+ghost use Rattle.plain_machine.specs.Example.{example, one_line, two_lines, other_host, elsewhere, to_agent_at, response, rqnt, ready_station};
 ghost use Rattle.plain_machine.specs.Example.{ntfy, lifted, lifted_on_2, crcx, mdcx, dlcx, epcf, ready_machine, one_sends};
 ghost use Rattle.plain_machine.specs.Example.{numbers_then, local_text, created_text, says, first_connection};
 ghost use Rattle.plain_machine.specs.Example.{numbered_to, second_called, both_send, both_then, frees_all, deletes_again, on_and_on};
@@ -114,9 +112,4 @@ pub fn a_deletion_is_done_once()
     ensures answers { one_sends deletes_again ≡ created_text 1 1 3000 (codes "0 8") ∷ says (codes "250 2 OK")
         ∷ created_text 3 2 3000 (codes "0 8") ∷ says (codes "250 2 OK") ∷ [] }
     ensures stands { numbers_then one_line deletes_again 1 ≡ Some (2 ∷ []) }
-{}
-
-/// An audit of any one line isn't served; no command comes this far.
-pub fn any_one_line_is_not_audited()
-    ensures { audited example (ready_endpoints example) 9 Any (record { connection = None; items = [] }) ≡ Err 503 }
 {}

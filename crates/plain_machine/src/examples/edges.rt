@@ -9,6 +9,7 @@ ghost use Rattle.connections.specs.declared.deletion.Deletion.TheVariants as del
 ghost use Rattle.command_forms.specs.declared.forms.ConnectionDeed.TheVariants as deeds;
 ghost use Rattle.command_forms.specs.declared.forms.Target.TheVariants.{One, All, Any};
 ghost use Rattle.command_forms.specs.declared.forms.Audit.{Audit};
+ghost use Rattle.command_forms.specs.declared.forms.AuditTarget.TheVariants as audits;
 ghost use Rattle.history.specs.Looking.{full};
 ghost use Rattle.mg_line.specs.declared.phone.Act.TheVariants as acts;
 ghost use Rattle.plain_machine.specs.Event.{phone};
@@ -44,8 +45,8 @@ pub fn three_digits_ask_for_an_acknowledgement()
 
 /// An audit of a line that there isn't is 500; one whose answer doesn't fit is 533.
 pub fn some_audits_have_no_report()
-    ensures no_line { audited example (ready_endpoints example) 9 (One 17) (record { connection = None; items = [] }) ≡ Err 500 }
-    ensures unfit { done_by (Ok (Reports All (record { connection = None; items = [] }))) (wide 250 16) (opening_endpoints (wide 250 16)) 0 9
+    ensures no_line { audited example (ready_endpoints example) 9 (audits.One 17) (record { connection = None; items = [] }) ≡ Err 500 }
+    ensures unfit { done_by (Ok (Reports audits.All (record { connection = None; items = [] }))) (wide 250 16) (opening_endpoints (wide 250 16)) 0 9
         ≡ only_answer (opening_endpoints (wide 250 16)) (plain_code 533) }
 {}
 
@@ -85,7 +86,7 @@ pub fn the_least_line_that_refuses_gives_the_code()
 /// The id of a response counts in its length: 3,997 bytes with one digit are 4,005 with nine.
 pub fn an_id_counts_in_the_length()
     ensures short { let report : Audit = record { connection = None; items = [] } in
-        done_by (Ok (Reports All report)) (wide 320 12) (opening_endpoints (wide 320 12)) 0 9
+        done_by (Ok (Reports audits.All report)) (wide 320 12) (opening_endpoints (wide 320 12)) 0 9
         ≡ only_answer (opening_endpoints (wide 320 12)) (reported (names_of (wide 320 12) (opening_endpoints (wide 320 12)))) }
     ensures long { outputs_of (wide 320 12) (from_agent (codes "AUEP 999999999 *@" ++ replicate 320 97 ++ codes " MGCP 1.0\r\n") ∷ [])
         ≡ one_answer (codes "533 999999999\r\n") }

@@ -1,6 +1,6 @@
 //! Calls about what commands ask for, on a gateway of 16 lines that knows no host.
 use crate::values::names::{DOMAIN, pattern_text};
-use command_forms::{Asks, ConnectionDeed, Deed, RequestForm, Target, form};
+use command_forms::{Asks, AuditTarget, ConnectionDeed, Deed, RequestForm, Target, form};
 use connections::{
     Change, CodecChoice, Codecs, Creation, Deletion, Mode, Options, encoding_text, mode_text,
     write_options,
@@ -174,6 +174,14 @@ fn target_text(alloc: Global, target: Target) -> io::Result<String> {
     }
 }
 
+// The lines that an audit is for.
+fn audit_target_text(alloc: Global, target: AuditTarget) -> io::Result<String> {
+    match target {
+        AuditTarget::One(line) => pattern_text(alloc, Pattern::One(line)),
+        AuditTarget::All => pattern_text(alloc, Pattern::All),
+    }
+}
+
 // What a deed asks for; nothing where it has no request.
 fn deed_text(alloc: Global, deed: &Deed) -> io::Result<String> {
     match &deed.request {
@@ -185,7 +193,7 @@ fn deed_text(alloc: Global, deed: &Deed) -> io::Result<String> {
 // What a call gives of what a command asks for.
 fn asks_text(alloc: Global, call: &str, asks: &Asks<'_>) -> io::Result<String> {
     match asks {
-        Asks::Reports(target, _) => target_text(alloc, *target),
+        Asks::Reports(target, _) => audit_target_text(alloc, *target),
         Asks::Does(_, deed) if call == "asks" => deed_text(alloc, deed),
         Asks::Does(_, deed) if call == "becomes" => becomes_text(alloc, deed),
         Asks::Does(target, _) => target_text(alloc, *target),
