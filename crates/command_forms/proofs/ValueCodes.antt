@@ -21,7 +21,7 @@ use Rattle.event_values.specs.Handling.{handling_of}
 use Rattle.event_values.specs.Signals.{most_signals, setting_of, signal_called, signal_entry_from, signal_entry, signals_in, signals_of}
 use Rattle.event_syntax.specs.Actions.{Word, word_of, Deed, plain, embed, accumulate_and_embed, Said, said_by, said_of, Rule, ruled_by, said_in, rule_from, rule_of}
 use Rattle.event_syntax.specs.Embedding.{embedded_event_by, embedded_event, nothing_embedded, with_events, with_signals, with_map, with_part_named, with_part_in, with_part_from, with_part, with_parts, embedded_in}
-use Rattle.event_syntax.specs.Requested.{response_of, requested, requested_in, requested_of}
+use Rattle.event_syntax.specs.Requested.{reaction_of, requested, requested_in, requested_of}
 use Rattle.command_forms.specs.Values.{handling_at}
 use Rattle.command_forms.specs.Codes.{param_codes, has_code}
 use Rattle.command_forms.proofs.StepLemmas.{on_err}
@@ -174,15 +174,15 @@ embedded_coded : (inside : List ℕ) → Coded (embedded_in inside)
 unfolding embedded_in
 embedded_coded inside = parts_coded nothing_embedded (items inside)
 
-response_coded : (deed : Deed) → Coded (response_of deed)
-response_coded (plain action) = tt
-response_coded (embed inside) = coded_on (embedded_in inside) _ (embedded_coded inside) (λ request. tt)
-response_coded (accumulate_and_embed inside) = coded_on (embedded_in inside) _ (embedded_coded inside) (λ request. tt)
+reaction_coded : (deed : Deed) → Coded (reaction_of deed)
+reaction_coded (plain action) = tt
+reaction_coded (embed inside) = coded_on (embedded_in inside) _ (embedded_coded inside) (λ request. tt)
+reaction_coded (accumulate_and_embed inside) = coded_on (embedded_in inside) _ (embedded_coded inside) (λ request. tt)
 
 requested_entry_coded : (entry : List ℕ) → Coded (requested entry)
 unfolding requested
 requested_entry_coded entry =
-    coded_on (rule_of entry) _ (rule_coded entry) (λ rule. coded_on (response_of rule.deed) _ (response_coded rule.deed) (λ response. tt))
+    coded_on (rule_of entry) _ (rule_coded entry) (λ rule. coded_on (reaction_of rule.deed) _ (reaction_coded rule.deed) (λ reaction. tt))
 
 pub requested_coded : (value : List ℕ) → Coded (requested_of value)
 unfolding requested_of requested_in

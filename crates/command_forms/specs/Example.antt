@@ -18,7 +18,7 @@ use Rattle.event_values.specs.declared.handling.Quarantined.{Quarantined}
 use Rattle.event_values.specs.declared.handling.Quarantined.TheVariants.{Process}
 use Rattle.event_syntax.specs.declared.request.Action.{Action}
 use Rattle.event_syntax.specs.declared.request.RequestedEvent.{RequestedEvent}
-use Rattle.event_syntax.specs.declared.request.Response.TheVariants.{Plain}
+use Rattle.event_syntax.specs.declared.request.Reaction.TheVariants.{Plain}
 use Rattle.event_values.specs.declared.signals.Setting.{Setting}
 use Rattle.event_values.specs.declared.signals.SignalRequest.{SignalRequest}
 use Rattle.sdp_subset.specs.declared.session.Session.{Session}
@@ -179,7 +179,7 @@ taken = bare_request (One 1) (codes "1")
 
 -- an entry of R that does this, without K
 abbrev pub does : Events → Action → RequestedEvent
-does events action = record { events = events; response = Plain action; keep = false }
+does events action = record { events = events; reaction = Plain action; keep = false }
 
 abbrev pub asks : Signal → Setting → SignalRequest
 asks signal setting = record { signal = signal; setting = setting }

@@ -1,10 +1,10 @@
 //! Worked examples of single checks, as theorems: a parameter by itself, and an F in a request.
 #![tactic(auto, unfolding(crate::proofs::Computing::on_examples))]
 
-ghost use Rattle.std.specs.Prelude.{◌≡◌, codes, [], ◌∷◌, Some, Err, true, false};
+ghost use Rattle.std.specs.Prelude.{◌≡◌, codes, map, [], ◌∷◌, Some, Err, true, false};
 ghost use Rattle.mgcp_text.specs.declared.message.Param.{Param};
 ghost use Rattle.command_forms.specs.declared.verbs.Wildcard.TheVariants as wildcards;
-ghost use Rattle.command_forms.specs.Meaning.{takes_all};
+ghost use Rattle.command_forms.specs.Meaning.{takes_all, takes_any};
 ghost use Rattle.command_forms.specs.Params.{is_critical, is_ignored, param_fault};
 ghost use Rattle.command_forms.specs.Example.{request_on, refused, items_alone, of_identifier};
 
@@ -16,6 +16,12 @@ pub fn items_matter_to_audits_alone()
     ensures all { takes_all wildcards.All items_alone ≡ true }
     ensures without_items { takes_all wildcards.AllWithoutItems items_alone ≡ false }
     ensures any { takes_all wildcards.Any [] ≡ false }
+{}
+
+/// Any one line is taken where the row says so, and nowhere else.
+pub fn any_one_line_is_taken_by_its_row_alone()
+    ensures { map takes_any (wildcards.Never ∷ wildcards.All ∷ wildcards.AllWithoutItems ∷ wildcards.AllWithoutCall
+        ∷ wildcards.Any ∷ []) ≡ false ∷ false ∷ false ∷ false ∷ true ∷ [] }
 {}
 
 /// Of one parameter the first of 511, 539 and 510 counts.

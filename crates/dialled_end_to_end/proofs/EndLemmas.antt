@@ -18,7 +18,7 @@ use Rattle.machine_laws.specs.Saying.{HasNumbersLeft, Begun, OneOf}
 use Rattle.machine_laws.proofs.EachLemmas.{Each, each_back, each_front, each_from_all, each_weaker, one_from_any, one_weaker}
 use Rattle.machine_laws.proofs.LineLemmas.{place_of}
 use Rattle.dialled_once.specs.Course.{course_from, course_of}
-use Rattle.dialled_once.specs.Dialled.{done_in, told_in, IsAskedForAll, IsToldOnce}
+use Rattle.dialled_once.specs.Dialled.{done_in, told_along, IsAskedForAll, IsToldOnce}
 use Rattle.dialled_once.specs.Keeping.{happened_in}
 use Rattle.dialled_once.proofs.KeepingLemmas.{happened_both}
 use Rattle.dialled_once.proofs.OverLists.{course_told}
@@ -162,13 +162,13 @@ module _ (setup : Setup) (steps : List WorldStep) (line : ℕ) (set_up : IsSetUp
       (each_from_all (λ (one : Reached). Any (λ (b : Begun). (b.id ≡ one.asked.id) × (one.outcome ≡ read_text b.text)) (own_in setup w)) (taken_in w) (taken_as_sent setup steps set_up taken)))
 
   course_is : (station : Station) → station_at (gateway_in setup w).endpoints line ≡ Some station
-      → told_in (course_of setup line w.gateway_took) ≡ flat_map told_by (line_begun setup line w.gateway_took)
+      → told_along (course_of setup line w.gateway_took) ≡ flat_map told_by (line_begun setup line w.gateway_took)
   course_is station at =
       course_tells setup line (place_of (gateway_in setup w).endpoints line station at).0 w.gateway_took station at
       ∙ begun_tell setup line (sent_of setup w.gateway_took) (each_from_all (IsWell setup) (sent_of setup w.gateway_took) (sent_well setup set_up w.gateway_took))
 
   told_through : (station : Station) → station_at (gateway_in setup w).endpoints line ≡ Some station → has_given_up (line_sent setup line w.gateway_took) station.post ≡ false
-      → told_in (course_of setup line w.gateway_took) ≡ observed_on line (agent_in setup w) ++ untaken (taken_in w) station.post.pending
+      → told_along (course_of setup line w.gateway_took) ≡ observed_on line (agent_in setup w) ++ untaken (taken_in w) station.post.pending
   told_through station at none =
       let some = (place_of (gateway_in setup w).endpoints line station at).0 in
       let k = known setup line some steps set_up taken few in

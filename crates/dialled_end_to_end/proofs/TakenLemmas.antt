@@ -23,7 +23,7 @@ use Rattle.machine_laws.specs.Notified.{observed_with}
 use Rattle.machine_laws.specs.Saying.{Begun, OneOf, begun_by, begun_at, begun_in}
 use Rattle.machine_laws.proofs.EachLemmas.{Each, each_both, one_of_each, one_to}
 use Rattle.dialled_once.specs.Course.{notified_with}
-use Rattle.dialled_once.specs.Dialled.{told_in}
+use Rattle.dialled_once.specs.Dialled.{told_along}
 use Rattle.agent_core.specs.Taking.{command_of, taken_of, taken_on}
 use Rattle.agent_core.specs.World.{agent_of}
 use Rattle.world_laws.specs.Reached.{Reached, taken_of_command, taken_with, told_of}
@@ -48,31 +48,31 @@ module _ (setup : Setup) (set_up : IsSetUp setup) (line : ℕ) where
   TakenAs b = flat_map (told_of line) (taken_of_command (command_of (agent_of setup) (read_text b.text))) ≡ (if is_mine line b then told_by b else [])
 
   notice_taken : (n : ℕ) (params : List Param) → 1 ≤ n → n ≤ setup.names.lines
-      → flat_map (told_of line) (taken_of (agent_of setup) Ntfy (name_text (One n) setup.names.domain) params) ≡ (if n == line then told_in (notified_with Ntfy params) else [])
+      → flat_map (told_of line) (taken_of (agent_of setup) Ntfy (name_text (One n) setup.names.domain) params) ≡ (if n == line then told_along (notified_with Ntfy params) else [])
   notice_taken n params some within =
       let lines : setup.names.lines ≤ 16 = set_up.lines in
       ap (λ (name : Result Pattern NameFault). flat_map (told_of line) (taken_on (line_meant name) params)) (line_read n setup.names.lines setup.names.domain some within (omega (arith, lines)))
       ∙ by_test (n == line) where
-        by_test : (b : Bool) → (if b then observed_with params else []) ++ [] ≡ (if b then told_in (notified_with Ntfy params) else [])
+        by_test : (b : Bool) → (if b then observed_with params else []) ++ [] ≡ (if b then told_along (notified_with Ntfy params) else [])
         by_test true = refl
         by_test false = refl
 
   own_taken : (owner : Owner) (verb : Verb) (id : ℕ) (name : List ℕ) (params : List Param) (body : List ℕ) → IsOwn setup owner verb id name params body
-      → flat_map (told_of line) (taken_of (agent_of setup) verb name params) ≡ (if line_of_id id == line then told_in (notified_with verb params) else [])
+      → flat_map (told_of line) (taken_of (agent_of setup) verb name params) ≡ (if line_of_id id == line then told_along (notified_with verb params) else [])
   own_taken owner verb id name params body own = by_kind own.kind where
     none : (b : Bool) → ◌≡◌ {A = List Observed} [] (if b then [] else [])
     none true = refl
     none false = refl
 
     by_kind : IsNotice setup own.line verb name ⊎ (verb ≡ Rsip)
-        → flat_map (told_of line) (taken_of (agent_of setup) verb name params) ≡ (if line_of_id id == line then told_in (notified_with verb params) else [])
+        → flat_map (told_of line) (taken_of (agent_of setup) verb name params) ≡ (if line_of_id id == line then told_along (notified_with verb params) else [])
     by_kind (inl is) =
-        subst (λ (v : Verb). flat_map (told_of line) (taken_of (agent_of setup) v name params) ≡ (if line_of_id id == line then told_in (notified_with v params) else [])) (sym is.verb_is)
+        subst (λ (v : Verb). flat_map (told_of line) (taken_of (agent_of setup) v name params) ≡ (if line_of_id id == line then told_along (notified_with v params) else [])) (sym is.verb_is)
         (ap (λ (x : List ℕ). flat_map (told_of line) (taken_of (agent_of setup) Ntfy x params)) is.name_is
         ∙ notice_taken own.line params is.some is.within
-        ∙ ap (λ (n : ℕ). if n == line then told_in (notified_with Ntfy params) else []) (sym own.id_of))
+        ∙ ap (λ (n : ℕ). if n == line then told_along (notified_with Ntfy params) else []) (sym own.id_of))
     by_kind (inr is) =
-        subst (λ (v : Verb). flat_map (told_of line) (taken_of (agent_of setup) v name params) ≡ (if line_of_id id == line then told_in (notified_with v params) else [])) (sym is)
+        subst (λ (v : Verb). flat_map (told_of line) (taken_of (agent_of setup) v name params) ≡ (if line_of_id id == line then told_along (notified_with v params) else [])) (sym is)
         (none (line_of_id id == line))
 
   said_taken : (owner : Owner) (moment : ℕ) (said : Said) → SaysWell setup owner said → Each TakenAs (begun_by moment said)

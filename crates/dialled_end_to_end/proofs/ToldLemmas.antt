@@ -25,7 +25,7 @@ use Rattle.machine_laws.proofs.EachLemmas.{Each}
 use Rattle.machine_laws.proofs.WaitLaws.{opening_waits}
 use Rattle.line_isolation.specs.Belonging.{is_of, of_line}
 use Rattle.dialled_once.specs.Course.{Step, acts, notified_by, accepted, course_of}
-use Rattle.dialled_once.specs.Dialled.{told_in}
+use Rattle.dialled_once.specs.Dialled.{told_along}
 use Rattle.dialled_once.proofs.CourseLemmas.{AnyResponse, StationTurns, answer_notifies, events_stand, hear_all}
 use Rattle.dialled_once.proofs.DialledLemmas.{told_both}
 use Rattle.dialled_once.proofs.StationLemmas.{steps_in}
@@ -35,25 +35,25 @@ use Rattle.dialled_end_to_end.proofs.WellLemmas.{SaysWell, IsWell}
 -- What the notifications among these messages tell
 
 abbrev pub notified : List Sent → List Observed
-notified sent = told_in (steps_in sent)
+notified sent = told_along (steps_in sent)
 
 notified_both : (some more : List Sent) → notified (some ++ more) ≡ notified some ++ notified more
 notified_both some more =
-    ap told_in (flat_map-append (λ (one : Sent). notified_by one.said) some more) ∙ told_both (steps_in some) (steps_in more)
+    ap told_along (flat_map-append (λ (one : Sent). notified_by one.said) some more) ∙ told_both (steps_in some) (steps_in more)
 
 -- the course tells so
 abbrev TellsSo : Bool → List Step → List Sent → Station → Type 0
-TellsSo serving course sent station = told_in course ≡ notified sent
+TellsSo serving course sent station = told_along course ≡ notified sent
 
-turn_tells : (course : List Step) (sent more : List Sent) → told_in course ≡ notified sent → told_in (course ++ steps_in more) ≡ notified (sent ++ more)
+turn_tells : (course : List Step) (sent more : List Sent) → told_along course ≡ notified sent → told_along (course ++ steps_in more) ≡ notified (sent ++ more)
 turn_tells course sent more is = told_both course (steps_in more) ∙ ap (λ (x : List Observed). x ++ notified more) is ∙ sym (notified_both sent more)
 
 -- what else stands in a course tells nothing
-added_tells : (course added : List Step) (sent more : List Sent) → told_in added ≡ [] → told_in course ≡ notified sent → told_in ((course ++ added) ++ steps_in more) ≡ notified (sent ++ more)
+added_tells : (course added : List Step) (sent more : List Sent) → told_along added ≡ [] → told_along course ≡ notified sent → told_along ((course ++ added) ++ steps_in more) ≡ notified (sent ++ more)
 added_tells course added sent more none is =
-    turn_tells (course ++ added) sent more (told_both course added ∙ ap (λ (x : List Observed). told_in course ++ x) none ∙ append-nil (told_in course) ∙ is)
+    turn_tells (course ++ added) sent more (told_both course added ∙ ap (λ (x : List Observed). told_along course ++ x) none ∙ append-nil (told_along course) ∙ is)
 
-accepted_tells : (request : Option Request) → told_in (accepted request) ≡ []
+accepted_tells : (request : Option Request) → told_along (accepted request) ≡ []
 accepted_tells None = refl
 accepted_tells (Some request) = refl
 
@@ -66,11 +66,11 @@ told_turns setup = record {
   redirecting = λ serving course sent agent line station is. turn_tells course sent (redirected_on agent line station).sent is;
   opening = λ course sent agent moment line station closed is. turn_tells course sent (opened_on agent setup moment line station).sent is;
   answering = λ serving course sent one station answers is.
-      is ∙ sym (notified_both sent (one ∷ []) ∙ ap (λ (x : List Step). notified sent ++ told_in (x ++ [])) (answer_notifies one.said answers) ∙ append-nil (notified sent));
+      is ∙ sym (notified_both sent (one ∷ []) ∙ ap (λ (x : List Step). notified sent ++ told_along (x ++ [])) (answer_notifies one.said answers) ∙ append-nil (notified sent));
 }
 
 pub course_tells : (setup : Setup) (line : ℕ) (some : 1 ≤ line) (events : List GatewayEvent) (station : Station) → station_at (plain setup events).endpoints line ≡ Some station
-    → told_in (course_of setup line events) ≡ notified (of_line line (sent_of setup events))
+    → told_along (course_of setup line events) ≡ notified (of_line line (sent_of setup events))
 course_tells setup line some events station at =
     (events_stand setup AnyResponse TellsSo (told_turns setup) line some (opening setup) [] [] 0 events (hear_all setup AnyResponse (λ response. tt) (arrivals_of events))
     (record { order = opening_waits setup; holds = λ s here. refl })).holds station at
@@ -80,9 +80,9 @@ course_tells setup line some events station at =
 abbrev pub told_by : Begun → List Observed
 told_by b = told_as (read_text b.text)
 
-said_tells : (setup : Setup) (owner : Owner) (moment : ℕ) (said : Said) → SaysWell setup owner said → told_in (notified_by said) ≡ flat_map told_by (begun_by moment said)
+said_tells : (setup : Setup) (owner : Owner) (moment : ℕ) (said : Said) → SaysWell setup owner said → told_along (notified_by said) ≡ flat_map told_by (begun_by moment said)
 said_tells setup owner moment (command (messages.Command verb id name params body)) well =
-    sym (append-nil (told_in (notified_by (command (messages.Command verb id name params body)))))
+    sym (append-nil (told_along (notified_by (command (messages.Command verb id name params body)))))
     ∙ ap (λ (outcome : Outcome). told_as outcome ++ []) (sym (read_again (messages.Command verb id name params body) well.writable))
 said_tells setup owner moment (command (messages.Response code id params body)) well = absurd well
 said_tells setup owner moment (answer response) well = refl

@@ -6,14 +6,14 @@ use Rattle.mg_packages.specs.declared.event.Event.{Event}
 use Rattle.mg_packages.specs.declared.event.Event.TheVariants as events
 use Rattle.event_syntax.specs.declared.request.Action.TheVariants.{Notify, Accumulate, Dial, Ignore}
 use Rattle.event_syntax.specs.declared.request.RequestedEvent.{RequestedEvent}
-use Rattle.event_syntax.specs.declared.request.Response.{Response}
-use Rattle.event_syntax.specs.declared.request.Response.TheVariants.{Plain, Embed, AccumulateAndEmbed}
+use Rattle.event_syntax.specs.declared.request.Reaction.{Reaction}
+use Rattle.event_syntax.specs.declared.request.Reaction.TheVariants.{Plain, Embed, AccumulateAndEmbed}
 use Rattle.event_requests.specs.Choice.{chosen}
 use Rattle.line_isolation.proofs.EachTests.{each_passes}
 use Rattle.machine_laws.proofs.EachLemmas.{Each}
 use Rattle.dialled_once.specs.Keeping.{is_of_phone, is_bare, NotifiesAll}
 
-abbrev is_notify : Response → Bool
+abbrev is_notify : Reaction → Bool
 is_notify (Plain Notify) = true
 is_notify (Plain Accumulate) = false
 is_notify (Plain Dial) = false
@@ -21,7 +21,7 @@ is_notify (Plain Ignore) = false
 is_notify (Embed request) = false
 is_notify (AccumulateAndEmbed request) = false
 
-is_plain : (response : Response) → is_notify response ≡ true → response ≡ Plain Notify
+is_plain : (reaction : Reaction) → is_notify reaction ≡ true → reaction ≡ Plain Notify
 is_plain (Plain Notify) e = refl
 is_plain (Plain Accumulate) e = absurd cc
 is_plain (Plain Dial) e = absurd cc
@@ -37,60 +37,60 @@ of_phone =
 abbrev of_none : List Event
 of_none = events.LineComplete ∷ events.GenericComplete ∷ events.Letter letters.Timer ∷ []
 
-pub notifies_each : (requested : List RequestedEvent) → list_all (λ (event : Event). is_notify (chosen requested event).response) of_phone ≡ true
-    → list_all (λ (event : Event). is_bare (chosen requested event).response) of_none ≡ true → NotifiesAll requested
+pub notifies_each : (requested : List RequestedEvent) → list_all (λ (event : Event). is_notify (chosen requested event).reaction) of_phone ≡ true
+    → list_all (λ (event : Event). is_bare (chosen requested event).reaction) of_none ≡ true → NotifiesAll requested
 notifies_each requested phone others = record { phone = by_event each; bare = λ event. by_bare each also event } where
-  each : Each (λ (event : Event). is_notify (chosen requested event).response ≡ true) of_phone
-  each = each_passes (λ (event : Event). is_notify (chosen requested event).response) of_phone phone
+  each : Each (λ (event : Event). is_notify (chosen requested event).reaction ≡ true) of_phone
+  each = each_passes (λ (event : Event). is_notify (chosen requested event).reaction) of_phone phone
 
-  also : Each (λ (event : Event). is_bare (chosen requested event).response ≡ true) of_none
-  also = each_passes (λ (event : Event). is_bare (chosen requested event).response) of_none others
+  also : Each (λ (event : Event). is_bare (chosen requested event).reaction ≡ true) of_none
+  also = each_passes (λ (event : Event). is_bare (chosen requested event).reaction) of_none others
 
-  by_event : Each (λ (event : Event). is_notify (chosen requested event).response ≡ true) of_phone → (event : Event) → is_of_phone event ≡ true → (chosen requested event).response ≡ Plain Notify
-  by_event each events.OffHook is = is_plain (chosen requested events.OffHook).response each.0
-  by_event each events.OnHook is = is_plain (chosen requested events.OnHook).response each.1.0
-  by_event each events.Flash is = is_plain (chosen requested events.Flash).response each.1.1.0
-  by_event each (events.Letter letters.Zero) is = is_plain (chosen requested (events.Letter letters.Zero)).response each.1.1.1.0
-  by_event each (events.Letter letters.One) is = is_plain (chosen requested (events.Letter letters.One)).response each.1.1.1.1.0
-  by_event each (events.Letter letters.Two) is = is_plain (chosen requested (events.Letter letters.Two)).response each.1.1.1.1.1.0
-  by_event each (events.Letter letters.Three) is = is_plain (chosen requested (events.Letter letters.Three)).response each.1.1.1.1.1.1.0
-  by_event each (events.Letter letters.Four) is = is_plain (chosen requested (events.Letter letters.Four)).response each.1.1.1.1.1.1.1.0
-  by_event each (events.Letter letters.Five) is = is_plain (chosen requested (events.Letter letters.Five)).response each.1.1.1.1.1.1.1.1.0
-  by_event each (events.Letter letters.Six) is = is_plain (chosen requested (events.Letter letters.Six)).response each.1.1.1.1.1.1.1.1.1.0
-  by_event each (events.Letter letters.Seven) is = is_plain (chosen requested (events.Letter letters.Seven)).response each.1.1.1.1.1.1.1.1.1.1.0
-  by_event each (events.Letter letters.Eight) is = is_plain (chosen requested (events.Letter letters.Eight)).response each.1.1.1.1.1.1.1.1.1.1.1.0
-  by_event each (events.Letter letters.Nine) is = is_plain (chosen requested (events.Letter letters.Nine)).response each.1.1.1.1.1.1.1.1.1.1.1.1.0
-  by_event each (events.Letter letters.Star) is = is_plain (chosen requested (events.Letter letters.Star)).response each.1.1.1.1.1.1.1.1.1.1.1.1.1.0
-  by_event each (events.Letter letters.Hash) is = is_plain (chosen requested (events.Letter letters.Hash)).response each.1.1.1.1.1.1.1.1.1.1.1.1.1.1.0
-  by_event each (events.Letter letters.A) is = is_plain (chosen requested (events.Letter letters.A)).response each.1.1.1.1.1.1.1.1.1.1.1.1.1.1.1.0
-  by_event each (events.Letter letters.B) is = is_plain (chosen requested (events.Letter letters.B)).response each.1.1.1.1.1.1.1.1.1.1.1.1.1.1.1.1.0
-  by_event each (events.Letter letters.C) is = is_plain (chosen requested (events.Letter letters.C)).response each.1.1.1.1.1.1.1.1.1.1.1.1.1.1.1.1.1.0
-  by_event each (events.Letter letters.D) is = is_plain (chosen requested (events.Letter letters.D)).response each.1.1.1.1.1.1.1.1.1.1.1.1.1.1.1.1.1.1.0
+  by_event : Each (λ (event : Event). is_notify (chosen requested event).reaction ≡ true) of_phone → (event : Event) → is_of_phone event ≡ true → (chosen requested event).reaction ≡ Plain Notify
+  by_event each events.OffHook is = is_plain (chosen requested events.OffHook).reaction each.0
+  by_event each events.OnHook is = is_plain (chosen requested events.OnHook).reaction each.1.0
+  by_event each events.Flash is = is_plain (chosen requested events.Flash).reaction each.1.1.0
+  by_event each (events.Letter letters.Zero) is = is_plain (chosen requested (events.Letter letters.Zero)).reaction each.1.1.1.0
+  by_event each (events.Letter letters.One) is = is_plain (chosen requested (events.Letter letters.One)).reaction each.1.1.1.1.0
+  by_event each (events.Letter letters.Two) is = is_plain (chosen requested (events.Letter letters.Two)).reaction each.1.1.1.1.1.0
+  by_event each (events.Letter letters.Three) is = is_plain (chosen requested (events.Letter letters.Three)).reaction each.1.1.1.1.1.1.0
+  by_event each (events.Letter letters.Four) is = is_plain (chosen requested (events.Letter letters.Four)).reaction each.1.1.1.1.1.1.1.0
+  by_event each (events.Letter letters.Five) is = is_plain (chosen requested (events.Letter letters.Five)).reaction each.1.1.1.1.1.1.1.1.0
+  by_event each (events.Letter letters.Six) is = is_plain (chosen requested (events.Letter letters.Six)).reaction each.1.1.1.1.1.1.1.1.1.0
+  by_event each (events.Letter letters.Seven) is = is_plain (chosen requested (events.Letter letters.Seven)).reaction each.1.1.1.1.1.1.1.1.1.1.0
+  by_event each (events.Letter letters.Eight) is = is_plain (chosen requested (events.Letter letters.Eight)).reaction each.1.1.1.1.1.1.1.1.1.1.1.0
+  by_event each (events.Letter letters.Nine) is = is_plain (chosen requested (events.Letter letters.Nine)).reaction each.1.1.1.1.1.1.1.1.1.1.1.1.0
+  by_event each (events.Letter letters.Star) is = is_plain (chosen requested (events.Letter letters.Star)).reaction each.1.1.1.1.1.1.1.1.1.1.1.1.1.0
+  by_event each (events.Letter letters.Hash) is = is_plain (chosen requested (events.Letter letters.Hash)).reaction each.1.1.1.1.1.1.1.1.1.1.1.1.1.1.0
+  by_event each (events.Letter letters.A) is = is_plain (chosen requested (events.Letter letters.A)).reaction each.1.1.1.1.1.1.1.1.1.1.1.1.1.1.1.0
+  by_event each (events.Letter letters.B) is = is_plain (chosen requested (events.Letter letters.B)).reaction each.1.1.1.1.1.1.1.1.1.1.1.1.1.1.1.1.0
+  by_event each (events.Letter letters.C) is = is_plain (chosen requested (events.Letter letters.C)).reaction each.1.1.1.1.1.1.1.1.1.1.1.1.1.1.1.1.1.0
+  by_event each (events.Letter letters.D) is = is_plain (chosen requested (events.Letter letters.D)).reaction each.1.1.1.1.1.1.1.1.1.1.1.1.1.1.1.1.1.1.0
   by_event each events.LineComplete is = absurd cc
   by_event each events.GenericComplete is = absurd cc
   by_event each (events.Letter letters.Timer) is = absurd cc
 
-  by_bare : Each (λ (event : Event). is_notify (chosen requested event).response ≡ true) of_phone → Each (λ (event : Event). is_bare (chosen requested event).response ≡ true) of_none
-      → (event : Event) → is_bare (chosen requested event).response ≡ true
-  by_bare each also events.OffHook = ap is_bare (is_plain (chosen requested events.OffHook).response each.0)
-  by_bare each also events.OnHook = ap is_bare (is_plain (chosen requested events.OnHook).response each.1.0)
-  by_bare each also events.Flash = ap is_bare (is_plain (chosen requested events.Flash).response each.1.1.0)
-  by_bare each also (events.Letter letters.Zero) = ap is_bare (is_plain (chosen requested (events.Letter letters.Zero)).response each.1.1.1.0)
-  by_bare each also (events.Letter letters.One) = ap is_bare (is_plain (chosen requested (events.Letter letters.One)).response each.1.1.1.1.0)
-  by_bare each also (events.Letter letters.Two) = ap is_bare (is_plain (chosen requested (events.Letter letters.Two)).response each.1.1.1.1.1.0)
-  by_bare each also (events.Letter letters.Three) = ap is_bare (is_plain (chosen requested (events.Letter letters.Three)).response each.1.1.1.1.1.1.0)
-  by_bare each also (events.Letter letters.Four) = ap is_bare (is_plain (chosen requested (events.Letter letters.Four)).response each.1.1.1.1.1.1.1.0)
-  by_bare each also (events.Letter letters.Five) = ap is_bare (is_plain (chosen requested (events.Letter letters.Five)).response each.1.1.1.1.1.1.1.1.0)
-  by_bare each also (events.Letter letters.Six) = ap is_bare (is_plain (chosen requested (events.Letter letters.Six)).response each.1.1.1.1.1.1.1.1.1.0)
-  by_bare each also (events.Letter letters.Seven) = ap is_bare (is_plain (chosen requested (events.Letter letters.Seven)).response each.1.1.1.1.1.1.1.1.1.1.0)
-  by_bare each also (events.Letter letters.Eight) = ap is_bare (is_plain (chosen requested (events.Letter letters.Eight)).response each.1.1.1.1.1.1.1.1.1.1.1.0)
-  by_bare each also (events.Letter letters.Nine) = ap is_bare (is_plain (chosen requested (events.Letter letters.Nine)).response each.1.1.1.1.1.1.1.1.1.1.1.1.0)
-  by_bare each also (events.Letter letters.Star) = ap is_bare (is_plain (chosen requested (events.Letter letters.Star)).response each.1.1.1.1.1.1.1.1.1.1.1.1.1.0)
-  by_bare each also (events.Letter letters.Hash) = ap is_bare (is_plain (chosen requested (events.Letter letters.Hash)).response each.1.1.1.1.1.1.1.1.1.1.1.1.1.1.0)
-  by_bare each also (events.Letter letters.A) = ap is_bare (is_plain (chosen requested (events.Letter letters.A)).response each.1.1.1.1.1.1.1.1.1.1.1.1.1.1.1.0)
-  by_bare each also (events.Letter letters.B) = ap is_bare (is_plain (chosen requested (events.Letter letters.B)).response each.1.1.1.1.1.1.1.1.1.1.1.1.1.1.1.1.0)
-  by_bare each also (events.Letter letters.C) = ap is_bare (is_plain (chosen requested (events.Letter letters.C)).response each.1.1.1.1.1.1.1.1.1.1.1.1.1.1.1.1.1.0)
-  by_bare each also (events.Letter letters.D) = ap is_bare (is_plain (chosen requested (events.Letter letters.D)).response each.1.1.1.1.1.1.1.1.1.1.1.1.1.1.1.1.1.1.0)
+  by_bare : Each (λ (event : Event). is_notify (chosen requested event).reaction ≡ true) of_phone → Each (λ (event : Event). is_bare (chosen requested event).reaction ≡ true) of_none
+      → (event : Event) → is_bare (chosen requested event).reaction ≡ true
+  by_bare each also events.OffHook = ap is_bare (is_plain (chosen requested events.OffHook).reaction each.0)
+  by_bare each also events.OnHook = ap is_bare (is_plain (chosen requested events.OnHook).reaction each.1.0)
+  by_bare each also events.Flash = ap is_bare (is_plain (chosen requested events.Flash).reaction each.1.1.0)
+  by_bare each also (events.Letter letters.Zero) = ap is_bare (is_plain (chosen requested (events.Letter letters.Zero)).reaction each.1.1.1.0)
+  by_bare each also (events.Letter letters.One) = ap is_bare (is_plain (chosen requested (events.Letter letters.One)).reaction each.1.1.1.1.0)
+  by_bare each also (events.Letter letters.Two) = ap is_bare (is_plain (chosen requested (events.Letter letters.Two)).reaction each.1.1.1.1.1.0)
+  by_bare each also (events.Letter letters.Three) = ap is_bare (is_plain (chosen requested (events.Letter letters.Three)).reaction each.1.1.1.1.1.1.0)
+  by_bare each also (events.Letter letters.Four) = ap is_bare (is_plain (chosen requested (events.Letter letters.Four)).reaction each.1.1.1.1.1.1.1.0)
+  by_bare each also (events.Letter letters.Five) = ap is_bare (is_plain (chosen requested (events.Letter letters.Five)).reaction each.1.1.1.1.1.1.1.1.0)
+  by_bare each also (events.Letter letters.Six) = ap is_bare (is_plain (chosen requested (events.Letter letters.Six)).reaction each.1.1.1.1.1.1.1.1.1.0)
+  by_bare each also (events.Letter letters.Seven) = ap is_bare (is_plain (chosen requested (events.Letter letters.Seven)).reaction each.1.1.1.1.1.1.1.1.1.1.0)
+  by_bare each also (events.Letter letters.Eight) = ap is_bare (is_plain (chosen requested (events.Letter letters.Eight)).reaction each.1.1.1.1.1.1.1.1.1.1.1.0)
+  by_bare each also (events.Letter letters.Nine) = ap is_bare (is_plain (chosen requested (events.Letter letters.Nine)).reaction each.1.1.1.1.1.1.1.1.1.1.1.1.0)
+  by_bare each also (events.Letter letters.Star) = ap is_bare (is_plain (chosen requested (events.Letter letters.Star)).reaction each.1.1.1.1.1.1.1.1.1.1.1.1.1.0)
+  by_bare each also (events.Letter letters.Hash) = ap is_bare (is_plain (chosen requested (events.Letter letters.Hash)).reaction each.1.1.1.1.1.1.1.1.1.1.1.1.1.1.0)
+  by_bare each also (events.Letter letters.A) = ap is_bare (is_plain (chosen requested (events.Letter letters.A)).reaction each.1.1.1.1.1.1.1.1.1.1.1.1.1.1.1.0)
+  by_bare each also (events.Letter letters.B) = ap is_bare (is_plain (chosen requested (events.Letter letters.B)).reaction each.1.1.1.1.1.1.1.1.1.1.1.1.1.1.1.1.0)
+  by_bare each also (events.Letter letters.C) = ap is_bare (is_plain (chosen requested (events.Letter letters.C)).reaction each.1.1.1.1.1.1.1.1.1.1.1.1.1.1.1.1.1.0)
+  by_bare each also (events.Letter letters.D) = ap is_bare (is_plain (chosen requested (events.Letter letters.D)).reaction each.1.1.1.1.1.1.1.1.1.1.1.1.1.1.1.1.1.1.0)
   by_bare each also events.LineComplete = also.0
   by_bare each also events.GenericComplete = also.1.0
   by_bare each also (events.Letter letters.Timer) = also.1.1.0

@@ -16,7 +16,7 @@ use Rattle.mg_line.specs.Opening.{opened}
 use Rattle.mg_line.specs.Requesting.{asked}
 use Rattle.mg_line.proofs.LoseLemmas.{lost_only_grows}
 use Rattle.dialled_once.specs.Course.{Step, acts, accepts, notifies}
-use Rattle.dialled_once.specs.Dialled.{done_at, done_in, told_at, told_in, AskForAll, latest_from, AsksIfAny}
+use Rattle.dialled_once.specs.Dialled.{done_at, done_in, told_at, told_along, AskForAll, latest_from, AsksIfAny}
 use Rattle.dialled_once.specs.Following.{FollowFrom, AreInStep, OnceFrom, Follows, IsResting, StaysResting}
 use Rattle.dialled_once.specs.Keeping.{happened_in, told_of, IsUntouched, KeepsAll, Conserves, StaysUntouched}
 use Rattle.dialled_once.proofs.CountLemmas.{IsCounted, acts_count, fires_count}
@@ -216,7 +216,7 @@ opening_once = λ all.
 pub done_both : (some more : List Step) → done_in (some ++ more) ≡ done_in some ++ done_in more
 done_both some more = flat_map-append done_at some more
 
-pub told_both : (some more : List Step) → told_in (some ++ more) ≡ told_in some ++ told_in more
+pub told_both : (some more : List Step) → told_along (some ++ more) ≡ told_along some ++ told_along more
 told_both some more = flat_map-append told_at some more
 
 latest_both : (latest : Option Request) (some more : List Step) → latest_from latest (some ++ more) ≡ latest_from (latest_from latest some) more
@@ -229,7 +229,7 @@ none_done : (notice : Option Notice) → done_in (steps_of notice) ≡ []
 none_done None = refl
 none_done (Some notice) = refl
 
-told_is : (notice : Option Notice) → told_in (steps_of notice) ≡ told_of notice
+told_is : (notice : Option Notice) → told_along (steps_of notice) ≡ told_of notice
 told_is None = refl
 told_is (Some notice) = append-nil notice.observed
 
@@ -244,18 +244,18 @@ front_none (x ∷ some) more e = absurd cc
 -- before any act nothing of a telephone is kept, and a line that is asked for all keeps all
 pub record Begins (course : List Step) (line : LineState) : Type 0 where
   pub untouched : IsUntouched line
-  pub told : happened_in (told_in course) ≡ []
+  pub told : happened_in (told_along course) ≡ []
   pub keeps : AsksIfAny (latest_from None course) → KeepsAll line
 
 abbrev pub BeginsUntouched : Bool → List Step → LineState → Type 0
 BeginsUntouched serving course line = done_in course ≡ [] → Begins course line
 
 -- nothing more is told of it
-told_none : (course : List Step) (notice : Option Notice) → happened_in (told_in course) ≡ [] → happened_in (told_of notice) ≡ []
-    → happened_in (told_in (course ++ steps_of notice)) ≡ []
+told_none : (course : List Step) (notice : Option Notice) → happened_in (told_along course) ≡ [] → happened_in (told_of notice) ≡ []
+    → happened_in (told_along (course ++ steps_of notice)) ≡ []
 told_none course notice before now =
-    ap happened_in (told_both course (steps_of notice)) ∙ ap (λ (x : List Observed). happened_in (told_in course ++ x)) (told_is notice)
-    ∙ happened_both (told_in course) (told_of notice) ∙ ap (λ (x : List Observed). x ++ happened_in (told_of notice)) before ∙ now
+    ap happened_in (told_both course (steps_of notice)) ∙ ap (λ (x : List Observed). happened_in (told_along course ++ x)) (told_is notice)
+    ∙ happened_both (told_along course) (told_of notice) ∙ ap (λ (x : List Observed). x ++ happened_in (told_of notice)) before ∙ now
 
 -- nothing was done before, where nothing was done up to what is told then
 none_before : (course : List Step) (notice : Option Notice) → done_in (course ++ steps_of notice) ≡ [] → done_in course ≡ []
@@ -282,7 +282,7 @@ request_begins course line request moment b =
     let stays = nothing_is_made_up.request line request moment b.untouched in
     record {
       untouched = stays.line;
-      told = told_none front done.notice (ap happened_in (told_both course (accepts request ∷ []) ∙ append-nil (told_in course)) ∙ b.told) stays.told;
+      told = told_none front done.notice (ap happened_in (told_both course (accepts request ∷ []) ∙ append-nil (told_along course)) ∙ b.told) stays.told;
       keeps = λ asks. (nothing_is_made_up.begins line request moment (subst AsksIfAny latest asks) b.untouched).keeps;
     }
 
@@ -342,7 +342,7 @@ ask_back (notifies identifier observed ∷ some) more all = ask_back some more a
 -- all that was done is told or kept, as long as nothing is lost
 pub record ToldOnce (course : List Step) (line : LineState) : Type 0 where
   pub keeps : KeepsAll line
-  pub whole : done_in course ≡ happened_in (told_in course) ++ happened_in line.quarantined.events
+  pub whole : done_in course ≡ happened_in (told_along course) ++ happened_in line.quarantined.events
 
 pub record Told (serving : Bool) (course : List Step) (line : LineState) : Type 0 where
   pub counted : line.quarantined.lost ≤ most_lost
@@ -356,15 +356,15 @@ grown done told held new now left whole conserves =
 
 -- a call with what is new in the course, and in what was done
 told_goes : (course step : List Step) (line : LineState) (done : LineDone) (new : List Observed) → ToldOnce course line → Conserves line new done
-    → done_in step ≡ new → told_in step ≡ [] → ToldOnce ((course ++ step) ++ steps_of done.notice) done.line
+    → done_in step ≡ new → told_along step ≡ [] → ToldOnce ((course ++ step) ++ steps_of done.notice) done.line
 told_goes course step line done new t conserves does tells = record {
   keeps = conserves.keeps;
   whole = done_both (course ++ step) (steps_of done.notice) ∙ ap (λ (x : List Observed). done_in (course ++ step) ++ x) (none_done done.notice) ∙ append-nil (done_in (course ++ step))
       ∙ done_both course step ∙ ap (λ (x : List Observed). done_in course ++ x) does
-      ∙ grown (done_in course) (told_in course) (happened_in line.quarantined.events) new (told_of done.notice) (happened_in done.line.quarantined.events) t.whole conserves.whole
+      ∙ grown (done_in course) (told_along course) (happened_in line.quarantined.events) new (told_of done.notice) (happened_in done.line.quarantined.events) t.whole conserves.whole
       ∙ ap (λ (x : List Observed). happened_in x ++ happened_in done.line.quarantined.events)
-      (sym (told_both (course ++ step) (steps_of done.notice) ∙ ap (λ (x : List Observed). told_in (course ++ step) ++ x) (told_is done.notice)
-      ∙ ap (λ (x : List Observed). x ++ told_of done.notice) (told_both course step ∙ ap (λ (x : List Observed). told_in course ++ x) tells ∙ append-nil (told_in course))));
+      (sym (told_both (course ++ step) (steps_of done.notice) ∙ ap (λ (x : List Observed). told_along (course ++ step) ++ x) (told_is done.notice)
+      ∙ ap (λ (x : List Observed). x ++ told_of done.notice) (told_both course step ∙ ap (λ (x : List Observed). told_along course ++ x) tells ∙ append-nil (told_along course))));
 }
 
 told_plain : (course : List Step) (line : LineState) (done : LineDone) → ToldOnce course line → Conserves line [] done → ToldOnce (course ++ steps_of done.notice) done.line

@@ -15,8 +15,8 @@ use Rattle.event_values.specs.declared.handling.Notifying.TheVariants.{Step}
 use Rattle.event_values.specs.declared.observed.Observed.{Observed}
 use Rattle.event_values.specs.declared.observed.Observed.TheVariants.{Happened, Ended}
 use Rattle.event_syntax.specs.declared.request.Action.TheVariants.{Notify, Accumulate, Dial, Ignore}
-use Rattle.event_syntax.specs.declared.request.Response.{Response}
-use Rattle.event_syntax.specs.declared.request.Response.TheVariants.{Plain, Embed, AccumulateAndEmbed}
+use Rattle.event_syntax.specs.declared.request.Reaction.{Reaction}
+use Rattle.event_syntax.specs.declared.request.Reaction.TheVariants.{Plain, Embed, AccumulateAndEmbed}
 use Rattle.event_requests.specs.Choice.{Chosen, chosen}
 use Rattle.event_requests.specs.Naming.{event_of}
 use Rattle.signals.specs.Stopping.{without}
@@ -69,7 +69,7 @@ unfolding with_letter
 dialled_same None line moment = full_same line
 dialled_same (Some letter) line moment = judged_same _ (record line { dialled = line.dialled ++ letter ∷ [] }) letter moment
 
-acted_same : (response : Response) (line : LineState) (event : Observed) (moment : ℕ) → Same line (acted response line event moment)
+acted_same : (reaction : Reaction) (line : LineState) (event : Observed) (moment : ℕ) → Same line (acted reaction line event moment)
 unfolding acted embedded
 acted_same (Plain Ignore) line event moment = still_same line
 acted_same (Plain Notify) line event moment = notified_same (with_event line event)
@@ -82,7 +82,7 @@ occurred_same : (line : LineState) (event : Observed) (moment : ℕ) → Same li
 unfolding occurred
 occurred_same line event moment =
     let choice : Chosen = chosen line.requests.requested (event_of event) in
-    acted_same choice.response (signals_after choice line) event moment
+    acted_same choice.reaction (signals_after choice line) event moment
 
 detected_in_same : (state : State) (line : LineState) (event : Observed) (moment : ℕ) → Same line (detected_in state line event moment)
 unfolding quarantining

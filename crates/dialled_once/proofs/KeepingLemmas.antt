@@ -13,8 +13,8 @@ use Rattle.event_values.specs.declared.handling.Quarantined.TheVariants.{Process
 use Rattle.event_values.specs.declared.observed.Observed.{Observed}
 use Rattle.event_values.specs.declared.observed.Observed.TheVariants.{Happened, Ended}
 use Rattle.event_syntax.specs.declared.request.Action.TheVariants.{Notify, Accumulate, Dial, Ignore}
-use Rattle.event_syntax.specs.declared.request.Response.{Response}
-use Rattle.event_syntax.specs.declared.request.Response.TheVariants.{Plain, Embed, AccumulateAndEmbed}
+use Rattle.event_syntax.specs.declared.request.Reaction.{Reaction}
+use Rattle.event_syntax.specs.declared.request.Reaction.TheVariants.{Plain, Embed, AccumulateAndEmbed}
 use Rattle.event_requests.specs.Choice.{Chosen, chosen, is_requested, is_detected, is_kept}
 use Rattle.event_requests.specs.Naming.{event_of}
 use Rattle.quarantine.specs.Held.{Held, one_lost, one_kept, holding}
@@ -94,8 +94,8 @@ full_calm line untimed none = either_calm line _ (notified line) (still line) (n
 other_calm : (line other : LineState) (done : LineDone) → Calm other done → Calm line done
 other_calm line other done h = record { untimed = h.untimed; accumulated = h.accumulated; told = h.told; waits = h.waits }
 
-acted_calm : (response : Response) (line : LineState) (signal : Signal) (moment : ℕ) → line.timer ≡ None → happened_in line.accumulated ≡ []
-    → Calm line (acted response line (Ended signal) moment)
+acted_calm : (reaction : Reaction) (line : LineState) (signal : Signal) (moment : ℕ) → line.timer ≡ None → happened_in line.accumulated ≡ []
+    → Calm line (acted reaction line (Ended signal) moment)
 unfolding acted embedded
 acted_calm (Plain Ignore) line signal moment untimed none = still_calm line untimed none
 acted_calm (Plain Notify) line signal moment untimed none =
@@ -115,7 +115,7 @@ end_calm : (line : LineState) (signal : Signal) (moment : ℕ) → line.timer �
 unfolding occurred
 end_calm line signal moment untimed none =
     let choice : Chosen = chosen line.requests.requested (event_of (Ended signal)) in
-    other_calm line (signals_after choice line) _ (acted_calm choice.response (signals_after choice line) signal moment untimed none)
+    other_calm line (signals_after choice line) _ (acted_calm choice.reaction (signals_after choice line) signal moment untimed none)
 
 -- what was asked for stays, where nothing is embedded
 either_asks : (b : Bool) (line : LineState) (one other : LineDone) → one.line.requests ≡ line.requests → other.line.requests ≡ line.requests
@@ -127,8 +127,8 @@ full_asks : (line : LineState) → (notified_if_full line).line.requests ≡ lin
 unfolding notified_if_full notified
 full_asks line = either_asks _ line (notified line) (still line) refl refl
 
-acted_asks : (response : Response) (line : LineState) (signal : Signal) (moment : ℕ) → is_bare response ≡ true
-    → (acted response line (Ended signal) moment).line.requests ≡ line.requests
+acted_asks : (reaction : Reaction) (line : LineState) (signal : Signal) (moment : ℕ) → is_bare reaction ≡ true
+    → (acted reaction line (Ended signal) moment).line.requests ≡ line.requests
 unfolding acted notified
 acted_asks (Plain Ignore) line signal moment bare = refl
 acted_asks (Plain Notify) line signal moment bare = refl
@@ -144,7 +144,7 @@ end_asks : (line : LineState) (signal : Signal) (moment : ℕ) → NotifiesAll l
 unfolding occurred
 end_asks line signal moment all =
     let choice : Chosen = chosen line.requests.requested (event_of (Ended signal)) in
-    acted_asks choice.response (signals_after choice line) signal moment (all.bare (event_of (Ended signal)))
+    acted_asks choice.reaction (signals_after choice line) signal moment (all.bare (event_of (Ended signal)))
 
 -- What the telephone does occurs: it is notified
 
@@ -155,7 +155,7 @@ is_notified : (line : LineState) (event : Event) (moment : ℕ) → NotifiesAll 
     → occurred line (Happened event) moment ≡ notified (hushed_for line event)
 unfolding occurred acted
 is_notified line event moment all is =
-    ap (λ (response : Response). acted response (signals_after (chosen line.requests.requested event) line) (Happened event) moment) (all.phone event is)
+    ap (λ (reaction : Reaction). acted reaction (signals_after (chosen line.requests.requested event) line) (Happened event) moment) (all.phone event is)
 
 record Tells (line : LineState) (event : Event) (done : LineDone) : Type 0 where
   keeps : KeepsAll done.line

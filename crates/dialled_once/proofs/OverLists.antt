@@ -18,7 +18,7 @@ use Rattle.plain_machine.proofs.ListLaws.{machine_on, lines_after}
 use Rattle.machine_laws.proofs.LineLemmas.{place_of}
 use Rattle.machine_laws.proofs.WaitLaws.{opening_waits}
 use Rattle.dialled_once.specs.Course.{Step, acts, accepts, notifies, course_at, course_of, course_from, requests_in}
-use Rattle.dialled_once.specs.Dialled.{done_in, told_in, IsAskedForAll, IsToldOnce}
+use Rattle.dialled_once.specs.Dialled.{done_in, told_along, IsAskedForAll, IsToldOnce}
 use Rattle.dialled_once.specs.Keeping.{happened_in}
 use Rattle.dialled_once.specs.Following.{Follow, AreInStep, OnceFrom, OnceForEach}
 use Rattle.dialled_once.proofs.CountLemmas.{IsCounted}
@@ -104,11 +104,11 @@ course_on setup m line (e ∷ es) fs =
     ∙ sym (append_assoc (course_at setup m line e) (course_from setup (effect setup m e).machine line es) _)
 
 -- where nothing was done before, and nothing told of it
-whole_course : (before after : List Step) (line : LineState) → done_in before ≡ [] → happened_in (told_in before) ≡ [] → IsToldOnce after line → IsToldOnce (before ++ after) line
+whole_course : (before after : List Step) (line : LineState) → done_in before ≡ [] → happened_in (told_along before) ≡ [] → IsToldOnce after line → IsToldOnce (before ++ after) line
 whole_course before after line undone untold once =
     done_both before after ∙ ap (λ (x : List Observed). x ++ done_in after) undone ∙ once
     ∙ ap (λ (x : List Observed). x ++ happened_in line.quarantined.events)
-    (sym (ap happened_in (told_both before after) ∙ happened_both (told_in before) (told_in after) ∙ ap (λ (x : List Observed). x ++ happened_in (told_in after)) untold))
+    (sym (ap happened_in (told_both before after) ∙ happened_both (told_along before) (told_along after) ∙ ap (λ (x : List Observed). x ++ happened_in (told_along after)) untold))
 
 -- no line comes or goes
 
@@ -152,7 +152,7 @@ course_told setup line before after station at asked =
     let there : station_at (machine_after setup m after).endpoints line ≡ Some station =
     ap (λ (n : Machine). station_at n.endpoints line) (sym (machine_on setup (opening setup) before after)) ∙ at in
     let told = ((to.holds station there).holds.once asked.since asked.none_lost).whole in
-    let untold : happened_in (told_in (course_of setup line before)) ≡ [] = (let before_it = there_before setup m line after station some there in ((begun.holds before_it.0 before_it.1).holds asked.undone).told) in
+    let untold : happened_in (told_along (course_of setup line before)) ≡ [] = (let before_it = there_before setup m line after station some there in ((begun.holds before_it.0 before_it.1).holds asked.undone).told) in
     subst (λ (c : List Step). IsToldOnce c station.line) (sym (course_on setup (opening setup) line before after))
     (whole_course (course_of setup line before) course station.line asked.undone untold told) where
       zero_count : IsCounted opening_line

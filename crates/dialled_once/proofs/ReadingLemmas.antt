@@ -18,8 +18,8 @@ use Rattle.event_values.specs.Observed.{observed_of, observed_text, is_timed, is
 use Rattle.event_values.proofs.Computing.{on_examples as values_open}
 use Rattle.event_values.proofs.ObservedLaws.{observed_again}
 use Rattle.event_syntax.specs.declared.request.Action.TheVariants.{Notify, Accumulate, Dial, Ignore}
-use Rattle.event_syntax.specs.declared.request.Response.{Response}
-use Rattle.event_syntax.specs.declared.request.Response.TheVariants.{Plain, Embed, AccumulateAndEmbed}
+use Rattle.event_syntax.specs.declared.request.Reaction.{Reaction}
+use Rattle.event_syntax.specs.declared.request.Reaction.TheVariants.{Plain, Embed, AccumulateAndEmbed}
 use Rattle.event_requests.specs.Choice.{Chosen, chosen, is_kept}
 use Rattle.event_requests.specs.Naming.{event_of}
 use Rattle.quarantine.specs.Held.{Held, one_lost, one_kept, holding}
@@ -98,7 +98,7 @@ dialled_readable None line moment is = full_readable line is
 dialled_readable (Some letter) line moment is =
     judged_readable _ (record line { dialled = line.dialled ++ letter ∷ [] }) letter moment (record { accumulated = is.accumulated; quarantined = is.quarantined })
 
-acted_readable : (response : Response) (line : LineState) (event : Observed) (moment : ℕ) → CanBeTold event → IsReadable line → TellsReadable (acted response line event moment)
+acted_readable : (reaction : Reaction) (line : LineState) (event : Observed) (moment : ℕ) → CanBeTold event → IsReadable line → TellsReadable (acted reaction line event moment)
 unfolding acted embedded
 acted_readable (Plain Ignore) line event moment can is = still_readable line is
 acted_readable (Plain Notify) line event moment can is = notified_readable (with_event line event) (event_readable line event can is)
@@ -113,7 +113,7 @@ occurred_readable : (line : LineState) (event : Observed) (moment : ℕ) → Can
 unfolding occurred
 occurred_readable line event moment can is =
     let choice : Chosen = chosen line.requests.requested (event_of event) in
-    acted_readable choice.response (signals_after choice line) event moment can (record { accumulated = is.accumulated; quarantined = is.quarantined })
+    acted_readable choice.reaction (signals_after choice line) event moment can (record { accumulated = is.accumulated; quarantined = is.quarantined })
 
 -- An event is detected
 

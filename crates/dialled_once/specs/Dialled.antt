@@ -22,8 +22,8 @@ told_at (acts act) = []
 told_at (accepts request) = []
 told_at (notifies identifier observed) = observed
 
-abbrev pub told_in : List Step → List Observed
-told_in course = flat_map told_at course
+abbrev pub told_along : List Step → List Observed
+told_along course = flat_map told_at course
 
 -- each request that is accepted asks for all that the telephone does
 abbrev pub AskForAll : List Step → Type 0
@@ -54,4 +54,4 @@ pub record IsAskedForAll (before after : List Step) (line : LineState) : Type 0 
 -- What the telephone did is what the notifications told, joined, and then what is quarantined: each event once and in its
 -- place, but for the ends of signals.
 abbrev pub IsToldOnce : List Step → LineState → Type 0
-IsToldOnce course line = done_in course ≡ happened_in (told_in course) ++ happened_in line.quarantined.events
+IsToldOnce course line = done_in course ≡ happened_in (told_along course) ++ happened_in line.quarantined.events

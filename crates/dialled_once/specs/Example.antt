@@ -16,7 +16,7 @@ use Rattle.plain_machine.specs.Example.{two_lines, ready, rqnt, response}
 use Rattle.plain_machine.specs.Lists.{plain}
 use Rattle.plain_machine.specs.Machine.{station_at}
 use Rattle.dialled_once.specs.Course.{Step, course_from, course_of, requests_in}
-use Rattle.dialled_once.specs.Dialled.{done_in, told_in, IsAskedForAll, IsToldOnce}
+use Rattle.dialled_once.specs.Dialled.{done_in, told_along, IsAskedForAll, IsToldOnce}
 use Rattle.dialled_once.specs.Keeping.{happened_in}
 
 -- off hook, on hook, and two keys
@@ -88,7 +88,7 @@ abbrev pub done_then : List GatewayEvent → List Observed
 done_then events = done_in (course_then events)
 
 abbrev pub told_then : List GatewayEvent → List Observed
-told_then events = happened_in (told_in (course_then events))
+told_then events = happened_in (told_along (course_then events))
 
 abbrev pub left_then : List GatewayEvent → Option (List Observed)
 left_then events =

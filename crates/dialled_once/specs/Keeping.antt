@@ -7,8 +7,8 @@ use Rattle.event_values.specs.declared.observed.Observed.{Observed}
 use Rattle.event_values.specs.declared.observed.Observed.TheVariants.{Happened, Ended}
 use Rattle.event_syntax.specs.declared.request.Action.TheVariants.{Notify}
 use Rattle.event_syntax.specs.declared.request.RequestedEvent.{RequestedEvent}
-use Rattle.event_syntax.specs.declared.request.Response.{Response}
-use Rattle.event_syntax.specs.declared.request.Response.TheVariants.{Plain, Embed, AccumulateAndEmbed}
+use Rattle.event_syntax.specs.declared.request.Reaction.{Reaction}
+use Rattle.event_syntax.specs.declared.request.Reaction.TheVariants.{Plain, Embed, AccumulateAndEmbed}
 use Rattle.event_requests.specs.Choice.{chosen}
 use Rattle.mg_line.specs.declared.due.LineDue.{LineDue}
 use Rattle.mg_line.specs.declared.phone.Act.{Act}
@@ -52,15 +52,15 @@ told_of (Some notice) = notice.observed
 -- What is asked for
 
 -- no embedded request
-abbrev pub is_bare : Response → Bool
+abbrev pub is_bare : Reaction → Bool
 is_bare (Plain action) = true
 is_bare (Embed request) = false
 is_bare (AccumulateAndEmbed request) = false
 
 -- everything that a telephone does is notified, and nothing embeds a request
 pub record NotifiesAll (requested : List RequestedEvent) : Type 0 where
-  pub phone : (event : Event) → is_of_phone event ≡ true → (chosen requested event).response ≡ Plain Notify
-  pub bare : (event : Event) → is_bare (chosen requested event).response ≡ true
+  pub phone : (event : Event) → is_of_phone event ≡ true → (chosen requested event).reaction ≡ Plain Notify
+  pub bare : (event : Event) → is_bare (chosen requested event).reaction ≡ true
 
 -- and so it is of what was quarantined
 pub record AsksForAll (request : Request) : Type 0 where

@@ -7,23 +7,23 @@ use Rattle.event_syntax.specs.declared.events.Events.{Events}
 use Rattle.event_values.specs.declared.observed.Observed.{Observed}
 use Rattle.event_syntax.specs.declared.request.Action.TheVariants.{Notify, Ignore}
 use Rattle.event_syntax.specs.declared.request.RequestedEvent.{RequestedEvent}
-use Rattle.event_syntax.specs.declared.request.Response.{Response}
-use Rattle.event_syntax.specs.declared.request.Response.TheVariants.{Plain}
+use Rattle.event_syntax.specs.declared.request.Reaction.{Reaction}
+use Rattle.event_syntax.specs.declared.request.Reaction.TheVariants.{Plain}
 use Rattle.event_requests.specs.Requests.{EventRequests}
 use Rattle.event_requests.specs.Naming.{names, event_of}
 
--- the response to an event, and whether the active signals go on
+-- the reaction to an event, and whether the active signals go on
 pub record Chosen : Type 0 where
-  pub response : Response
+  pub reaction : Reaction
   pub keep : Bool
 
 -- where no entry names it, a persistent event is notified, and nothing is done at another
 abbrev pub unasked : Event → Chosen
-unasked event = record { response = Plain (if is_persistent event then Notify else Ignore); keep = false }
+unasked event = record { reaction = Plain (if is_persistent event then Notify else Ignore); keep = false }
 
 abbrev pub chosen_by : Event → Option RequestedEvent → Chosen
 chosen_by event None = unasked event
-chosen_by event (Some entry) = record { response = entry.response; keep = entry.keep }
+chosen_by event (Some entry) = record { reaction = entry.reaction; keep = entry.keep }
 
 -- what the first entry says that names the event
 unfoldable pub chosen : List RequestedEvent → Event → Chosen

@@ -1,15 +1,15 @@
 -- What the code decides, as a choice.
-use Rattle.event_syntax.specs.declared.request.Response.{Response}
-use Rattle.event_syntax.specs.declared.request.Response.TheVariants as responses
+use Rattle.event_syntax.specs.declared.request.Reaction.{Reaction}
+use Rattle.event_syntax.specs.declared.request.Reaction.TheVariants as reactions
 use Rattle.event_requests.specs.declared.decision.Decision.{Decision}
 use Rattle.event_requests.specs.declared.decision.Doing.{Doing}
 use Rattle.event_requests.specs.declared.decision.Doing.TheVariants.{Plain, Embed, AccumulateAndEmbed}
 use Rattle.event_requests.specs.Choice.{Chosen}
 
-abbrev pub response_of : Doing → Response
-response_of (Plain action) = responses.Plain action
-response_of (Embed embedding) = responses.Embed embedding.now
-response_of (AccumulateAndEmbed embedding) = responses.AccumulateAndEmbed embedding.now
+abbrev pub reaction_of : Doing → Reaction
+reaction_of (Plain action) = reactions.Plain action
+reaction_of (Embed embedding) = reactions.Embed embedding.now
+reaction_of (AccumulateAndEmbed embedding) = reactions.AccumulateAndEmbed embedding.now
 
 abbrev pub seen : Decision → Chosen
-seen decision = record { response = response_of decision.doing; keep = decision.keep }
+seen decision = record { reaction = reaction_of decision.doing; keep = decision.keep }

@@ -4,8 +4,8 @@ use Rattle.mg_packages.specs.declared.event.Event.{Event}
 use Rattle.event_syntax.specs.declared.request.Action.{Action}
 use Rattle.event_syntax.specs.declared.request.RequestedEvent.{RequestedEvent}
 use Rattle.event_syntax.specs.declared.request.EmbeddedRequest.{EmbeddedRequest}
-use Rattle.event_syntax.specs.declared.request.Response.{Response}
-use Rattle.event_syntax.specs.declared.request.Response.TheVariants.{Plain, Embed, AccumulateAndEmbed}
+use Rattle.event_syntax.specs.declared.request.Reaction.{Reaction}
+use Rattle.event_syntax.specs.declared.request.Reaction.TheVariants.{Plain, Embed, AccumulateAndEmbed}
 use Rattle.event_syntax.specs.Embedding.{nothing_embedded}
 use Rattle.event_syntax.specs.declared.events.Events.{Events}
 use Rattle.event_syntax.specs.Requested.{requested_of}
@@ -36,10 +36,10 @@ at value event = chosen (requested value) event
 
 -- an action is done, and the time-out signals stop, or go on
 abbrev pub does : Action → Chosen
-does action = record { response = Plain action; keep = false }
+does action = record { reaction = Plain action; keep = false }
 
 abbrev pub does_keeping : Action → Chosen
-does_keeping action = record { response = Plain action; keep = true }
+does_keeping action = record { reaction = Plain action; keep = true }
 
 -- whether this value of R wants a digit map where one is known, or none
 abbrev pub wants_map : Bool → List ℕ → Bool
@@ -54,14 +54,14 @@ abbrev pub is_named_by : List ℕ → Event → Bool
 is_named_by value event = first_names (detected_in (detected_of value)) event
 
 -- the request that the first entry of this value of R embeds
-abbrev pub embedded_by : Response → EmbeddedRequest
+abbrev pub embedded_by : Reaction → EmbeddedRequest
 embedded_by (Plain action) = nothing_embedded
 embedded_by (Embed request) = request
 embedded_by (AccumulateAndEmbed request) = request
 
 abbrev pub embedded_in_entries : List RequestedEvent → EmbeddedRequest
 embedded_in_entries [] = nothing_embedded
-embedded_in_entries (entry ∷ rest) = embedded_by entry.response
+embedded_in_entries (entry ∷ rest) = embedded_by entry.reaction
 
 abbrev pub embedded_in_first : List ℕ → EmbeddedRequest
 embedded_in_first value = embedded_in_entries (requested value)

@@ -4,7 +4,7 @@ use Rattle.event_syntax.specs.declared.events.Events.{Events}
 use Rattle.event_syntax.specs.declared.request.EmbeddedEvent.{EmbeddedEvent}
 use Rattle.event_syntax.specs.declared.request.EmbeddedRequest.{EmbeddedRequest}
 use Rattle.event_syntax.specs.declared.request.RequestedEvent.{RequestedEvent}
-use Rattle.event_syntax.specs.declared.request.Response.TheVariants.{Plain}
+use Rattle.event_syntax.specs.declared.request.Reaction.TheVariants.{Plain}
 
 -- the entries of R and those of T
 pub record EventRequests : Type 0 where
@@ -17,7 +17,7 @@ no_requests = record { requested = []; detected = [] }
 
 -- an entry of the R of an embedded request, as one of R
 abbrev pub entry_in : EmbeddedEvent → RequestedEvent
-entry_in entry = record { events = entry.events; response = Plain entry.action; keep = entry.keep }
+entry_in entry = record { events = entry.events; reaction = Plain entry.action; keep = entry.keep }
 
 -- an embedded request replaces R and leaves T
 abbrev pub with_embedded : EventRequests → EmbeddedRequest → EventRequests

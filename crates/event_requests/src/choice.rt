@@ -1,11 +1,11 @@
 //! Which entry an event meets.
 ghost use Rattle.std.specs.Prelude.{◌≡◌};
 ghost use Rattle.event_requests.specs.Choice.{chosen, unasked, is_requested, is_detected};
-ghost use Rattle.event_requests.specs.Deciding.{response_of, seen};
+ghost use Rattle.event_requests.specs.Deciding.{reaction_of, seen};
 
 use crate::decision::{Decision, Doing};
 use crate::naming::names;
-use event_syntax::{Action, Events, RequestedEvent, Response};
+use event_syntax::{Action, Events, Reaction, RequestedEvent};
 use mg_packages::{Event, is_persistent};
 
 /// Whether some entry of R names an event.
@@ -37,13 +37,13 @@ pub(crate) fn unasked<'a>(event: Event) -> Decision<'a>
     }
 }
 
-fn doing(response: &Response) -> Doing<'_>
-    ensures { response_of result ≡ response.now }
+fn doing(reaction: &Reaction) -> Doing<'_>
+    ensures { reaction_of result ≡ reaction.now }
 {
-    match response {
-        Response::Plain(action) => Doing::Plain(*action),
-        Response::Embed(embedding) => Doing::Embed(embedding),
-        Response::AccumulateAndEmbed(embedding) => Doing::AccumulateAndEmbed(embedding),
+    match reaction {
+        Reaction::Plain(action) => Doing::Plain(*action),
+        Reaction::Embed(embedding) => Doing::Embed(embedding),
+        Reaction::AccumulateAndEmbed(embedding) => Doing::AccumulateAndEmbed(embedding),
     }
 }
 
@@ -56,7 +56,7 @@ pub(crate) fn decided(entries: &[RequestedEvent], event: Event) -> Decision<'_>
     while let [entry, after @ ..] = rest {
         if names(entry.events, event) {
             return Decision {
-                doing: doing(&entry.response),
+                doing: doing(&entry.reaction),
                 keep: entry.keep,
             };
         }

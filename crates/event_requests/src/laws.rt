@@ -10,7 +10,7 @@ ghost use Rattle.event_requests.specs.Naming.{names};
 pub fn the_first_entry_that_names_an_event_counts()
     ensures first { (front rest : List RequestedEvent) (entry : RequestedEvent) (event : Event)
         → is_requested front event ≡ false → names entry.events event ≡ true
-        → chosen (front ++ entry ∷ rest) event ≡ record { response = entry.response; keep = entry.keep } }
+        → chosen (front ++ entry ∷ rest) event ≡ record { reaction = entry.reaction; keep = entry.keep } }
     ensures none { (requested : List RequestedEvent) (event : Event) → is_requested requested event ≡ false
         → chosen requested event ≡ unasked event }
 {}

@@ -15,4 +15,4 @@ mod request;
 mod source;
 
 pub use crate::decision::{Decision, Doing};
-pub use crate::request::{Request, decide};
+pub use crate::request::{EventRequest, decide};

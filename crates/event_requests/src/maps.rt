@@ -2,9 +2,9 @@
 ghost use Rattle.std.specs.Prelude.{◌≡◌, map};
 ghost use Rattle.event_requests.specs.Requests.{entry_in};
 ghost use Rattle.std.specs.List.{list_any};
-ghost use Rattle.event_requests.specs.Maps.{is_dial, embedded_lacks_map, response_lacks_map, lacks_map};
+ghost use Rattle.event_requests.specs.Maps.{is_dial, embedded_lacks_map, reaction_lacks_map, lacks_map};
 
-use event_syntax::{Action, EmbeddedEvent, EmbeddedRequest, RequestedEvent, Response};
+use event_syntax::{Action, EmbeddedEvent, EmbeddedRequest, Reaction, RequestedEvent};
 
 fn is_dial(action: Action) -> bool
     ensures { result ≡ is_dial action }
@@ -24,13 +24,13 @@ fn embedded_lacks_map(known: bool, request: &EmbeddedRequest) -> bool
     !(request.map.is_some() || known) && any_dials(request.events.as_slice())
 }
 
-fn response_lacks_map(known: bool, response: &Response) -> bool
-    ensures { result ≡ response_lacks_map known response.now }
+fn reaction_lacks_map(known: bool, reaction: &Reaction) -> bool
+    ensures { result ≡ reaction_lacks_map known reaction.now }
 {
-    match response {
-        Response::Plain(action) => !known && is_dial(*action),
-        Response::Embed(embedding) => embedded_lacks_map(known, embedding.request()),
-        Response::AccumulateAndEmbed(embedding) => embedded_lacks_map(known, embedding.request()),
+    match reaction {
+        Reaction::Plain(action) => !known && is_dial(*action),
+        Reaction::Embed(embedding) => embedded_lacks_map(known, embedding.request()),
+        Reaction::AccumulateAndEmbed(embedding) => embedded_lacks_map(known, embedding.request()),
     }
 }
 
@@ -41,7 +41,7 @@ pub(crate) fn lacks_map(known: bool, requested: &[RequestedEvent]) -> bool
 {
     requested
         .iter()
-        .any(|entry| response_lacks_map(known, &entry.response))
+        .any(|entry| reaction_lacks_map(known, &entry.reaction))
 }
 
 /// The same of the R of an embedded request.

@@ -25,12 +25,12 @@ use std::rc::Rc;
 ///
 /// Copies share the entries. A contract sees the entries of both.
 #[derive(Drop)]
-pub struct Request {
+pub struct EventRequest {
     requested: Requested,
     detected: Detected,
 }
 
-impl Model for Request {
+impl Model for EventRequest {
     ghost use Rattle.event_requests.specs.Requests.{EventRequests};
     ghost use Rattle.event_requests.specs.Sources.{requested_in, detected_in};
 
@@ -39,7 +39,7 @@ impl Model for Request {
     ghost view = { λ r. record { requested = requested_in r.requested; detected = detected_in r.detected } };
 }
 
-impl Request {
+impl EventRequest {
     ghost use Rattle.std.specs.Prelude.{◌≡◌, IfOk};
     ghost use Rattle.event_requests.specs.Requests.{no_requests, with_embedded};
     ghost use Rattle.event_requests.specs.Choice.{is_requested, is_kept};
@@ -55,7 +55,7 @@ impl Request {
     pub fn nothing() -> Self
         ensures { result ≡ no_requests }
     {
-        Request {
+        EventRequest {
             requested: Requested::Nothing,
             detected: Detected::Nothing,
         }
@@ -69,7 +69,7 @@ impl Request {
     ) -> Result<Self, OutOfMemory>
         ensures { IfOk result (λ request. request ≡ record { requested = requested; detected = detected }) }
     {
-        Ok(Request {
+        Ok(EventRequest {
             requested: Requested::Command(Rc::new(alloc, requested)?),
             detected: Detected::Command(Rc::new(alloc, detected)?),
         })
@@ -79,7 +79,7 @@ impl Request {
     pub fn try_copy(&self) -> Result<Self, OutOfMemory>
         ensures { IfOk result (λ copy. copy ≡ self.now) }
     {
-        Ok(Request {
+        Ok(EventRequest {
             requested: shared(&self.requested)?,
             detected: shared_detected(&self.detected)?,
         })
@@ -89,7 +89,7 @@ impl Request {
     pub fn embedded(&self, embedding: &Embedding) -> Result<Self, OutOfMemory>
         ensures { IfOk result (λ request. request ≡ with_embedded self.now embedding.now) }
     {
-        Ok(Request {
+        Ok(EventRequest {
             requested: Requested::Embedded(embedding.try_copy()?),
             detected: shared_detected(&self.detected)?,
         })
@@ -198,7 +198,7 @@ fn is_detected_in(detected: &Detected, event: Event) -> bool
 /// What is done at an event that occurs (RFC 3435, 4.4.1): what the first entry of R says that names it; where none does,
 /// a persistent event is notified, and nothing is done at another. This takes no memory.
 #[tactic(auto, unfolding(crate::specs::Choice::chosen))]
-pub fn decide(request: &Request, observed: Observed) -> Decision<'_>
+pub fn decide(request: &EventRequest, observed: Observed) -> Decision<'_>
     ensures { seen result ≡ chosen request.now.requested (event_of observed) }
 {
     let event = event_of(observed);

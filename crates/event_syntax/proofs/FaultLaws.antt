@@ -4,14 +4,14 @@ use Rattle.std.specs.Prelude.{Result, Ok, Err, is_ok}
 use Rattle.std.specs.List.{list_all}
 use Rattle.event_syntax.specs.declared.events.Events.{Events}
 use Rattle.event_syntax.specs.declared.request.RequestedEvent.{RequestedEvent}
-use Rattle.event_syntax.specs.declared.request.Response.{Response}
+use Rattle.event_syntax.specs.declared.request.Reaction.{Reaction}
 use Rattle.event_syntax.specs.Actions.{Deed, embed, accumulate_and_embed, Rule, rule_of}
 use Rattle.event_cuts.specs.Cuts.{entries}
 use Rattle.event_syntax.specs.Detect.{most_events, detected, detected_in, detected_of}
 use Rattle.event_syntax.specs.Embedding.{embedded_in}
 use Rattle.mg_bytes.specs.Steps.{◌>>=◌}
 use Rattle.event_cuts.specs.Faults.{each_up_to}
-use Rattle.event_syntax.specs.Requested.{requested, requested_by, response_of, requested_in, requested_of}
+use Rattle.event_syntax.specs.Requested.{requested, requested_by, reaction_of, requested_in, requested_of}
 use Rattle.event_syntax.specs.RequestSpelling.{are_requested}
 use Rattle.event_syntax.specs.EventSpelling.{are_detected}
 use Rattle.event_cuts.proofs.FaultLemmas.{misspelled, well_spelled, many_up_to, fault_up_to, whole_up_to}
@@ -41,17 +41,17 @@ requested_all value list good few is = requested_spelled value good ∙ whole_up
 -- An entry of R
 
 abbrev entry_from : Result Rule ℕ → Result RequestedEvent ℕ
-entry_from read = read >>= λ rule. response_of rule.deed >>= λ response. Ok (requested_by rule response)
+entry_from read = read >>= λ rule. reaction_of rule.deed >>= λ reaction. Ok (requested_by rule reaction)
 
-abbrev with_response : Rule → Result Response ℕ → Result RequestedEvent ℕ
-with_response rule read = read >>= λ response. Ok (requested_by rule response)
+abbrev with_reaction : Rule → Result Reaction ℕ → Result RequestedEvent ℕ
+with_reaction rule read = read >>= λ reaction. Ok (requested_by rule reaction)
 
 pub entry_itself : (entry : List ℕ) (code : ℕ) → rule_of entry ≡ Err code → requested entry ≡ Err code
 unfolding requested
 entry_itself entry code fault = ap entry_from fault
 
-fault_in : (rule : Rule) (deed : Deed) (code : ℕ) → rule.deed ≡ deed → response_of deed ≡ Err code → entry_from (Ok rule) ≡ Err code
-fault_in rule deed code is fault = ap (λ (d : Deed). with_response rule (response_of d)) is ∙ ap (with_response rule) fault
+fault_in : (rule : Rule) (deed : Deed) (code : ℕ) → rule.deed ≡ deed → reaction_of deed ≡ Err code → entry_from (Ok rule) ≡ Err code
+fault_in rule deed code is fault = ap (λ (d : Deed). with_reaction rule (reaction_of d)) is ∙ ap (with_reaction rule) fault
 
 pub entry_embedded : (entry inside : List ℕ) (rule : Rule) (code : ℕ) → rule_of entry ≡ Ok rule → rule.deed ≡ embed inside → embedded_in inside ≡ Err code → requested entry ≡ Err code
 unfolding requested

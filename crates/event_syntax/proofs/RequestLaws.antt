@@ -7,15 +7,15 @@ use Rattle.std.proofs.lemmas.List.{length-map}
 use Rattle.mg_bytes.proofs.DigitLemmas.{both_true}
 use Rattle.event_syntax.specs.declared.events.Events.{Events}
 use Rattle.event_syntax.specs.declared.request.Action.TheVariants.{Accumulate}
-use Rattle.event_syntax.specs.declared.request.Response.{Response}
-use Rattle.event_syntax.specs.declared.request.Response.TheVariants.{Plain, Embed, AccumulateAndEmbed}
+use Rattle.event_syntax.specs.declared.request.Reaction.{Reaction}
+use Rattle.event_syntax.specs.declared.request.Reaction.TheVariants.{Plain, Embed, AccumulateAndEmbed}
 use Rattle.event_syntax.specs.declared.request.RequestedEvent.{RequestedEvent}
 use Rattle.event_cuts.specs.Cuts.{entries}
 use Rattle.event_cuts.specs.Faults.{each}
 use Rattle.event_syntax.specs.RequestSpelling.{is_requested, are_requested_within, are_requested}
 use Rattle.event_syntax.specs.Events.{is_writable}
 use Rattle.event_syntax.specs.Actions.{acts, embeds, plain, embed, accumulate_and_embed, said_by, takes}
-use Rattle.event_syntax.specs.Requested.{listed, parts_text, embedded_text, action_text, keep_text, requested, requested_in, requested_of, requested_entry_text, requested_text, deed_in, is_writable_response, is_writable_entry, are_writable_requested}
+use Rattle.event_syntax.specs.Requested.{listed, parts_text, embedded_text, action_text, keep_text, requested, requested_in, requested_of, requested_entry_text, requested_text, deed_in, is_writable_reaction, is_writable_entry, are_writable_requested}
 use Rattle.event_cuts.proofs.JoinLemmas.{IsEntry, entries_join}
 use Rattle.event_syntax.proofs.ActionLemmas.{embed_alike, both_alike}
 use Rattle.event_syntax.proofs.EmbeddedLaws.{join_some, plain_says, action_reads, embed_reads, and_action, keep_actions, keep_words, entry_reads, embedded_again}
@@ -36,9 +36,9 @@ both_say : (inside : List ℕ) (keep : Bool)
 both_say inside true = refl
 both_say inside false = refl
 
-entry_again : (k : ℕ) (events : Events) (response : Response) (keep : Bool) → is_writable events ≡ true
-    → takes events (deed_in response) ≡ true → is_writable_response response ≡ true
-    → Again k (record { events = events; response = response; keep = keep })
+entry_again : (k : ℕ) (events : Events) (reaction : Reaction) (keep : Bool) → is_writable events ≡ true
+    → takes events (deed_in reaction) ≡ true → is_writable_reaction reaction ≡ true
+    → Again k (record { events = events; reaction = reaction; keep = keep })
 unfolding requested_entry_text requested
 entry_again k events (Plain action) keep ok taken good =
     let inner : List ℕ → Bool = are_requested_within (suc k) in
@@ -66,7 +66,7 @@ again : (k : ℕ) (entry : RequestedEvent) → is_writable_entry entry ≡ true 
 again k entry ok =
     let a = both_true _ _ ok in
     let b = both_true _ _ a.0 in
-    entry_again k entry.events entry.response entry.keep b.0 b.1 a.1
+    entry_again k entry.events entry.reaction entry.keep b.0 b.1 a.1
 
 -- the list
 

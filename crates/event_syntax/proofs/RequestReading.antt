@@ -18,7 +18,7 @@ use Rattle.digit_map.proofs.ReadingLaws.{read_again}
 use Rattle.event_syntax.specs.declared.events.Events.{Events}
 use Rattle.event_syntax.specs.declared.request.EmbeddedEvent.{EmbeddedEvent}
 use Rattle.event_syntax.specs.declared.request.EmbeddedRequest.{EmbeddedRequest}
-use Rattle.event_syntax.specs.declared.request.Response.TheVariants.{Embed, AccumulateAndEmbed}
+use Rattle.event_syntax.specs.declared.request.Reaction.TheVariants.{Embed, AccumulateAndEmbed}
 use Rattle.event_syntax.specs.declared.request.RequestedEvent.{RequestedEvent}
 use Rattle.event_values.specs.declared.signals.SignalRequest.{SignalRequest}
 use Rattle.event_syntax.specs.declared.request.Action.TheVariants.{Notify, Accumulate, Dial, Ignore}
@@ -35,7 +35,7 @@ use Rattle.event_syntax.specs.Detect.{most_events}
 use Rattle.event_syntax.specs.Events.{events_called, is_writable}
 use Rattle.event_syntax.specs.Actions.{Word, keeps, acts, embeds, word_named, word_with, word_from, word_of, Deed, plain, embed, accumulate_and_embed, by_one, by_two, deed_of, not_keeps, Said, saying, said_by, said_of, said_in, takes, Rule, ruled_by, rule_from, rule_of}
 use Rattle.event_syntax.specs.Embedding.{embedded_event_by, embedded_event, nothing_embedded, with_events, with_signals, with_map, with_part_named, with_part_in, with_part_from, with_part, with_parts, embedded_in, Gives}
-use Rattle.event_syntax.specs.Requested.{requested_by, response_of, requested, requested_in, requested_of, events_part, signals_part, map_part, parts_text, is_writable_embedded_event, is_writable_map, is_something, is_writable_request, is_writable_entry, are_writable_requested}
+use Rattle.event_syntax.specs.Requested.{requested_by, reaction_of, requested, requested_in, requested_of, events_part, signals_part, map_part, parts_text, is_writable_embedded_event, is_writable_map, is_something, is_writable_request, is_writable_entry, are_writable_requested}
 use Rattle.event_syntax.proofs.ActionLemmas.{embed_alike, both_alike}
 use Rattle.event_cuts.proofs.JoinLemmas.{false_of_not}
 use Rattle.event_cuts.proofs.PartLemmas.{some_pieces}
@@ -442,20 +442,20 @@ inside_passes depth inside spelled =
 
 -- An entry, and the value
 
-response_passes : (depth : ℕ) (rule : Rule) (deed : Deed) → is_writable rule.events ≡ true → takes rule.events deed ≡ true
+reaction_passes : (depth : ℕ) (rule : Rule) (deed : Deed) → is_writable rule.events ≡ true → takes rule.events deed ≡ true
     → deed_fits (are_requested_within depth) deed ≡ true
-    → Passes (λ entry. is_writable_entry entry ≡ true) (response_of deed >>= λ response. Ok (requested_by rule response))
-response_passes depth rule (plain action) ok taken fits = rw (ok, taken) refl
-response_passes depth rule (embed inside) ok taken fits = of_read (embedded_in inside) (inside_passes depth inside fits)
+    → Passes (λ entry. is_writable_entry entry ≡ true) (reaction_of deed >>= λ reaction. Ok (requested_by rule reaction))
+reaction_passes depth rule (plain action) ok taken fits = rw (ok, taken) refl
+reaction_passes depth rule (embed inside) ok taken fits = of_read (embedded_in inside) (inside_passes depth inside fits)
   where
     of_read : (read : Result EmbeddedRequest ℕ) → Passes (λ request. is_writable_request request ≡ true) read
-        → Passes (λ entry. is_writable_entry entry ≡ true) ((read >>= λ request. Ok (Embed request)) >>= λ response. Ok (requested_by rule response))
+        → Passes (λ entry. is_writable_entry entry ≡ true) ((read >>= λ request. Ok (Embed request)) >>= λ reaction. Ok (requested_by rule reaction))
     of_read (Ok request) here = rw (ok, embed_alike rule.events [] inside ∙ taken) here
     of_read (Err code) here = here
-response_passes depth rule (accumulate_and_embed inside) ok taken fits = of_read (embedded_in inside) (inside_passes depth inside fits)
+reaction_passes depth rule (accumulate_and_embed inside) ok taken fits = of_read (embedded_in inside) (inside_passes depth inside fits)
   where
     of_read : (read : Result EmbeddedRequest ℕ) → Passes (λ request. is_writable_request request ≡ true) read
-        → Passes (λ entry. is_writable_entry entry ≡ true) ((read >>= λ request. Ok (AccumulateAndEmbed request)) >>= λ response. Ok (requested_by rule response))
+        → Passes (λ entry. is_writable_entry entry ≡ true) ((read >>= λ request. Ok (AccumulateAndEmbed request)) >>= λ reaction. Ok (requested_by rule reaction))
     of_read (Ok request) here = rw (ok, both_alike rule.events [] inside ∙ taken) here
     of_read (Err code) here = here
 
@@ -464,7 +464,7 @@ requested_passes : (depth : ℕ) (entry : List ℕ) → is_requested (are_reques
 unfolding requested
 requested_passes depth entry spelled =
     passes_on (RuleFits (are_requested_within depth)) _ (rule_of entry) _ (rule_passes (are_requested_within depth) entry spelled)
-    (λ rule fits. response_passes depth rule rule.deed fits.events fits.taken fits.deed)
+    (λ rule fits. reaction_passes depth rule rule.deed fits.events fits.taken fits.deed)
 
 requested_in_passes : (depth : ℕ) (texts : List (List ℕ)) → list_all (is_requested (are_requested_within depth)) texts ≡ true
     → Passes (λ list. are_writable_requested list ≡ true) (each_up_to most_events requested texts)

@@ -31,8 +31,8 @@ use Rattle.event_syntax.specs.declared.request.Action.{Action}
 use Rattle.event_syntax.specs.declared.request.Action.TheVariants.{Notify}
 use Rattle.event_syntax.specs.declared.request.EmbeddedEvent.{EmbeddedEvent}
 use Rattle.event_syntax.specs.declared.request.EmbeddedRequest.{EmbeddedRequest}
-use Rattle.event_syntax.specs.declared.request.Response.{Response}
-use Rattle.event_syntax.specs.declared.request.Response.TheVariants.{Plain, Embed, AccumulateAndEmbed}
+use Rattle.event_syntax.specs.declared.request.Reaction.{Reaction}
+use Rattle.event_syntax.specs.declared.request.Reaction.TheVariants.{Plain, Embed, AccumulateAndEmbed}
 use Rattle.event_syntax.specs.declared.request.RequestedEvent.{RequestedEvent}
 use Rattle.event_syntax.specs.Ranges.{letters_of, bracketed, letters_text}
 use Rattle.event_syntax.specs.Events.{events_text}
@@ -239,23 +239,23 @@ unfolding embedded_text
 embedded_word request spelled =
     named_group_word 69 (listed (parts_text request)) refl refl (word_joined (parts_text request) (word_parts request spelled))
 
-actions_words : (response : Response) → has_spelled_map response ≡ true → AllByRecursion IsWord (actions_text response)
+actions_words : (reaction : Reaction) → has_spelled_map reaction ≡ true → AllByRecursion IsWord (actions_text reaction)
 actions_words (Plain action) spelled = (action_word action, tt)
 actions_words (Embed request) spelled = (embedded_word request spelled, tt)
 actions_words (AccumulateAndEmbed request) spelled = (record { blankless = refl; one_line = refl }, (embedded_word request spelled, tt))
 
-requested_entry_word : (entry : RequestedEvent) → has_spelled_map entry.response ≡ true → IsWord (requested_entry_text entry)
+requested_entry_word : (entry : RequestedEvent) → has_spelled_map entry.reaction ≡ true → IsWord (requested_entry_text entry)
 unfolding requested_entry_text
 requested_entry_word entry spelled =
-    let inside : List (List ℕ) = actions_text entry.response ++ keep_text entry.keep in
+    let inside : List (List ℕ) = actions_text entry.reaction ++ keep_text entry.keep in
     word_append (events_text entry.events) (in_parentheses (listed inside)) (events_word entry.events)
     (group_word (listed inside) (word_joined inside
-    (words_append (actions_text entry.response) (keep_text entry.keep) (actions_words entry.response spelled) (keep_words entry.keep))))
+    (words_append (actions_text entry.reaction) (keep_text entry.keep) (actions_words entry.reaction spelled) (keep_words entry.keep))))
 
 requested_words : (list : List RequestedEvent) → all_maps_are_spelled list ≡ true → AllByRecursion IsWord (map requested_entry_text list)
 requested_words [] spelled = tt
 requested_words (entry ∷ list) spelled =
-    let both : (has_spelled_map entry.response ≡ true) × (all_maps_are_spelled list ≡ true) = both_true _ _ spelled in
+    let both : (has_spelled_map entry.reaction ≡ true) × (all_maps_are_spelled list ≡ true) = both_true _ _ spelled in
     (requested_entry_word entry both.0, requested_words list both.1)
 
 requested_word : (list : List RequestedEvent) → all_maps_are_spelled list ≡ true → IsWord (requested_text list)

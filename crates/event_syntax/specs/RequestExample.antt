@@ -5,8 +5,8 @@ use Rattle.event_values.specs.declared.signals.SignalRequest.{SignalRequest}
 use Rattle.event_syntax.specs.declared.request.Action.{Action}
 use Rattle.event_syntax.specs.declared.request.EmbeddedEvent.{EmbeddedEvent}
 use Rattle.event_syntax.specs.declared.request.EmbeddedRequest.{EmbeddedRequest}
-use Rattle.event_syntax.specs.declared.request.Response.{Response}
-use Rattle.event_syntax.specs.declared.request.Response.TheVariants.{Plain, Embed}
+use Rattle.event_syntax.specs.declared.request.Reaction.{Reaction}
+use Rattle.event_syntax.specs.declared.request.Reaction.TheVariants.{Plain, Embed}
 use Rattle.event_syntax.specs.declared.request.RequestedEvent.{RequestedEvent}
 use Rattle.mg_bytes.specs.Steps.{◌>>=◌}
 use Rattle.event_syntax.specs.Embedding.{nothing_embedded}
@@ -14,17 +14,17 @@ use Rattle.event_syntax.specs.Requested.{requested_of, requested_text}
 
 -- an entry that does this, with K and without
 abbrev pub does : Events → Action → RequestedEvent
-does events action = record { events = events; response = Plain action; keep = false }
+does events action = record { events = events; reaction = Plain action; keep = false }
 
 abbrev pub keeps : Events → Action → RequestedEvent
-keeps events action = record { events = events; response = Plain action; keep = true }
+keeps events action = record { events = events; reaction = Plain action; keep = true }
 
 -- an entry with E alone
-abbrev pub inside : EmbeddedRequest → Response
+abbrev pub inside : EmbeddedRequest → Reaction
 inside request = Embed request
 
 abbrev pub embeds : Bool → Events → EmbeddedRequest → RequestedEvent
-embeds keep events request = record { events = events; response = Embed request; keep = keep }
+embeds keep events request = record { events = events; reaction = Embed request; keep = keep }
 
 abbrev pub one_entry : RequestedEvent → Result (List RequestedEvent) ℕ
 one_entry entry = Ok (entry ∷ [])

@@ -10,8 +10,8 @@ use Rattle.event_syntax.specs.declared.request.Action.{Action}
 use Rattle.event_syntax.specs.declared.request.Action.TheVariants.{Notify, Accumulate, Dial, Ignore}
 use Rattle.event_syntax.specs.declared.request.EmbeddedEvent.{EmbeddedEvent}
 use Rattle.event_syntax.specs.declared.request.EmbeddedRequest.{EmbeddedRequest}
-use Rattle.event_syntax.specs.declared.request.Response.{Response}
-use Rattle.event_syntax.specs.declared.request.Response.TheVariants.{Plain, Embed, AccumulateAndEmbed}
+use Rattle.event_syntax.specs.declared.request.Reaction.{Reaction}
+use Rattle.event_syntax.specs.declared.request.Reaction.TheVariants.{Plain, Embed, AccumulateAndEmbed}
 use Rattle.event_syntax.specs.declared.request.RequestedEvent.{RequestedEvent}
 use Rattle.event_values.specs.declared.signals.SignalRequest.{SignalRequest}
 use Rattle.mg_bytes.specs.Steps.{◌>>=◌}
@@ -26,21 +26,21 @@ use Rattle.event_syntax.specs.Embedding.{embedded_in}
 
 -- Reading
 
-abbrev pub requested_by : Rule → Response → RequestedEvent
-requested_by rule response = record { events = rule.events; response = response; keep = rule.keep }
+abbrev pub requested_by : Rule → Reaction → RequestedEvent
+requested_by rule reaction = record { events = rule.events; reaction = reaction; keep = rule.keep }
 
 -- what is embedded is read behind all that the entry says itself
-abbrev pub response_of : Deed → Result Response ℕ
-response_of (plain action) = Ok (Plain action)
-response_of (embed inside) = embedded_in inside >>= λ request. Ok (Embed request)
-response_of (accumulate_and_embed inside) = embedded_in inside >>= λ request. Ok (AccumulateAndEmbed request)
+abbrev pub reaction_of : Deed → Result Reaction ℕ
+reaction_of (plain action) = Ok (Plain action)
+reaction_of (embed inside) = embedded_in inside >>= λ request. Ok (Embed request)
+reaction_of (accumulate_and_embed inside) = embedded_in inside >>= λ request. Ok (AccumulateAndEmbed request)
 
 -- an entry
 unfoldable pub requested : List ℕ → Result RequestedEvent ℕ
 requested entry = do
   rule ← rule_of entry
-  response ← response_of rule.deed
-  Ok (requested_by rule response)
+  reaction ← reaction_of rule.deed
+  Ok (requested_by rule reaction)
 
 -- the entries of a value that is spelled
 unfoldable pub requested_in : List ℕ → Result (List RequestedEvent) ℕ
@@ -90,7 +90,7 @@ unfoldable pub embedded_text : EmbeddedRequest → List ℕ
 embedded_text request = codes "E" ++ in_parentheses (listed (parts_text request))
 
 -- what is done: N, A, D or I, A before E; K comes last
-abbrev pub actions_text : Response → List (List ℕ)
+abbrev pub actions_text : Reaction → List (List ℕ)
 actions_text (Plain action) = action_text action ∷ []
 actions_text (Embed request) = embedded_text request ∷ []
 actions_text (AccumulateAndEmbed request) = codes "A" ∷ embedded_text request ∷ []
@@ -98,7 +98,7 @@ actions_text (AccumulateAndEmbed request) = codes "A" ∷ embedded_text request 
 -- an entry: the events, and in parentheses what is done
 unfoldable pub requested_entry_text : RequestedEvent → List ℕ
 requested_entry_text entry =
-    events_text entry.events ++ in_parentheses (listed (actions_text entry.response ++ keep_text entry.keep))
+    events_text entry.events ++ in_parentheses (listed (actions_text entry.reaction ++ keep_text entry.keep))
 
 -- the value: entries with commas between them
 unfoldable pub requested_text : List RequestedEvent → List ℕ
@@ -110,13 +110,13 @@ abbrev pub is_spelled_map : Option (List ℕ) → Bool
 is_spelled_map None = true
 is_spelled_map (Some text) = is_map text
 
-abbrev pub has_spelled_map : Response → Bool
+abbrev pub has_spelled_map : Reaction → Bool
 has_spelled_map (Plain action) = true
 has_spelled_map (Embed request) = is_spelled_map request.map
 has_spelled_map (AccumulateAndEmbed request) = is_spelled_map request.map
 
 abbrev pub all_maps_are_spelled : List RequestedEvent → Bool
-all_maps_are_spelled list = list_all (λ entry. has_spelled_map entry.response) list
+all_maps_are_spelled list = list_all (λ entry. has_spelled_map entry.reaction) list
 
 -- What can be written so that it is read again: the events take what is done, and what is embedded holds something
 
@@ -141,20 +141,20 @@ is_writable_request request =
     nat_le (length request.events) most_events && list_all is_writable_embedded_event request.events
     && are_writable_signals request.signals && is_writable_map request.map && is_something (parts_text request)
 
-abbrev pub is_writable_response : Response → Bool
-is_writable_response (Plain action) = true
-is_writable_response (Embed request) = is_writable_request request
-is_writable_response (AccumulateAndEmbed request) = is_writable_request request
+abbrev pub is_writable_reaction : Reaction → Bool
+is_writable_reaction (Plain action) = true
+is_writable_reaction (Embed request) = is_writable_request request
+is_writable_reaction (AccumulateAndEmbed request) = is_writable_request request
 
 -- what is done, by whatever is embedded
-abbrev pub deed_in : Response → Deed
+abbrev pub deed_in : Reaction → Deed
 deed_in (Plain action) = plain action
 deed_in (Embed request) = embed []
 deed_in (AccumulateAndEmbed request) = accumulate_and_embed []
 
 abbrev pub is_writable_entry : RequestedEvent → Bool
 is_writable_entry entry =
-    is_writable entry.events && takes entry.events (deed_in entry.response) && is_writable_response entry.response
+    is_writable entry.events && takes entry.events (deed_in entry.reaction) && is_writable_reaction entry.reaction
 
 unfoldable pub are_writable_requested : List RequestedEvent → Bool
 are_writable_requested list = nat_le (length list) most_events && list_all is_writable_entry list

@@ -22,8 +22,8 @@ mod walk;
 pub use crate::detect::{DetectedEvents, MOST_EVENTS, read_detect, write_detect};
 pub use crate::events::Events;
 pub use crate::request::{
-    Action, EmbeddedEvent, EmbeddedEvents, EmbeddedRequest, Embedding, RequestedEvent,
-    RequestedEvents, Response,
+    Action, EmbeddedEvent, EmbeddedEvents, EmbeddedRequest, Embedding, Reaction, RequestedEvent,
+    RequestedEvents,
 };
 pub use crate::request_writing::{write_embedded_events, write_events};
 pub use crate::requested::read_events;

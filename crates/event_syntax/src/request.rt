@@ -103,7 +103,7 @@ impl Embedding {
 
 /// What is done at an event.
 #[derive(Drop)]
-pub enum Response {
+pub enum Reaction {
     Plain(Action),
     /// The embedded request takes effect: `E`.
     Embed(Embedding),
@@ -115,7 +115,7 @@ pub enum Response {
 #[derive(Drop)]
 pub struct RequestedEvent {
     pub events: Events,
-    pub response: Response,
+    pub reaction: Reaction,
     /// Whether the active signals go on: `K`.
     pub keep: bool,
 }
@@ -125,14 +125,14 @@ impl Default for RequestedEvent {
     ghost use Rattle.std.specs.Prelude.{◌≡◌, false};
     ghost use Rattle.event_syntax.specs.declared.events.Events.TheVariants.{AllOfLine};
     ghost use Rattle.event_syntax.specs.declared.request.Action.TheVariants.{Notify};
-    ghost use Rattle.event_syntax.specs.declared.request.Response.TheVariants.{Plain};
+    ghost use Rattle.event_syntax.specs.declared.request.Reaction.TheVariants.{Plain};
 
-    ghost is_default = { λ entry. entry ≡ record { events = AllOfLine; response = Plain Notify; keep = false } };
+    ghost is_default = { λ entry. entry ≡ record { events = AllOfLine; reaction = Plain Notify; keep = false } };
 
     fn default() -> Self {
         RequestedEvent {
             events: Events::AllOfLine,
-            response: Response::Plain(Action::Notify),
+            reaction: Reaction::Plain(Action::Notify),
             keep: false,
         }
     }

@@ -78,7 +78,7 @@ pub fn requests_are_embedded()
         ≡ requested_of (codes "L/hd(E(S(dl),R(hu),D(x.T)),K)") }
     ensures all { requested_of (codes "L/hd( K, E( D(x.T), R(hu), S(dl) ) )") ≡ one_entry (record {
       events = Events.One Event.OffHook;
-      response = inside (record {
+      reaction = inside (record {
         events = embedded_does (Events.One Event.OnHook) Action.Notify false ∷ [];
         signals = asks Signal.DialTone Setting.Start ∷ [];
         map = Some (codes "x.T");

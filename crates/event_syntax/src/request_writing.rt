@@ -9,7 +9,7 @@ ghost use Rattle.event_syntax.specs.Requested.{map_part, parts_text, embedded_te
 ghost use Rattle.event_syntax.specs.Requested.{requested_text, is_spelled_map, has_spelled_map, all_maps_are_spelled};
 
 use crate::events::put_events;
-use crate::request::{Action, EmbeddedEvent, EmbeddedRequest, RequestedEvent, Response};
+use crate::request::{Action, EmbeddedEvent, EmbeddedRequest, Reaction, RequestedEvent};
 use digit_map::MapText;
 use event_values::{SignalRequest, write_signals};
 use mg_bytes::{OutOfMemory, Text};
@@ -141,19 +141,19 @@ fn put_embedded(
     Ok(())
 }
 
-fn put_response(alloc: Global, out: &mut Vec<u8>, response: &Response) -> Result<(), OutOfMemory>
-    ensures { OnOk result (out.new.items ≡ out.old.items ++ listed (actions_text response.now)) }
+fn put_reaction(alloc: Global, out: &mut Vec<u8>, reaction: &Reaction) -> Result<(), OutOfMemory>
+    ensures { OnOk result (out.new.items ≡ out.old.items ++ listed (actions_text reaction.now)) }
 {
-    match response {
-        Response::Plain(action) => {
+    match reaction {
+        Reaction::Plain(action) => {
             out.extend_from_slice(action_name(*action))?;
             Ok(())
         }
-        Response::Embed(embedding) => {
+        Reaction::Embed(embedding) => {
             put_embedded(alloc, out, embedding.request())?;
             Ok(())
         }
-        Response::AccumulateAndEmbed(embedding) => {
+        Reaction::AccumulateAndEmbed(embedding) => {
             out.extend_from_slice(b"A,")?;
             put_embedded(alloc, out, embedding.request())?;
             Ok(())
@@ -171,7 +171,7 @@ fn put_requested(
 {
     put_events(out, entry.events)?;
     out.push(b'(')?;
-    put_response(alloc, out, &entry.response)?;
+    put_reaction(alloc, out, &entry.reaction)?;
     put_comma(out, true, entry.keep)?;
     put_keep(out, entry.keep)?;
     out.push(b')')?;
@@ -201,13 +201,13 @@ fn is_spelled(map: &Option<MapText>)
     }
 }
 
-fn has_spelled_map(response: &Response)
-    ensures { has_spelled_map response.now ≡ true }
+fn has_spelled_map(reaction: &Reaction)
+    ensures { has_spelled_map reaction.now ≡ true }
 {
-    match response {
-        Response::Plain(_) => {}
-        Response::Embed(embedding) => is_spelled(&embedding.request().map),
-        Response::AccumulateAndEmbed(embedding) => is_spelled(&embedding.request().map),
+    match reaction {
+        Reaction::Plain(_) => {}
+        Reaction::Embed(embedding) => is_spelled(&embedding.request().map),
+        Reaction::AccumulateAndEmbed(embedding) => is_spelled(&embedding.request().map),
     }
 }
 
@@ -216,7 +216,7 @@ fn all_maps_are_spelled(list: &[RequestedEvent])
     ensures { all_maps_are_spelled list.now ≡ true }
 {
     for entry in list {
-        has_spelled_map(&entry.response);
+        has_spelled_map(&entry.reaction);
     }
 }
 

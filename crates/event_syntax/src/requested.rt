@@ -5,12 +5,12 @@ ghost use Rattle.event_cuts.specs.Cuts.{entries};
 ghost use Rattle.event_cuts.specs.Faults.{each};
 ghost use Rattle.event_syntax.specs.Actions.{deed_seen};
 ghost use Rattle.event_syntax.specs.Embedding.{embedded_in, Gives};
-ghost use Rattle.event_syntax.specs.Requested.{response_of, requested, requested_in, requested_of, are_writable_requested};
+ghost use Rattle.event_syntax.specs.Requested.{reaction_of, requested, requested_in, requested_of, are_writable_requested};
 ghost use Rattle.event_syntax.specs.Detect.{most_events};
 
 use crate::detect::MOST_EVENTS;
 use crate::embedded::embedded_in;
-use crate::request::{Embedding, RequestedEvent, RequestedEvents, Response};
+use crate::request::{Embedding, Reaction, RequestedEvent, RequestedEvents};
 use crate::rule::{Deed, rule_of};
 use crate::walk::are_requested;
 use event_cuts::{entries, has_at_most};
@@ -24,14 +24,14 @@ fn embedding_in(alloc: Global, inside: &[u8]) -> Result<Embedding, CodeFault>
     Ok(Embedding::new(alloc, request)?)
 }
 
-fn response_of(alloc: Global, deed: Deed<'_>) -> Result<Response, CodeFault>
-    ensures { Gives (response_of (deed_seen deed.entry)) result }
+fn reaction_of(alloc: Global, deed: Deed<'_>) -> Result<Reaction, CodeFault>
+    ensures { Gives (reaction_of (deed_seen deed.entry)) result }
 {
     match deed {
-        Deed::Plain(action) => Ok(Response::Plain(action)),
-        Deed::Embed(inside) => Ok(Response::Embed(embedding_in(alloc, inside)?)),
+        Deed::Plain(action) => Ok(Reaction::Plain(action)),
+        Deed::Embed(inside) => Ok(Reaction::Embed(embedding_in(alloc, inside)?)),
         Deed::AccumulateAndEmbed(inside) => {
-            Ok(Response::AccumulateAndEmbed(embedding_in(alloc, inside)?))
+            Ok(Reaction::AccumulateAndEmbed(embedding_in(alloc, inside)?))
         }
     }
 }
@@ -41,10 +41,10 @@ fn requested(alloc: Global, entry: &[u8]) -> Result<RequestedEvent, CodeFault>
     ensures { Gives (requested entry.now) result }
 {
     let rule = rule_of(entry).map_err(CodeFault::Code)?;
-    let response = response_of(alloc, rule.deed)?;
+    let reaction = reaction_of(alloc, rule.deed)?;
     Ok(RequestedEvent {
         events: rule.events,
-        response,
+        reaction,
         keep: rule.keep,
     })
 }

@@ -16,7 +16,7 @@ ghost use Rattle.gateway_floor.specs.Tells.{Tells};
 use crate::reporting::{name_alone, names_of};
 use audits::{Endpoint, connection_report, endpoint_report, fitting};
 use command_forms::{Asks, Audit, AuditTarget, Deed, RequestForm, Target, form_while};
-use event_requests::Request as EventRequest;
+use event_requests::EventRequest;
 use gateway_floor::{Floor, deed_on_all, line_with_place, news_of, refused_by};
 use gateway_stations::{Context, answer_with};
 use mg_bytes::{CodeFault, OutOfMemory, ReturnCode};

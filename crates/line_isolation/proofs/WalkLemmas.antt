@@ -4,7 +4,7 @@ use Rattle.std.specs.Prelude.{fold, IfSome, not}
 use Rattle.std.proofs.lemmas.Bool.{and_parts}
 use Rattle.std.specs.declared.net.socket_addr.SocketAddrV4.{SocketAddrV4}
 use Rattle.mgcp_text.specs.Reading.{Outcome, read_text}
-use Rattle.history.specs.Arrival.{Arrival as Command}
+use Rattle.history.specs.Arrival.{Arrival}
 use Rattle.history.specs.Memory.{most_firsts}
 use Rattle.history.specs.Firsts.{Kind, a_first, a_repeat, lost, kind_of, firsts_with, firsts_of}
 use Rattle.history.specs.Answers.{is_confirmed}
@@ -25,10 +25,10 @@ use Rattle.line_isolation.proofs.FittingWords.{Fits, FindsRoom, TextsFit, EventF
 
 -- None is lost
 
-abbrev NoneLost : List Command → List Command → Type 0
+abbrev NoneLost : List Arrival → List Arrival → Type 0
 NoneLost firsts arrivals = none_lost most_firsts firsts arrivals ≡ true
 
-none_both : (firsts some more : List Command) → NoneLost firsts (some ++ more)
+none_both : (firsts some more : List Arrival) → NoneLost firsts (some ++ more)
     → NoneLost firsts some × NoneLost (fold (firsts_with most_firsts) firsts some) more
 unfolding none_lost
 none_both firsts [] more none = (refl, none)
@@ -37,11 +37,11 @@ none_both firsts (a ∷ some) more none =
     let rest = none_both (firsts_with most_firsts firsts a) some more both.1 in
     (ap (λ (b : Bool). b && none_lost most_firsts (firsts_with most_firsts firsts a) some) both.0 ∙ rest.0, rest.1)
 
-first_kept : (firsts : List Command) (a : Command) → NoneLost firsts (a ∷ []) → not (is_lost (kind_of most_firsts firsts a)) ≡ true
+first_kept : (firsts : List Arrival) (a : Arrival) → NoneLost firsts (a ∷ []) → not (is_lost (kind_of most_firsts firsts a)) ≡ true
 unfolding none_lost
 first_kept firsts a none = (and_parts (not (is_lost (kind_of most_firsts firsts a))) true none).0
 
-fold_on : (firsts some more : List Command)
+fold_on : (firsts some more : List Arrival)
     → fold (firsts_with most_firsts) firsts (some ++ more) ≡ fold (firsts_with most_firsts) (fold (firsts_with most_firsts) firsts some) more
 fold_on firsts [] more = refl
 fold_on firsts (a ∷ some) more = fold_on (firsts_with most_firsts firsts a) some more
@@ -58,14 +58,14 @@ module _ (setup : Setup) (keep : ℕ → Bool) (line : ℕ) where
   abbrev AllFit : List TextArrival → Type 0
   AllFit arrivals = Each (λ (a : TextArrival). Fits setup keep line a.outcome) arrivals
 
-  finds_room : (m : Machine) (earlier : List Command) (found : Option Transaction) → Keeps m earlier
+  finds_room : (m : Machine) (earlier : List Arrival) (found : Option Transaction) → Keeps m earlier
       → NoneLost (firsts_of most_firsts earlier) (arriving m found) → IfSome found (λ t. look_of most_firsts m.history t.id m.now ≢ full)
   finds_room m earlier None keeps none = tt
   finds_room m earlier (Some t) keeps none =
       λ e. not_full t.id (kind_of most_firsts (firsts_of most_firsts earlier) (command_arrival m t))
       (first_kept (firsts_of most_firsts earlier) (command_arrival m t) none) (sym (looked m t earlier keeps) ∙ e)
 
-  texts_fit : (m : Machine) (source : SocketAddrV4) (texts : List (List ℕ)) (earlier : List Command) → Keeps m earlier → AllFit (map (arrival m.now source) texts)
+  texts_fit : (m : Machine) (source : SocketAddrV4) (texts : List (List ℕ)) (earlier : List Arrival) → Keeps m earlier → AllFit (map (arrival m.now source) texts)
       → NoneLost (firsts_of most_firsts earlier) (commands_in setup m source texts) → TextsFit setup keep line m source texts
   unfolding commands_in handled
   texts_fit m source [] earlier keeps fit none = tt
@@ -77,16 +77,16 @@ module _ (setup : Setup) (keep : ℕ → Bool) (line : ℕ) where
         finds_room m earlier found keeps both.0,
         texts_fit next source texts (earlier ++ arriving m found) (arrived_on found setup m source (read_text text) earlier keeps)
             (subst (λ (now : ℕ). AllFit (map (arrival now source) texts)) (sym (handled_now setup m source (read_text text))) fit.1)
-            (subst (λ (firsts : List Command). NoneLost firsts (commands_in setup next source texts)) (sym (fold_on [] earlier (arriving m found))) both.1),
+            (subst (λ (firsts : List Arrival). NoneLost firsts (commands_in setup next source texts)) (sym (fold_on [] earlier (arriving m found))) both.1),
       )
 
-  event_fits : (m : Machine) (event : GatewayEvent) (earlier : List Command) → Keeps m earlier → AllFit (arrivals_at m.now event)
+  event_fits : (m : Machine) (event : GatewayEvent) (earlier : List Arrival) → Keeps m earlier → AllFit (arrivals_at m.now event)
       → NoneLost (firsts_of most_firsts earlier) (commands_with setup m event) → EventFits setup keep line m event
   event_fits m (datagram source bytes) earlier keeps fit none = texts_fit m source (texts_of bytes) earlier keeps fit none
   event_fits m (phone other act) earlier keeps fit none = tt
   event_fits m (tick moment) earlier keeps fit none = tt
 
-  pub events_fit : (m : Machine) (events : List GatewayEvent) (earlier : List Command) → Keeps m earlier → AllFit (arrivals_from m.now events)
+  pub events_fit : (m : Machine) (events : List GatewayEvent) (earlier : List Arrival) → Keeps m earlier → AllFit (arrivals_from m.now events)
       → NoneLost (firsts_of most_firsts earlier) (commands_from setup m events) → EventsFit setup keep line m events
   unfolding commands_from arrivals_from
   events_fit m [] earlier keeps fit none = tt
@@ -98,5 +98,5 @@ module _ (setup : Setup) (keep : ℕ → Bool) (line : ℕ) where
         events_fit next events (earlier ++ commands_with setup m event) (event_on setup m event earlier keeps)
             (subst (λ (now : ℕ). AllFit (arrivals_from now events)) (sym (effect_now setup m event))
             (each_back fits (arrivals_at m.now event) (arrivals_from (clock_after m.now event) events) fit))
-            (subst (λ (firsts : List Command). NoneLost firsts (commands_from setup next events)) (sym (fold_on [] earlier (commands_with setup m event))) both.1),
+            (subst (λ (firsts : List Arrival). NoneLost firsts (commands_from setup next events)) (sym (fold_on [] earlier (commands_with setup m event))) both.1),
       )

@@ -4,7 +4,7 @@ ghost use Rattle.gateway_core.specs.Wire.{IsWithin};
 
 use crate::clock::{LONGEST_TICK, LiveClock};
 use crate::journal::Journal;
-use crate::telephones::{Request, Telephones};
+use crate::telephones::{TelephoneRequest, Telephones};
 use gateway_core::{DATAGRAM_ROOM, Input, Wire, WireFault};
 use std::io;
 use std::io::ErrorKind;
@@ -100,8 +100,10 @@ impl<'a, R: Net + Clock> Ends<'a, R> {
             self.telephones.look();
         }
         match self.telephones.request()? {
-            Request::Act { line, act } => Some(Input::Phone { line, act }),
-            Request::Show { .. } | Request::Unknown | Request::OutOfMemory => Some(Input::Tick {
+            TelephoneRequest::Act { line, act } => Some(Input::Phone { line, act }),
+            TelephoneRequest::Show { .. }
+            | TelephoneRequest::Unknown
+            | TelephoneRequest::OutOfMemory => Some(Input::Tick {
                 moment: self.clock.ticked(),
             }),
         }

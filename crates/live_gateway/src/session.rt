@@ -3,7 +3,7 @@ ghost use Rattle.std.specs.Prelude.{◌≤◌, ◌↔◌, IsTrue};
 
 use crate::live_wire::LiveWire;
 use crate::report::Faults;
-use crate::telephones::Request;
+use crate::telephones::TelephoneRequest;
 use gateway_core::{Gateway, Input, Refusal};
 use mg_bytes::OutOfMemory;
 use mg_line::Act;
@@ -111,10 +111,10 @@ impl<'a, R: Net + Clock> LiveWire<'a, R> {
     fn answer_questions(&mut self, alloc: Global, gateway: &Gateway) {
         for _ in 0..MOST_REQUESTS {
             match self.ends.telephones.request() {
-                Some(Request::Show { line }) => self.answer_question(alloc, gateway, line),
-                Some(Request::Unknown) => self.ends.telephones.answer(UNKNOWN),
-                Some(Request::OutOfMemory) => self.ends.telephones.answer(OUT_OF_MEMORY),
-                Some(Request::Act { .. }) | None => return,
+                Some(TelephoneRequest::Show { line }) => self.answer_question(alloc, gateway, line),
+                Some(TelephoneRequest::Unknown) => self.ends.telephones.answer(UNKNOWN),
+                Some(TelephoneRequest::OutOfMemory) => self.ends.telephones.answer(OUT_OF_MEMORY),
+                Some(TelephoneRequest::Act { .. }) | None => return,
             }
         }
     }

@@ -11,7 +11,7 @@ const ROOM: usize = 4096;
 
 /// What a line asks for.
 #[derive(Clone, Copy)]
-pub enum Request {
+pub enum TelephoneRequest {
     /// Something is done at the telephone of a line.
     Act { line: u16, act: Act },
     /// What a line is, is asked.
@@ -33,11 +33,11 @@ pub struct Telephones {
     read: usize,
     // The line that is answered next: its bytes, and what it asks for.
     line: Vec<u8>,
-    request: Option<Request>,
+    request: Option<TelephoneRequest>,
 }
 
 // What a line asks for, if it isn't empty.
-fn request_in(alloc: Global, line: &[u8]) -> Option<Request> {
+fn request_in(alloc: Global, line: &[u8]) -> Option<TelephoneRequest> {
     match line_in(alloc, line) {
         Ok(Some(ScriptLine::Empty)) => None,
         Ok(
@@ -46,16 +46,16 @@ fn request_in(alloc: Global, line: &[u8]) -> Option<Request> {
                     step: Step::Phone { line, act },
                 },
             ),
-        ) => Some(Request::Act { line, act }),
+        ) => Some(TelephoneRequest::Act { line, act }),
         Ok(
             Some(
                 ScriptLine::Whole {
                     step: Step::Show { line },
                 },
             ),
-        ) => Some(Request::Show { line }),
-        Ok(_) => Some(Request::Unknown),
-        Err(_) => Some(Request::OutOfMemory),
+        ) => Some(TelephoneRequest::Show { line }),
+        Ok(_) => Some(TelephoneRequest::Unknown),
+        Err(_) => Some(TelephoneRequest::OutOfMemory),
     }
 }
 
@@ -81,7 +81,7 @@ impl Telephones {
     }
 
     /// What is asked for next, of what came.
-    pub fn request(&self) -> Option<Request> {
+    pub fn request(&self) -> Option<TelephoneRequest> {
         self.request
     }
 
@@ -101,7 +101,7 @@ impl Telephones {
                 self.line.clear();
                 self.request = match self.line.extend_from_slice(line) {
                     Ok(()) => Some(request),
-                    Err(_) => Some(Request::OutOfMemory),
+                    Err(_) => Some(TelephoneRequest::OutOfMemory),
                 };
                 return;
             }
@@ -122,7 +122,7 @@ impl Telephones {
         self.read = 0;
         match self.text.extend_from_slice(&room[..len]) {
             Ok(()) => self.advance(),
-            Err(_) => self.request = Some(Request::OutOfMemory),
+            Err(_) => self.request = Some(TelephoneRequest::OutOfMemory),
         }
     }
 

@@ -1,6 +1,6 @@
 -- What a command does on the lines that it is for.
 use Rattle.std.proofs.Common.{◌≡◌, ◌≢◌, ℕ, zero, suc, ◌+◌, ◌-◌, ◌<◌, Bool, true, false, ◌==◌, if◌then◌else◌, List, [], ◌∷◌, length, map, filter, Option, Some, None, Result, Ok, Err, inl, inr, refl, sym, ap, ◌∙◌, subst, arith}
-use Rattle.std.specs.Prelude.{◌⊎◌, All, slice_get, flat_map, option_map, option_and_then}
+use Rattle.std.specs.Prelude.{◌⊎◌, ◌≤◌, is_some, All, slice_get, flat_map, option_map, option_and_then}
 use Rattle.std.specs.List.{enumerate_from}
 use Rattle.std.proofs.lemmas.Bool.Decides.{Decides-eqb}
 use Rattle.std.proofs.lemmas.List.Elements.{filter_passes}
@@ -9,6 +9,7 @@ use Rattle.mg_bytes.specs.Checks.{first_fault}
 use Rattle.mgcp_text.specs.Answer.{Answer, plain_code}
 use Rattle.mgcp_text.specs.declared.confirmation.KValue.{KValue}
 use Rattle.mgcp_text.specs.declared.message.Param.{Param}
+use Rattle.command_forms.specs.Codes.{AreOf}
 use Rattle.command_forms.specs.Command.{Command}
 use Rattle.command_forms.specs.Meaning.{is_for}
 use Rattle.command_forms.specs.Order.{form_while}
@@ -16,6 +17,7 @@ use Rattle.command_forms.specs.declared.forms.Asks.{Asks}
 use Rattle.command_forms.specs.declared.forms.Asks.TheVariants.{Reports, Does}
 use Rattle.command_forms.specs.declared.forms.Audit.{Audit}
 use Rattle.command_forms.specs.declared.forms.AuditTarget.{AuditTarget}
+use Rattle.command_forms.specs.declared.forms.AuditTarget.TheVariants as audits
 use Rattle.command_forms.specs.declared.forms.ConnectionDeed.{ConnectionDeed}
 use Rattle.command_forms.specs.declared.forms.ConnectionDeed.TheVariants.{Keep}
 use Rattle.command_forms.specs.declared.forms.Deed.{Deed}
@@ -27,9 +29,14 @@ use Rattle.plain_machine.specs.declared.station.Station.{Station}
 use Rattle.plain_machine.specs.Connecting.{Shown, nothing_shown, done_code, connected}
 use Rattle.plain_machine.specs.Commanding.{line_deed, done_by, commanded}
 use Rattle.plain_machine.specs.Done.{Done, only_answer}
-use Rattle.plain_machine.specs.Machine.{serves, Endpoints, told, station_at, numbered}
+use Rattle.plain_machine.specs.Event.{GatewayEvent}
+use Rattle.plain_machine.specs.Lists.{plain}
+use Rattle.plain_machine.specs.Machine.{serves, Endpoints, opening, told, station_at, numbered}
 use Rattle.plain_machine.specs.Reporting.{name_of_line}
 use Rattle.plain_machine.specs.Requesting.{refusal_on, refused_by, lines_meant, encoding_with, deed_on, deed_on_all, shown_by, shown_on, shown_of, answer_with, unless_refused, deed_done, line_with_place, done_there, done_for}
+use Rattle.command_forms.proofs.FormLemmas.{form_lines}
+use Rattle.command_forms.proofs.RestartLemmas.{while_taken}
+use Rattle.plain_machine.proofs.ListLaws.{lines_after, lines_of_opening}
 use Rattle.machine_laws.specs.Refusals.{refusal_at, IsRefused, NoneRefuses}
 use Rattle.machine_laws.proofs.LineLemmas.{own_stays, not_among, among_from, none_stays, sent_from_each, passing_from, place_of, all_there}
 
@@ -260,6 +267,28 @@ deed_on_any setup endpoints deed moment line is = ap (λ (found : Option ℕ). d
 pub deed_on_no_line : (setup : Setup) (endpoints : Endpoints) (deed : LineDeed) (moment : ℕ) → line_with_place endpoints ≡ None
     → done_for setup endpoints AnyLine deed moment ≡ only_answer endpoints (plain_code 410)
 deed_on_no_line setup endpoints deed moment is = ap (λ (found : Option ℕ). done_there found setup endpoints deed moment) is
+
+-- a line from 1 to the number of stations has one
+get_within : (stations : List Station) (n : ℕ) → n < length stations → is_some (slice_get stations n) ≡ true
+get_within [] n less = absurd (omega (arith, less))
+get_within (station ∷ rest) zero less = refl
+get_within (station ∷ rest) (suc n) less = get_within rest n (omega (arith, less))
+
+station_there : (endpoints : Endpoints) (line : ℕ) → 1 ≤ line → line ≤ length endpoints.stations → is_some (station_at endpoints line) ≡ true
+station_there endpoints line first last = by_zero (line == 0) refl where
+  by_zero : (b : Bool) → (line == 0) ≡ b → is_some (if b then None else slice_get endpoints.stations (line - 1)) ≡ true
+  by_zero true e = absurd (let no : line ≡ 0 = (Decides-eqb line 0).0 e in omega (arith, no, first))
+  by_zero false e = get_within endpoints.stations (line - 1) (omega (arith, first, last))
+
+pub audit_finds : (setup : Setup) (events : List GatewayEvent) (command : Command) (confirms : KValue) (line : ℕ) (audit : Audit)
+    → form_while (serves (plain setup events).endpoints) command confirms setup.names ≡ Ok (Reports (audits.One line) audit)
+    → is_some (station_at (plain setup events).endpoints line) ≡ true
+audit_finds setup events command confirms line audit is =
+    let asks : Asks = Reports (audits.One line) audit in
+    let serving : Bool = serves (plain setup events).endpoints in
+    let known : AreOf setup.names.lines (One line) = form_lines command confirms setup.names asks (while_taken serving command confirms setup.names asks is) in
+    let lines : length (plain setup events).endpoints.stations ≡ setup.names.lines = lines_after setup (opening setup) events ∙ lines_of_opening setup in
+    station_there (plain setup events).endpoints line (known.0) (omega (arith, known.1, lines))
 
 pub audit_stays : (setup : Setup) (endpoints : Endpoints) (moment id : ℕ) (command : Command) (confirms : KValue) (lines : AuditTarget) (audit : Audit)
     → form_while (serves endpoints) command confirms setup.names ≡ Ok (Reports lines audit) → (commanded setup endpoints moment id command confirms).told ≡ told endpoints []

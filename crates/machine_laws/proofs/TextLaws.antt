@@ -2,7 +2,7 @@
 use Rattle.std.proofs.Common.{◌≡◌, ℕ, List, [], ◌∷◌, ◌++◌, Option, Some, None, refl, sym, ap, ◌∙◌, append_assoc, append-nil}
 use Rattle.std.specs.declared.net.socket_addr.SocketAddrV4.{SocketAddrV4}
 use Rattle.history.specs.Memory.{most_firsts}
-use Rattle.history.specs.Arrival.{Arrival as Command}
+use Rattle.history.specs.Arrival.{Arrival}
 use Rattle.history.specs.Firsts.{firsts_of}
 use Rattle.history.specs.Kept.{entries_of}
 use Rattle.mg_line.specs.declared.phone.Act.{Act}
@@ -59,26 +59,26 @@ texts_at setup m source (first ∷ before) behind text =
     ∙ sym (after_after (handled setup m source (read_text first)) (λ (next : Machine). took_all setup next source before)
     (λ (now : Machine). after (handled setup now source (read_text text)) (λ (next : Machine). took_all setup next source behind)))
 
-arrived_kept : (setup : Setup) (m : Machine) (source : SocketAddrV4) (outcome : Outcome) (earlier : List Command) → Keeps m earlier
+arrived_kept : (setup : Setup) (m : Machine) (source : SocketAddrV4) (outcome : Outcome) (earlier : List Arrival) → Keeps m earlier
     → Keeps (handled setup m source outcome).machine (earlier ++ arriving m (transaction_of setup m outcome))
 unfolding handled
 arrived_kept setup m source outcome earlier keeps = arrived_on (transaction_of setup m outcome) setup m source outcome earlier keeps
 
-pub command_kept : (setup : Setup) (m : Machine) (source : SocketAddrV4) (outcome : Outcome) (t : Transaction) (earlier : List Command) → transaction_of setup m outcome ≡ Some t
+pub command_kept : (setup : Setup) (m : Machine) (source : SocketAddrV4) (outcome : Outcome) (t : Transaction) (earlier : List Arrival) → transaction_of setup m outcome ≡ Some t
     → Keeps m earlier → Keeps (handled setup m source outcome).machine (earlier ++ command_arrival m t ∷ [])
 command_kept setup m source outcome t earlier is keeps =
     arrived_kept setup m source outcome earlier keeps
     ∙ ap (λ (found : Option Transaction). entries_of (firsts_of most_firsts (earlier ++ arriving m found))) is
 
-pub texts_kept : (setup : Setup) (m : Machine) (source : SocketAddrV4) (before : List (List ℕ)) (earlier : List Command) → Keeps m earlier
+pub texts_kept : (setup : Setup) (m : Machine) (source : SocketAddrV4) (before : List (List ℕ)) (earlier : List Arrival) → Keeps m earlier
     → Keeps (took_all setup m source before).machine (earlier ++ commands_in setup m source before)
 unfolding took_all commands_in
-texts_kept setup m source [] earlier keeps = keeps ∙ ap (λ (x : List Command). entries_of (firsts_of most_firsts x)) (sym (append-nil earlier))
+texts_kept setup m source [] earlier keeps = keeps ∙ ap (λ (x : List Arrival). entries_of (firsts_of most_firsts x)) (sym (append-nil earlier))
 texts_kept setup m source (text ∷ before) earlier keeps =
     let here = arriving m (transaction_of setup m (read_text text)) in
     let next = (handled setup m source (read_text text)).machine in
     texts_kept setup next source before (earlier ++ here) (arrived_kept setup m source (read_text text) earlier keeps)
-    ∙ ap (λ (x : List Command). entries_of (firsts_of most_firsts x)) (append_assoc earlier here (commands_in setup next source before))
+    ∙ ap (λ (x : List Arrival). entries_of (firsts_of most_firsts x)) (append_assoc earlier here (commands_in setup next source before))
 
 pub texts_now : (setup : Setup) (m : Machine) (source : SocketAddrV4) (before : List (List ℕ)) → (took_all setup m source before).machine.now ≡ m.now
 unfolding took_all

@@ -1,6 +1,6 @@
 //! What a command does on the lines that it is for (RFC 3435, 2.3.3, 2.3.10 and 3.2.1.3), whatever the endpoints are.
 ghost use Rattle.std.specs.Prelude.{◌≡◌, ◌≢◌, ◌⊎◌, ℕ, List, [], ◌∷◌, filter, flat_map, if◌then◌else◌};
-ghost use Rattle.std.specs.Prelude.{Some, None, option_map, Ok, Err};
+ghost use Rattle.std.specs.Prelude.{true, Some, None, is_some, option_map, Ok, Err};
 ghost use Rattle.mgcp_text.specs.Answer.{plain_code};
 ghost use Rattle.mgcp_text.specs.declared.confirmation.KValue.{KValue};
 ghost use Rattle.mgcp_text.specs.declared.message.Param.{Param};
@@ -10,6 +10,7 @@ ghost use Rattle.command_forms.specs.Order.{form_while};
 ghost use Rattle.command_forms.specs.declared.forms.Asks.TheVariants.{Reports, Does};
 ghost use Rattle.command_forms.specs.declared.forms.Audit.{Audit};
 ghost use Rattle.command_forms.specs.declared.forms.AuditTarget.{AuditTarget};
+ghost use Rattle.command_forms.specs.declared.forms.AuditTarget.TheVariants as audits;
 ghost use Rattle.command_forms.specs.declared.forms.ConnectionDeed.TheVariants.{Keep};
 ghost use Rattle.command_forms.specs.declared.forms.Deed.{Deed};
 ghost use Rattle.command_forms.specs.declared.forms.Target.{Target};
@@ -19,6 +20,8 @@ ghost use Rattle.plain_machine.specs.declared.setup.Setup.{Setup};
 ghost use Rattle.plain_machine.specs.declared.station.Station.{Station};
 ghost use Rattle.plain_machine.specs.Commanding.{line_deed, commanded};
 ghost use Rattle.plain_machine.specs.Done.{only_answer};
+ghost use Rattle.plain_machine.specs.Event.{GatewayEvent};
+ghost use Rattle.plain_machine.specs.Lists.{plain};
 ghost use Rattle.plain_machine.specs.Machine.{serves, Endpoints, told, station_at, numbered};
 ghost use Rattle.plain_machine.specs.Reporting.{name_of_line};
 ghost use Rattle.plain_machine.specs.Requesting.{deed_on, shown_of, answer_with, deed_done, line_with_place, done_for};
@@ -89,6 +92,14 @@ pub fn a_deed_on_one_line_changes_that_line_alone()
         ≡ station_at endpoints other }
     ensures own { (setup : Setup) (endpoints : Endpoints) (lines : Target) (more : List Param) (deed : LineDeed)
         (moment : ℕ) → (deed_done setup endpoints lines more deed moment).told.endpoints.own ≡ endpoints.own }
+{}
+
+/// An audit of one line is of a line that there is, after every list of events.
+pub fn an_audit_of_one_line_finds_it()
+    ensures { (setup : Setup) (events : List GatewayEvent) (command : Command) (confirms : KValue) (line : ℕ) (audit : Audit) →
+        let endpoints = (plain setup events).endpoints in
+        form_while (serves endpoints) command confirms setup.names ≡ Ok (Reports (audits.One line) audit) →
+        is_some (station_at endpoints line) ≡ true }
 {}
 
 /// An audit changes nothing and has nothing sent, nor does a command that has a fault.

@@ -3,7 +3,7 @@
 ghost use Rattle.std.specs.Prelude.{◌≡◌, ◌++◌, ◌∷◌, [], ℕ, List, Some, None};
 ghost use Rattle.std.specs.declared.net.socket_addr.SocketAddrV4.{SocketAddrV4};
 ghost use Rattle.history.specs.Memory.{most_firsts};
-ghost use Rattle.history.specs.Arrival.{Arrival as Command};
+ghost use Rattle.history.specs.Arrival.{Arrival};
 ghost use Rattle.history.specs.Firsts.{firsts_of};
 ghost use Rattle.history.specs.Kept.{entries_of};
 ghost use Rattle.mgcp_text.specs.Reading.{Outcome, no_header, message, read_text};
@@ -25,7 +25,7 @@ pub fn a_text_that_is_a_command_is_transacted()
     ensures transacted { (setup : Setup) (m : Machine) (source : SocketAddrV4) (outcome : Outcome) (t : Transaction) →
         transaction_of setup m outcome ≡ Some t → handled setup m source outcome ≡ transacted m source t }
     ensures history { (setup : Setup) (m : Machine) (source : SocketAddrV4) (outcome : Outcome) (t : Transaction)
-        (earlier : List Command) → transaction_of setup m outcome ≡ Some t →
+        (earlier : List Arrival) → transaction_of setup m outcome ≡ Some t →
         m.history ≡ entries_of (firsts_of most_firsts earlier) →
         (handled setup m source outcome).machine.history
         ≡ entries_of (firsts_of most_firsts (earlier ++ command_arrival m t ∷ [])) }
@@ -52,7 +52,7 @@ pub fn each_text_is_handled_after_those_before_it()
         ≡ after (took_all setup m source before) (λ (now : Machine).
         after (handled setup now source (read_text text)) (λ (next : Machine). took_all setup next source behind)) }
     ensures history { (setup : Setup) (m : Machine) (source : SocketAddrV4) (before : List (List ℕ))
-        (earlier : List Command) → m.history ≡ entries_of (firsts_of most_firsts earlier) →
+        (earlier : List Arrival) → m.history ≡ entries_of (firsts_of most_firsts earlier) →
         (took_all setup m source before).machine.history
         ≡ entries_of (firsts_of most_firsts (earlier ++ commands_in setup m source before)) }
     ensures moment { (setup : Setup) (m : Machine) (source : SocketAddrV4) (before : List (List ℕ)) →

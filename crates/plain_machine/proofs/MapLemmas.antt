@@ -23,9 +23,9 @@ use Rattle.event_syntax.specs.declared.request.EmbeddedEvent.{EmbeddedEvent}
 use Rattle.event_syntax.specs.declared.request.EmbeddedRequest.{EmbeddedRequest}
 use Rattle.event_syntax.specs.declared.request.RequestedEvent.{RequestedEvent}
 use Rattle.event_syntax.specs.declared.request.Action.TheVariants.{Ignore, Notify, Accumulate, Dial}
-use Rattle.event_syntax.specs.declared.request.Response.{Response}
-use Rattle.event_syntax.specs.declared.request.Response.TheVariants.{Plain, Embed, AccumulateAndEmbed}
-use Rattle.event_syntax.specs.Requested.{is_spelled_map, has_spelled_map, all_maps_are_spelled, is_same_map, is_writable_map, is_writable_response, is_writable_entry, are_writable_requested}
+use Rattle.event_syntax.specs.declared.request.Reaction.{Reaction}
+use Rattle.event_syntax.specs.declared.request.Reaction.TheVariants.{Plain, Embed, AccumulateAndEmbed}
+use Rattle.event_syntax.specs.Requested.{is_spelled_map, has_spelled_map, all_maps_are_spelled, is_same_map, is_writable_map, is_writable_reaction, is_writable_entry, are_writable_requested}
 use Rattle.event_requests.specs.Choice.{Chosen, chosen_by, chosen}
 use Rattle.event_requests.specs.Naming.{names, event_of}
 use Rattle.event_requests.specs.Requests.{entry_in}
@@ -73,7 +73,7 @@ embedded_spelled : (line : LineState) (request : EmbeddedRequest) (moment : ℕ)
 unfolding embedded
 embedded_spelled line request moment new are = (given_spelled request.map line.digit_map new are.0, entries_spelled request.events)
 
-acted_spelled : (response : Response) (line : LineState) (event : Observed) (moment : ℕ) → has_spelled_map response ≡ true → AreSpelled line → AreSpelled (acted response line event moment).line
+acted_spelled : (reaction : Reaction) (line : LineState) (event : Observed) (moment : ℕ) → has_spelled_map reaction ≡ true → AreSpelled line → AreSpelled (acted reaction line event moment).line
 unfolding acted notified
 acted_spelled (Plain Ignore) line event moment new are = are
 acted_spelled (Plain Notify) line event moment new are = are
@@ -84,18 +84,18 @@ acted_spelled (AccumulateAndEmbed request) line event moment new are =
     full_spelled (embedded (with_event line event) request moment) (embedded_spelled (with_event line event) request moment new are)
 
 found_spelled : (list : List RequestedEvent) (event : Event) → all_maps_are_spelled list ≡ true
-    → has_spelled_map (chosen_by event (find (λ entry. names entry.events event) list)).response ≡ true
+    → has_spelled_map (chosen_by event (find (λ entry. names entry.events event) list)).reaction ≡ true
 found_spelled [] event all = refl
 found_spelled (entry ∷ list) event all =
-    let both = and_parts (has_spelled_map entry.response) (all_maps_are_spelled list) all in
+    let both = and_parts (has_spelled_map entry.reaction) (all_maps_are_spelled list) all in
     by_name (names entry.events event) both.0 (found_spelled list event both.1) where
-      by_name : (b : Bool) → has_spelled_map entry.response ≡ true
-          → has_spelled_map (chosen_by event (find (λ entry. names entry.events event) list)).response ≡ true
-          → has_spelled_map (chosen_by event (if b then Some entry else find (λ entry. names entry.events event) list)).response ≡ true
+      by_name : (b : Bool) → has_spelled_map entry.reaction ≡ true
+          → has_spelled_map (chosen_by event (find (λ entry. names entry.events event) list)).reaction ≡ true
+          → has_spelled_map (chosen_by event (if b then Some entry else find (λ entry. names entry.events event) list)).reaction ≡ true
       by_name true here there = here
       by_name false here there = there
 
-chosen_spelled : (list : List RequestedEvent) (event : Event) → all_maps_are_spelled list ≡ true → has_spelled_map (chosen list event).response ≡ true
+chosen_spelled : (list : List RequestedEvent) (event : Event) → all_maps_are_spelled list ≡ true → has_spelled_map (chosen list event).reaction ≡ true
 unfolding chosen
 chosen_spelled list event all = found_spelled list event all
 
@@ -103,7 +103,7 @@ pub occurred_spelled : (line : LineState) (event : Observed) (moment : ℕ) → 
 unfolding occurred
 occurred_spelled line event moment are =
     let choice : Chosen = chosen line.requests.requested (event_of event) in
-    acted_spelled choice.response (signals_after choice line) event moment (chosen_spelled line.requests.requested (event_of event) are.1) are
+    acted_spelled choice.reaction (signals_after choice line) event moment (chosen_spelled line.requests.requested (event_of event) are.1) are
 
 -- A request
 
@@ -155,16 +155,16 @@ writable_spelled : (given : Option (List ℕ)) → is_writable_map given ≡ tru
 writable_spelled None writable = refl
 writable_spelled (Some text) writable = map_spelled text (map_of text) refl writable
 
-response_spelled : (response : Response) → is_writable_response response ≡ true → has_spelled_map response ≡ true
-response_spelled (Plain action) writable = refl
-response_spelled (Embed request) writable = writable_spelled request.map (and_parts _ _ (and_parts _ _ writable).0).1
-response_spelled (AccumulateAndEmbed request) writable = writable_spelled request.map (and_parts _ _ (and_parts _ _ writable).0).1
+reaction_spelled : (reaction : Reaction) → is_writable_reaction reaction ≡ true → has_spelled_map reaction ≡ true
+reaction_spelled (Plain action) writable = refl
+reaction_spelled (Embed request) writable = writable_spelled request.map (and_parts _ _ (and_parts _ _ writable).0).1
+reaction_spelled (AccumulateAndEmbed request) writable = writable_spelled request.map (and_parts _ _ (and_parts _ _ writable).0).1
 
 entries_writable : (list : List RequestedEvent) → list_all is_writable_entry list ≡ true → all_maps_are_spelled list ≡ true
 entries_writable [] all = refl
 entries_writable (entry ∷ list) all =
     let both = and_parts (is_writable_entry entry) (list_all is_writable_entry list) all in
-    both_true (response_spelled entry.response (and_parts _ _ both.0).1) (entries_writable list both.1)
+    both_true (reaction_spelled entry.reaction (and_parts _ _ both.0).1) (entries_writable list both.1)
 
 pub requested_spelled : (list : List RequestedEvent) → are_writable_requested list ≡ true → all_maps_are_spelled list ≡ true
 unfolding are_writable_requested

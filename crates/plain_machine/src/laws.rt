@@ -2,7 +2,7 @@
 ghost use Rattle.std.specs.declared.net.socket_addr.SocketAddrV4.{SocketAddrV4};
 ghost use Rattle.std.specs.Prelude.{ℕ, if◌then◌else◌, ◌<◌, Ok, ◌≡◌, ◌≢◌, ◌++◌, ◌∷◌, ◌-◌, [], ◌≤◌, List, length, map, filter, flat_map, All, AllPairs, Option, Some, None, true, false, Err, IfErr};
 ghost use Rattle.history.specs.Memory.{memory_time, most_firsts};
-ghost use Rattle.history.specs.Arrival.{Arrival as Command};
+ghost use Rattle.history.specs.Arrival.{Arrival};
 ghost use Rattle.history.specs.Firsts.{Copied, a_first, a_repeat, lost, kind_of, firsts_of};
 ghost use Rattle.history.specs.Answers.{is_confirmed, answers_of};
 ghost use Rattle.history.specs.Kept.{entries_of};
@@ -59,7 +59,7 @@ pub fn the_firsts_of_all_commands_are_kept()
     ensures kept { (setup : Setup) (events : List GatewayEvent) →
         (plain setup events).history ≡ entries_of (firsts_of most_firsts (commands_of setup events)) }
     ensures apart { (setup : Setup) (events : List GatewayEvent) →
-        AllPairs (λ (first later : Command). first.id ≡ later.id → memory_time ≤ later.moment - first.moment)
+        AllPairs (λ (first later : Arrival). first.id ≡ later.id → memory_time ≤ later.moment - first.moment)
         (firsts_of most_firsts (commands_of setup events)) }
 {}
 
@@ -67,11 +67,11 @@ pub fn the_firsts_of_all_commands_are_kept()
 /// itself; with another version, or a body that can't be read, a command confirms nothing.
 pub fn commands_are_what_arrives()
     ensures ids { (setup : Setup) (events : List GatewayEvent) →
-        map (λ (c : Command). c.id) (commands_of setup events) ≡ map (λ (a : Asked). a.id) (asked_of events) }
+        map (λ (c : Arrival). c.id) (commands_of setup events) ≡ map (λ (a : Asked). a.id) (asked_of events) }
     ensures moments { (setup : Setup) (events : List GatewayEvent) →
-        map (λ (c : Command). c.moment) (commands_of setup events) ≡ map (λ (a : Asked). a.moment) (asked_of events) }
+        map (λ (c : Arrival). c.moment) (commands_of setup events) ≡ map (λ (a : Asked). a.moment) (asked_of events) }
     ensures confirms { (setup : Setup) (events : List GatewayEvent) →
-        map (λ (c : Command). c.confirms) (commands_of setup events)
+        map (λ (c : Arrival). c.confirms) (commands_of setup events)
         ≡ map (λ (a : Asked). a.confirms) (asked_of events) }
 {}
 
@@ -86,18 +86,18 @@ pub fn what_is_answered_is_what_commands_get()
 /// nothing and gets its first's answer, to where the repeat came from, or silence where that is confirmed; and what is
 /// lost does nothing.
 pub fn commands_are_done_by_what_they_are()
-    ensures first { (m : Machine) (source : SocketAddrV4) (t : Transaction) (earlier : List Command) →
+    ensures first { (m : Machine) (source : SocketAddrV4) (t : Transaction) (earlier : List Arrival) →
         m.history ≡ entries_of (firsts_of most_firsts earlier) →
         kind_of most_firsts (firsts_of most_firsts earlier) (command_arrival m t) ≡ a_first →
         transacted m source t ≡ executed m source t }
-    ensures repeat { (m : Machine) (source : SocketAddrV4) (t : Transaction) (earlier : List Command) (copied : Copied) →
+    ensures repeat { (m : Machine) (source : SocketAddrV4) (t : Transaction) (earlier : List Arrival) (copied : Copied) →
         m.history ≡ entries_of (firsts_of most_firsts earlier) →
         kind_of most_firsts (firsts_of most_firsts earlier) (command_arrival m t) ≡ a_repeat copied →
         transacted m source t ≡ record {
           machine = m;
           sent = if is_confirmed t.id copied.after then [] else reply m source t.line (again copied.original.answer) ∷ [];
         } }
-    ensures lost { (m : Machine) (source : SocketAddrV4) (t : Transaction) (earlier : List Command) →
+    ensures lost { (m : Machine) (source : SocketAddrV4) (t : Transaction) (earlier : List Arrival) →
         m.history ≡ entries_of (firsts_of most_firsts earlier) →
         kind_of most_firsts (firsts_of most_firsts earlier) (command_arrival m t) ≡ lost →
         transacted m source t ≡ idle m }

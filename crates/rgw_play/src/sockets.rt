@@ -12,7 +12,7 @@ use std::time::Duration;
 const LONGEST_WAIT: u64 = 1000;
 
 // No datagram has more bytes (RFC 768).
-const LARGEST_DATAGRAM: usize = 65_535;
+const LARGEST_UDP_DATAGRAM: usize = 65_535;
 
 /// Two sockets on 127.0.0.1, each of which takes from the other alone. Datagrams go one after the other: at most one is on
 /// its way.
@@ -79,7 +79,7 @@ fn carry<'a>(
 impl Sockets {
     /// Binds both; the gateway's has this port, or any free one where it is 0.
     pub fn bind<R: Net>(alloc: Global, rt: &R, port: u16) -> Result<Sockets, BindFault> {
-        let room = vec![in alloc; 0u8; LARGEST_DATAGRAM]?;
+        let room = vec![in alloc; 0u8; LARGEST_UDP_DATAGRAM]?;
         let gateway = bound(rt, port)?;
         let agent = bound(rt, 0)?;
         agent.connect(gateway.local_addr()?)?;

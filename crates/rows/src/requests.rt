@@ -10,7 +10,7 @@ use crate::events::observed_of;
 use crate::line::parameters::events_of;
 use crate::texts::{judged, text_of};
 use digit_map::MapText;
-use event_requests::{Decision, Doing, Request, decide};
+use event_requests::{Decision, Doing, EventRequest, decide};
 use event_syntax::{Action, Embedding, Observed, SignalRequest, write_signals};
 use mg_bytes::CodeFault;
 use mg_packages::event_of;
@@ -38,7 +38,7 @@ fn decision_text(alloc: Global, decision: Decision<'_>) -> io::Result<String> {
     Ok(format!(in alloc; "{done}{kept}")?)
 }
 
-fn says_requested(request: &Request, event: &str) -> &'static str {
+fn says_requested(request: &EventRequest, event: &str) -> &'static str {
     match event_of(event.as_bytes()) {
         Ok(event) => yes_or_no(request.is_requested(event)),
         Err(_) => "no such event",
@@ -47,7 +47,7 @@ fn says_requested(request: &Request, event: &str) -> &'static str {
 
 fn said_of_observed(
     alloc: Global,
-    request: &Request,
+    request: &EventRequest,
     word: &str,
     observed: Observed,
 ) -> io::Result<String> {
@@ -59,7 +59,7 @@ fn said_of_observed(
 }
 
 // What a request says of an event: `at L/hd`, `requested L/hd` or `keeps L/hd`.
-fn said_of(alloc: Global, request: &Request, word: &str, event: &str) -> io::Result<String> {
+fn said_of(alloc: Global, request: &EventRequest, word: &str, event: &str) -> io::Result<String> {
     if word == "requested" {
         return Ok(says_requested(request, event).to_string(alloc)?);
     }
@@ -70,7 +70,7 @@ fn said_of(alloc: Global, request: &Request, word: &str, event: &str) -> io::Res
 }
 
 /// What a request says to a question.
-pub fn answer(alloc: Global, request: &Request, question: &str) -> io::Result<String> {
+pub fn answer(alloc: Global, request: &EventRequest, question: &str) -> io::Result<String> {
     match question {
         "lacks map" => judged(alloc, request.lacks_map(false)),
         "lacks map with D" => judged(alloc, request.lacks_map(true)),
@@ -84,7 +84,7 @@ pub fn answer(alloc: Global, request: &Request, question: &str) -> io::Result<St
 // What a request doesn't say to a question as a row does.
 fn unlike_answer(
     alloc: Global,
-    request: &Request,
+    request: &EventRequest,
     question: &str,
     wanted: &str,
 ) -> io::Result<Option<String>> {
@@ -113,7 +113,7 @@ fn embedding_text(alloc: Global, embedding: &Embedding) -> io::Result<String> {
 }
 
 // The request that is embedded at this event.
-fn embedding_at(request: &Request, at: Observed) -> Option<&Embedding> {
+fn embedding_at(request: &EventRequest, at: Observed) -> Option<&Embedding> {
     match decide(request, at).doing {
         Doing::Plain(_) => None,
         Doing::Embed(embedding) | Doing::AccumulateAndEmbed(embedding) => Some(embedding),
@@ -122,7 +122,7 @@ fn embedding_at(request: &Request, at: Observed) -> Option<&Embedding> {
 
 fn unlike_embedded(
     alloc: Global,
-    request: &Request,
+    request: &EventRequest,
     at: Observed,
     wanted: &str,
 ) -> io::Result<Option<String>> {
@@ -136,7 +136,7 @@ fn unlike_embedded(
 /// What is asked for.
 #[derive(Drop)]
 pub struct RequestTale {
-    request: Request,
+    request: EventRequest,
 }
 
 impl RequestTale {
@@ -191,7 +191,7 @@ impl RequestTale {
 impl Tale for RequestTale {
     fn begin(_alloc: Global) -> io::Result<RequestTale> {
         Ok(RequestTale {
-            request: Request::nothing(),
+            request: EventRequest::nothing(),
         })
     }
 

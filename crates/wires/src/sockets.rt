@@ -7,7 +7,7 @@
 //! - `200 7 OK¶  none` nothing;
 //! - `''  fault: 1 not received, 0 not sent` nothing is sent, so the turn is a fault; so many the socket has counted so far.
 use crate::gateways::usual_gateway;
-use gateway_core::Gateway;
+use gateway_core::{DATAGRAM_ROOM, Gateway};
 use rgw_play::UdpWire;
 use std::alloc::Global;
 use std::io;
@@ -45,7 +45,7 @@ fn both_ends<R: AllocGlobal + Net>(rt: &R) -> io::Result<Ends> {
 impl Ends {
     // What the agent gets.
     fn received(&self, alloc: Global) -> io::Result<String> {
-        let mut room = [0u8; 4000];
+        let mut room = [0u8; DATAGRAM_ROOM];
         match self.agent.recv(&mut room) {
             Ok(len) => match room.get(..len) {
                 Some(bytes) => said(alloc, bytes),

@@ -2,7 +2,7 @@ use Rattle.std.proofs.Common.{◌≡◌, true, false, refl}
 use Rattle.mg_bytes.specs.declared.letter.Letter.TheVariants as letters
 use Rattle.mg_packages.specs.declared.event.Event.TheVariants as events
 use Rattle.event_syntax.specs.declared.request.Action.TheVariants.{Notify, Dial, Ignore}
-use Rattle.event_syntax.specs.declared.request.Response.TheVariants.{Plain}
+use Rattle.event_syntax.specs.declared.request.Reaction.TheVariants.{Plain}
 use Rattle.event_values.specs.declared.handling.Quarantined.TheVariants.{Process, Discard}
 use Rattle.dialled_once.proofs.AskingLemmas.{notifies_each}
 use Rattle.dialled_once.proofs.Computing.{on_examples}
