@@ -6,7 +6,7 @@ use Rattle.event_values.specs.declared.observed.Observed.TheVariants.{Happened}
 use Rattle.mg_bytes.specs.declared.letter.Letter.TheVariants as letters
 use Rattle.mg_packages.specs.declared.event.Event.{Event}
 use Rattle.mg_packages.specs.declared.event.Event.TheVariants as events
-use Rattle.event_syntax.specs.declared.request.Response.{Response}
+use Rattle.event_syntax.specs.declared.request.Reaction.{Reaction}
 use Rattle.event_requests.specs.Choice.{chosen}
 use Rattle.mg_line.specs.declared.phone.Act.TheVariants.{OffHook, OnHook, Key}
 use Rattle.mg_line.specs.declared.phone.Key.TheVariants.{Five, Six}
@@ -104,8 +104,8 @@ abbrev pub ToldOnce : List GatewayEvent → Type 0
 ToldOnce events = IsToldOnce (course_then events) (line_then events)
 
 -- what is done at each event of a telephone then
-abbrev pub responses_then : List GatewayEvent → List Response
-responses_then events = map (λ event. (chosen (line_then events).requests.requested event).response) of_a_telephone
+abbrev pub reactions_then : List GatewayEvent → List Reaction
+reactions_then events = map (λ event. (chosen (line_then events).requests.requested event).reaction) of_a_telephone
 
 -- the identifiers of the requests that a line accepts
 abbrev pub accepted_then : ℕ → List GatewayEvent → List (List ℕ)

@@ -5,7 +5,7 @@ ghost use Rattle.std.specs.Prelude.{◌≡◌, ◌++◌, codes, [], ◌∷◌, l
 ghost use Rattle.event_values.specs.declared.handling.Quarantined.TheVariants.{Process};
 ghost use Rattle.event_values.specs.declared.observed.Observed.TheVariants.{Happened, Ended};
 ghost use Rattle.event_syntax.specs.declared.request.Action.TheVariants.{Notify};
-ghost use Rattle.event_syntax.specs.declared.request.Response.TheVariants.{Plain};
+ghost use Rattle.event_syntax.specs.declared.request.Reaction.TheVariants.{Plain};
 ghost use Rattle.mg_line.specs.declared.phone.Act.TheVariants as acts;
 ghost use Rattle.mg_line.specs.declared.phone.Key.TheVariants as keys;
 ghost use Rattle.mg_packages.specs.declared.event.Event.TheVariants as events;
@@ -18,7 +18,7 @@ ghost use Rattle.dialled_once.specs.Course.{acts as does, accepts, notifies};
 ghost use Rattle.dialled_once.specs.Following.{Follow, AreInStep, OnceForEach, OnceFrom};
 ghost use Rattle.dialled_once.specs.Keeping.{NotifiesAll, happened_in, is_of_phone};
 ghost use Rattle.dialled_once.specs.Example.{lifted, hung_up, five, six, asks_for_all, dials, flash_embeds, keys_are_collected, discards, dials_before, rings_and, dials_behind_that, asked_and_full};
-ghost use Rattle.dialled_once.specs.Example.{course_then, done_then, told_then, left_then, line_then, responses_then, accepted_then, AskedForAll, ToldOnce};
+ghost use Rattle.dialled_once.specs.Example.{course_then, done_then, told_then, left_then, line_then, reactions_then, accepted_then, AskedForAll, ToldOnce};
 
 /// A course has the acts of its line and its notifications, in their order, each notification where it is first sent, by
 /// what its X and its O say.
@@ -146,7 +146,7 @@ pub fn else_a_key_behind_an_embedded_request_is_skipped()
     ensures told_once { ToldOnce (rings_and (codes "I") ∷ dials_behind_that) }
     ensures embedded { ¬ AskedForAll (rings_and (codes "E(R(L/hu(N)))") ∷ []) dials_behind_that }
     ensures undone { done_then (rings_and (codes "E(R(L/hu(N)))") ∷ []) ≡ [] }
-    ensures named { responses_then (rings_and (codes "E(R(L/hu(N)))") ∷ []) ≡ replicate 19 (Plain Notify) }
+    ensures named { reactions_then (rings_and (codes "E(R(L/hu(N)))") ∷ []) ≡ replicate 19 (Plain Notify) }
     ensures processed { (line_then (rings_and (codes "E(R(L/hu(N)))") ∷ [])).handling.quarantined ≡ Process }
     ensures none_lost { (line_then (rings_and (codes "E(R(L/hu(N)))") ∷ dials_behind_that)).quarantined.lost ≡ 0 }
     ensures done { done_then (rings_and (codes "E(R(L/hu(N)))") ∷ dials_behind_that) ≡ lifted ∷ five ∷ [] }
