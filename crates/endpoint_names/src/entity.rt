@@ -8,7 +8,7 @@ ghost use Rattle.endpoint_names.specs.Entity.{is_entity_text, is_local, host_of,
 
 use crate::fixed::FixedText;
 use crate::table::Table;
-use mg_bytes::{ipv4_address, port_number, split_once};
+use mg_bytes::{in_brackets, ipv4_address, port_number, split_once};
 use std::net::{Ipv4Addr, SocketAddrV4};
 
 // The port of a call agent where its name gives none (RFC 3435, 3.5).

@@ -4,7 +4,7 @@ ghost use Rattle.event_syntax.specs.Events.{one, one_in, is_all, letters_from, e
 ghost use Rattle.mg_bytes.specs.Words.{in_brackets};
 
 use crate::range::{letters_in, put_letters};
-use mg_bytes::{OutOfMemory, ReturnCode, same_no_case, split_once};
+use mg_bytes::{OutOfMemory, ReturnCode, in_brackets, same_no_case, split_once};
 use mg_packages::{Event, Package, event_in, event_name, in_package};
 
 /// The events that an entry of R or T names (RFC 3435, 2.1.7).

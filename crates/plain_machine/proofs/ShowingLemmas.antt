@@ -181,7 +181,7 @@ deleted_shows deletion standing None all = map_shows deletion standing.places al
 remote_read : (body : List ℕ) (remote : Option Session) → remote_of body ≡ Ok remote → IfSome remote IsSession
 remote_read [] remote is = let same : None ≡ remote = cc in subst (λ (r : Option Session). IfSome r IsSession) same tt
 remote_read (b ∷ bs) remote is = by_session (session_of (b ∷ bs)) refl is where
-  by_session : (found : Option Session) → session_of (b ∷ bs) ≡ found → (ok_or found 509 >>= λ session. Ok (Some session)) ≡ Ok remote → IfSome remote IsSession
+  by_session : (found : Option Session) → session_of (b ∷ bs) ≡ found → (◌>>=◌ {E = ℕ} (ok_or found 509) (λ session. Ok (Some session))) ≡ Ok remote → IfSome remote IsSession
   by_session None reads e = absurd cc
   by_session (Some session) reads e =
       let same : Some session ≡ remote = cc in
@@ -213,7 +213,7 @@ perhaps_named setup (Some agent) was read old = named_is setup agent read
 given_named : (hosts : List Host) (param : Option Param) (entity : Option Entity) (was : Entity) → entity_at hosts param ≡ Ok entity → IsNamed was → IsNamed (unwrap_or entity was)
 given_named hosts None entity was is old = let same : None ≡ entity = cc in subst (λ (e : Option Entity). IsNamed (unwrap_or e was)) same old
 given_named hosts (Some param) entity was is old = by_entity (entity_of hosts param.value) refl is where
-  by_entity : (found : Option Entity) → entity_of hosts param.value ≡ found → (ok_or found 539 >>= λ said. Ok (Some said)) ≡ Ok entity → IsNamed (unwrap_or entity was)
+  by_entity : (found : Option Entity) → entity_of hosts param.value ≡ found → (◌>>=◌ {E = ℕ} (ok_or found 539) (λ said. Ok (Some said))) ≡ Ok entity → IsNamed (unwrap_or entity was)
   by_entity None reads e = absurd cc
   by_entity (Some one) reads e =
       let same : Some one ≡ entity = cc in
