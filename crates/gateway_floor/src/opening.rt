@@ -71,7 +71,8 @@ fn is_address(address: Ipv4Addr) -> bool
 // The table and the agent of a configuration, or the key that its first fault is about.
 #[tactic(auto, unfolding(plain_machine::specs::Setup::parts_of))]
 fn parts_of(config: &Config) -> Result<(Table, Entity), ConfigKey>
-    ensures { result ≡ parts_of config.now }
+    ensures value { result ≡ parts_of config.now }
+    ensures lines { IfOk result (λ parts. config.now.lines ≤ most_lines) }
 {
     if !is_domain(config.domain.as_bytes()) {
         return Err(ConfigKey::Domain);

@@ -57,12 +57,12 @@ meant_named (Some row) (Err TooComplicated) params means e = absurd cc
 meant_named (Some row) (Ok (patterns.One line)) params means e = by_purpose row.purpose refl where
   by_purpose : (purpose : Purpose) → row.purpose ≡ purpose → target_meant means.task ≡ One line
   by_purpose (ForReport reporting) is =
-      let made : Meant = record { row = row; task = ReportOf reporting (audits.One line) } in
+      let made : Meant = record { row = record row { purpose = ForReport reporting }; task = ReportOf reporting (audits.One line) } in
       let given : Ok made ≡ Ok means = (rw is at e) in
       let same : made ≡ means = cc in
       sym (ap (λ (m : Meant). target_meant m.task) same)
   by_purpose (ForDeed connecting) is =
-      let made : Meant = record { row = row; task = DeedOn connecting (One line) } in
+      let made : Meant = record { row = record row { purpose = ForDeed connecting }; task = DeedOn connecting (One line) } in
       let given : Ok made ≡ Ok means = (rw is at e) in
       let same : made ≡ means = cc in
       sym (ap (λ (m : Meant). target_meant m.task) same)
