@@ -151,36 +151,63 @@ fn serve_wire<'w, R: Net + Clock + Print + Eprint>(
     trace_ending(wire.journal.trace.state())
 }
 
+// The journal, whose trace has begun.
+fn journal_of<'w>(
+    alloc: Global,
+    settings: &Settings<'w>,
+    text: &[u8],
+) -> Result<Journal, Ending<'w>> {
+    let Ok(tally) = MessageTally::new(alloc) else {
+        return Err(Ending::OutOfMemory);
+    };
+    let mut trace = Trace::new(alloc, settings.trace);
+    trace.begin(text);
+    Ok(Journal {
+        tally,
+        trace,
+        given: None,
+    })
+}
+
+// Serves with a gateway over the sockets that were asked for.
+fn serve_with<'w, R: Files + Net + Clock + Print + Eprint>(
+    rt: &R,
+    alloc: Global,
+    settings: &Settings<'w>,
+    text: &[u8],
+    gateway: &mut Gateway,
+) -> Result<Ending<'w>, Ending<'w>> {
+    let mut journal = journal_of(alloc, settings, text)?;
+    let ends = open_ends(rt, alloc, settings)?;
+    let _ = tell_addresses(rt, &ends);
+    journal.trace.write(rt);
+    let mut wire = LiveWire::new(ends, journal);
+    Ok(serve_wire(rt, alloc, gateway, &mut wire))
+}
+
+// Does what the settings ask.
+fn perform_settings<'w, R: Files + Net + Clock + Print + Eprint>(
+    rt: &R,
+    alloc: Global,
+    settings: &Settings<'w>,
+) -> Result<Ending<'w>, Ending<'w>> {
+    let text = config_text(rt, alloc, settings.config)?;
+    match gateway_of(alloc, text.as_slice()) {
+        Ok(mut gateway) => serve_with(rt, alloc, settings, text.as_slice(), &mut gateway),
+        Err(fault) => Err(config_ending(alloc, settings.config, text.as_slice(), fault)),
+    }
+}
+
 // Does what the words ask.
 fn perform<'w, R: AllocGlobal + Files + Net + Clock + Print + Eprint>(
     rt: &R,
     alloc: Global,
     words: &'w [String],
 ) -> Result<Ending<'w>, Ending<'w>> {
-    let settings = match read_words(alloc, words) {
-        Ok(settings) => settings,
-        Err(fault) => return Err(Ending::from(fault)),
-    };
-    let text = config_text(rt, alloc, settings.config)?;
-    let mut gateway = match gateway_of(alloc, text.as_slice()) {
-        Ok(gateway) => gateway,
-        Err(fault) => return Err(config_ending(alloc, settings.config, text.as_slice(), fault)),
-    };
-    let Ok(tally) = MessageTally::new(alloc) else {
-        return Err(Ending::OutOfMemory);
-    };
-    let mut trace = Trace::new(alloc, settings.trace);
-    trace.begin(text.as_slice());
-    let ends = open_ends(rt, alloc, &settings)?;
-    let _ = tell_addresses(rt, &ends);
-    trace.write(rt);
-    let journal = Journal {
-        tally,
-        trace,
-        given: None,
-    };
-    let mut wire = LiveWire::new(ends, journal);
-    Ok(serve_wire(rt, alloc, &mut gateway, &mut wire))
+    match read_words(alloc, words) {
+        Ok(settings) => perform_settings(rt, alloc, &settings),
+        Err(fault) => Err(Ending::from(fault)),
+    }
 }
 
 // How the program with these words ends.
@@ -194,11 +221,22 @@ fn ending_of<'w, R: AllocGlobal + Files + Net + Clock + Print + Eprint>(
     }
 }
 
-// Says on standard error how the program ended, unless all went well.
-fn tell<R: Eprint>(rt: &R, ending: Ending<'_>) -> u8 {
+// Says on standard error what went wrong, if anything did.
+fn tell_fault<R: Eprint>(rt: &R, ending: Ending<'_>) -> u8 {
     // Nobody is left who could be told that standard error failed.
     let _ = eprint!(rt; "{ending}");
     ending.status()
+}
+
+// Says how the program ended: what its words ask goes to standard output.
+fn tell<R: Print + Eprint>(rt: &R, ending: Ending<'_>) -> u8 {
+    match ending {
+        Ending::Help | Ending::Version => match print!(rt; "{ending}") {
+            Ok(()) => ending.status(),
+            Err(_) => tell_fault(rt, Ending::Write),
+        },
+        _ => tell_fault(rt, ending),
+    }
 }
 
 /// Runs the program, and gives its exit status.

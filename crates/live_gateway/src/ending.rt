@@ -1,4 +1,5 @@
-//! How the program ends: its status, and its line on standard error.
+//! How the program ends: its status, and what it says then.
+use crate::help::{USAGE, put_help, put_version};
 use crate::words::WordFault;
 use gateway_core::ConfigKey;
 use rgw_play::name_of_config_fault;
@@ -10,6 +11,10 @@ use std::net::SocketAddrV4;
 pub enum Ending<'a> {
     /// The gateway served up to the moment that was asked for.
     Served,
+    /// The words ask how it is used.
+    Help,
+    /// The words ask for its version.
+    Version,
     /// The words of the command line are other words.
     Usage,
     /// What stands behind this word isn't an address.
@@ -40,10 +45,10 @@ pub enum Ending<'a> {
 }
 
 impl<'a> Ending<'a> {
-    /// The exit status: 0 served, 2 words or a configuration that are refused, 3 memory, a file, a socket or a stream.
+    /// The exit status: 0 served or told, 2 words or a configuration that are refused, 3 memory, a file, a socket or a stream.
     pub fn status(self) -> u8 {
         match self {
-            Ending::Served => 0,
+            Ending::Served | Ending::Help | Ending::Version => 0,
             Ending::Usage | Ending::BadAddress { .. } | Ending::Config { .. } => 2,
             Ending::Unreadable { .. }
             | Ending::Unbound { .. }
@@ -59,20 +64,21 @@ impl<'a> From<WordFault> for Ending<'a> {
         match fault {
             WordFault::OutOfMemory => Ending::OutOfMemory,
             WordFault::Usage => Ending::Usage,
+            WordFault::Help => Ending::Help,
+            WordFault::Version => Ending::Version,
             WordFault::BadAddress { word } => Ending::BadAddress { word },
         }
     }
 }
 
-// What is written on standard error: a line, or nothing where the gateway served.
+// What is written: on standard output what the words ask, else a line on standard error, or nothing where it served.
 impl<'a> fmt::Display for Ending<'a> {
     fn fmt<W: fmt::Write>(&self, f: &mut fmt::Formatter<W>) -> fmt::Result {
         match *self {
             Ending::Served => Ok(()),
-            Ending::Usage => writeln!(
-                f,
-                "usage: rgwd CONFIG [--listen ADDRESS] [--phones ADDRESS] [--trace] [--stop-after MS]"
-            ),
+            Ending::Help => put_help(f),
+            Ending::Version => put_version(f),
+            Ending::Usage => writeln!(f, "{}", USAGE),
             Ending::BadAddress { word } => writeln!(f, "{word}: no address a.b.c.d:port"),
             Ending::Config { file, number, key } => {
                 let name = name_of_config_fault(number);

@@ -7,6 +7,7 @@
 mod app;
 mod clock;
 mod ending;
+mod help;
 mod journal;
 mod live_wire;
 mod message_tally;

@@ -1,15 +1,9 @@
 //! Reads the words of the command line.
+use crate::help::{LISTEN, PHONES, VERSION};
 use clap::error::ErrorKind;
 use clap::{Arg, ArgAction, ArgMatches, Command};
 use std::alloc::{AllocError, Global};
 use std::net::SocketAddrV4;
-
-// The port of gateways (RFC 3435, 3.5). Without a word for it no other machine reaches the gateway: its protocol has no
-// passwords.
-const LISTEN: &str = "127.0.0.1:2427";
-
-// Where the telephones are used. No other machine reaches them either.
-const PHONES: &str = "127.0.0.1:2428";
 
 /// What the program is asked to do.
 #[derive(Drop)]
@@ -26,13 +20,17 @@ pub struct Settings<'a> {
     pub stop_after: Option<u64>,
 }
 
-/// Why the words ask for nothing that can be done.
+/// Why the program doesn't serve as the words say.
 #[derive(Clone, Copy)]
 pub enum WordFault {
     /// Memory was refused.
     OutOfMemory,
     /// They are other words.
     Usage,
+    /// They ask how the program is used.
+    Help,
+    /// They ask for its version.
+    Version,
     /// What stands behind this word isn't an address.
     BadAddress { word: &'static str },
 }
@@ -48,20 +46,40 @@ fn valued<'a>(alloc: Global, name: &'a str) -> Arg<'a> {
     Arg::new(alloc, name).long(name).action(ArgAction::Set)
 }
 
-fn command<'a>(alloc: Global) -> Result<Command<'a>, AllocError> {
-    let config = Arg::new(alloc, "config")
+fn config_word<'a>(alloc: Global) -> Arg<'a> {
+    Arg::new(alloc, "config")
         .required(true)
-        .action(ArgAction::Set);
-    let trace = Arg::new(alloc, "trace")
+        .action(ArgAction::Set)
+}
+
+fn trace_word<'a>(alloc: Global) -> Arg<'a> {
+    Arg::new(alloc, "trace")
         .long("trace")
-        .action(ArgAction::SetTrue);
-    let stop_after = valued(alloc, "stop-after").value_parser(clap::value_parser!(u64));
-    Command::new(alloc, "rgwd")
-        .arg(config)?
-        .arg(valued(alloc, "listen").default_value(LISTEN))?
-        .arg(valued(alloc, "phones").default_value(PHONES))?
-        .arg(trace)?
-        .arg(stop_after)
+        .action(ArgAction::SetTrue)
+}
+
+fn stop_word<'a>(alloc: Global) -> Arg<'a> {
+    valued(alloc, "stop-after").value_parser(clap::value_parser!(u64))
+}
+
+fn address_word<'a>(alloc: Global, name: &'a str, value: &'a str) -> Arg<'a> {
+    valued(alloc, name).default_value(value)
+}
+
+// With the words that say where the sockets are.
+fn with_sockets<'a>(alloc: Global, command: Command<'a>) -> Result<Command<'a>, AllocError> {
+    command
+        .arg(address_word(alloc, "listen", LISTEN))?
+        .arg(address_word(alloc, "phones", PHONES))
+}
+
+fn command<'a>(alloc: Global) -> Result<Command<'a>, AllocError> {
+    let command = Command::new(alloc, "rgwd")
+        .version(VERSION)
+        .arg(config_word(alloc))?;
+    with_sockets(alloc, command)?
+        .arg(trace_word(alloc))?
+        .arg(stop_word(alloc))
 }
 
 // The address behind a word.
@@ -79,21 +97,39 @@ fn address_in(
     }
 }
 
-/// Reads the words of a command line, of which the first is the program's name.
-pub fn read_words(alloc: Global, words: &[String]) -> Result<Settings<'_>, WordFault> {
-    let matches = match command(alloc)?.try_get_matches_from(words) {
-        Ok(matches) => matches,
-        Err(e) if e.kind() == ErrorKind::OutOfMemory => return Err(WordFault::OutOfMemory),
-        Err(_) => return Err(WordFault::Usage),
-    };
+// Why no settings are found in words, by the kind of clap's error.
+fn fault_of(kind: ErrorKind) -> WordFault {
+    match kind {
+        ErrorKind::OutOfMemory => WordFault::OutOfMemory,
+        ErrorKind::DisplayHelp => WordFault::Help,
+        ErrorKind::DisplayVersion => WordFault::Version,
+        _ => WordFault::Usage,
+    }
+}
+
+// What is found in words.
+fn matches_of(alloc: Global, words: &[String]) -> Result<ArgMatches<'_>, WordFault> {
+    match command(alloc)?.try_get_matches_from(words) {
+        Ok(matches) => Ok(matches),
+        Err(fault) => Err(fault_of(fault.kind())),
+    }
+}
+
+fn settings_in<'a>(matches: &ArgMatches<'a>) -> Result<Settings<'a>, WordFault> {
     let Some(config) = matches.get_str("config") else {
         return Err(WordFault::Usage);
     };
     Ok(Settings {
         config,
-        listen: address_in(&matches, "listen", "--listen")?,
-        phones: address_in(&matches, "phones", "--phones")?,
+        listen: address_in(matches, "listen", "--listen")?,
+        phones: address_in(matches, "phones", "--phones")?,
         trace: matches.get_flag("trace"),
         stop_after: matches.get_one::<u64>("stop-after"),
     })
+}
+
+/// Reads the words of a command line, of which the first is the program's name.
+pub fn read_words(alloc: Global, words: &[String]) -> Result<Settings<'_>, WordFault> {
+    let matches = matches_of(alloc, words)?;
+    settings_in(&matches)
 }
