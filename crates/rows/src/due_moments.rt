@@ -6,6 +6,7 @@
 //! - `least 500 1 T` what is due first; `least -` nothing is;
 //! - `falls 36` so many are due, each behind the one before, and are cleared;
 //! - `keep` and `back`: the table as it was once.
+use crate::keeping::Kept;
 use crate::texts::unless_number;
 use std::alloc::Global;
 use std::io;
@@ -81,11 +82,10 @@ fn fallen(due: &mut Due, most: u32) -> u32 {
     most
 }
 
-/// A table, and as it was kept.
+/// A table.
 #[derive(Drop)]
 pub struct DueTale {
     due: Due,
-    kept: Due,
 }
 
 impl DueTale {
@@ -118,15 +118,13 @@ impl DueTale {
         self.due = due;
         Ok(unlike)
     }
+}
 
-    fn keep(&mut self) -> io::Result<Option<String>> {
-        self.kept = self.due.try_copy()?;
-        Ok(None)
-    }
-
-    fn back(&mut self) -> io::Result<Option<String>> {
-        self.due = self.kept.try_copy()?;
-        Ok(None)
+impl Kept for DueTale {
+    fn copy(&self, _alloc: Global) -> io::Result<DueTale> {
+        Ok(DueTale {
+            due: self.due.try_copy()?,
+        })
     }
 }
 
@@ -134,7 +132,6 @@ impl Tale for DueTale {
     fn begin(alloc: Global) -> io::Result<DueTale> {
         Ok(DueTale {
             due: Due::new(alloc),
-            kept: Due::new(alloc),
         })
     }
 
@@ -145,8 +142,6 @@ impl Tale for DueTale {
             "clear" => self.clear(alloc, rest),
             "least" => unless_said(alloc, least_text(alloc, &self.due)?.as_str(), rest),
             "falls" => self.falls(alloc, rest),
-            "keep" => self.keep(),
-            "back" => self.back(),
             _ => no_such_row(alloc),
         }
     }

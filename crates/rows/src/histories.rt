@@ -213,11 +213,6 @@ impl HistoryTale {
         self.history.purge(now);
         Ok(None)
     }
-
-    fn undo(&mut self) -> io::Result<Option<String>> {
-        self.history.undo();
-        Ok(None)
-    }
 }
 
 impl Tale for HistoryTale {
@@ -237,7 +232,10 @@ impl Tale for HistoryTale {
             "confirm" => self.confirm(alloc, rest),
             "purge" => self.purge(alloc, rest),
             "run" => self.run(alloc, rest),
-            "undo" => self.undo(),
+            "undo" => {
+                self.history.undo();
+                Ok(None)
+            }
             "holds" => unless_number(alloc, self.history.len() as u64, rest),
             _ => no_such_row(alloc),
         }

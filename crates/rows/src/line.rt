@@ -15,11 +15,12 @@ mod acts;
 pub mod parameters;
 mod shown;
 
+use crate::keeping::Kept;
 use crate::requests;
 use crate::texts::judged;
 use acts::{act_of, due_of};
 use mg_bytes::{CodeFault, OutOfMemory};
-use mg_line::{Act, Line, LineStep, Notice, Request};
+use mg_line::{Act, Line, LineStep, Request};
 use parameters::request_of;
 use shown::{state_of, told};
 use std::alloc::Global;
@@ -108,18 +109,13 @@ fn turned(alloc: Global, line: &Line, moment: u64, words: &str, row: &str) -> Gi
     }
 }
 
-// What a line tells, as rows say it.
-fn notice_text(alloc: Global, notice: &Option<Notice>) -> io::Result<String> {
-    match notice {
-        Some(notice) => told(alloc, notice),
-        None => Ok(String::new(alloc)),
-    }
-}
-
 // What a line gives, as rows say it.
 fn said(alloc: Global, given: &Given) -> io::Result<String> {
     match given {
-        Ok(step) => notice_text(alloc, &step.notice),
+        Ok(step) => match &step.notice {
+            Some(notice) => told(alloc, notice),
+            None => Ok(String::new(alloc)),
+        },
         Err(fault) => code_text(alloc, *fault),
     }
 }
@@ -151,11 +147,10 @@ fn words_of(row: &str) -> &str {
     }
 }
 
-/// A line, and as it was kept.
+/// A line.
 #[derive(Drop)]
 pub struct LineTale {
     line: Line,
-    kept: Line,
 }
 
 impl LineTale {
@@ -175,25 +170,13 @@ impl LineTale {
         Ok(unlike)
     }
 
-    // What its hook state and its request say of an act.
-    fn answer_on(&self, word: &str, act: Act) -> Option<bool> {
-        match word {
-            "takes" => Some(self.line.takes(act)),
-            "heeds" => Some(self.line.heeds(act)),
-            _ => None,
-        }
-    }
-
-    // What the line says to a question.
+    // What the line says to a question, by its hook state or its request.
     fn answer(&self, alloc: Global, question: &str) -> io::Result<String> {
         let (word, act) = question.split_once(' ').unwrap_or((question, ""));
-        let is_so = match act_of(act) {
-            Some(act) => self.answer_on(word, act),
-            None => None,
-        };
-        match is_so {
-            Some(is_so) => judged(alloc, is_so),
-            None => requests::answer(alloc, self.line.requests(), question),
+        match act_of(act) {
+            Some(act) if word == "takes" => judged(alloc, self.line.takes(act)),
+            Some(act) if word == "heeds" => judged(alloc, self.line.heeds(act)),
+            _ => requests::answer(alloc, self.line.requests(), question),
         }
     }
 
@@ -219,29 +202,10 @@ impl LineTale {
         Ok(None)
     }
 
-    // The line of a gateway that serves.
-    fn serve(&mut self) -> io::Result<()> {
-        let step = self.line.opened(0)?;
-        self.line = step.line;
-        Ok(())
-    }
-
-    fn keep(&mut self) -> io::Result<Option<String>> {
-        self.kept = self.line.try_copy()?;
-        Ok(None)
-    }
-
-    fn back(&mut self) -> io::Result<Option<String>> {
-        self.line = self.kept.try_copy()?;
-        Ok(None)
-    }
-
     // A row without a moment.
     fn unlike_now(&mut self, alloc: Global, row: &str) -> io::Result<Option<String>> {
         match row {
             "opening" => self.open(alloc),
-            "keep" => self.keep(),
-            "back" => self.back(),
             _ => match row.strip_prefix("is  ") {
                 Some(fields) => self.unlike_is(alloc, fields),
                 None => self.unlike_answer(alloc, row),
@@ -250,14 +214,19 @@ impl LineTale {
     }
 }
 
+impl Kept for LineTale {
+    fn copy(&self, _alloc: Global) -> io::Result<LineTale> {
+        Ok(LineTale {
+            line: self.line.try_copy()?,
+        })
+    }
+}
+
 impl Tale for LineTale {
     fn begin(alloc: Global) -> io::Result<LineTale> {
         let line = Line::new(alloc)?;
-        let kept = Line::new(alloc)?;
-        let mut tale = LineTale { line, kept };
-        tale.serve()?;
-        tale.keep()?;
-        Ok(tale)
+        let step = line.opened(0)?;
+        Ok(LineTale { line: step.line })
     }
 
     fn unlike(&mut self, alloc: Global, row: &str) -> io::Result<Option<String>> {

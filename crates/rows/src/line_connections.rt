@@ -13,6 +13,7 @@
 //! Behind a row's parameters stand fields that its answer has, or its return code; 0 stands for a value that isn't read.
 mod asked;
 
+use crate::keeping::Kept;
 use asked::{change_of, creation_of, deletion_of, identifier_in};
 use connections::{Audited, Connection, Connections, Created, Encoding, mode_text, read_encoding};
 use mg_bytes::CodeFault;
@@ -111,11 +112,10 @@ fn unlike_answer(alloc: Global, answer: &str, row: &str) -> io::Result<Option<St
     Ok(Some(answer.to_string(alloc)?))
 }
 
-/// The connections of a line, its encoding, and its connections as they were kept; the last answer.
+/// The connections of a line, its encoding, and the last answer.
 #[derive(Drop)]
 pub struct ConnectionsTale {
     line: Connections,
-    kept: Connections,
     encoding: Encoding,
     answer: String,
 }
@@ -161,11 +161,6 @@ impl ConnectionsTale {
         Ok(out)
     }
 
-    fn unlike_places(&self, alloc: Global, wanted: &str) -> io::Result<Option<String>> {
-        let places = self.places(alloc)?;
-        unless_said(alloc, places.as_str().trim_start(), wanted)
-    }
-
     fn encode(&mut self, alloc: Global, value: &str) -> io::Result<Option<String>> {
         let Some(encoding) = read_encoding(value.as_bytes()) else {
             return no_such_row(alloc);
@@ -173,15 +168,15 @@ impl ConnectionsTale {
         self.encoding = encoding;
         Ok(None)
     }
+}
 
-    fn keep(&mut self) -> io::Result<Option<String>> {
-        self.kept = self.line.try_copy()?;
-        Ok(None)
-    }
-
-    fn back(&mut self) -> io::Result<Option<String>> {
-        self.line = self.kept.try_copy()?;
-        Ok(None)
+impl Kept for ConnectionsTale {
+    fn copy(&self, alloc: Global) -> io::Result<ConnectionsTale> {
+        Ok(ConnectionsTale {
+            line: self.line.try_copy()?,
+            encoding: self.encoding,
+            answer: self.answer.as_str().to_string(alloc)?,
+        })
     }
 }
 
@@ -189,7 +184,6 @@ impl Tale for ConnectionsTale {
     fn begin(alloc: Global) -> io::Result<ConnectionsTale> {
         Ok(ConnectionsTale {
             line: Connections::new(Ipv4Addr::LOCALHOST, 3000),
-            kept: Connections::new(Ipv4Addr::LOCALHOST, 3000),
             encoding: Encoding::Mu,
             answer: String::new(alloc),
         })
@@ -200,10 +194,11 @@ impl Tale for ConnectionsTale {
         match word {
             "create" | "modify" | "delete" | "audit" => self.command(alloc, word, row),
             "answer" => unless_said(alloc, self.answer.as_str(), rest.trim_start()),
-            "places" => self.unlike_places(alloc, rest),
+            "places" => {
+                let places = self.places(alloc)?;
+                unless_said(alloc, places.as_str().trim_start(), rest)
+            }
             "encoding" => self.encode(alloc, rest),
-            "keep" => self.keep(),
-            "back" => self.back(),
             _ => no_such_row(alloc),
         }
     }

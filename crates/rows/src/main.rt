@@ -9,6 +9,7 @@
 mod due_moments;
 mod events;
 mod histories;
+mod keeping;
 mod line;
 mod line_connections;
 mod messages;
@@ -20,6 +21,7 @@ mod values;
 
 use crate::due_moments::DueTale;
 use crate::histories::HistoryTale;
+use crate::keeping::Keeping;
 use crate::line::LineTale;
 use crate::line_connections::ConnectionsTale;
 use crate::messages::MessageTale;
@@ -43,14 +45,14 @@ impl Kinds for Rows {
     ) -> io::Result<Option<Count>> {
         Ok(Some(match kind {
             "values" => told::<Values, R>(rt, text)?,
-            "line" => told::<LineTale, R>(rt, text)?,
+            "line" => told::<Keeping<LineTale>, R>(rt, text)?,
             "request" => told::<RequestTale, R>(rt, text)?,
             "signals" => told::<SignalTale, R>(rt, text)?,
-            "quarantine" => told::<QuarantineTale, R>(rt, text)?,
-            "message" => told::<MessageTale, R>(rt, text)?,
+            "quarantine" => told::<Keeping<QuarantineTale>, R>(rt, text)?,
+            "message" => told::<Keeping<MessageTale>, R>(rt, text)?,
             "history" => told::<HistoryTale, R>(rt, text)?,
-            "connections" => told::<ConnectionsTale, R>(rt, text)?,
-            "moments" => told::<DueTale, R>(rt, text)?,
+            "connections" => told::<Keeping<ConnectionsTale>, R>(rt, text)?,
+            "moments" => told::<Keeping<DueTale>, R>(rt, text)?,
             _ => return Ok(None),
         }))
     }

@@ -9,6 +9,7 @@
 //! - `keep` and `back`: the message as it was once.
 ghost use Rattle.std.specs.Prelude.{◌<◌, ◌^◌};
 
+use crate::keeping::Kept;
 use crate::texts::unless_number;
 use mgcp_text::TransactionId;
 use outbound::{Pending, Repeat, Reply};
@@ -95,11 +96,10 @@ fn unlike_answer(alloc: Global, message: &mut Pending, rest: &str) -> io::Result
     }
 }
 
-/// A message, and as it was kept.
+/// A message.
 #[derive(Drop)]
 pub struct MessageTale {
     message: Pending,
-    kept: Pending,
 }
 
 impl MessageTale {
@@ -123,20 +123,13 @@ impl MessageTale {
         self.message = message;
         Ok(unlike)
     }
+}
 
-    fn unlike_is(&self, alloc: Global, wanted: &str) -> io::Result<Option<String>> {
-        let state = state_of(alloc, &self.message)?;
-        unless_said(alloc, state.as_str(), wanted)
-    }
-
-    fn keep(&mut self) -> io::Result<Option<String>> {
-        self.kept = self.message.try_copy()?;
-        Ok(None)
-    }
-
-    fn back(&mut self) -> io::Result<Option<String>> {
-        self.message = self.kept.try_copy()?;
-        Ok(None)
+impl Kept for MessageTale {
+    fn copy(&self, _alloc: Global) -> io::Result<MessageTale> {
+        Ok(MessageTale {
+            message: self.message.try_copy()?,
+        })
     }
 }
 
@@ -144,8 +137,7 @@ impl Tale for MessageTale {
     fn begin(alloc: Global) -> io::Result<MessageTale> {
         let id = TransactionId::of(1);
         let message = Pending::begin(alloc, id, agent(), b"", 0)?;
-        let kept = message.try_copy()?;
-        Ok(MessageTale { message, kept })
+        Ok(MessageTale { message })
     }
 
     fn unlike(&mut self, alloc: Global, row: &str) -> io::Result<Option<String>> {
@@ -154,9 +146,10 @@ impl Tale for MessageTale {
             "begins" => self.begins(alloc, rest),
             "repeat" | "answer" => self.turn(alloc, word, rest),
             "due" => unless_number(alloc, self.message.due(), rest),
-            "is" => self.unlike_is(alloc, rest.trim_start()),
-            "keep" => self.keep(),
-            "back" => self.back(),
+            "is" => {
+                let state = state_of(alloc, &self.message)?;
+                unless_said(alloc, state.as_str(), rest.trim_start())
+            }
             _ => no_such_row(alloc),
         }
     }

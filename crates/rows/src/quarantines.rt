@@ -5,6 +5,7 @@
 //! - `holds 64`, `lost 1`: so many are held, and so many found no room;
 //! - `keep` and `back`: the quarantine as it was once.
 use crate::events::{observed_of, spelled};
+use crate::keeping::Kept;
 use crate::texts::unless_number;
 use quarantine::Buffer;
 use std::alloc::Global;
@@ -18,11 +19,10 @@ fn unlike_first(alloc: Global, buffer: &mut Buffer, wanted: &str) -> io::Result<
     }
 }
 
-/// A quarantine, and as it was kept.
+/// A quarantine.
 #[derive(Drop)]
 pub struct QuarantineTale {
     buffer: Buffer,
-    kept: Buffer,
 }
 
 impl QuarantineTale {
@@ -49,28 +49,21 @@ impl QuarantineTale {
         self.buffer = buffer;
         Ok(unlike)
     }
+}
 
-    fn clear(&mut self) -> io::Result<Option<String>> {
-        self.buffer.clear();
-        Ok(None)
-    }
-
-    fn keep(&mut self) -> io::Result<Option<String>> {
-        self.kept = self.buffer.try_copy()?;
-        Ok(None)
-    }
-
-    fn back(&mut self) -> io::Result<Option<String>> {
-        self.buffer = self.kept.try_copy()?;
-        Ok(None)
+impl Kept for QuarantineTale {
+    fn copy(&self, _alloc: Global) -> io::Result<QuarantineTale> {
+        Ok(QuarantineTale {
+            buffer: self.buffer.try_copy()?,
+        })
     }
 }
 
 impl Tale for QuarantineTale {
     fn begin(alloc: Global) -> io::Result<QuarantineTale> {
-        let buffer = Buffer::new(alloc, 64)?;
-        let kept = buffer.try_copy()?;
-        Ok(QuarantineTale { buffer, kept })
+        Ok(QuarantineTale {
+            buffer: Buffer::new(alloc, 64)?,
+        })
     }
 
     fn unlike(&mut self, alloc: Global, row: &str) -> io::Result<Option<String>> {
@@ -79,9 +72,10 @@ impl Tale for QuarantineTale {
             "room" => self.room(alloc, rest),
             "hold" => self.hold(alloc, rest),
             "take" => self.take(alloc, rest),
-            "clear" => self.clear(),
-            "keep" => self.keep(),
-            "back" => self.back(),
+            "clear" => {
+                self.buffer.clear();
+                Ok(None)
+            }
             "holds" => unless_number(alloc, self.buffer.iter().count() as u64, rest),
             "lost" => unless_number(alloc, self.buffer.lost(), rest),
             _ => no_such_row(alloc),

@@ -105,21 +105,6 @@ impl SignalTale {
         Ok(None)
     }
 
-    fn stop_timeouts(&mut self) -> io::Result<Option<String>> {
-        self.set.stop_timeouts();
-        Ok(None)
-    }
-
-    fn unlike_due(&self, alloc: Global, wanted: &str) -> io::Result<Option<String>> {
-        let due = due_of(alloc, &self.set)?;
-        unless_said(alloc, due.as_str(), wanted)
-    }
-
-    fn unlike_active(&self, alloc: Global, wanted: &str) -> io::Result<Option<String>> {
-        let active = listed(alloc, &self.set)?;
-        unless_said(alloc, active.as_str().trim_start(), wanted.trim_start())
-    }
-
     fn hook(&mut self, alloc: Global, word: &str) -> io::Result<Option<String>> {
         let Some(hook) = hook_of(word) else {
             return no_such_row(alloc);
@@ -144,9 +129,15 @@ impl Tale for SignalTale {
         match word {
             "hook" => self.hook(alloc, rest),
             "expire" => self.stop(alloc, rest),
-            "stop" => self.stop_timeouts(),
-            "due" => self.unlike_due(alloc, rest),
-            "active" => self.unlike_active(alloc, rest),
+            "stop" => {
+                self.set.stop_timeouts();
+                Ok(None)
+            }
+            "due" => unless_said(alloc, due_of(alloc, &self.set)?.as_str(), rest),
+            "active" => {
+                let active = listed(alloc, &self.set)?;
+                unless_said(alloc, active.as_str().trim_start(), rest.trim_start())
+            }
             "refused" => unlike_refusal(alloc, rest),
             _ => no_such_row(alloc),
         }

@@ -32,40 +32,44 @@ pub fn numbered(call: &str) -> (&str, u16) {
 }
 
 // What one of the modules gives of a value, each of which knows calls of its own.
-fn answer_of_text(alloc: Global, call: &str, value: &[u8]) -> Option<io::Result<String>> {
+fn answer_of_text(alloc: Global, call: &str, value: &[u8]) -> io::Result<String> {
     if let Some(given) = bytes::answer(alloc, call, value) {
-        return Some(given);
+        return given;
     }
     if let Some(given) = names::answer(alloc, call, value) {
-        return Some(given);
+        return given;
     }
     if let Some(given) = packing::answer(alloc, call, value) {
-        return Some(given);
+        return given;
     }
-    messages::answer(alloc, call, value)
+    match messages::answer(alloc, call, value) {
+        Some(given) => given,
+        None => said(alloc, b"no such call"),
+    }
 }
 
-fn answer_of_command(alloc: Global, call: &str, value: &[u8]) -> Option<io::Result<String>> {
+fn answer_of_command(alloc: Global, call: &str, value: &[u8]) -> io::Result<String> {
     if let Some(given) = commands::answer(alloc, call, value) {
-        return Some(given);
+        return given;
     }
     if let Some(given) = descriptions::answer(alloc, call, value) {
-        return Some(given);
+        return given;
     }
-    connection_options::answer(alloc, call, value)
+    match connection_options::answer(alloc, call, value) {
+        Some(given) => given,
+        None => answer_of_text(alloc, call, value),
+    }
 }
 
-fn answer(alloc: Global, call: &str, value: &[u8]) -> Option<io::Result<String>> {
+// What a call gives of a value.
+fn answer(alloc: Global, call: &str, value: &[u8]) -> io::Result<String> {
     if let Some(given) = events::answer(alloc, call, value) {
-        return Some(given);
+        return given;
     }
-    if let Some(given) = maps::answer(alloc, call, value) {
-        return Some(given);
+    match maps::answer(alloc, call, value) {
+        Some(given) => given,
+        None => answer_of_command(alloc, call, value),
     }
-    if let Some(given) = answer_of_command(alloc, call, value) {
-        return Some(given);
-    }
-    answer_of_text(alloc, call, value)
 }
 
 // Whether a row says this answer.
@@ -77,18 +81,10 @@ fn is_said(answer: &str, wanted: &str) -> bool {
     }
 }
 
-// What a call gives of a value.
-fn answered(alloc: Global, call: &str, value: &[u8]) -> io::Result<String> {
-    match answer(alloc, call, value) {
-        Some(given) => given,
-        None => said(alloc, b"no such call"),
-    }
-}
-
 // What a call gives of a value that the row doesn't say.
 fn unlike_call(alloc: Global, call: &str, field: &str, wanted: &str) -> io::Result<Option<String>> {
     let value = bytes_of(alloc, field)?;
-    let given = answered(alloc, call, &value)?;
+    let given = answer(alloc, call, &value)?;
     if is_said(given.as_str(), wanted) {
         return Ok(None);
     }
@@ -115,14 +111,6 @@ fn unlike_each(
     Ok(None)
 }
 
-// What a call of one value each gives. Without a value the row would say nothing of the call.
-fn unlike_any(alloc: Global, call: &str, values: &str, wanted: &str) -> io::Result<Option<String>> {
-    if values.is_empty() {
-        return Ok(Some("no value".to_string(alloc)?));
-    }
-    unlike_each(alloc, call, values, wanted)
-}
-
 impl Tale for Values {
     fn begin(_alloc: Global) -> io::Result<Values> {
         Ok(Values)
@@ -133,7 +121,9 @@ impl Tale for Values {
         let (call, values) = rest.split_once("  ").unwrap_or((rest, ""));
         match maps::answer_of_all(alloc, call, values)? {
             Some(given) => unless_said(alloc, given, wanted),
-            None => unlike_any(alloc, call, values, wanted),
+            // Without a value the row would say nothing of the call.
+            None if values.is_empty() => Ok(Some("no value".to_string(alloc)?)),
+            None => unlike_each(alloc, call, values, wanted),
         }
     }
 }

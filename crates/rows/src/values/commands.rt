@@ -2,7 +2,7 @@
 use crate::values::names::{DOMAIN, pattern_text};
 use command_forms::{Asks, AuditTarget, ConnectionDeed, Deed, RequestForm, Target, form};
 use connections::{
-    Change, CodecChoice, Codecs, Creation, Deletion, Mode, Options, encoding_text, mode_text,
+    Change, CodecChoice, Codecs, Creation, Deletion, Options, encoding_text, mode_text,
     write_options,
 };
 use digit_map::MapChange;
@@ -62,10 +62,6 @@ fn put_names(out: &mut Vec<u8>, call: &Identifier, id: Option<&Identifier>) -> i
     }
 }
 
-fn put_mode(out: &mut Vec<u8>, mode: Mode) -> io::Result<()> {
-    put_line(out, b"M:", mode_text(mode))
-}
-
 fn put_codecs(alloc: Global, out: &mut Vec<u8>, codecs: Codecs, time: u16) -> io::Result<()> {
     let text = write_options(alloc, codecs, time)?;
     put_line(out, b"L:", text.as_bytes())
@@ -107,31 +103,19 @@ fn put_remote(alloc: Global, out: &mut Vec<u8>, remote: &Option<Session>) -> io:
 fn put_creation(alloc: Global, out: &mut Vec<u8>, creation: &Creation) -> io::Result<()> {
     out.extend_from_slice(b"create ")?;
     put_names(out, &creation.call, None)?;
-    put_mode(out, creation.mode)?;
+    put_line(out, b"M:", mode_text(creation.mode))?;
     put_options(alloc, out, creation.options)?;
     put_remote(alloc, out, &creation.remote)
 }
 
 fn put_change(alloc: Global, out: &mut Vec<u8>, change: &Change) -> io::Result<()> {
     if let Some(mode) = change.mode {
-        put_mode(out, mode)?;
+        put_line(out, b"M:", mode_text(mode))?;
     }
     if let Some(options) = change.options {
         put_options(alloc, out, options)?;
     }
     put_remote(alloc, out, &change.remote)
-}
-
-fn put_modification(
-    alloc: Global,
-    out: &mut Vec<u8>,
-    call: &Identifier,
-    id: &Identifier,
-    change: &Change,
-) -> io::Result<()> {
-    out.extend_from_slice(b"modify ")?;
-    put_names(out, call, Some(id))?;
-    put_change(alloc, out, change)
 }
 
 fn put_deletion(out: &mut Vec<u8>, deletion: &Deletion) -> io::Result<()> {
@@ -149,7 +133,9 @@ fn put_connections(alloc: Global, out: &mut Vec<u8>, deed: &ConnectionDeed) -> i
         ConnectionDeed::Keep => Ok(out.extend_from_slice(b"keep ")?),
         ConnectionDeed::Create(creation) => put_creation(alloc, out, creation),
         ConnectionDeed::Modify { call, id, change } => {
-            put_modification(alloc, out, call, id, change)
+            out.extend_from_slice(b"modify ")?;
+            put_names(out, call, Some(id))?;
+            put_change(alloc, out, change)
         }
         ConnectionDeed::Delete(deletion) => put_deletion(out, deletion),
     }
@@ -165,20 +151,14 @@ fn becomes_text(alloc: Global, deed: &Deed) -> io::Result<String> {
     said(alloc, out.as_slice().strip_suffix(b" ").unwrap_or(&out))
 }
 
-// The lines that a command is for, by the name that means them.
-fn target_text(alloc: Global, target: Target) -> io::Result<String> {
-    match target {
-        Target::One(line) => pattern_text(alloc, Pattern::One(line)),
-        Target::All => pattern_text(alloc, Pattern::All),
-        Target::Any => pattern_text(alloc, Pattern::Any),
-    }
-}
-
-// The lines that an audit is for.
-fn audit_target_text(alloc: Global, target: AuditTarget) -> io::Result<String> {
-    match target {
-        AuditTarget::One(line) => pattern_text(alloc, Pattern::One(line)),
-        AuditTarget::All => pattern_text(alloc, Pattern::All),
+// The lines that a command is for.
+fn pattern_of(asks: &Asks<'_>) -> Pattern {
+    match asks {
+        Asks::Reports(AuditTarget::One(line), _) => Pattern::One(*line),
+        Asks::Reports(AuditTarget::All, _) => Pattern::All,
+        Asks::Does(Target::One(line), _) => Pattern::One(*line),
+        Asks::Does(Target::All, _) => Pattern::All,
+        Asks::Does(Target::Any, _) => Pattern::Any,
     }
 }
 
@@ -193,10 +173,9 @@ fn deed_text(alloc: Global, deed: &Deed) -> io::Result<String> {
 // What a call gives of what a command asks for.
 fn asks_text(alloc: Global, call: &str, asks: &Asks<'_>) -> io::Result<String> {
     match asks {
-        Asks::Reports(target, _) => audit_target_text(alloc, *target),
         Asks::Does(_, deed) if call == "asks" => deed_text(alloc, deed),
         Asks::Does(_, deed) if call == "becomes" => becomes_text(alloc, deed),
-        Asks::Does(target, _) => target_text(alloc, *target),
+        _ => pattern_text(alloc, pattern_of(asks)),
     }
 }
 

@@ -32,26 +32,18 @@ fn read_l(alloc: Global, value: &[u8]) -> io::Result<String> {
     }
 }
 
-fn read_m(alloc: Global, value: &[u8]) -> io::Result<String> {
-    match read_mode(value) {
-        Some(mode) => said(alloc, mode_text(mode)),
-        None => said(alloc, b"none"),
-    }
-}
-
-fn read_b(alloc: Global, value: &[u8]) -> io::Result<String> {
-    match read_encoding(value) {
-        Some(encoding) => said(alloc, encoding_text(encoding)),
-        None => said(alloc, b"none"),
-    }
-}
-
 /// What a call gives; nothing where there is no such call here.
 pub fn answer(alloc: Global, call: &str, value: &[u8]) -> Option<io::Result<String>> {
     Some(match call {
         "L" => read_l(alloc, value),
-        "M" => read_m(alloc, value),
-        "B" => read_b(alloc, value),
+        "M" => match read_mode(value) {
+            Some(mode) => said(alloc, mode_text(mode)),
+            None => said(alloc, b"none"),
+        },
+        "B" => match read_encoding(value) {
+            Some(encoding) => said(alloc, encoding_text(encoding)),
+            None => said(alloc, b"none"),
+        },
         "I" => identifier(alloc, value),
         _ => return None,
     })

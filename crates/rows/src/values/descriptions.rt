@@ -35,19 +35,7 @@ fn written(alloc: Global, session: &Session) -> io::Result<String> {
     said(alloc, text.as_bytes())
 }
 
-// A description with an origin and a packet time of its own.
-fn written_own(
-    alloc: Global,
-    session: &mut Session,
-    origin: Origin,
-    ptime: u16,
-) -> io::Result<String> {
-    session.origin = Some(origin);
-    session.ptime = Some(ptime);
-    written(alloc, session)
-}
-
-// What a call gives of a description that is read.
+// What a call gives of a description that is read; it may get an origin and a packet time of its own.
 fn of_session(
     alloc: Global,
     call: &str,
@@ -55,7 +43,11 @@ fn of_session(
     session: &mut Session,
 ) -> io::Result<String> {
     match own {
-        Some((origin, ptime)) => written_own(alloc, session, origin, ptime),
+        Some((origin, ptime)) => {
+            session.origin = Some(origin);
+            session.ptime = Some(ptime);
+            written(alloc, session)
+        }
         None if call == "description" => offered(alloc, session),
         None => written(alloc, session),
     }

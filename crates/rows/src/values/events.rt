@@ -53,15 +53,10 @@ fn given(alloc: Global, call: &str, value: &[u8]) -> Option<Result<Text, CodeFau
     })
 }
 
-fn given_text(alloc: Global, given: &Result<Text, CodeFault>) -> io::Result<String> {
-    match given {
-        Ok(text) => said(alloc, text.as_bytes()),
-        Err(fault) => code_text(alloc, *fault),
-    }
-}
-
 /// The value as it is written again, or a code; nothing where there is no such call here.
 pub fn answer(alloc: Global, call: &str, value: &[u8]) -> Option<io::Result<String>> {
-    let given = given(alloc, call, value)?;
-    Some(given_text(alloc, &given))
+    Some(match given(alloc, call, value)? {
+        Ok(text) => said(alloc, text.as_bytes()),
+        Err(fault) => code_text(alloc, fault),
+    })
 }

@@ -78,18 +78,13 @@ fn ranges_text(alloc: Global, ranges: &[IdRange]) -> io::Result<String> {
     said(alloc, &out)
 }
 
-fn k_text(alloc: Global, value: &KValue) -> io::Result<String> {
-    match value {
+// The ids that a message confirms.
+fn confirmed(alloc: Global, message: &Message<'_>) -> io::Result<String> {
+    match read_k(alloc, message)? {
         KValue::Absent => said(alloc, b"none"),
         KValue::Unreadable => said(alloc, b"unreadable"),
         KValue::Items(ranges) => ranges_text(alloc, ranges.as_slice()),
     }
-}
-
-// The ids that a message confirms.
-fn confirmed(alloc: Global, message: &Message<'_>) -> io::Result<String> {
-    let value = read_k(alloc, message)?;
-    k_text(alloc, &value)
 }
 
 fn answer_text(alloc: Global, code: u16, id: TransactionId) -> io::Result<String>

@@ -37,15 +37,10 @@ fn meaning(alloc: Global, name: &[u8], lines: u16) -> io::Result<String> {
     }
 }
 
-fn written_pattern(alloc: Global, pattern: Pattern) -> io::Result<String> {
-    let name = write_name(alloc, pattern, DOMAIN)?;
-    said(alloc, name.as_bytes())
-}
-
 // The name that is written of what a name means.
 fn written(alloc: Global, name: &[u8]) -> io::Result<String> {
     match read_name(name, DOMAIN, 65535) {
-        Ok(pattern) => written_pattern(alloc, pattern),
+        Ok(pattern) => said(alloc, write_name(alloc, pattern, DOMAIN)?.as_bytes()),
         Err(fault) => fault_text(alloc, fault),
     }
 }
