@@ -20,7 +20,7 @@ use crate::requests;
 use crate::texts::judged;
 use acts::{act_of, due_of};
 use mg_bytes::{CodeFault, OutOfMemory};
-use mg_line::{Act, Line, LineStep, Request};
+use mg_line::{Line, LineStep, Request};
 use parameters::request_of;
 use shown::{state_of, told};
 use std::alloc::Global;
@@ -66,19 +66,14 @@ fn done(line: &Line, word: &str, moment: u64) -> Given
     }
 }
 
-fn passed(line: &Line, act: Act) -> Given {
-    if !line.takes(act) || line.heeds(act) {
-        return Err(NO_TURN);
-    }
-    let mut line = line.try_copy()?;
-    line.pass_over(act);
-    Ok(LineStep { line, notice: None })
-}
-
 fn idled(line: &Line, word: &str) -> Given {
     match act_of(word) {
-        Some(act) => passed(line, act),
-        None => Err(NO_TURN),
+        Some(act) if line.takes(act) && !line.heeds(act) => {
+            let mut line = line.try_copy()?;
+            line.pass_over(act);
+            Ok(LineStep { line, notice: None })
+        }
+        _ => Err(NO_TURN),
     }
 }
 

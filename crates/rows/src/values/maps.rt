@@ -172,14 +172,6 @@ fn in_range(range: &[u8], key: &[u8]) -> &'static str {
     }
 }
 
-// What a call gives of two values.
-fn given(alloc: Global, call: &str, one: &[u8], other: &[u8]) -> io::Result<&'static str> {
-    match call {
-        "verdict" => verdict(alloc, one, other),
-        _ => Ok(in_range(one, other)),
-    }
-}
-
 /// The answer of a call of two values; nothing where there is no such call here.
 pub fn answer_of_all(alloc: Global, call: &str, fields: &str) -> io::Result<Option<&'static str>> {
     if call != "verdict" && call != "in range" {
@@ -188,7 +180,10 @@ pub fn answer_of_all(alloc: Global, call: &str, fields: &str) -> io::Result<Opti
     let (one, other) = fields.split_once("  ").unwrap_or((fields, ""));
     let one = bytes_of(alloc, one)?;
     let other = bytes_of(alloc, other)?;
-    Ok(Some(given(alloc, call, &one, &other)?))
+    Ok(Some(match call {
+        "verdict" => verdict(alloc, &one, &other)?,
+        _ => in_range(&one, &other),
+    }))
 }
 
 // A map, by a copy of it.
