@@ -45,7 +45,8 @@ pub enum Ending<'a> {
 }
 
 impl<'a> Ending<'a> {
-    /// The exit status: 0 served or told, 2 words or a configuration that are refused, 3 memory, a file, a socket or a stream.
+    /// The exit status: 0 served or told, 2 words or a configuration that are refused, 3 memory, a
+    /// file, a socket or a stream.
     pub fn status(self) -> u8 {
         match self {
             Ending::Served | Ending::Help | Ending::Version => 0,
@@ -71,7 +72,8 @@ impl<'a> From<WordFault> for Ending<'a> {
     }
 }
 
-// What is written: on standard output what the words ask, else a line on standard error, or nothing where it served.
+// What is written: on standard output what the words ask, else a line on standard error, or nothing
+// where it served.
 impl<'a> fmt::Display for Ending<'a> {
     fn fmt<W: fmt::Write>(&self, f: &mut fmt::Formatter<W>) -> fmt::Result {
         match *self {

@@ -4,11 +4,12 @@ use std::fmt;
 /// The version of the program.
 pub const VERSION: &str = "1.0";
 
-/// The address of the gateway's socket where no word says another. Its port is that of gateways (RFC 3435, 3.5). No other
-/// machine reaches it: the protocol has no passwords.
+/// The address of the gateway's socket where no word says another. Its port is that of gateways
+/// (RFC 3435, 3.5). No other machine reaches it: the protocol has no passwords.
 pub const LISTEN: &str = "127.0.0.1:2427";
 
-/// The address of the telephones' socket where no word says another. No other machine reaches them either.
+/// The address of the telephones' socket where no word says another. No other machine reaches them
+/// either.
 pub const PHONES: &str = "127.0.0.1:2428";
 
 /// The words of the command line, in a line.

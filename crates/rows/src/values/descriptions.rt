@@ -35,7 +35,7 @@ fn written(alloc: Global, session: &Session) -> io::Result<String> {
     said(alloc, text.as_bytes())
 }
 
-// What a call gives of a description that is read; it may get an origin and a packet time of its own.
+// What a call gives of a description that is read; it may get an origin and a packet time.
 fn of_session(
     alloc: Global,
     call: &str,
