@@ -23,7 +23,8 @@ use std::marker::Model;
 pub struct Gateway {
     alloc: Global,
     setup: Setup,
-    state: State,
+    // In a box, so that a gateway is small where it is moved.
+    state: Box<State>,
 }
 
 impl Model for Gateway {
@@ -33,9 +34,9 @@ impl Model for Gateway {
 
     ghost Value = { GatewayState };
 
-    ghost view = { λ g. record { setup = g.setup; machine = machine_in g.state } };
+    ghost view = { λ g. record { setup = g.setup; machine = machine_in g.state.value } };
 
-    ghost invariant = { λ g. IsSound g.setup (machine_in g.state) };
+    ghost invariant = { λ g. IsSound g.setup (machine_in g.state.value) };
 }
 
 impl Gateway {
@@ -57,11 +58,14 @@ impl Gateway {
             floor: Floor::of(alloc, stations, opening_own(&setup)),
             history: History::new(alloc),
         };
-        Ok(Gateway {
-            alloc,
-            setup,
-            state,
-        })
+        match Box::new(alloc, state) {
+            Ok(state) => Ok(Gateway {
+                alloc,
+                setup,
+                state,
+            }),
+            Err(_) => Err(ConfigFault::OutOfMemory),
+        }
     }
 
     /// What it is set up to be.

@@ -10,10 +10,10 @@
 use crate::played::input_of;
 use crate::runs::runs_alike;
 use crate::titles::Pieces;
-use crate::twins::{Twins, are_events, event_of, scene_again, scene_of};
+use crate::twins::{Played, Twins, are_events, event_of, scene_again, scene_of};
 use crate::written::read_story;
 use gateway_core::{Event, Refusal};
-use rgw_play::{Scene, Step};
+use rgw_play::Step;
 use std::alloc::Global;
 use std::io;
 use tales::{Count, again};
@@ -42,7 +42,7 @@ fn steps_of(alloc: Global, lines: &str) -> io::Result<Option<Vec<Step>>> {
     let mut story = read_story(alloc, lines)?;
     story.is_at_opening = true;
     let input = input_of(alloc, &story)?;
-    let Some(Scene { steps, .. }) = scene_of(alloc, input.as_bytes())? else {
+    let Some(Played { steps, .. }) = scene_of(alloc, input.as_bytes())? else {
         return Ok(None);
     };
     if are_events(&steps) {

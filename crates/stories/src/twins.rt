@@ -9,17 +9,31 @@ use std::alloc::Global;
 use std::io;
 use tales::{again, refused};
 
+/// What an input has to play. The gateway stands in a box, since a check pays for all that a value holds inline at each
+/// step of a function that has one.
+#[derive(Drop)]
+pub struct Played {
+    pub gateway: Box<Gateway>,
+    pub steps: Vec<Step>,
+}
+
+fn boxed(alloc: Global, scene: Scene) -> io::Result<Played> {
+    let Scene { gateway, steps } = scene;
+    let gateway = Box::new(alloc, gateway)?;
+    Ok(Played { gateway, steps })
+}
+
 /// What an input has to play; nothing where it is refused.
-pub fn scene_of(alloc: Global, input: &[u8]) -> io::Result<Option<Scene>> {
+pub fn scene_of(alloc: Global, input: &[u8]) -> io::Result<Option<Played>> {
     match judge(alloc, input) {
-        Ok(scene) => Ok(Some(scene)),
+        Ok(scene) => Ok(Some(boxed(alloc, scene)?)),
         Err(PlayFault::OutOfMemory) => Err(refused()),
         Err(_) => Ok(None),
     }
 }
 
 /// The same, read again where memory was refused.
-pub fn scene_again(alloc: Global, input: &[u8]) -> io::Result<Option<Scene>> {
+pub fn scene_again(alloc: Global, input: &[u8]) -> io::Result<Option<Played>> {
     again!(scene_of(alloc, input))
 }
 
@@ -130,24 +144,29 @@ fn are_same_outcomes(one: &Result<Outputs, Refusal>, other: &Result<Outputs, Ref
     }
 }
 
-// The gateway of an input after so many of its steps.
-fn gateway_after(alloc: Global, input: &[u8], count: usize) -> io::Result<Option<Gateway>> {
-    let Some(Scene { mut gateway, steps }) = scene_again(alloc, input)? else {
-        return Ok(None);
-    };
+// A gateway takes the first so many of these steps.
+fn advance(gateway: &mut Gateway, steps: &[Step], count: usize) {
     for step in steps.iter().take(count) {
         if let Some(event) = event_of(step, gateway.now()) {
-            let _ = stepped(&mut gateway, event);
+            let _ = stepped(gateway, event);
         }
     }
-    Ok(Some(gateway))
+}
+
+// The gateway of an input after so many of its steps.
+fn gateway_after(alloc: Global, input: &[u8], count: usize) -> io::Result<Option<Box<Gateway>>> {
+    let Some(mut scene) = scene_again(alloc, input)? else {
+        return Ok(None);
+    };
+    advance(&mut scene.gateway, &scene.steps, count);
+    Ok(Some(scene.gateway))
 }
 
 /// A gateway, and its twin.
 #[derive(Drop)]
 pub struct Twins {
-    pub gateway: Gateway,
-    pub twin: Gateway,
+    pub gateway: Box<Gateway>,
+    pub twin: Box<Gateway>,
 }
 
 impl Twins {
