@@ -19,7 +19,7 @@ use Rattle.plain_machine.specs.Announcing.{announced, announced_by, heard_on, re
 use Rattle.plain_machine.specs.Machine.{own_posted}
 use Rattle.plain_machine.specs.Falling.{own_happened}
 use Rattle.plain_machine.specs.Responding.{own_responded}
-use Rattle.plain_machine.proofs.AnnouncementLemmas.{next_some}
+use Rattle.plain_machine.proofs.IdLemmas.{next_some}
 use Rattle.gateway_stations.specs.Telling.{HasId}
 use Rattle.gateway_stations.specs.Turns.{OwnHasTurn}
 

@@ -43,9 +43,9 @@ use Rattle.plain_machine.specs.Requesting.{with_entity, with_connections, asked_
 use Rattle.plain_machine.specs.Commanding.{line_request, line_deed}
 use Rattle.plain_machine.specs.Falling.{due_on, own_due, happened_on, own_happened, post_due}
 use Rattle.plain_machine.specs.Responding.{responded_as, responded_on, own_responded, redirected_on, opened_on}
-use Rattle.plain_machine.proofs.CommandLaws.{Sound, OwnSound, sound_turns, sound_own_turns, noted_sound, responded_sound, own_responded_sound, asked_if_done}
-use Rattle.plain_machine.proofs.NoticeLemmas.{IsDone, IsTold, phoned_done, answered_done, opened_done, fired_done}
-use Rattle.plain_machine.proofs.NotificationLemmas.{told_writable}
+use Rattle.gateway_laws.proofs.CommandLaws.{Sound, OwnSound, sound_turns, sound_own_turns, noted_sound, responded_sound, own_responded_sound, asked_if_done}
+use Rattle.gateway_laws.proofs.NoticeLemmas.{IsDone, IsTold, phoned_done, answered_done, opened_done, fired_done}
+use Rattle.gateway_laws.proofs.NotificationLemmas.{told_writable}
 use Rattle.plain_machine.proofs.FirstLemmas.{OfItsLine, OfItsCommand, OfItsAnnouncement, due_cases, post_cases}
 use Rattle.machine_laws.proofs.EachLemmas.{Each}
 use Rattle.machine_laws.proofs.LogTurns.{Good, LogTurns, OwnGood}

@@ -32,8 +32,8 @@ use Rattle.plain_machine.specs.Posting.{repeated_as, resent_by, resent_on}
 use Rattle.plain_machine.specs.Commanding.{line_deed}
 use Rattle.plain_machine.specs.Requesting.{with_entity, with_connections, asked_if, deed_on}
 use Rattle.plain_machine.specs.Responding.{responded_as, responded_on, own_responded, redirected_on, opened_on}
-use Rattle.plain_machine.proofs.AllLemmas.{OnAll}
-use Rattle.plain_machine.proofs.TurnLemmas.{Turns, OwnTurns, Holds}
+use Rattle.gateway_laws.proofs.AllLemmas.{OnAll}
+use Rattle.gateway_laws.proofs.TurnLemmas.{Turns, OwnTurns, Holds}
 use Rattle.machine_laws.specs.Owning.{is_acknowledgement}
 
 -- any station

@@ -25,7 +25,7 @@ use Rattle.plain_machine.specs.Event.{datagram, phone, tick}
 use Rattle.transmission.specs.Texts.{texts_of}
 use Rattle.plain_machine.specs.Arriving.{arrival}
 use Rattle.plain_machine.specs.Transactions.{asked_as}
-use Rattle.plain_machine.proofs.TransactionLaws.{one_more}
+use Rattle.gateway_laws.proofs.TransactionLaws.{one_more}
 use Rattle.agent_core.specs.Hearing.{AgentEvent, agent_effect, handled, handled_as, hears, issues, took_all}
 use Rattle.agent_core.specs.declared.setup.AgentSetup.{AgentSetup}
 use Rattle.agent_core.specs.declared.taking.Taken.{Taken}

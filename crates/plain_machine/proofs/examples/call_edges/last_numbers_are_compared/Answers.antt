@@ -1,9 +1,24 @@
-use Rattle.std.proofs.Common.{ℕ, refl, arith}
+use Rattle.std.proofs.Common.{◌≡◌, ℕ, ◌<◌, ◌≤◌, Some, None, refl, sym, ap, ◌∙◌, arith}
 use Rattle.connections.specs.Standing.{Standing}
-use Rattle.plain_machine.specs.Machine.{opening_station}
+use Rattle.plain_machine.specs.Calls.{standing_at, NumbersGoOn}
+use Rattle.plain_machine.specs.Machine.{Endpoints, opening_station}
 use Rattle.plain_machine.specs.Example.{one_line, two_lines, numbered_to, ready_machine}
-use Rattle.plain_machine.proofs.GivenLaws.{gets_less, gets_lost}
 use Rattle.plain_machine.proofs.examples.call_edges.last_numbers_are_compared.Goals as goal
+
+gets_less : (were are : Endpoints) (line : ℕ) (was is : Standing) → standing_at were line ≡ Some was → standing_at are line ≡ Some is → is.last < was.last → NumbersGoOn were are → ⊥
+gets_less were are line was is before after less go_on =
+    let next = go_on line was before in
+    let one : Some next.0 ≡ Some is = sym next.1 ∙ after in
+    let same : next.0 ≡ is = cc in
+    let last : next.0.last ≡ is.last = ap (λ (s : Standing). s.last) same in
+    let more : was.last ≤ next.0.last = next.2 in
+    omega (arith, last, more, less)
+
+gets_lost : (were are : Endpoints) (line : ℕ) (was : Standing) → standing_at were line ≡ Some was → standing_at are line ≡ None → NumbersGoOn were are → ⊥
+gets_lost were are line was before after go_on =
+    let next = go_on line was before in
+    let no : Some next.0 ≡ None = sym next.1 ∙ after in
+    cc
 
 -- what stands on the line
 abbrev line_with : ℕ → Standing

@@ -1,0 +1,452 @@
+-- What holds of each station and of the gateway itself whatever happens, and of all that they send: what does at each turn.
+use Rattle.std.proofs.Common.{◌≡◌, ◌≢◌, ℕ, zero, suc, ◌+◌, ◌-◌, ◌<◌, ◌≤◌, Bool, true, false, ◌==◌, if◌then◌else◌, List, [], ◌∷◌, codes, Option, Some, None, Result, Ok, Err, inl, inr, refl, sym, ap, ◌∙◌, subst, arith}
+use Rattle.std.specs.Prelude.{◌⊎◌, All, IfSome, map, slice_get, slice_set, option_and_then}
+use Rattle.std.specs.List.{range_with_len}
+use Rattle.std.proofs.lemmas.Bool.Decides.{nat_tests}
+use Rattle.std.proofs.lemmas.List.Elements.{All-nil, All-append}
+use Rattle.std.proofs.lemmas.Option.{none-some}
+use Rattle.std.specs.declared.net.socket_addr.SocketAddrV4.{SocketAddrV4}
+use Rattle.history.specs.Memory.{most_firsts}
+use Rattle.history.specs.Looking.{Looked, new, repeat, confirmed, full, look_of}
+use Rattle.endpoint_names.specs.declared.entity.Entity.{Entity}
+use Rattle.endpoint_names.specs.Entity.{entity_of}
+use Rattle.mgcp_text.specs.declared.message.Message.TheVariants as messages
+use Rattle.mgcp_text.specs.declared.confirmation.KValue.{KValue}
+use Rattle.mgcp_text.specs.declared.message.Param.{Param}
+use Rattle.mgcp_text.specs.Message.{param_at}
+use Rattle.mgcp_text.specs.Confirmation.{k_of}
+use Rattle.mgcp_text.specs.Reading.{Outcome, message, no_header, bad_version, bad_body, read_text}
+use Rattle.command_forms.specs.declared.forms.Asks.{Asks}
+use Rattle.command_forms.specs.declared.forms.Asks.TheVariants.{Reports, Does}
+use Rattle.command_forms.specs.declared.forms.Deed.{Deed}
+use Rattle.command_forms.specs.declared.forms.Target.{Target}
+use Rattle.command_forms.specs.declared.forms.Target.TheVariants.{One, All as AllLines, Any}
+use Rattle.command_forms.specs.Command.{Command}
+use Rattle.command_forms.specs.Order.{form_of, form_while}
+use Rattle.command_forms.proofs.RestartLemmas.{while_taken, while_none}
+use Rattle.mg_line.specs.declared.phone.Act.{Act}
+use Rattle.outbound.specs.declared.repeat.Repeat.{Repeat}
+use Rattle.outbound.specs.declared.repeat.Repeat.TheVariants.{Sent as SentAgain, GivenUp}
+use Rattle.outbound.specs.declared.reply.Reply.{Reply}
+use Rattle.outbound.specs.declared.reply.Reply.TheVariants as replies
+use Rattle.outbound.specs.Flight.{InFlight, repeat_of, reply_of}
+use Rattle.restart.specs.declared.restart.Restart.{Restart}
+use Rattle.restart.specs.declared.restart.Restart.TheVariants.{Waiting, Announced, Serving}
+use Rattle.restart.specs.declared.heard.Heard.{Heard}
+use Rattle.restart.specs.declared.heard.Heard.TheVariants.{Nothing, PutOff, Redirected, Answered}
+use Rattle.restart.specs.Restarting.{is_serving, answer_by, answer_of, heard_of}
+use Rattle.plain_machine.specs.declared.due_item.StationDue.{StationDue}
+use Rattle.plain_machine.specs.declared.due_item.StationDue.TheVariants.{OfLine, Resend, Announce}
+use Rattle.plain_machine.specs.declared.due_item.DueItem.{DueItem}
+use Rattle.plain_machine.specs.declared.own.Own.{Own}
+use Rattle.plain_machine.specs.declared.post.Post.{Post}
+use Rattle.plain_machine.specs.declared.response.Response.{Response}
+use Rattle.plain_machine.specs.declared.setup.Setup.{Setup}
+use Rattle.plain_machine.specs.declared.station.Station.{Station}
+use Rattle.plain_machine.specs.Event.{GatewayEvent, datagram, phone, tick}
+use Rattle.plain_machine.specs.Message.{Sent}
+use Rattle.plain_machine.specs.Posting.{line_of_id, repeated_as, resent_by}
+use Rattle.plain_machine.specs.Announcing.{announced, announced_by, heard_by, heard_on, replied}
+use Rattle.plain_machine.specs.Notifying.{Turn}
+use Rattle.plain_machine.specs.Machine.{Endpoints, Machine, OwnTurn, Told, told, serves, station_at, with_turn, turned_at, on_line, own_posted, with_own, on_own, on_lines, afterwards}
+use Rattle.transmission.specs.Texts.{texts_of}
+use Rattle.plain_machine.specs.Acting.{acted_on, acted}
+use Rattle.plain_machine.specs.Falling.{due_by, happened_on, own_happened, happened, go_on, passed, room, pass}
+use Rattle.plain_machine.specs.Done.{Done}
+use Rattle.plain_machine.specs.declared.line_deed.LineDeed.{LineDeed}
+use Rattle.plain_machine.specs.Requesting.{refused_by, deed_on, lines_meant, unless_refused, deed_done, line_with_place, done_there, done_for}
+use Rattle.plain_machine.specs.Commanding.{line_deed, done_by, commanded}
+use Rattle.plain_machine.specs.Responding.{response_with, responded_on, own_responded, redirected_on, opened_on, on_all, lines_told, own_heard, responded}
+use Rattle.plain_machine.specs.Answering.{Transaction, executed, transacted_by, handled, took_all}
+use Rattle.plain_machine.specs.Happening.{effect}
+use Rattle.plain_machine.specs.Lists.{machine_after}
+use Rattle.gateway_laws.proofs.AllLemmas.{OnAll, AllGone, all_go}
+
+-- Of all stations, whose lines are numbered from here
+
+pub on_one : (P : ℕ → Station → Type 0) (n : ℕ) (stations : List Station) (place : ℕ) (station : Station) → OnAll P n stations → slice_get stations place ≡ Some station
+    → P (n + place) station
+on_one P n [] place station all at = absurd (none-some station at)
+on_one P n (first ∷ stations) zero station all at =
+    let same : first ≡ station = (cc) in
+    let here : n ≡ n + zero = omega arith in
+    subst (λ (i : ℕ). P i station) here (subst (P n) same all.0)
+on_one P n (first ∷ stations) (suc place) station all at =
+    let here : n + 1 + place ≡ n + suc place = omega arith in
+    subst (λ (i : ℕ). P i station) here (on_one P (n + 1) stations place station all.1 at)
+
+on_set : (P : ℕ → Station → Type 0) (n : ℕ) (stations : List Station) (place : ℕ) (station : Station) → OnAll P n stations → P (n + place) station
+    → OnAll P n (slice_set stations place station)
+on_set P n [] place station all is = tt
+on_set P n (first ∷ stations) zero station all is =
+    let here : n + zero ≡ n = omega arith in
+    (subst (λ (i : ℕ). P i station) here is, all.1)
+on_set P n (first ∷ stations) (suc place) station all is =
+    let here : n + suc place ≡ n + 1 + place = omega arith in
+    (all.0, on_set P (n + 1) stations place station all.1 (subst (λ (i : ℕ). P i station) here is))
+
+pub on_made : (P : ℕ → Station → Type 0) (made : ℕ → Station) (n count : ℕ) → ((i : ℕ) → n ≤ i → i < n + count → P i (made i))
+    → OnAll P n (map made (range_with_len n count))
+on_made P made n zero each = tt
+on_made P made n (suc count) each =
+    (each n (omega arith) (omega arith), on_made P made (n + 1) count (λ i low high. each i (omega (arith, low)) (omega (arith, high))))
+
+-- Whom a response names
+
+-- the entity of some text
+abbrev pub IsEntity : Setup → Entity → Type 0
+IsEntity setup entity = (text : List ℕ) × (entity_of setup.names.table text ≡ Some entity)
+
+-- whom it names was read
+abbrev pub IsRead : Setup → Response → Type 0
+IsRead setup response = IfSome response.entity (IsEntity setup)
+
+abbrev pub HeardRead : Setup → Heard → Type 0
+HeardRead setup Nothing = Unit {0}
+HeardRead setup PutOff = Unit {0}
+HeardRead setup (Redirected agent) = IsEntity setup agent
+HeardRead setup (Answered agent) = IfSome agent (IsEntity setup)
+
+pub heard_read : (setup : Setup) (post : Post) (response : Response) → IsRead setup response → HeardRead setup (heard_on post response)
+heard_read setup post response read = by_pending post.pending where
+  by_code : (b : Bool) (agent : Entity) → IsEntity setup agent → HeardRead setup (if b then Redirected agent else Answered (Some agent))
+  by_code true agent is = is
+  by_code false agent is = is
+
+  by_entity : (entity : Option Entity) → IfSome entity (IsEntity setup) → HeardRead setup (answer_by response.code entity)
+  by_entity None is = tt
+  by_entity (Some agent) is = by_code (response.code == 521) agent is
+
+  by_restart : (restart : Restart) → HeardRead setup (answer_of restart response.code response.entity)
+  by_restart (Waiting until) = tt
+  by_restart Announced = by_entity response.entity read
+  by_restart Serving = tt
+
+  by_reply : (reply : Reply) → HeardRead setup (heard_of post.restart reply response.code response.entity)
+  by_reply replies.Stranger = tt
+  by_reply replies.Provisional = tt
+  by_reply replies.Answered = by_restart post.restart
+
+  by_pending : (pending : Option InFlight) → HeardRead setup (heard_by pending post.restart response)
+  by_pending None = tt
+  by_pending (Some flight) = by_reply (reply_of flight response.id response.code)
+
+pub response_read : (setup : Setup) (id code : ℕ) (params : List Param) → IsRead setup (response_with setup id code params)
+response_read setup id code params = by_value (param_at (codes "N") params) where
+  by_entity : (text : List ℕ) (entity : Option Entity) → entity_of setup.names.table text ≡ entity → IfSome entity (IsEntity setup)
+  by_entity text None e = tt
+  by_entity text (Some entity) e = (text, e)
+
+  by_value : (found : Option Param) → IfSome (option_and_then (λ param. entity_of setup.names.table param.value) found) (IsEntity setup)
+  by_value None = tt
+  by_value (Some param) = by_entity param.value (entity_of setup.names.table param.value) refl
+
+-- A turn
+
+abbrev pub Good : (ℕ → Station → Type 0) → (Sent → Type 0) → ℕ → Turn → Type 0
+Good P Q line turn = P line turn.station × All Q turn.sent
+
+-- each turn keeps what holds of the station, while the gateway serves and while it doesn't yet, and what it sends is so; the
+-- answer to the gateway's announcement makes what holds while it serves
+pub record Turns (setup : Setup) (P : Bool → ℕ → Station → Type 0) (Q : Sent → Type 0) : Type 0 where
+  pub act : (serving : Bool) (line moment : ℕ) (act : Act) (station : Station) → P serving line station → Good (P serving) Q line (acted_on setup line moment act station)
+  pub deed : (command : Command) (confirms : KValue) (target : Target) (deed : Deed) → form_of command confirms setup.names ≡ Ok (Does target deed)
+      → (line moment : ℕ) (station : Station) → P true line station → Good (P true) Q line (deed_on setup (line_deed deed) moment line station)
+  pub response : (serving : Bool) (line moment : ℕ) (response : Response) (station : Station) → IsRead setup response → P serving line station
+      → Good (P serving) Q line (responded_on setup line moment response station)
+  pub happening : (serving : Bool) (due : StationDue) (line moment : ℕ) (station : Station) → P serving line station → Good (P serving) Q line (happened_on due setup line moment station)
+  pub redirecting : (agent : Entity) (line : ℕ) (station : Station) → IsEntity setup agent → P false line station → Good (P false) Q line (redirected_on agent line station)
+  pub opening : (agent : Option Entity) (line moment : ℕ) (station : Station) → IfSome agent (IsEntity setup) → P false line station
+      → Good (P true) Q line (opened_on agent setup moment line station)
+
+-- what holds whether or not it serves
+abbrev pub Always : (ℕ → Station → Type 0) → Bool → ℕ → Station → Type 0
+Always P serving line station = P line station
+
+-- while the gateway serves it has nothing in flight
+abbrev pub IsFree : Own → Type 0
+IsFree own = is_serving own.post.restart ≡ true → own.post.pending ≡ None
+
+-- it is all the same whether the gateway serves
+abbrev pub IsEqual : (Bool → ℕ → Station → Type 0) → Type 0
+IsEqual P = (serving other : Bool) (line : ℕ) (station : Station) → P serving line station → P other line station
+
+-- and so does each turn of the gateway itself
+pub record OwnTurns (setup : Setup) (P : Bool → ℕ → Station → Type 0) (R : Own → Type 0) (Q : Sent → Type 0) : Type 1 where
+  pub free : (own : Own) → R own → IsFree own ⊎ IsEqual P
+  pub response : (moment : ℕ) (response : Response) (own : Own) → IsRead setup response → R own
+      → R (own_responded setup moment response own).own × All Q (own_responded setup moment response own).sent
+  pub happening : (due : StationDue) (moment : ℕ) (own : Own) → R own → R (own_happened due setup moment own).own × All Q (own_happened due setup moment own).sent
+
+-- what falls due of the gateway itself leaves it serving, or not yet
+pub happening_serves : (setup : Setup) (due : StationDue) (moment : ℕ) (own : Own) → IsFree own → is_serving (own_happened due setup moment own).own.post.restart ≡ is_serving own.post.restart
+unfolding own_happened announced
+happening_serves setup (OfLine due) moment own free = refl
+happening_serves setup Resend moment own free = by_serving (is_serving own.post.restart) refl where
+  by_repeat : (flight : InFlight) (repeat : Repeat) → is_serving own.post.restart ≡ false → is_serving (repeated_as repeat setup 0 moment own.post flight).post.restart ≡ is_serving own.post.restart
+  by_repeat flight SentAgain e = refl
+  by_repeat flight GivenUp e = sym e
+
+  by_pending : (pending : Option InFlight) → is_serving own.post.restart ≡ false → is_serving (resent_by pending setup 0 moment own.post).post.restart ≡ is_serving own.post.restart
+  by_pending None e = refl
+  by_pending (Some flight) e = by_repeat flight (repeat_of flight moment) e
+
+  by_serving : (b : Bool) → is_serving own.post.restart ≡ b → is_serving (resent_by own.post.pending setup 0 moment own.post).post.restart ≡ is_serving own.post.restart
+  by_serving true e = ap (λ (pending : Option InFlight). is_serving (resent_by pending setup 0 moment own.post).post.restart) (free e)
+  by_serving false e = by_pending own.post.pending e
+happening_serves setup Announce moment own free = by_restart own.post.restart where
+  by_restart : (restart : Restart) → is_serving (announced_by restart setup 0 moment (record own.post { restart = restart })).post.restart ≡ is_serving restart
+  by_restart (Waiting until) = refl
+  by_restart Announced = refl
+  by_restart Serving = refl
+
+-- of all stations, and of the gateway itself
+pub record Holds (P : Bool → ℕ → Station → Type 0) (R : Own → Type 0) (endpoints : Endpoints) : Type 0 where
+  pub stations : OnAll (P (serves endpoints)) 1 endpoints.stations
+  pub own : R endpoints.own
+
+-- the endpoints after it, and what is sent
+pub record GoesOn (P : Bool → ℕ → Station → Type 0) (R : Own → Type 0) (Q : Sent → Type 0) (is : Told) : Type 0 where
+  pub holds : Holds P R is.endpoints
+  pub sent : All Q is.sent
+
+-- the station of a line
+pub of_line : (P : ℕ → Station → Type 0) (endpoints : Endpoints) (line : ℕ) (station : Station) → OnAll P 1 endpoints.stations → station_at endpoints line ≡ Some station
+    → P line station
+of_line P endpoints line station all at = by_zero (line == 0) refl at where
+  one_more : (line == 0) ≡ false → 1 + (line - 1) ≡ line
+  one_more some = grind (arith, nat_tests)
+
+  by_zero : (b : Bool) → (line == 0) ≡ b → (if b then None else slice_get endpoints.stations (line - 1)) ≡ Some station → P line station
+  by_zero true e at = absurd (none-some station at)
+  by_zero false e at = subst (λ (i : ℕ). P i station) (one_more e) (on_one P 1 endpoints.stations (line - 1) station all at)
+
+turned : (P : Bool → ℕ → Station → Type 0) (R : Own → Type 0) (Q : Sent → Type 0) (endpoints : Endpoints) (line : ℕ) (station : Station) (turn : Turn) → Holds P R endpoints
+    → station_at endpoints line ≡ Some station → Good (P (serves endpoints)) Q line turn → GoesOn P R Q (with_turn endpoints line turn)
+turned P R Q endpoints line station turn all at good = by_zero (line == 0) refl at where
+  one_more : (line == 0) ≡ false → line ≡ 1 + (line - 1)
+  one_more some = grind (arith, nat_tests)
+
+  by_zero : (b : Bool) → (line == 0) ≡ b → (if b then None else slice_get endpoints.stations (line - 1)) ≡ Some station → GoesOn P R Q (with_turn endpoints line turn)
+  by_zero true e at = absurd (none-some station at)
+  by_zero false e at =
+      record {
+        holds = record { stations = on_set (P (serves endpoints)) 1 endpoints.stations (line - 1) turn.station all.stations (subst (λ (i : ℕ). P (serves endpoints) i turn.station) (one_more e) good.0); own = all.own };
+        sent = good.1;
+      }
+
+module _ (setup : Setup) (P : Bool → ℕ → Station → Type 0) (R : Own → Type 0) (Q : Sent → Type 0) (turns : Turns setup P Q) (own_turns : OwnTurns setup P R Q) where
+  stays : (endpoints : Endpoints) → Holds P R endpoints → GoesOn P R Q (record { endpoints = endpoints; sent = [] })
+  stays endpoints all = record { holds = all; sent = All-nil Q }
+
+  -- what holds of all stations holds of them whether or not the gateway serves
+  moved : (serving other : Bool) → IsEqual P → (n : ℕ) (stations : List Station) → OnAll (P serving) n stations → OnAll (P other) n stations
+  moved serving other equal n [] all = tt
+  moved serving other equal n (station ∷ stations) all = (equal serving other n station all.0, moved serving other equal (n + 1) stations all.1)
+
+  -- one line has a turn
+  turned_goes : (endpoints : Endpoints) (line : ℕ) (turn : Station → Turn) → Holds P R endpoints
+      → ((station : Station) → P (serves endpoints) line station → Good (P (serves endpoints)) Q line (turn station)) → GoesOn P R Q (on_line endpoints line turn)
+  unfolding on_line
+  turned_goes endpoints line turn all good = by_station (station_at endpoints line) refl where
+    by_station : (found : Option Station) → station_at endpoints line ≡ found → GoesOn P R Q (turned_at found endpoints line turn)
+    by_station None e = stays endpoints all
+    by_station (Some station) e = turned P R Q endpoints line station _ all e (good station (of_line (P (serves endpoints)) endpoints line station all.stations e))
+
+  -- it leaves what the gateway keeps for itself
+  own_kept : (endpoints : Endpoints) (line : ℕ) (turn : Station → Turn) → (on_line endpoints line turn).endpoints.own ≡ endpoints.own
+  unfolding on_line
+  own_kept endpoints line turn = by_station (station_at endpoints line) where
+    by_station : (found : Option Station) → (turned_at found endpoints line turn).endpoints.own ≡ endpoints.own
+    by_station None = refl
+    by_station (Some station) = refl
+
+  -- several lines have theirs
+  several_go : (serving : Bool) (lines : List ℕ) (endpoints : Endpoints) (turn : ℕ → Station → Turn) → serves endpoints ≡ serving → Holds P R endpoints
+      → ((line : ℕ) (station : Station) → P serving line station → Good (P serving) Q line (turn line station)) → GoesOn P R Q (on_lines lines endpoints turn)
+  unfolding on_lines
+  several_go serving [] endpoints turn is all good = stays endpoints all
+  several_go serving (line ∷ lines) endpoints turn is all good =
+      let here = subst (λ (b : Bool). (station : Station) → P b line station → Good (P b) Q line (turn line station)) (sym is) (good line) in
+      let first = turned_goes endpoints line (turn line) all here in
+      let still : serves (on_line endpoints line (turn line)).endpoints ≡ serving = ap (λ (own : Own). is_serving own.post.restart) (own_kept endpoints line (turn line)) ∙ is in
+      let rest = several_go serving lines (on_line endpoints line (turn line)).endpoints turn still first.holds good in
+      record { holds = rest.holds; sent = All-append Q (on_line endpoints line (turn line)).sent _ first.sent rest.sent }
+
+  pub acted_goes : (endpoints : Endpoints) (line moment : ℕ) (act : Act) → Holds P R endpoints → GoesOn P R Q (acted setup endpoints line moment act)
+  acted_goes endpoints line moment act all = turned_goes endpoints line (acted_on setup line moment act) all (turns.act (serves endpoints) line moment act)
+
+  -- A response
+
+  -- to the gateway itself, by what it is
+  abbrev OwnAs : Heard → Endpoints → ℕ → Response → OwnTurn
+  OwnAs heard endpoints moment response = own_posted endpoints.own (replied heard setup 0 moment response endpoints.own.post)
+
+  abbrev HeardAs : Heard → Endpoints → ℕ → Response → Told
+  HeardAs heard endpoints moment response =
+      afterwards (told (with_own endpoints (OwnAs heard endpoints moment response).own) (OwnAs heard endpoints moment response).sent) (λ next. lines_told heard setup moment next)
+
+  -- the lines have their turns after it
+  then_all : (serving : Bool) (first : Told) (turn : ℕ → Station → Turn) → serves first.endpoints ≡ serving → R first.endpoints.own → All Q first.sent
+      → AllGone (P serving) Q first.endpoints (on_all first.endpoints turn) → GoesOn P R Q (afterwards first (λ next. on_all next turn))
+  then_all serving first turn is own sent gone =
+      let same : serves (on_all first.endpoints turn).endpoints ≡ serving = ap (λ (own : Own). is_serving own.post.restart) gone.own ∙ is in
+      record {
+        holds = record { stations = subst (λ (b : Bool). OnAll (P b) 1 (on_all first.endpoints turn).endpoints.stations) (sym same) gone.stations; own = subst R (sym gone.own) own };
+        sent = All-append Q first.sent _ sent gone.sent;
+      }
+
+  own_heard_goes : (endpoints : Endpoints) (moment : ℕ) (response : Response) → IsRead setup response → Holds P R endpoints → GoesOn P R Q (own_heard setup endpoints moment response)
+  unfolding own_responded replied announced
+  own_heard_goes endpoints moment response read all =
+      by_heard (heard_on endpoints.own.post response) refl (heard_read setup endpoints.own.post response read) (own_turns.response moment response endpoints.own read all.own) where
+        -- where it serves nothing is in flight
+        not_serving : (heard : Heard) → IsFree endpoints.own → heard_on endpoints.own.post response ≡ heard → heard ≢ Nothing → serves endpoints ≡ false
+        not_serving heard free e some = by_serving (serves endpoints) refl where
+          by_serving : (b : Bool) → serves endpoints ≡ b → b ≡ false
+          by_serving true is = absurd (some (sym e ∙ ap (λ (pending : Option InFlight). heard_by pending endpoints.own.post.restart response) (free is)))
+          by_serving false is = refl
+
+        closed : (heard : Heard) → heard_on endpoints.own.post response ≡ heard → heard ≢ Nothing → OnAll (P false) 1 endpoints.stations
+        closed heard e some = by_free (own_turns.free endpoints.own all.own) where
+          by_free : (IsFree endpoints.own ⊎ IsEqual P) → OnAll (P false) 1 endpoints.stations
+          by_free (inl free) = subst (λ (b : Bool). OnAll (P b) 1 endpoints.stations) (not_serving heard free e some) all.stations
+          by_free (inr equal) = moved (serves endpoints) false equal 1 endpoints.stations all.stations
+
+        by_heard : (heard : Heard) → heard_on endpoints.own.post response ≡ heard → HeardRead setup heard
+            → R (OwnAs heard endpoints moment response).own × All Q (OwnAs heard endpoints moment response).sent → GoesOn P R Q (HeardAs heard endpoints moment response)
+        by_heard Nothing e named goes =
+            record { holds = record { stations = all.stations; own = goes.0 }; sent = All-append Q (OwnAs Nothing endpoints moment response).sent [] goes.1 (All-nil Q) }
+        by_heard PutOff e named goes =
+            record { holds = record { stations = all.stations; own = goes.0 }; sent = All-append Q (OwnAs PutOff endpoints moment response).sent [] goes.1 (All-nil Q) }
+        by_heard (Redirected agent) e named goes =
+            let first : Told = told (with_own endpoints (OwnAs (Redirected agent) endpoints moment response).own) (OwnAs (Redirected agent) endpoints moment response).sent in
+            let apart : Redirected agent ≢ Nothing = λ same. absurd cc in
+            then_all false first (redirected_on agent) refl goes.0 goes.1
+            (all_go (P false) (P false) Q (redirected_on agent) (λ line station holds. turns.redirecting agent line station named holds) first.endpoints (closed (Redirected agent) e apart))
+        by_heard (Answered agent) e named goes =
+            let first : Told = told (with_own endpoints (OwnAs (Answered agent) endpoints moment response).own) (OwnAs (Answered agent) endpoints moment response).sent in
+            let apart : Answered agent ≢ Nothing = λ same. absurd cc in
+            then_all true first (opened_on agent setup moment) refl goes.0 goes.1
+            (all_go (P false) (P true) Q (opened_on agent setup moment) (λ line station holds. turns.opening agent line moment station named holds) first.endpoints
+            (closed (Answered agent) e apart))
+
+  pub responded_goes : (endpoints : Endpoints) (moment : ℕ) (response : Response) → IsRead setup response → Holds P R endpoints → GoesOn P R Q (responded setup endpoints moment response)
+  responded_goes endpoints moment response read all = by_test (line_of_id response.id == 0) where
+    by_test : (b : Bool) → GoesOn P R Q (if b then own_heard setup endpoints moment response
+        else on_line endpoints (line_of_id response.id) (responded_on setup (line_of_id response.id) moment response))
+    by_test true = own_heard_goes endpoints moment response read all
+    by_test false = turned_goes endpoints (line_of_id response.id) (responded_on setup (line_of_id response.id) moment response) all
+        (λ station holds. turns.response (serves endpoints) (line_of_id response.id) moment response station read holds)
+
+  -- What falls due
+
+  pub happened_goes : (endpoints : Endpoints) (item : DueItem) → Holds P R endpoints → GoesOn P R Q (happened setup endpoints item)
+  happened_goes endpoints item all = by_test (item.line == 0) where
+    after : Bool
+    after = is_serving (own_happened item.due setup item.moment endpoints.own).own.post.restart
+
+    by_free : (IsFree endpoints.own ⊎ IsEqual P) → OnAll (P after) 1 endpoints.stations
+    by_free (inl free) = subst (λ (b : Bool). OnAll (P b) 1 endpoints.stations) (sym (happening_serves setup item.due item.moment endpoints.own free)) all.stations
+    by_free (inr equal) = moved (serves endpoints) after equal 1 endpoints.stations all.stations
+
+    by_test : (b : Bool) → GoesOn P R Q (if b then on_own endpoints (own_happened item.due setup item.moment) else on_line endpoints item.line (happened_on item.due setup item.line item.moment))
+    by_test true =
+        let goes = own_turns.happening item.due item.moment endpoints.own all.own in
+        record { holds = record { stations = by_free (own_turns.free endpoints.own all.own); own = goes.0 }; sent = goes.1 }
+    by_test false = turned_goes endpoints item.line (happened_on item.due setup item.line item.moment) all (turns.happening (serves endpoints) item.due item.line item.moment)
+
+  passed_goes : (n : ℕ) (endpoints : Endpoints) (moment : ℕ) → Holds P R endpoints → GoesOn P R Q (passed n setup endpoints moment)
+  unfolding passed
+  passed_goes zero endpoints moment all = stays endpoints all
+  passed_goes (suc n) endpoints moment all = by_due (due_by endpoints moment)
+      (λ item. passed_goes n (happened setup endpoints item).endpoints moment (happened_goes endpoints item all).holds) where
+        by_due : (found : Option DueItem) → ((item : DueItem) → GoesOn P R Q (passed n setup (happened setup endpoints item).endpoints moment))
+            → GoesOn P R Q (go_on found setup endpoints (λ next. passed n setup next moment))
+        by_due None rest = stays endpoints all
+        by_due (Some item) rest = record {
+          holds = (rest item).holds;
+          sent = All-append Q (happened setup endpoints item).sent _ (happened_goes endpoints item all).sent (rest item).sent;
+        }
+
+  pub pass_goes : (endpoints : Endpoints) (moment : ℕ) → Holds P R endpoints → GoesOn P R Q (pass setup endpoints moment)
+  unfolding pass
+  pass_goes endpoints moment all = passed_goes (room endpoints moment) endpoints moment all
+
+  -- a command
+  abbrev DoneGoes : Done → Type 0
+  DoneGoes done = GoesOn P R Q done.told
+
+  unless_goes : (refusal : Option ℕ) (endpoints : Endpoints) (done : Done) → Holds P R endpoints → DoneGoes done → DoneGoes (unless_refused refusal endpoints done)
+  unless_goes None endpoints done all goes = goes
+  unless_goes (Some code) endpoints done all goes = stays endpoints all
+
+  abbrev DeedGoes : LineDeed → Type 0
+  DeedGoes deed = (line moment : ℕ) (station : Station) → P true line station → Good (P true) Q line (deed_on setup deed moment line station)
+
+  deed_goes : (endpoints : Endpoints) (lines : Target) (more : List Param) (deed : LineDeed) (moment : ℕ) → serves endpoints ≡ true → Holds P R endpoints → DeedGoes deed
+      → DoneGoes (deed_done setup endpoints lines more deed moment)
+  deed_goes endpoints lines more deed moment is all good =
+      unless_goes (refused_by endpoints lines deed) endpoints _ all
+      (several_go true (lines_meant endpoints lines) endpoints _ is all (λ line station. good line moment station))
+
+  target_goes : (endpoints : Endpoints) (target : Target) (deed : LineDeed) (moment : ℕ) → serves endpoints ≡ true → Holds P R endpoints → DeedGoes deed
+      → DoneGoes (done_for setup endpoints target deed moment)
+  target_goes endpoints (One line) deed moment is all good = deed_goes endpoints (One line) [] deed moment is all good
+  target_goes endpoints AllLines deed moment is all good = deed_goes endpoints AllLines [] deed moment is all good
+  target_goes endpoints Any deed moment is all good = by_line (line_with_place endpoints) where
+    by_line : (found : Option ℕ) → DoneGoes (done_there found setup endpoints deed moment)
+    by_line None = stays endpoints all
+    by_line (Some line) = deed_goes endpoints (One line) _ deed moment is all good
+
+  form_goes : (serving : Bool) (command : Command) (confirms : KValue) (asks : Result Asks ℕ) → form_while serving command confirms setup.names ≡ asks
+      → (endpoints : Endpoints) (moment id : ℕ) → serves endpoints ≡ serving → Holds P R endpoints → DoneGoes (done_by asks setup endpoints moment id)
+  form_goes serving command confirms (Err code) is endpoints moment id same all = stays endpoints all
+  form_goes serving command confirms (Ok (Reports target audit)) is endpoints moment id same all = stays endpoints all
+  form_goes false command confirms (Ok (Does target deed)) is endpoints moment id same all = absurd (while_none command confirms setup.names target deed is)
+  form_goes true command confirms (Ok (Does target deed)) is endpoints moment id same all =
+      target_goes endpoints target (line_deed deed) moment same all (turns.deed command confirms target deed (while_taken true command confirms setup.names (Does target deed) is))
+
+  pub command_goes : (command : Command) (confirms : KValue) (endpoints : Endpoints) (moment id : ℕ) → Holds P R endpoints
+      → DoneGoes (commanded setup endpoints moment id command confirms)
+  command_goes command confirms endpoints moment id all =
+      form_goes (serves endpoints) command confirms (form_while (serves endpoints) command confirms setup.names) refl endpoints moment id refl all
+
+  -- an event
+  transacted_on_all : (looked : Looked) (m : Machine) (source : SocketAddrV4) (t : Transaction) → Holds P R m.endpoints → Holds P R t.done.told.endpoints
+      → Holds P R (transacted_by looked m source t).machine.endpoints
+  unfolding executed
+  transacted_on_all new m source t all after = after
+  transacted_on_all (repeat text) m source t all after = all
+  transacted_on_all confirmed m source t all after = all
+  transacted_on_all full m source t all after = all
+
+  pub handled_on_all : (m : Machine) (source : SocketAddrV4) (outcome : Outcome) → Holds P R m.endpoints
+      → Holds P R (handled setup m source outcome).machine.endpoints
+  unfolding handled
+  handled_on_all m source no_header all = all
+  handled_on_all m source (bad_version id) all = transacted_on_all (look_of most_firsts m.history id m.now) m source _ all all
+  handled_on_all m source (bad_body id) all = transacted_on_all (look_of most_firsts m.history id m.now) m source _ all all
+  handled_on_all m source (message (messages.Command verb id name params body)) all =
+      transacted_on_all (look_of most_firsts m.history id m.now) m source _ all
+      (command_goes (record { verb = verb; name = name; params = params; body = body }) (k_of params) m.endpoints m.now id all).holds
+  handled_on_all m source (message (messages.Response code id params body)) all =
+      (responded_goes m.endpoints m.now (response_with setup id code params) (response_read setup id code params) all).holds
+
+  pub took_on_all : (m : Machine) (source : SocketAddrV4) (texts : List (List ℕ)) → Holds P R m.endpoints
+      → Holds P R (took_all setup m source texts).machine.endpoints
+  unfolding took_all
+  took_on_all m source [] all = all
+  took_on_all m source (text ∷ texts) all =
+      took_on_all (handled setup m source (read_text text)).machine source texts (handled_on_all m source (read_text text) all)
+
+  pub event_on_all : (m : Machine) (event : GatewayEvent) → Holds P R m.endpoints → Holds P R (effect setup m event).machine.endpoints
+  unfolding effect
+  event_on_all m (datagram source bytes) all = took_on_all m source (texts_of bytes) all
+  event_on_all m (phone line act) all = (acted_goes m.endpoints line m.now act all).holds
+  event_on_all m (tick moment) all = (pass_goes m.endpoints moment all).holds
+
+  pub events_on_all : (m : Machine) (events : List GatewayEvent) → Holds P R m.endpoints → Holds P R (machine_after setup m events).endpoints
+  unfolding machine_after
+  events_on_all m [] all = all
+  events_on_all m (event ∷ events) all = events_on_all (effect setup m event).machine events (event_on_all m event all)
