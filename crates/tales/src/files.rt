@@ -16,9 +16,26 @@ pub trait Kinds {
     ) -> io::Result<Option<Count>>;
 }
 
-// Tells a file by what its first line says that it has.
+// The first line before a file's first title that is no comment: nothing plays what stands there.
+fn unplayed(text: &str) -> Option<&str> {
+    let before = text.split("\n= ").next().unwrap_or("");
+    for line in before.lines() {
+        if !line.is_empty() && !line.starts_with('#') {
+            return Some(line);
+        }
+    }
+    None
+}
+
+// Tells a file by what its first line says that it has. The other lines keep the line end before them, so that a title
+// may be the first of them.
 fn told<K: Kinds, R: AllocGlobal + Net + Print>(rt: &R, text: &str) -> io::Result<Count> {
-    let (kind, rest) = text.split_once('\n').unwrap_or((text, ""));
+    let kind = text.lines().next().unwrap_or("");
+    let rest = text.strip_prefix(kind).unwrap_or("");
+    if let Some(line) = unplayed(rest) {
+        println!(rt; "{line}\n  stands before the first title")?;
+        return Ok(Count { cases: 1, wrong: 1 });
+    }
     if let Some(count) = K::told(rt, kind, rest)? {
         return Ok(count);
     }
