@@ -1,7 +1,7 @@
 //! What the programs that play tales have in common: the files that they are called with, short forms, and rows under
 //! titles.
 //!
-//! What is refused memory is done again, and must then give what it gives with ample memory: `rows` and `stories` are
+//! What is refused memory is done again, and must then give what it gives with ample memory: `rows` and `scenarios` are
 //! refused each request for memory in turn (`./refusals`). So a kind of row changes its state last. `docs/TALES.md`
 //! says how tales are written.
 #![tactic(auto)]

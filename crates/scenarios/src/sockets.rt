@@ -21,7 +21,7 @@ const LONGEST_WAIT: u64 = 200;
 // Both ends: a gateway with its socket, and the agent's socket.
 #[derive(Drop)]
 struct Ends {
-    gateway: Gateway,
+    gateway: Box<Gateway>,
     wire: UdpWire,
     agent: UdpSocket,
 }
@@ -55,12 +55,6 @@ impl Ends {
         }
     }
 
-    fn faults(&self, alloc: Global) -> io::Result<String> {
-        let received = self.wire.receive_faults();
-        let sent = self.wire.send_faults();
-        Ok(format!(in alloc; "fault: {received} not received, {sent} not sent")?)
-    }
-
     // What comes of a datagram of the agent's, and a turn.
     fn answer(&mut self, alloc: Global, datagram: &str) -> io::Result<String> {
         let bytes = bytes_of(alloc, datagram)?;
@@ -69,7 +63,9 @@ impl Ends {
         }
         let served = self.gateway.serve(&mut self.wire, 1);
         if served.receive_faults > 0 {
-            return self.faults(alloc);
+            let received = self.wire.receive_faults();
+            let sent = self.wire.send_faults();
+            return Ok(format!(in alloc; "fault: {received} not received, {sent} not sent")?);
         }
         self.received(alloc)
     }

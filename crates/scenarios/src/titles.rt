@@ -1,5 +1,5 @@
 //! Lines under titles, some of which stand once, as pieces, and are put in where they are named.
-use mg_bytes::decimal;
+use crate::forms::number_in;
 use std::alloc::Global;
 use std::io;
 
@@ -18,10 +18,6 @@ fn lines_of<'a>(pieces: &'a [Piece], name: &str) -> &'a str {
         }
     }
     "no such piece\n"
-}
-
-fn number_in(word: &str) -> u64 {
-    decimal(word.as_bytes()).unwrap_or(0)
 }
 
 // What `do` puts in: the lines of a name, with a value in each place `{1}`, `{2}` and so on.

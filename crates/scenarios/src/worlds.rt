@@ -9,18 +9,15 @@
 //! - `answers 1  200  200 1 OK¶` the answer to the command with this id; `answers 2  none`;
 //! - `taken 1  L/hd,D/5` what notifications of a line told; `taken 2  none`;
 //! - `hook 1 off` the telephone of a line; `now 1000` the moment that it is.
-use crate::forms::{act_in, answers, command_in, refusal_text, taken, unless_told, with_refusal};
-use crate::given::{Given, config_with, world_of};
+use crate::forms::{answers, taken, unless_number, unless_refused, unless_told, with_refusal};
+use crate::gateways::{ENTITY, hook};
+use crate::given::{Given, given_in, world_of};
 use agent_core::{Step, StepRefusal, World, WorldStopped, world_run};
 use gateway_core::ConfigFault;
 use mg_bytes::Text;
-use mg_line::Hook;
 use std::alloc::Global;
 use std::io;
 use tales::{Tale, again, bytes_of, no_such_row, refused, unless_said};
-
-// The entity that the gateway reports to where a row says no other.
-const AGENT: &str = "ca@ca.example.net";
 
 /// A world, and what it was given.
 #[derive(Drop)]
@@ -29,7 +26,7 @@ pub struct WorldTale {
     entity: Text,
     // The steps that it took, for another that becomes what this one was.
     given: Vec<Given>,
-    world: World,
+    world: Box<World>,
     // Memory was refused, so it takes no step any more.
     spent: bool,
     // So many of its packets were told.
@@ -45,9 +42,11 @@ fn is_at_once(outcome: Result<(), WorldStopped>) -> bool {
 }
 
 impl WorldTale {
-    // Another world becomes what this one was before memory was refused.
+    // Another world becomes what this one was before memory was refused. It was one, so nothing but memory can fail.
     fn renew(&mut self, alloc: Global) -> io::Result<()> {
-        let mut world = world_of(alloc, self.lines, self.entity.as_bytes())?;
+        let Ok(mut world) = world_of(alloc, self.lines, self.entity.as_bytes()) else {
+            return Err(refused());
+        };
         let mut steps = Vec::with_capacity(alloc, self.given.len())?;
         for given in &self.given {
             steps.push(given.step())?;
@@ -62,20 +61,16 @@ impl WorldTale {
 
     // `2` or `2  ca@[127.0.0.1]:2427`
     fn open(&mut self, alloc: Global, fields: &str) -> io::Result<Option<String>> {
-        let (lines, entity) = fields.split_once("  ").unwrap_or((fields, AGENT));
+        let (lines, entity) = fields.split_once("  ").unwrap_or((fields, ENTITY));
         let Ok(lines) = lines.parse::<u32>() else {
             return no_such_row(alloc);
         };
         let entity = Text::of(bytes_of(alloc, entity)?);
-        let config = config_with(alloc, lines, entity.as_bytes())?;
-        self.world = match World::new(alloc, config) {
-            Ok(world) => world,
+        match world_of(alloc, lines, entity.as_bytes()) {
+            Ok(world) => self.world = world,
             Err(ConfigFault::OutOfMemory) => return Err(refused()),
-            Err(fault) => {
-                let said = refusal_text(alloc, fault.number(), fault.name())?;
-                return Ok(Some(said));
-            }
-        };
+            Err(fault) => return unless_refused(alloc, fault.number(), fault.name(), ""),
+        }
         self.lines = lines;
         self.entity = entity;
         self.given = Vec::new(alloc);
@@ -83,79 +78,40 @@ impl WorldTale {
         Ok(None)
     }
 
-    // The last step that was given.
-    fn take_last(&mut self) -> Result<(), WorldStopped> {
-        let Some(given) = self.given.last() else {
-            return Ok(());
-        };
-        world_run(&mut self.world, &[given.step()])
-    }
-
-    // Whether the world takes neither a step nor none.
-    fn is_spent(&mut self) -> bool {
-        let none = world_run(&mut self.world, &[]);
-        let one = world_run(&mut self.world, &[Step::Tick { moment: 0 }]);
-        is_at_once(none) && is_at_once(one)
-    }
-
-    // Memory was refused.
+    // Memory was refused: from then on the world takes neither a step nor none.
     fn spend(&mut self, alloc: Global) -> io::Result<Option<String>> {
-        if !self.is_spent() {
-            return Ok(Some("a spent world goes on".to_string(alloc)?));
+        self.spent = is_at_once(world_run(&mut self.world, &[]))
+            && is_at_once(world_run(&mut self.world, &[Step::Tick { moment: 0 }]));
+        if self.spent {
+            return Err(refused());
         }
-        self.spent = true;
-        Err(refused())
+        Ok(Some("a spent world goes on".to_string(alloc)?))
     }
 
-    // A step, and its refusal or nothing.
+    // A step, and its refusal or nothing. There is a place for it before it is taken.
     fn take(&mut self, alloc: Global, given: Given, wanted: &str) -> io::Result<Option<String>> {
-        self.given.push(given)?;
-        let Err(WorldStopped { place, refusal }) = self.take_last() else {
+        self.given.reserve(1)?;
+        let Err(WorldStopped { place, refusal }) = world_run(&mut self.world, &[given.step()])
+        else {
+            self.given.push(given)?;
             return unless_said(alloc, "", wanted);
         };
-        self.given.pop();
         if refusal == StepRefusal::OutOfMemory {
             return self.spend(alloc);
         }
         if place != 0 {
             return Ok(Some("it stopped at another place".to_string(alloc)?));
         }
-        let said = refusal_text(alloc, refusal.number(), refusal.name())?;
-        unless_said(alloc, said.as_str(), wanted)
+        unless_refused(alloc, refusal.number(), refusal.name(), wanted)
     }
 
-    // `RQNT  aaln/1@rgw.example.net  X: 1¶`
-    fn issue(&mut self, alloc: Global, fields: &str) -> io::Result<Option<String>> {
-        let (command, wanted) = with_refusal(fields);
-        let command = command_in(alloc, command)?;
-        self.take(alloc, Given::Issue { command }, wanted)
-    }
-
-    // `1 off`
-    fn dial(&mut self, alloc: Global, fields: &str) -> io::Result<Option<String>> {
+    // `issue RQNT  aaln/1@rgw.example.net  X: 1¶`, `dial 1 off`, `tick 1000`, `deliver 0`
+    fn step(&mut self, alloc: Global, word: &str, fields: &str) -> io::Result<Option<String>> {
         let (words, wanted) = with_refusal(fields);
-        let Some((line, act)) = act_in(alloc, words)? else {
-            return no_such_row(alloc);
-        };
-        self.take(alloc, Given::Dial { line, act }, wanted)
-    }
-
-    // `1000`
-    fn tick(&mut self, alloc: Global, fields: &str) -> io::Result<Option<String>> {
-        let (moment, wanted) = with_refusal(fields);
-        let Ok(moment) = moment.parse::<u64>() else {
-            return no_such_row(alloc);
-        };
-        self.take(alloc, Given::Tick { moment }, wanted)
-    }
-
-    // `0`
-    fn deliver(&mut self, alloc: Global, fields: &str) -> io::Result<Option<String>> {
-        let (packet, wanted) = with_refusal(fields);
-        let Ok(packet) = packet.parse::<usize>() else {
-            return no_such_row(alloc);
-        };
-        self.take(alloc, Given::Deliver { packet }, wanted)
+        match given_in(alloc, word, words)? {
+            Some(given) => self.take(alloc, given, wanted),
+            None => no_such_row(alloc),
+        }
     }
 
     // The next packet, as a row says it.
@@ -169,36 +125,14 @@ impl WorldTale {
         self.told = self.told.wrapping_add(1);
         Ok(unlike)
     }
-
-    // `1 off`
-    fn hook(&self, alloc: Global, rest: &str) -> io::Result<Option<String>> {
-        let (line, wanted) = rest.split_once(' ').unwrap_or((rest, ""));
-        let Ok(line) = line.parse::<u16>() else {
-            return no_such_row(alloc);
-        };
-        let gateway = self.world.gateway();
-        if line == 0 || line > gateway.lines() {
-            return no_such_row(alloc);
-        }
-        let given = match gateway.hook(line) {
-            Hook::OnHook => "on",
-            Hook::OffHook => "off",
-        };
-        unless_said(alloc, given, wanted)
-    }
-
-    // `1000`
-    fn now(&self, alloc: Global, wanted: &str) -> io::Result<Option<String>> {
-        let now = self.world.gateway().now();
-        let given = format!(in alloc; "{now}")?;
-        unless_said(alloc, given.as_str(), wanted)
-    }
 }
 
 impl Tale for WorldTale {
     fn begin(alloc: Global) -> io::Result<WorldTale> {
-        let entity = Text::of(bytes_of(alloc, AGENT)?);
-        let world = world_of(alloc, 16, entity.as_bytes())?;
+        let entity = Text::of(bytes_of(alloc, ENTITY)?);
+        let Ok(world) = world_of(alloc, 16, entity.as_bytes()) else {
+            return Err(refused());
+        };
         Ok(WorldTale {
             lines: 16,
             entity,
@@ -216,16 +150,12 @@ impl Tale for WorldTale {
         let (word, rest) = row.split_once(' ').unwrap_or((row, ""));
         match word {
             "world" => self.open(alloc, rest),
-            "issue" => self.issue(alloc, rest),
-            "dial" => self.dial(alloc, rest),
-            "tick" => self.tick(alloc, rest),
-            "deliver" => self.deliver(alloc, rest),
             "posts" => self.posts(alloc, rest),
             "answers" => answers(alloc, self.world.agent(), rest),
             "taken" => taken(alloc, self.world.agent(), rest),
-            "hook" => self.hook(alloc, rest),
-            "now" => self.now(alloc, rest),
-            _ => no_such_row(alloc),
+            "hook" => hook(alloc, self.world.gateway(), rest),
+            "now" => unless_number(alloc, self.world.gateway().now(), rest),
+            _ => self.step(alloc, word, rest),
         }
     }
 }

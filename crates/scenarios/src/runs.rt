@@ -1,6 +1,7 @@
 //! All events of a script in one run, which goes on at its place where it was refused memory.
+use crate::outputs::datagram_at;
 use crate::twins::{are_same, event_of, scene_again, stepped};
-use gateway_core::{Event, Gateway, OutDatagram, Outputs, Refusal};
+use gateway_core::{Event, Gateway, Outputs, Refusal};
 use rgw_play::Step;
 use std::alloc::Global;
 use std::io;
@@ -64,18 +65,6 @@ fn in_one_run(
         rest = rest.get(passed..).unwrap_or(&[]);
     }
     Ok(given)
-}
-
-// The first so many datagrams of lists, one list behind the other, or the one at a place.
-fn datagram_at(lists: &[Outputs], place: usize) -> Option<&OutDatagram> {
-    let mut place = place;
-    for outputs in lists {
-        if let Some(datagram) = outputs.as_slice().get(place) {
-            return Some(datagram);
-        }
-        place = place.saturating_sub(outputs.as_slice().len());
-    }
-    None
 }
 
 fn count_of(lists: &[Outputs]) -> usize {

@@ -4,11 +4,14 @@
 //! - `script  LINE  LINE ..  script line 3` a script with the usual settings, from the opening;
 //! - `command  LINE  LINE ..  510 1` a datagram from the agent at Ready, and what is sent to it;
 //! - `request  LINE  LINE ..  518 1` the same of a request of line 1 that has an X, and these lines besides;
-//! - `words  loopback --port 4000  loopback 4000` what words ask for.
+//! - `words  loopback --port 4000  loopback 4000` what words ask for;
+//! - `sequence  1000  2  1002` how many values a list has that grew by so many one by one, and then by a list of so many.
 //!
 //! Where nothing is printed the answer is `ok`; more than a line is all that is printed, with `\n` for each line end.
+use crate::forms::number_in;
 use crate::played::{simulated, words_of};
 use crate::written::{Story, read_story};
+use mg_bytes::Sequence;
 use rgw_cli::{Task, WordFault, asked};
 use std::alloc::Global;
 use std::io;
@@ -26,6 +29,24 @@ fn task_of(alloc: Global, line: &str) -> io::Result<String> {
         Err(WordFault::Usage) => "usage".to_string(alloc)?,
         Err(WordFault::OutOfMemory) => return Err(refused()),
     })
+}
+
+// A list of so many values, which grew by one after the other.
+fn numbers(alloc: Global, count: u64) -> io::Result<Sequence<u64>> {
+    let mut all = Sequence::new(alloc);
+    for number in 0..count {
+        all.push(number)?;
+    }
+    Ok(all)
+}
+
+// How long a list is that grew by so many values, and then by a list of so many.
+fn length_of(alloc: Global, fields: &str) -> io::Result<String> {
+    let (count, more) = fields.split_once("  ").unwrap_or((fields, ""));
+    let mut all = numbers(alloc, number_in(count))?;
+    all.append(numbers(alloc, number_in(more))?)?;
+    let length = all.into_items().len();
+    Ok(format!(in alloc; "{length}")?)
 }
 
 // A story of one datagram from the agent.
@@ -74,8 +95,10 @@ fn answer_in(printed: &str) -> &str {
 
 // What a call of the program answers; nothing where there is no such call.
 fn answer(alloc: Global, call: &str, fields: &str) -> io::Result<Option<String>> {
-    if call == "words" {
-        return Ok(Some(task_of(alloc, fields)?));
+    match call {
+        "words" => return Ok(Some(task_of(alloc, fields)?)),
+        "sequence" => return Ok(Some(length_of(alloc, fields)?)),
+        _ => {}
     }
     let Some(story) = story_of(alloc, call, fields)? else {
         return Ok(None);

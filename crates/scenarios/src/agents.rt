@@ -14,45 +14,43 @@
 //! - `answers 1  200  200 1 OK¶` the answer to the command with this id; `answers 2  none`;
 //! - `taken 1  L/hd,D/5` what notifications of a line told; `taken 2  none`.
 use crate::forms::{
-    act_in, address_in, answers, command_in, refusal_text, taken, unless_told, with_refusal,
+    act_in, address_in, answers, command_in, range_in, taken, unless_number, unless_refused,
+    unless_told, with_refusal,
 };
+use crate::gateways::{agent_address, gateway_address};
+use crate::outputs::{datagram_at, is_just};
 use agent_core::{Agent, IssueFault, Issued};
-use gateway_core::{Event, OutDatagram, Refusal};
-use mg_bytes::Text;
+use gateway_core::{Event, Outputs, Refusal};
+use mg_bytes::{Sequence, Text};
 use std::alloc::Global;
 use std::io;
-use std::net::{Ipv4Addr, SocketAddrV4};
 use tales::{Tale, bytes_of, no_such_row, refused, unless_said};
 
 /// An agent, and what it sent.
 #[derive(Drop)]
 pub struct AgentTale {
-    agent: Agent,
+    agent: Box<Agent>,
     // The moment that it is there.
     now: u64,
     // The id of the last command that it issued.
     issued: u32,
     // What it sent, each time that it did something.
-    sent: Vec<Vec<OutDatagram>>,
+    sent: Vec<Outputs>,
     // So many of these datagrams were told.
     told: usize,
 }
 
-// The gateway's address.
-fn gateway() -> SocketAddrV4 {
-    SocketAddrV4::new(Ipv4Addr::LOCALHOST, 2427)
-}
-
-// An agent whose ids begin with this one, or with 1 where none begin with it.
-fn agent_from(alloc: Global, first: u32) -> io::Result<Agent> {
+// An agent whose ids begin with this one, or with 1 where none begin with it. It stands in a box, since a check pays for all
+// that a value holds inline at each step of a function that has one.
+fn agent_from(alloc: Global, first: u32) -> io::Result<Box<Agent>> {
     let first = if 1 <= first && first <= 999_999_999 {
         first
     } else {
         1
     };
-    let own = SocketAddrV4::new(Ipv4Addr::LOCALHOST, 2727);
     let domain = Text::of(bytes_of(alloc, "rgw.example.net")?);
-    Ok(Agent::new(alloc, own, gateway(), domain, 2, first)?)
+    let agent = Agent::new(alloc, agent_address(), gateway_address(), domain, 2, first)?;
+    Ok(Box::new(alloc, agent)?)
 }
 
 fn name_of(fault: IssueFault) -> &'static str {
@@ -60,26 +58,6 @@ fn name_of(fault: IssueFault) -> &'static str {
         IssueFault::OutOfMemory => "OutOfMemory",
         IssueFault::NoMoreIds => "NoMoreIds",
         IssueFault::BadCommand => "BadCommand",
-    }
-}
-
-// Of the datagrams that were sent, the one behind so many.
-fn sent_behind(sent: &[Vec<OutDatagram>], told: usize) -> Option<&OutDatagram> {
-    let mut left = told;
-    for batch in sent {
-        if let Some(datagram) = batch.get(left) {
-            return Some(datagram);
-        }
-        left = left.saturating_sub(batch.len());
-    }
-    None
-}
-
-// Whether this alone is sent, and goes to the gateway.
-fn is_just(sent: &[OutDatagram], bytes: &[u8]) -> bool {
-    match sent {
-        [one] => one.to == gateway() && one.bytes.as_bytes() == bytes,
-        _ => false,
     }
 }
 
@@ -97,20 +75,12 @@ impl AgentTale {
         Ok(None)
     }
 
-    // What was sent last is this; there is a place for it. This takes no memory.
-    fn keep(&mut self, sent: Vec<OutDatagram>) {
-        let count = self.sent.len();
-        if count > 0 {
-            self.sent[count - 1] = sent;
-        }
-    }
-
-    // `RQNT  aaln/1@rgw.example.net  X: 1¶`
+    // `RQNT  aaln/1@rgw.example.net  X: 1¶`. There is a place for what is sent before it is.
     fn issue(&mut self, alloc: Global, fields: &str) -> io::Result<Option<String>> {
-        let (command, wanted) = with_refusal(fields);
-        let command = command_in(alloc, command)?;
+        let (words, wanted) = with_refusal(fields);
+        let command = command_in(alloc, words)?;
         let mut sent = Vec::with_capacity(alloc, 1)?;
-        self.sent.push(Vec::new(alloc))?;
+        self.sent.reserve(1)?;
         let issued = self.agent.issue(
             command.verb.as_bytes(),
             command.name.as_bytes(),
@@ -119,45 +89,33 @@ impl AgentTale {
         match issued {
             Ok(Issued { id, datagram }) => {
                 sent.push(datagram)?;
-                self.keep(sent);
+                self.sent.push(Sequence::of(sent))?;
                 self.issued = id;
                 unless_said(alloc, "", wanted)
             }
             Err(IssueFault::OutOfMemory) => Err(refused()),
-            Err(fault) => {
-                let said = refusal_text(alloc, fault.number(), name_of(fault))?;
-                unless_said(alloc, said.as_str(), wanted)
-            }
+            Err(fault) => unless_refused(alloc, fault.number(), name_of(fault), wanted),
         }
     }
 
-    fn issued(&self, alloc: Global, wanted: &str) -> io::Result<Option<String>> {
-        let issued = self.issued;
-        let given = format!(in alloc; "{issued}")?;
-        unless_said(alloc, given.as_str(), wanted)
-    }
-
-    // An event, and its refusal or nothing.
+    // An event, and its refusal or nothing. There is a place for what is sent before it is.
     fn step(
         &mut self,
         alloc: Global,
         event: Event<'_>,
         wanted: &str,
     ) -> io::Result<Option<String>> {
-        self.sent.push(Vec::new(alloc))?;
+        self.sent.reserve(1)?;
         match self.agent.step(event) {
             Ok(outputs) => {
-                self.keep(outputs.into_items());
+                self.sent.push(outputs)?;
                 if let Event::Tick { moment } = event {
                     self.now = moment;
                 }
                 unless_said(alloc, "", wanted)
             }
             Err(Refusal::OutOfMemory) => Err(refused()),
-            Err(refusal) => {
-                let said = refusal_text(alloc, refusal.number(), refusal.name())?;
-                unless_said(alloc, said.as_str(), wanted)
-            }
+            Err(refusal) => unless_refused(alloc, refusal.number(), refusal.name(), wanted),
         }
     }
 
@@ -210,7 +168,7 @@ impl AgentTale {
 
     // The next datagram, as a row says it.
     fn sends(&mut self, alloc: Global, wanted: &str) -> io::Result<Option<String>> {
-        let Some(datagram) = sent_behind(&self.sent, self.told) else {
+        let Some(datagram) = datagram_at(&self.sent, self.told) else {
             return unless_said(alloc, "none", wanted);
         };
         let (moment, to) = (datagram.moment, datagram.to);
@@ -225,19 +183,18 @@ impl AgentTale {
         let text = format!(in alloc; "RSIP {id} *@rgw.example.net MGCP 1.0\r\nRM: restart\r\n")?;
         let answer = format!(in alloc; "200 {id} OK\r\n")?;
         let event = Event::Datagram {
-            source: gateway(),
+            source: gateway_address(),
             bytes: text.as_bytes(),
         };
         match self.agent.step(event) {
-            Ok(outputs) => Ok(is_just(outputs.as_slice(), answer.as_bytes())),
+            Ok(outputs) => Ok(is_just(&outputs, gateway_address(), answer.as_bytes())),
             Err(_) => Err(refused()),
         }
     }
 
     // `1-4096`. Where memory is refused the first of them come again, which gives the same answers.
     fn firsts(&mut self, alloc: Global, ids: &str) -> io::Result<Option<String>> {
-        let (first, last) = ids.split_once('-').unwrap_or((ids, ids));
-        let (Ok(first), Ok(last)) = (first.parse::<u32>(), last.parse::<u32>()) else {
+        let Some((first, last)) = range_in(ids) else {
             return no_such_row(alloc);
         };
         for id in first..=last {
@@ -265,7 +222,7 @@ impl Tale for AgentTale {
         match word {
             "agent" => self.open(alloc, rest),
             "issue" => self.issue(alloc, rest),
-            "issued" => self.issued(alloc, rest),
+            "issued" => unless_number(alloc, u64::from(self.issued), rest),
             "hears" => self.hears(alloc, rest),
             "phone" => self.phone(alloc, rest),
             "tick" => self.tick(alloc, rest),

@@ -1,13 +1,27 @@
-//! What rows of a world and of an agent have in common: commands that are issued, acts, refusals, and what is told.
+//! What rows of several kinds have in common: numbers, commands that are issued, acts, refusals, and what is told.
 use agent_core::Agent;
 use event_values::write_observed;
-use mg_bytes::Text;
+use mg_bytes::{Text, decimal};
 use mg_line::Act;
 use rgw_play::{ScriptLine, Step, line_in};
 use std::alloc::Global;
 use std::io;
 use std::net::SocketAddrV4;
 use tales::{bytes_of, no_such_row, said, unless_said};
+
+/// The number that words say; 0 where they say none.
+pub fn number_in(words: &str) -> u64 {
+    decimal(words.as_bytes()).unwrap_or(0)
+}
+
+/// The first and the last of the numbers that are written, as `1-4096` or `7`; nothing where it says something else.
+pub fn range_in(words: &str) -> Option<(u32, u32)> {
+    let (first, last) = words.split_once('-').unwrap_or((words, words));
+    let (Ok(first), Ok(last)) = (first.parse::<u32>(), last.parse::<u32>()) else {
+        return None;
+    };
+    Some((first, last))
+}
 
 /// A command that is issued: its verb, its endpoint's name, and the bytes behind its line.
 #[derive(Drop)]
@@ -42,22 +56,30 @@ pub fn with_refusal(fields: &str) -> (&str, &str) {
     }
 }
 
-/// A refusal as a row says it.
-pub fn refusal_text(alloc: Global, number: u8, name: &str) -> io::Result<String> {
-    Ok(format!(in alloc; "{number} {name}")?)
+/// A refusal unless a row says it.
+pub fn unless_refused(
+    alloc: Global,
+    number: u8,
+    name: &str,
+    wanted: &str,
+) -> io::Result<Option<String>> {
+    let given = format!(in alloc; "{number} {name}")?;
+    unless_said(alloc, given.as_str(), wanted)
 }
 
-fn text_of(alloc: Global, field: &str) -> io::Result<Text> {
-    Ok(Text::of(bytes_of(alloc, field)?))
+/// A number unless a row says it.
+pub fn unless_number(alloc: Global, number: u64, wanted: &str) -> io::Result<Option<String>> {
+    let given = format!(in alloc; "{number}")?;
+    unless_said(alloc, given.as_str(), wanted)
 }
 
 /// `AUEP  aaln/1@rgw.example.net  K: 1¶`, without the last where that is empty.
 pub fn command_in(alloc: Global, fields: &str) -> io::Result<Command> {
     let (verb, behind) = fields.split_once("  ").unwrap_or((fields, ""));
     let (name, rest) = behind.split_once("  ").unwrap_or((behind, ""));
-    let verb = text_of(alloc, verb)?;
-    let name = text_of(alloc, name)?;
-    let rest = text_of(alloc, rest)?;
+    let verb = Text::of(bytes_of(alloc, verb)?);
+    let name = Text::of(bytes_of(alloc, name)?);
+    let rest = Text::of(bytes_of(alloc, rest)?);
     Ok(Command { verb, name, rest })
 }
 

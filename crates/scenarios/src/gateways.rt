@@ -1,0 +1,68 @@
+//! The gateway that is called or served, its configuration, the addresses of both ends, and what rows ask of a gateway.
+use crate::twins::scene_of;
+use gateway_core::{Config, Gateway, NamedAddress};
+use mg_bytes::{OutOfMemory, Sequence, Text};
+use mg_line::Hook;
+use std::alloc::Global;
+use std::io;
+use std::net::{Ipv4Addr, SocketAddrV4};
+use tales::{SETTINGS, no_such_row, unless_said};
+
+/// The entity that a gateway reports to where a tale says no other.
+pub const ENTITY: &str = "ca@ca.example.net";
+
+/// The address that the call agent has, and to which the gateway's own messages go.
+pub fn agent_address() -> SocketAddrV4 {
+    SocketAddrV4::new(Ipv4Addr::LOCALHOST, 2727)
+}
+
+/// The address that the gateway has, for an agent.
+pub fn gateway_address() -> SocketAddrV4 {
+    SocketAddrV4::new(Ipv4Addr::LOCALHOST, 2427)
+}
+
+/// The gateway of the usual settings, to which nothing came yet.
+pub fn usual_gateway(alloc: Global) -> io::Result<Box<Gateway>> {
+    match scene_of(alloc, SETTINGS.as_bytes())? {
+        Some(scene) => Ok(scene.gateway),
+        None => Err(io::Error::from(io::ErrorKind::InvalidInput)),
+    }
+}
+
+fn owned(alloc: Global, bytes: &[u8]) -> Result<Text, OutOfMemory> {
+    Ok(Text::of(Vec::from_slice(alloc, bytes)?))
+}
+
+/// The usual settings, but for the number of lines and the entity that the gateway reports to.
+pub fn config_with(alloc: Global, lines: u32, entity: &[u8]) -> Result<Config, OutOfMemory> {
+    let mut names = Sequence::new(alloc);
+    let name = owned(alloc, b"ca.example.net")?;
+    let address = Ipv4Addr::LOCALHOST;
+    names.push(NamedAddress { name, address })?;
+    Ok(Config {
+        domain: owned(alloc, b"rgw.example.net")?,
+        lines,
+        agent: owned(alloc, entity)?,
+        restart_wait: 1,
+        disconnected_wait: 5000,
+        media_address: Ipv4Addr::LOCALHOST,
+        media_base: 3000,
+        names,
+    })
+}
+
+/// `1 off`: the telephone of a line.
+pub fn hook(alloc: Global, gateway: &Gateway, fields: &str) -> io::Result<Option<String>> {
+    let (line, wanted) = fields.split_once(' ').unwrap_or((fields, ""));
+    let Ok(line) = line.parse::<u16>() else {
+        return no_such_row(alloc);
+    };
+    if line == 0 || line > gateway.lines() {
+        return no_such_row(alloc);
+    }
+    let given = match gateway.hook(line) {
+        Hook::OnHook => "on",
+        Hook::OffHook => "off",
+    };
+    unless_said(alloc, given, wanted)
+}

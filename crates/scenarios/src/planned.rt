@@ -1,0 +1,53 @@
+//! What a wire in memory is to give, as a row says it, and as an event.
+use crate::gateways::agent_address;
+use gateway_core::Event;
+use memory_wire::Planned;
+use mg_bytes::Text;
+use rgw_play::{ScriptLine, Step, line_in};
+use std::alloc::Global;
+use std::io;
+use tales::bytes_of;
+
+/// What these words say that a wire is to give: `datagram 200 1 OK¶` from the agent, `phone 1 off`, `at 1000` the moment,
+/// `end`, or `fault`; nothing where they are other words.
+pub fn planned_in(alloc: Global, words: &str) -> io::Result<Option<Planned>> {
+    if let Some(field) = words.strip_prefix("datagram ") {
+        let bytes = Text::of(bytes_of(alloc, field)?);
+        let source = agent_address();
+        return Ok(Some(Planned::Datagram { source, bytes }));
+    }
+    match words {
+        "end" => return Ok(Some(Planned::End)),
+        "fault" => return Ok(Some(Planned::Fault)),
+        _ => {}
+    }
+    Ok(match line_in(alloc, words.as_bytes())? {
+        Some(
+            ScriptLine::Whole {
+                step: Step::Phone { line, act },
+            },
+        ) => Some(Planned::Phone { line, act }),
+        Some(
+            ScriptLine::Whole {
+                step: Step::At { moment },
+            },
+        ) => Some(Planned::Tick { moment }),
+        _ => None,
+    })
+}
+
+/// The event that this is; nothing where it is none.
+pub fn event_of(planned: &Planned) -> Option<Event<'_>> {
+    match planned {
+        Planned::Datagram { source, bytes } => Some(Event::Datagram {
+            source: *source,
+            bytes: bytes.as_bytes(),
+        }),
+        Planned::Phone { line, act } => Some(Event::Phone {
+            line: *line,
+            act: *act,
+        }),
+        Planned::Tick { moment } => Some(Event::Tick { moment: *moment }),
+        Planned::End | Planned::Fault => None,
+    }
+}
