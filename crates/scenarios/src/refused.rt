@@ -30,7 +30,7 @@ enum Next<'s> {
 
 // The input that lines are; nothing where they say what is printed.
 fn input_under(alloc: Global, lines: &str) -> io::Result<Option<String>> {
-    let story = read_story(alloc, lines)?;
+    let story = read_story(alloc, lines, false)?;
     if !story.printed.is_empty() {
         return Ok(None);
     }
@@ -39,7 +39,7 @@ fn input_under(alloc: Global, lines: &str) -> io::Result<Option<String>> {
 
 // The steps of `otherwise`; nothing where they can't be read.
 fn steps_of(alloc: Global, lines: &str) -> io::Result<Option<Vec<Step>>> {
-    let mut story = read_story(alloc, lines)?;
+    let mut story = read_story(alloc, lines, false)?;
     story.is_at_opening = true;
     let input = input_of(alloc, &story)?;
     let Some(Played { steps, .. }) = scene_of(alloc, input.as_bytes())? else {

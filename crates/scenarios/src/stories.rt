@@ -13,6 +13,8 @@
 //! - Under a line `= piece NAME` stand lines that `do NAME | A | B` puts in, with A for `{1}` and B for `{2}`;
 //!   `each 1 88 NAME` puts them in for each number, which is `{n}`.
 //! - What the program says of an input that it can't play stands at the end, with its exit status.
+//! - Before each step of a story without an exit status the player puts a mark: a step `show 65535`, which prints
+//!   `! 4 NoSuchLine`. So an output that stands behind another cause differs.
 use crate::played::printed_by;
 use crate::titles::Pieces;
 use crate::written::{Story, read_story};
@@ -31,15 +33,21 @@ fn is_told_by<R: AllocGlobal + Net + Print>(
     if printed.as_slice() == story.printed.as_bytes() {
         return Ok(true);
     }
-    println!(rt; "= {title}\n{words} prints this:")?;
+    println!(rt; "= {title}\n{words} prints this, ! 4 NoSuchLine before what each step gives:")?;
     rt.print(String::from_utf8_lossy(rt.alloc(), &printed)?)?;
     println!(rt; "and not this:\n{}", story.printed)?;
     Ok(false)
 }
 
-// Whether the story's output is as it is told.
+// Whether a story says that its script is played: what can't be played has an exit status.
+fn is_played(text: &str) -> bool {
+    text.lines().all(|line| !line.starts_with("status "))
+}
+
+// Whether the story's output is as it is told, that of each cause behind a mark. What can't be played has no marks: it
+// prints nothing of its causes, and may say a line's number.
 fn is_told<R: AllocGlobal + Net + Print>(rt: &R, title: &str, text: &str) -> io::Result<bool> {
-    let story = read_story(rt.alloc(), text)?;
+    let story = read_story(rt.alloc(), text, is_played(text))?;
     if !story.words.is_empty() {
         return is_told_by(rt, title, &story, story.words.as_str());
     }

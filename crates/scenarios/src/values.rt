@@ -59,7 +59,7 @@ fn put_heard(story: &mut Story, front: &str, lines: &str) -> io::Result<()> {
 fn story_of(alloc: Global, call: &str, fields: &str) -> io::Result<Option<Story>> {
     let lines = fields.replace(alloc, "  ", "\n")?;
     let text = value_of(alloc, lines.as_str())?;
-    let mut story = read_story(alloc, "")?;
+    let mut story = read_story(alloc, "", false)?;
     match call {
         "settings" => {
             story.is_at_opening = true;

@@ -5,12 +5,18 @@ use tales::in_full;
 
 const AGENT: &str = "127.0.0.1:2727";
 
-/// Lines of the configuration, of the script, and of what is printed; the program's words, if the story says any, and whether
-/// the script begins at the opening and not at Ready.
+// A mark, which stands before a cause: a step that no gateway has the line for, and what it prints.
+const MARK: &str = "show 65535";
+
+const MARK_PRINTED: &str = "! 4 NoSuchLine";
+
+/// Lines of the configuration, of the script, and of what is printed; the program's words, if the story says any, whether
+/// the script begins at the opening and not at Ready, and whether a mark stands before each cause.
 #[derive(Drop)]
 pub struct Story {
     pub words: String,
     pub is_at_opening: bool,
+    is_marked: bool,
     pub changes: String,
     pub script: String,
     pub printed: String,
@@ -45,7 +51,17 @@ fn is_printed(line: &str) -> bool {
 }
 
 impl Story {
+    // A mark in the script and in what is printed, which part what the causes before and behind it give.
+    fn put_mark(&mut self) -> io::Result<()> {
+        if self.is_marked {
+            put_line(&mut self.script, MARK)?;
+            put_line(&mut self.printed, MARK_PRINTED)?;
+        }
+        Ok(())
+    }
+
     fn put_heard(&mut self, from: &str) -> io::Result<Place> {
+        self.put_mark()?;
         writeln!(self.script, "from {from}")?;
         Ok(Place::InHeard)
     }
@@ -57,6 +73,14 @@ impl Story {
             writeln!(self.printed, "> {rest} {AGENT}")?;
         }
         Ok(Place::InSent)
+    }
+
+    // A line that is a step of the script, or empty.
+    fn put_step(&mut self, line: &str) -> io::Result<()> {
+        if !line.is_empty() {
+            self.put_mark()?;
+        }
+        put_line(&mut self.script, line)
     }
 
     // A line that stands between datagrams.
@@ -83,7 +107,7 @@ impl Story {
         } else if is_printed(line) {
             put_line(&mut self.printed, line)?;
         } else if !line.starts_with('#') {
-            put_line(&mut self.script, line)?;
+            self.put_step(line)?;
         }
         Ok(Place::Between)
     }
@@ -98,12 +122,13 @@ impl Story {
     }
 }
 
-/// Reads a story.
-pub fn read_story(alloc: Global, text: &str) -> io::Result<Story> {
+/// Reads a story, and puts a mark before each of its causes if it is to be marked.
+pub fn read_story(alloc: Global, text: &str, is_marked: bool) -> io::Result<Story> {
     let whole = in_full(alloc, text)?;
     let mut story = Story {
         words: String::new(alloc),
         is_at_opening: false,
+        is_marked,
         changes: String::new(alloc),
         script: String::new(alloc),
         printed: String::new(alloc),
