@@ -6,24 +6,13 @@
 //! - `least 500 1 T` what is due first; `least -` nothing is;
 //! - `falls 36` so many are due, each behind the one before, and are cleared;
 //! - `keep` and `back`: the table as it was once.
-use crate::keeping::Kept;
-use crate::texts::unless_number;
+use crate::keeping::Thing;
+use crate::texts::{number_text, text_of};
+use mg_bytes::put_decimal;
 use std::alloc::Global;
 use std::io;
-use tales::{Tale, no_such_row, unless_said};
-use timers::{Due, Entry, Kind};
-
-fn kind_of(word: &str) -> Option<Kind> {
-    match word {
-        "T" => Some(Kind::Timer),
-        "message" => Some(Kind::Message),
-        "announcement" => Some(Kind::Announcement),
-        _ => {
-            let place = word.strip_prefix("signal ")?;
-            Some(Kind::Signal(place.parse::<u8>().ok()?))
-        }
-    }
-}
+use tales::{Row, unread};
+use timers::{Due, Kind};
 
 /// A kind of some lines.
 #[derive(Clone, Copy)]
@@ -34,38 +23,41 @@ struct Places {
 }
 
 // `1 T` or `0-32 signal 8`.
-fn places_of(text: &str) -> Option<Places> {
-    let (lines, kind) = text.split_once(' ')?;
+fn places_of(row: &mut Row<'_>) -> Option<Places> {
+    let lines = row.before(" ");
     let (first, last) = lines.split_once('-').unwrap_or((lines, lines));
     Some(Places {
         first: first.parse::<u16>().ok()?,
         last: last.parse::<u16>().ok()?,
-        kind: kind_of(kind)?,
-    })
-}
-
-// `0-32 signal 8 600`.
-fn moment_of(text: &str) -> Option<(Places, u64)> {
-    let (places, moment) = text.rsplit_once(' ')?;
-    Some((places_of(places)?, u64::from(moment.parse::<u32>().ok()?)))
-}
-
-fn entry_text(alloc: Global, entry: Entry) -> io::Result<String> {
-    let Entry { moment, line, kind } = entry;
-    Ok(match kind {
-        Kind::Timer => format!(in alloc; "{moment} {line} T")?,
-        Kind::Signal(place) => format!(in alloc; "{moment} {line} signal {place}")?,
-        Kind::Message => format!(in alloc; "{moment} {line} message")?,
-        Kind::Announcement => format!(in alloc; "{moment} {line} announcement")?,
+        kind: match row.before(" ") {
+            "T" => Kind::Timer,
+            "signal" => Kind::Signal(row.before(" ").parse::<u8>().ok()?),
+            "message" => Kind::Message,
+            "announcement" => Kind::Announcement,
+            _ => return None,
+        },
     })
 }
 
 // What is due first.
 fn least_text(alloc: Global, due: &Due) -> io::Result<String> {
-    match due.least() {
-        Some(entry) => entry_text(alloc, entry),
-        None => Ok("-".to_string(alloc)?),
+    let Some(entry) = due.least() else {
+        return Ok("-".to_string(alloc)?);
+    };
+    let mut out = Vec::new(alloc);
+    put_decimal(alloc, &mut out, entry.moment)?;
+    out.push(b' ')?;
+    put_decimal(alloc, &mut out, u64::from(entry.line))?;
+    match entry.kind {
+        Kind::Timer => out.extend_from_slice(b" T")?,
+        Kind::Signal(place) => {
+            out.extend_from_slice(b" signal ")?;
+            put_decimal(alloc, &mut out, u64::from(place))?;
+        }
+        Kind::Message => out.extend_from_slice(b" message")?,
+        Kind::Announcement => out.extend_from_slice(b" announcement")?,
     }
+    text_of(alloc, &out)
 }
 
 // How many fall due one behind the other, of so many at most; these are cleared.
@@ -89,60 +81,47 @@ pub struct DueTale {
 }
 
 impl DueTale {
-    // Of several lines; what is set again stays as it is.
-    fn set(&mut self, alloc: Global, rest: &str) -> io::Result<Option<String>> {
-        let Some((places, moment)) = moment_of(rest) else {
-            return no_such_row(alloc);
-        };
+    // `0-32 signal 8 600`.
+    fn set(&mut self, row: &mut Row<'_>) -> io::Result<()> {
+        let places = places_of(row).ok_or(unread())?;
+        let moment = u64::from(row.number()?);
         for line in places.first..=places.last {
             self.due.set(line, places.kind, moment)?;
         }
-        Ok(None)
+        Ok(())
     }
 
-    fn clear(&mut self, alloc: Global, rest: &str) -> io::Result<Option<String>> {
-        let Some(places) = places_of(rest) else {
-            return no_such_row(alloc);
-        };
+    fn clear(&mut self, row: &mut Row<'_>) -> io::Result<()> {
+        let places = places_of(row).ok_or(unread())?;
         for line in places.first..=places.last {
             self.due.clear(line, places.kind);
         }
-        Ok(None)
-    }
-
-    // What falls is cleared in a copy, since text can still be refused.
-    fn falls(&mut self, alloc: Global, count: &str) -> io::Result<Option<String>> {
-        let most = count.parse::<u32>().unwrap_or(0);
-        let mut due = self.due.try_copy()?;
-        let unlike = unless_number(alloc, u64::from(fallen(&mut due, most)), count)?;
-        self.due = due;
-        Ok(unlike)
+        Ok(())
     }
 }
 
-impl Kept for DueTale {
-    fn copy(&self, _alloc: Global) -> io::Result<DueTale> {
-        Ok(DueTale {
-            due: self.due.try_copy()?,
-        })
-    }
-}
-
-impl Tale for DueTale {
+impl Thing for DueTale {
     fn begin(alloc: Global) -> io::Result<DueTale> {
-        Ok(DueTale {
-            due: Due::new(alloc),
-        })
+        let due = Due::new(alloc);
+        Ok(DueTale { due })
     }
 
-    fn unlike(&mut self, alloc: Global, row: &str) -> io::Result<Option<String>> {
-        let (word, rest) = row.split_once(' ').unwrap_or((row, ""));
-        match word {
-            "set" => self.set(alloc, rest),
-            "clear" => self.clear(alloc, rest),
-            "least" => unless_said(alloc, least_text(alloc, &self.due)?.as_str(), rest),
-            "falls" => self.falls(alloc, rest),
-            _ => no_such_row(alloc),
+    fn copy(&self, _alloc: Global) -> io::Result<DueTale> {
+        let due = self.due.try_copy()?;
+        Ok(DueTale { due })
+    }
+
+    fn turn(&mut self, alloc: Global, row: &mut Row<'_>) -> io::Result<String> {
+        match row.before(" ") {
+            "set" => self.set(row)?,
+            "clear" => self.clear(row)?,
+            "least" => return least_text(alloc, &self.due),
+            "falls" => {
+                let most = row.left().parse::<u32>().unwrap_or(0);
+                return number_text(alloc, u64::from(fallen(&mut self.due, most)));
+            }
+            _ => return Err(unread()),
         }
+        Ok(String::new(alloc))
     }
 }

@@ -1,22 +1,17 @@
 //! Events as rows spell them.
 use crate::texts::text_of;
 use event_syntax::{Observed, read_observed, write_observed};
-use mg_bytes::CodeFault;
 use std::alloc::Global;
 use std::io;
-use tales::refused;
+use tales::{or_unread, unread};
 
-/// An event as O spells it: `L/hd`, or `L/oc(L/dl)` at the end of a signal; nothing where it is none.
-pub fn observed_of(alloc: Global, text: &str) -> io::Result<Option<Observed>> {
-    match read_observed(alloc, text.as_bytes()) {
-        Ok(list) => Ok(list.as_slice().first().copied()),
-        Err(CodeFault::Code(_)) => Ok(None),
-        Err(CodeFault::OutOfMemory) => Err(refused()),
-    }
+/// An event as O spells it: `L/hd`, or `L/oc(L/dl)` at the end of a signal.
+pub fn observed_of(alloc: Global, text: &str) -> io::Result<Observed> {
+    let list = or_unread(read_observed(alloc, text.as_bytes()))?;
+    list.as_slice().first().copied().ok_or(unread())
 }
 
 /// Events as O spells them.
 pub fn spelled(alloc: Global, events: &[Observed]) -> io::Result<String> {
-    let text = write_observed(alloc, events)?;
-    text_of(alloc, text.as_bytes())
+    text_of(alloc, write_observed(alloc, events)?.as_bytes())
 }

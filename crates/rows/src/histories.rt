@@ -8,31 +8,28 @@
 //! - `run 1-20000 every 10 holding 3000` commands that come one by one, at their ids times 10 ms: each is new, and after a
 //!   purge no more firsts are ever kept; `run 1-4999 every 100 confirming holding 300` the same, each with a K that names all
 //!   so far.
-use crate::texts::unless_number;
+use crate::texts::number_text;
 use history::{History, IdSpan, Look};
-use mg_bytes::{OutOfMemory, Sequence, Text, decimal};
+use mg_bytes::{Sequence, Text, decimal};
 use std::alloc::Global;
 use std::io;
-use tales::{Tale, again, no_such_row};
-
-// The answer to the command with this id: its bytes.
-fn answer(alloc: Global, id: u32) -> Result<Text, OutOfMemory> {
-    Ok(Text::of(id.to_be_bytes().to_vec(alloc)?))
-}
+use tales::{Row, Tale, again, unless_left, unread};
 
 // `7` or `1-4096`.
-fn ids_of(text: &str) -> Option<IdSpan> {
+fn ids_of(text: &str) -> io::Result<IdSpan> {
     let (first, last) = text.split_once('-').unwrap_or((text, text));
-    Some(IdSpan {
-        first: first.parse::<u32>().ok()?,
-        last: last.parse::<u32>().ok()?,
+    Ok(IdSpan {
+        first: first.parse::<u32>().ok().ok_or(unread())?,
+        last: last.parse::<u32>().ok().ok_or(unread())?,
     })
 }
 
-// `1-7 at 1000`.
-fn ids_at(text: &str) -> Option<(IdSpan, u64)> {
-    let (ids, moment) = text.split_once(" at ")?;
-    Some((ids_of(ids)?, decimal(moment.as_bytes())?))
+// `at 1000` or `every 10`: the number behind this word.
+fn behind(word: &str, row: &mut Row<'_>) -> io::Result<u64> {
+    if row.before(" ") != word {
+        return Err(unread());
+    }
+    decimal(row.before(" ").as_bytes()).ok_or(unread())
 }
 
 /// Commands that come one by one.
@@ -47,25 +44,29 @@ struct Run {
     most: usize,
 }
 
-// `10` or `100 confirming`: the wait, and whether each confirms all so far.
-fn pace_of(text: &str) -> Option<(u64, bool)> {
-    match text.strip_suffix(" confirming") {
-        Some(wait) => Some((decimal(wait.as_bytes())?, true)),
-        None => Some((decimal(text.as_bytes())?, false)),
-    }
-}
-
 // `1-20000 every 10 holding 3000` or `1-4999 every 100 confirming holding 300`.
-fn run_of(text: &str) -> Option<Run> {
-    let (ids, rest) = text.split_once(" every ")?;
-    let (pace, most) = rest.split_once(" holding ")?;
-    let (wait, confirming) = pace_of(pace)?;
-    Some(Run {
-        ids: ids_of(ids)?,
+fn run_of(row: &mut Row<'_>) -> io::Result<Run> {
+    let ids = ids_of(row.before(" "))?;
+    let wait = behind("every", row)?;
+    let confirming = row.left().starts_with("confirming ");
+    if confirming {
+        row.before(" ");
+    }
+    Ok(Run {
+        ids,
         wait,
         confirming,
-        most: most.parse::<usize>().ok()?,
+        most: behind("holding", row)? as usize,
     })
+}
+
+// `1-7,9`.
+fn spans_of(alloc: Global, named: &str) -> io::Result<Sequence<IdSpan>> {
+    let mut spans = Sequence::new(alloc);
+    for ids in named.split(',') {
+        spans.push(ids_of(ids)?)?;
+    }
+    Ok(spans)
 }
 
 fn told(history: &History, id: u32, now: u64) -> &'static str {
@@ -78,18 +79,6 @@ fn told(history: &History, id: u32, now: u64) -> &'static str {
     }
 }
 
-// `1-7,9`.
-fn spans_of(alloc: Global, named: &str) -> Result<Option<Sequence<IdSpan>>, OutOfMemory> {
-    let mut spans = Sequence::new(alloc);
-    for ids in named.split(',') {
-        let Some(span) = ids_of(ids) else {
-            return Ok(None);
-        };
-        spans.push(span)?;
-    }
-    Ok(Some(spans))
-}
-
 /// A history.
 #[derive(Drop)]
 pub struct HistoryTale {
@@ -97,14 +86,19 @@ pub struct HistoryTale {
 }
 
 impl HistoryTale {
-    // Keeps a command with its answer.
+    // Keeps a command with its answer, the bytes of its id.
     fn keep(&mut self, alloc: Global, id: u32, moment: u64) -> io::Result<()> {
-        Ok(self.history.first(id, moment, answer(alloc, id)?)?)
+        let answer = Text::of(id.to_be_bytes().to_vec(alloc)?);
+        Ok(self.history.first(id, moment, answer)?)
     }
 
-    // The same, and once more where memory was refused.
-    fn keep_again(&mut self, alloc: Global, id: u32, moment: u64) -> io::Result<()> {
-        again!(self.keep(alloc, id, moment))
+    // Of several commands each is kept again where memory was refused.
+    fn first(&mut self, alloc: Global, row: &mut Row<'_>) -> io::Result<()> {
+        let (ids, moment) = (ids_of(row.before(" "))?, behind("at", row)?);
+        for id in ids.first..=ids.last {
+            again!(self.keep(alloc, id, moment))?;
+        }
+        Ok(())
     }
 
     // A K names all ids from this one to that.
@@ -112,42 +106,6 @@ impl HistoryTale {
         let mut spans = Sequence::new(alloc);
         spans.push(IdSpan { first, last })?;
         Ok(self.history.confirm(spans)?)
-    }
-
-    // Of several commands each is kept again where memory was refused.
-    fn first(&mut self, alloc: Global, rest: &str) -> io::Result<Option<String>> {
-        let Some((ids, moment)) = ids_at(rest) else {
-            return no_such_row(alloc);
-        };
-        for id in ids.first..=ids.last {
-            self.keep_again(alloc, id, moment)?;
-        }
-        Ok(None)
-    }
-
-    fn confirm(&mut self, alloc: Global, named: &str) -> io::Result<Option<String>> {
-        let Some(spans) = spans_of(alloc, named)? else {
-            return no_such_row(alloc);
-        };
-        self.history.confirm(spans)?;
-        Ok(None)
-    }
-
-    // The command of a run is confirmed with all before, where the run's commands confirm.
-    fn confirm_so_far(&mut self, alloc: Global, run: &Run, id: u32) -> io::Result<()> {
-        if !run.confirming {
-            return Ok(());
-        }
-        again!(self.confirm_all(alloc, run.ids.first, id))
-    }
-
-    // More firsts than may be kept.
-    fn unlike_held(&self, alloc: Global, most: usize, now: u64) -> io::Result<Option<String>> {
-        let held = self.history.len();
-        if held <= most {
-            return Ok(None);
-        }
-        Ok(Some(format!(in alloc; "{held} at {now}")?))
     }
 
     // What a command is that a row doesn't say.
@@ -165,79 +123,69 @@ impl HistoryTale {
         Ok(Some(format!(in alloc; "{given} for {id}")?))
     }
 
-    // One command of a run: it is new, and is kept.
-    fn turn(&mut self, alloc: Global, run: &Run, id: u32) -> io::Result<Option<String>> {
+    // One command of a run: it is new, and is kept. What is otherwise.
+    fn come(&mut self, alloc: Global, run: &Run, id: u32) -> io::Result<Option<String>> {
         let now = u64::from(id).saturating_mul(run.wait);
         self.history.purge(now);
-        if let Some(unlike) = self.unlike_held(alloc, run.most, now)? {
-            return Ok(Some(unlike));
+        let held = self.history.len();
+        if held > run.most {
+            return Ok(Some(format!(in alloc; "{held} at {now}")?));
         }
         if let Some(unlike) = self.unlike_told(alloc, id, now, "new")? {
             return Ok(Some(unlike));
         }
-        self.confirm_so_far(alloc, run, id)?;
-        self.keep_again(alloc, id, now)?;
+        if run.confirming {
+            again!(self.confirm_all(alloc, run.ids.first, id))?;
+        }
+        again!(self.keep(alloc, id, now))?;
         Ok(None)
     }
 
-    fn run(&mut self, alloc: Global, rest: &str) -> io::Result<Option<String>> {
-        let Some(run) = run_of(rest) else {
-            return no_such_row(alloc);
-        };
+    fn run(&mut self, alloc: Global, row: &mut Row<'_>) -> io::Result<String> {
+        let run = run_of(row)?;
         for id in run.ids.first..=run.ids.last {
-            if let Some(unlike) = self.turn(alloc, &run, id)? {
-                return Ok(Some(unlike));
+            if let Some(unlike) = self.come(alloc, &run, id)? {
+                return Ok(unlike);
             }
         }
-        Ok(None)
+        Ok(String::new(alloc))
     }
 
-    // `1-4095 at 30999 again`.
-    fn look(&self, alloc: Global, row: &str) -> io::Result<Option<String>> {
-        let (ids, wanted) = row.rsplit_once(' ').unwrap_or((row, ""));
-        let Some((ids, now)) = ids_at(ids) else {
-            return no_such_row(alloc);
-        };
+    // `at 30999 again`: what commands with these ids are.
+    fn look(&self, alloc: Global, ids: IdSpan, row: &mut Row<'_>) -> io::Result<String> {
+        let now = behind("at", row)?;
+        let wanted = row.rest();
         for id in ids.first..=ids.last {
             if let Some(unlike) = self.unlike_told(alloc, id, now, wanted)? {
-                return Ok(Some(unlike));
+                return Ok(unlike);
             }
         }
-        Ok(None)
+        Ok(String::new(alloc))
     }
 
-    fn purge(&mut self, alloc: Global, moment: &str) -> io::Result<Option<String>> {
-        let Some(now) = decimal(moment.as_bytes()) else {
-            return no_such_row(alloc);
-        };
-        self.history.purge(now);
-        Ok(None)
+    fn turn(&mut self, alloc: Global, row: &mut Row<'_>) -> io::Result<String> {
+        match row.before(" ") {
+            "first" => self.first(alloc, row)?,
+            "confirm" => self.history.confirm(spans_of(alloc, row.rest())?)?,
+            "purge" => self.history.purge(u64::from(row.number()?)),
+            "undo" => self.history.undo(),
+            "run" => return self.run(alloc, row),
+            "holds" => return number_text(alloc, self.history.len() as u64),
+            ids => return self.look(alloc, ids_of(ids)?, row),
+        }
+        Ok(String::new(alloc))
     }
 }
 
 impl Tale for HistoryTale {
     fn begin(alloc: Global) -> io::Result<HistoryTale> {
-        Ok(HistoryTale {
-            history: History::new(alloc),
-        })
+        let history = History::new(alloc);
+        Ok(HistoryTale { history })
     }
 
     fn unlike(&mut self, alloc: Global, row: &str) -> io::Result<Option<String>> {
-        if row.contains(" at ") && !row.starts_with("first ") {
-            return self.look(alloc, row);
-        }
-        let (word, rest) = row.split_once(' ').unwrap_or((row, ""));
-        match word {
-            "first" => self.first(alloc, rest),
-            "confirm" => self.confirm(alloc, rest),
-            "purge" => self.purge(alloc, rest),
-            "run" => self.run(alloc, rest),
-            "undo" => {
-                self.history.undo();
-                Ok(None)
-            }
-            "holds" => unless_number(alloc, self.history.len() as u64, rest),
-            _ => no_such_row(alloc),
-        }
+        let mut left = Row::of(row);
+        let given = self.turn(alloc, &mut left);
+        unless_left(alloc, given, &left)
     }
 }

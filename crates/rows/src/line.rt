@@ -15,132 +15,20 @@ mod acts;
 pub mod parameters;
 mod shown;
 
-use crate::keeping::Kept;
+use crate::keeping::Thing;
 use crate::requests;
-use crate::texts::judged;
+use crate::texts::{judged, unless_fields};
 use acts::{act_of, due_of};
 use mg_bytes::{CodeFault, OutOfMemory};
-use mg_line::{Line, LineStep, Request};
+use mg_line::{Line, LineStep, Notice};
 use parameters::request_of;
 use shown::{state_of, told};
 use std::alloc::Global;
 use std::io;
-use tales::{Tale, code_text, unless_said};
-
-// What becomes of a line at a turn.
-type Given = Result<LineStep, CodeFault>;
+use tales::{Row, code_text};
 
 // The code of a row that can't be played.
 const NO_TURN: CodeFault = CodeFault::Code(0);
-
-// A step of the line, or want of memory.
-fn stepped(step: Result<LineStep, OutOfMemory>) -> Given {
-    match step {
-        Ok(step) => Ok(step),
-        Err(_) => Err(CodeFault::OutOfMemory),
-    }
-}
-
-fn requested(line: &Line, request: &Request, moment: u64) -> Given
-    requires { moment < 2 ^ 62 }
-{
-    match line.check(request) {
-        Some(code) => Err(CodeFault::Code(code)),
-        None => stepped(line.request(request, moment)),
-    }
-}
-
-fn asked(alloc: Global, line: &Line, row: &str, moment: u64) -> Given
-    requires { moment < 2 ^ 62 }
-{
-    let request = request_of(alloc, row)?;
-    requested(line, &request, moment)
-}
-
-fn done(line: &Line, word: &str, moment: u64) -> Given
-    requires { moment < 2 ^ 62 }
-{
-    match act_of(word) {
-        Some(act) if line.takes(act) => stepped(line.phone(act, moment)),
-        _ => Err(NO_TURN),
-    }
-}
-
-fn idled(line: &Line, word: &str) -> Given {
-    match act_of(word) {
-        Some(act) if line.takes(act) && !line.heeds(act) => {
-            let mut line = line.try_copy()?;
-            line.pass_over(act);
-            Ok(LineStep { line, notice: None })
-        }
-        _ => Err(NO_TURN),
-    }
-}
-
-fn fallen(line: &Line, word: &str, moment: u64) -> Given
-    requires { moment < 2 ^ 62 }
-{
-    match due_of(word) {
-        Some(due) if line.due() == Some((moment, due)) => stepped(line.fire(due, moment)),
-        _ => Err(NO_TURN),
-    }
-}
-
-// A turn, whose first words are these.
-fn turned(alloc: Global, line: &Line, moment: u64, words: &str, row: &str) -> Given
-    requires { moment < 2 ^ 62 }
-{
-    if let Some(word) = words.strip_prefix("idles ") {
-        return idled(line, word);
-    }
-    if let Some(word) = words.strip_prefix("falls ") {
-        return fallen(line, word, moment);
-    }
-    match words {
-        "asks" => asked(alloc, line, row, moment),
-        "answered" => stepped(line.answered(moment)),
-        "opened" => stepped(line.opened(moment)),
-        _ => done(line, words, moment),
-    }
-}
-
-// What a line gives, as rows say it.
-fn said(alloc: Global, given: &Given) -> io::Result<String> {
-    match given {
-        Ok(step) => match &step.notice {
-            Some(notice) => told(alloc, notice),
-            None => Ok(String::new(alloc)),
-        },
-        Err(fault) => code_text(alloc, *fault),
-    }
-}
-
-// What a row says that the line gives.
-fn wanted(row: &str) -> &str {
-    match row.rsplit_once("  ") {
-        Some((_, last)) if last.starts_with("tells ") => last,
-        Some((_, last)) if last.parse::<u32>().is_ok() => last,
-        _ => "",
-    }
-}
-
-// What a line gives that a row doesn't say.
-fn unlike_given(alloc: Global, given: &Given, row: &str) -> io::Result<Option<String>> {
-    let text = said(alloc, given)?;
-    if text.as_str() == wanted(row) {
-        return Ok(None);
-    }
-    Ok(Some(text))
-}
-
-// The words behind the moment of a row.
-fn words_of(row: &str) -> &str {
-    let first = row.split("  ").next().unwrap_or("");
-    match first.split_once(' ') {
-        Some((_, words)) => words,
-        None => "",
-    }
-}
 
 /// A line.
 #[derive(Drop)]
@@ -149,20 +37,90 @@ pub struct LineTale {
 }
 
 impl LineTale {
-    // The line is as a step leaves it; where the turn was refused it is as it was.
-    fn settle(&mut self, given: Given) {
-        if let Ok(step) = given {
-            self.line = step.line;
-        }
+    // The line is as a step leaves it; what it has to tell.
+    fn go_on(&mut self, step: Result<LineStep, OutOfMemory>) -> Result<Option<Notice>, CodeFault> {
+        let LineStep { line, notice } = step?;
+        self.line = line;
+        Ok(notice)
     }
 
-    fn turn(&mut self, alloc: Global, moment: u64, row: &str) -> io::Result<Option<String>>
+    // A request with these parameters; a code where the line refuses it.
+    fn asked(
+        &mut self,
+        alloc: Global,
+        fields: &str,
+        moment: u64,
+    ) -> Result<Option<Notice>, CodeFault>
         requires { moment < 2 ^ 62 }
     {
-        let given = turned(alloc, &self.line, moment, words_of(row), row);
-        let unlike = unlike_given(alloc, &given, row)?;
-        self.settle(given);
-        Ok(unlike)
+        let request = request_of(alloc, fields)?;
+        if let Some(code) = self.line.check(&request) {
+            return Err(CodeFault::Code(code));
+        }
+        let step = self.line.request(&request, moment);
+        self.go_on(step)
+    }
+
+    // An act that the hook state allows: it is done, or isn't heeded.
+    fn acted(
+        &mut self,
+        word: &str,
+        moment: u64,
+        is_heeded: bool,
+    ) -> Result<Option<Notice>, CodeFault>
+        requires { moment < 2 ^ 62 }
+    {
+        let act = act_of(word).ok_or(NO_TURN)?;
+        if !self.line.takes(act) {
+            return Err(NO_TURN);
+        }
+        if is_heeded {
+            let step = self.line.phone(act, moment);
+            return self.go_on(step);
+        }
+        if self.line.heeds(act) {
+            return Err(NO_TURN);
+        }
+        self.line.pass_over(act);
+        Ok(None)
+    }
+
+    fn fallen(&mut self, word: &str, moment: u64) -> Result<Option<Notice>, CodeFault>
+        requires { moment < 2 ^ 62 }
+    {
+        let due = due_of(word).ok_or(NO_TURN)?;
+        if self.line.due() != Some((moment, due)) {
+            return Err(NO_TURN);
+        }
+        let step = self.line.fire(due, moment);
+        self.go_on(step)
+    }
+
+    // A turn at this moment.
+    fn turned(
+        &mut self,
+        alloc: Global,
+        moment: u64,
+        row: &mut Row<'_>,
+    ) -> Result<Option<Notice>, CodeFault>
+        requires { moment < 2 ^ 62 }
+    {
+        let words = row.before("  ");
+        let (word, what) = words.split_once(' ').unwrap_or((words, ""));
+        match word {
+            "asks" => self.asked(alloc, row.parameters(), moment),
+            "idles" => self.acted(what, moment, false),
+            "falls" => self.fallen(what, moment),
+            "answered" => {
+                let step = self.line.answered(moment);
+                self.go_on(step)
+            }
+            "opened" => {
+                let step = self.line.opened(moment);
+                self.go_on(step)
+            }
+            _ => self.acted(words, moment, true),
+        }
     }
 
     // What the line says to a question, by its hook state or its request.
@@ -174,61 +132,37 @@ impl LineTale {
             _ => requests::answer(alloc, self.line.requests(), question),
         }
     }
-
-    fn unlike_answer(&self, alloc: Global, row: &str) -> io::Result<Option<String>> {
-        let (question, wanted) = row.split_once("  ").unwrap_or((row, ""));
-        let given = self.answer(alloc, question)?;
-        unless_said(alloc, given.as_str(), wanted)
-    }
-
-    // What a row says that isn't so of the line.
-    fn unlike_is(&self, alloc: Global, fields: &str) -> io::Result<Option<String>> {
-        let state = state_of(alloc, &self.line)?;
-        let is_so = |field: &str| state.as_str().split("  ").any(|it| it == field);
-        Ok(if fields.split("  ").all(is_so) {
-            None
-        } else {
-            Some(state)
-        })
-    }
-
-    fn open(&mut self, alloc: Global) -> io::Result<Option<String>> {
-        self.line = Line::new(alloc)?;
-        Ok(None)
-    }
-
-    // A row without a moment.
-    fn unlike_now(&mut self, alloc: Global, row: &str) -> io::Result<Option<String>> {
-        match row {
-            "opening" => self.open(alloc),
-            _ => match row.strip_prefix("is  ") {
-                Some(fields) => self.unlike_is(alloc, fields),
-                None => self.unlike_answer(alloc, row),
-            },
-        }
-    }
 }
 
-impl Kept for LineTale {
-    fn copy(&self, _alloc: Global) -> io::Result<LineTale> {
-        Ok(LineTale {
-            line: self.line.try_copy()?,
-        })
-    }
-}
-
-impl Tale for LineTale {
+impl Thing for LineTale {
     fn begin(alloc: Global) -> io::Result<LineTale> {
         let line = Line::new(alloc)?;
         let step = line.opened(0)?;
         Ok(LineTale { line: step.line })
     }
 
-    fn unlike(&mut self, alloc: Global, row: &str) -> io::Result<Option<String>> {
-        let first = row.split(' ').next().unwrap_or("");
-        match first.parse::<u32>() {
-            Ok(moment) => self.turn(alloc, u64::from(moment), row),
-            Err(_) => self.unlike_now(alloc, row),
+    fn copy(&self, _alloc: Global) -> io::Result<LineTale> {
+        let line = self.line.try_copy()?;
+        Ok(LineTale { line })
+    }
+
+    fn turn(&mut self, alloc: Global, row: &mut Row<'_>) -> io::Result<String> {
+        if let Some((moment, _)) = row.left().split_once(' ') {
+            if let Ok(moment) = moment.parse::<u32>() {
+                row.before(" ");
+                return match self.turned(alloc, u64::from(moment), row) {
+                    Ok(notice) => told(alloc, notice.as_ref()),
+                    Err(fault) => code_text(alloc, fault),
+                };
+            }
+        }
+        match row.before("  ") {
+            "opening" => {
+                self.line = Line::new(alloc)?;
+                Ok(String::new(alloc))
+            }
+            "is" => unless_fields(alloc, state_of(alloc, &self.line)?.as_str(), row),
+            question => self.answer(alloc, question),
         }
     }
 }

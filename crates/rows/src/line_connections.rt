@@ -13,103 +13,21 @@
 //! Behind a row's parameters stand fields that its answer has, or its return code; 0 stands for a value that isn't read.
 mod asked;
 
-use crate::keeping::Kept;
+use crate::keeping::Thing;
+use crate::texts::{text_of, unless_fields};
 use asked::{change_of, creation_of, deletion_of, identifier_in};
-use connections::{Audited, Connection, Connections, Created, Encoding, mode_text, read_encoding};
-use mg_bytes::CodeFault;
-use sdp_subset::{Session, write_sdp};
+use connections::{Connections, Encoding, mode_text, read_encoding};
+use mg_bytes::{CodeFault, put_decimal};
+use sdp_subset::write_sdp;
 use std::alloc::Global;
 use std::io;
 use std::net::Ipv4Addr;
-use tales::{Tale, code_text, no_such_row, unless_said};
+use tales::{Row, code_text, unread};
 
-// The lines of a description, a field each.
-fn described(alloc: Global, description: &Session) -> Result<String, CodeFault> {
-    let text = write_sdp(alloc, description)?;
-    let text = String::from_utf8_lossy(alloc, text.as_bytes())?;
+// Lines as fields.
+fn fields_of(alloc: Global, lines: &[u8]) -> Result<String, CodeFault> {
+    let text = String::from_utf8_lossy(alloc, lines)?;
     Ok(text.as_str().trim_end().replace(alloc, "\r\n", "  ")?)
-}
-
-// A connection without its description.
-fn connection_text(alloc: Global, connection: &Connection) -> Result<String, CodeFault> {
-    let call = String::from_utf8_lossy(alloc, connection.call.as_slice())?;
-    let mode = String::from_utf8_lossy(alloc, mode_text(connection.mode))?;
-    let rtp = match &connection.remote {
-        Some(_) => "known",
-        None => "unknown",
-    };
-    Ok(format!(in alloc; "C {call}  M {mode}  RTP {rtp}")?)
-}
-
-fn audited_text(alloc: Global, audited: &Audited) -> Result<String, CodeFault> {
-    let connection = connection_text(alloc, &audited.connection)?;
-    let description = described(alloc, &audited.description)?;
-    Ok(format!(in alloc; "{connection}  {description}")?)
-}
-
-fn created_text(alloc: Global, created: &Created) -> Result<String, CodeFault> {
-    let description = described(alloc, &created.description)?;
-    Ok(format!(in alloc; "I {}  {description}", created.number)?)
-}
-
-fn create(
-    alloc: Global,
-    line: &mut Connections,
-    encoding: Encoding,
-    row: &str,
-) -> Result<String, CodeFault> {
-    let creation = creation_of(alloc, row)?;
-    match line.create(encoding, creation) {
-        Ok(created) => created_text(alloc, &created),
-        Err(fault) => Err(fault),
-    }
-}
-
-fn modify(
-    alloc: Global,
-    line: &mut Connections,
-    encoding: Encoding,
-    row: &str,
-) -> Result<String, CodeFault> {
-    let (call, id) = (identifier_in(row, "C: ")?, identifier_in(row, "I: ")?);
-    match line.modify(encoding, &call, &id, change_of(alloc, row)?)? {
-        Some(description) => described(alloc, &description),
-        None => Ok("-".to_string(alloc)?),
-    }
-}
-
-fn delete(alloc: Global, line: &mut Connections, row: &str) -> Result<String, CodeFault> {
-    line.delete(&deletion_of(row)?)?;
-    Ok("-".to_string(alloc)?)
-}
-
-fn audit(alloc: Global, line: &Connections, row: &str) -> Result<String, CodeFault> {
-    let audited = line.audit(&identifier_in(row, "I: ")?)?;
-    audited_text(alloc, &audited)
-}
-
-// Whether an answer has a field that a row says; parameters are none of it.
-fn has_field(answer: &str, field: &str) -> bool {
-    field.contains(": ") || answer.split("  ").any(|it| it == field)
-}
-
-// Whether the answer has all that a row says of it behind its parameters; a return code is always said.
-fn is_said(answer: &str, row: &str) -> bool {
-    for field in row.split("  ").skip(1) {
-        if !has_field(answer, field) {
-            return false;
-        }
-    }
-    let (_, last) = row.rsplit_once("  ").unwrap_or(("", row));
-    answer.parse::<u32>().is_err() || last == answer
-}
-
-// An answer that a row doesn't say.
-fn unlike_answer(alloc: Global, answer: &str, row: &str) -> io::Result<Option<String>> {
-    if is_said(answer, row) {
-        return Ok(None);
-    }
-    Ok(Some(answer.to_string(alloc)?))
 }
 
 /// The connections of a line, its encoding, and the last answer.
@@ -120,67 +38,84 @@ pub struct ConnectionsTale {
     answer: String,
 }
 
-// What a command is answered, as rows say it, or its return code.
-fn answered(
-    alloc: Global,
-    line: &mut Connections,
-    encoding: Encoding,
-    word: &str,
-    row: &str,
-) -> Result<String, CodeFault> {
-    match word {
-        "create" => create(alloc, line, encoding, row),
-        "modify" => modify(alloc, line, encoding, row),
-        "delete" => delete(alloc, line, row),
-        _ => audit(alloc, line, row),
-    }
-}
-
 impl ConnectionsTale {
-    // A command is done to a copy of the line, which takes the line's place once all is done.
-    fn command(&mut self, alloc: Global, word: &str, row: &str) -> io::Result<Option<String>> {
-        let mut line = self.line.try_copy()?;
-        let answer = match answered(alloc, &mut line, self.encoding, word, row) {
+    fn create(&mut self, alloc: Global, fields: &str) -> Result<String, CodeFault> {
+        let created = self
+            .line
+            .create(self.encoding, creation_of(alloc, fields)?)?;
+        let mut out = Vec::new(alloc);
+        out.extend_from_slice(b"I ")?;
+        put_decimal(alloc, &mut out, u64::from(created.number))?;
+        out.extend_from_slice(b"\r\n")?;
+        out.extend_from_slice(write_sdp(alloc, &created.description)?.as_bytes())?;
+        fields_of(alloc, &out)
+    }
+
+    fn modify(&mut self, alloc: Global, fields: &str) -> Result<String, CodeFault> {
+        let (call, id) = (identifier_in(fields, "C: ")?, identifier_in(fields, "I: ")?);
+        let change = change_of(alloc, fields)?;
+        match self.line.modify(self.encoding, &call, &id, change)? {
+            Some(description) => fields_of(alloc, write_sdp(alloc, &description)?.as_bytes()),
+            None => Ok("-".to_string(alloc)?),
+        }
+    }
+
+    fn audit(&self, alloc: Global, fields: &str) -> Result<String, CodeFault> {
+        let audited = self.line.audit(&identifier_in(fields, "I: ")?)?;
+        let mut out = Vec::new(alloc);
+        out.extend_from_slice(b"C ")?;
+        out.extend_from_slice(audited.connection.call.as_slice())?;
+        out.extend_from_slice(b"\r\nM ")?;
+        out.extend_from_slice(mode_text(audited.connection.mode))?;
+        match &audited.connection.remote {
+            Some(_) => out.extend_from_slice(b"\r\nRTP known\r\n")?,
+            None => out.extend_from_slice(b"\r\nRTP unknown\r\n")?,
+        }
+        out.extend_from_slice(write_sdp(alloc, &audited.description)?.as_bytes())?;
+        fields_of(alloc, &out)
+    }
+
+    // What a command is answered, as rows say it, or its return code.
+    fn answered(&mut self, alloc: Global, word: &str, fields: &str) -> Result<String, CodeFault> {
+        match word {
+            "create" => self.create(alloc, fields),
+            "modify" => self.modify(alloc, fields),
+            "audit" => self.audit(alloc, fields),
+            _ => {
+                self.line.delete(&deletion_of(fields)?)?;
+                Ok("-".to_string(alloc)?)
+            }
+        }
+    }
+
+    // The answer to a command, where a row doesn't say fields of it; a return code is always said.
+    fn command(&mut self, alloc: Global, word: &str, row: &mut Row<'_>) -> io::Result<String> {
+        let fields = row.parameters();
+        self.answer = match self.answered(alloc, word, fields) {
             Ok(text) => text,
             Err(fault) => code_text(alloc, fault)?,
         };
-        let unlike = unlike_answer(alloc, answer.as_str(), row)?;
-        self.line = line;
-        self.answer = answer;
-        Ok(unlike)
+        let answer = self.answer.as_str();
+        if row.left().is_empty() && answer.parse::<u32>().is_err() {
+            return Ok(String::new(alloc));
+        }
+        unless_fields(alloc, answer, row)
     }
 
     fn places(&self, alloc: Global) -> io::Result<String> {
-        let mut out = String::new(alloc);
+        let mut out = Vec::new(alloc);
         for held in self.line.list() {
+            out.push(b' ')?;
             match held {
-                Some(connection) => write!(out, " {}", connection.number)?,
-                None => out.push_str(" 0")?,
+                Some(connection) => put_decimal(alloc, &mut out, u64::from(connection.number))?,
+                None => out.push(b'0')?,
             }
         }
-        Ok(out)
-    }
-
-    fn encode(&mut self, alloc: Global, value: &str) -> io::Result<Option<String>> {
-        let Some(encoding) = read_encoding(value.as_bytes()) else {
-            return no_such_row(alloc);
-        };
-        self.encoding = encoding;
-        Ok(None)
+        text_of(alloc, &out)
     }
 }
 
-impl Kept for ConnectionsTale {
-    fn copy(&self, alloc: Global) -> io::Result<ConnectionsTale> {
-        Ok(ConnectionsTale {
-            line: self.line.try_copy()?,
-            encoding: self.encoding,
-            answer: self.answer.as_str().to_string(alloc)?,
-        })
-    }
-}
-
-impl Tale for ConnectionsTale {
+impl Thing for ConnectionsTale {
     fn begin(alloc: Global) -> io::Result<ConnectionsTale> {
         Ok(ConnectionsTale {
             line: Connections::new(Ipv4Addr::LOCALHOST, 3000),
@@ -189,17 +124,25 @@ impl Tale for ConnectionsTale {
         })
     }
 
-    fn unlike(&mut self, alloc: Global, row: &str) -> io::Result<Option<String>> {
-        let (word, rest) = row.split_once(' ').unwrap_or((row, ""));
+    fn copy(&self, alloc: Global) -> io::Result<ConnectionsTale> {
+        Ok(ConnectionsTale {
+            line: self.line.try_copy()?,
+            encoding: self.encoding,
+            answer: self.answer.as_str().to_string(alloc)?,
+        })
+    }
+
+    fn turn(&mut self, alloc: Global, row: &mut Row<'_>) -> io::Result<String> {
+        let word = row.before(" ");
         match word {
             "create" | "modify" | "delete" | "audit" => self.command(alloc, word, row),
-            "answer" => unless_said(alloc, self.answer.as_str(), rest.trim_start()),
-            "places" => {
-                let places = self.places(alloc)?;
-                unless_said(alloc, places.as_str().trim_start(), rest)
+            "answer" => Ok(self.answer.as_str().to_string(alloc)?),
+            "places" => self.places(alloc),
+            "encoding" => {
+                self.encoding = read_encoding(row.rest().as_bytes()).ok_or(unread())?;
+                Ok(String::new(alloc))
             }
-            "encoding" => self.encode(alloc, rest),
-            _ => no_such_row(alloc),
+            _ => Err(unread()),
         }
     }
 }

@@ -9,90 +9,28 @@
 //! - `keep` and `back`: the message as it was once.
 ghost use Rattle.std.specs.Prelude.{◌<◌, ◌^◌};
 
-use crate::keeping::Kept;
-use crate::texts::unless_number;
+use crate::keeping::Thing;
+use crate::texts::number_text;
 use mgcp_text::TransactionId;
 use outbound::{Pending, Repeat, Reply};
 use std::alloc::Global;
 use std::io;
 use std::net::{Ipv4Addr, SocketAddrV4};
-use tales::{Tale, no_such_row, said, unless_said, value_of};
+use tales::{Row, said, unread, value_of};
 
-fn agent() -> SocketAddrV4 {
-    SocketAddrV4::new(Ipv4Addr::LOCALHOST, 2727)
-}
-
-fn id_of(text: &str) -> Option<TransactionId> {
-    match text.parse::<u32>() {
-        Ok(number) if 1 <= number && number <= 999_999_999 => Some(TransactionId::of(number)),
-        _ => None,
+fn id_in(row: &mut Row<'_>) -> io::Result<TransactionId> {
+    let number = row.number()?;
+    if number < 1 || number > 999_999_999 {
+        return Err(unread());
     }
+    Ok(TransactionId::of(number))
 }
 
-// `10000000 at 1000`.
-fn id_at(text: &str) -> Option<(TransactionId, u32)> {
-    let (id, moment) = text.split_once(" at ")?;
-    Some((id_of(id)?, moment.parse::<u32>().ok()?))
-}
-
-// `10000000 100`.
-fn response_of(text: &str) -> Option<(TransactionId, u16)> {
-    let (id, code) = text.split_once(' ')?;
-    Some((id_of(id)?, code.parse::<u16>().ok()?))
-}
-
-fn repeated(message: &mut Pending, moment: u64) -> &'static str
-    requires { moment < 2 ^ 62 }
-{
-    if message.due() != moment {
-        return "not due";
-    }
-    match message.repeat(moment) {
-        Repeat::Sent => "sent",
-        Repeat::GivenUp => "given up",
-    }
-}
-
-fn answered(message: &mut Pending, response: &str, moment: u64) -> &'static str
-    requires { moment < 2 ^ 62 }
-{
-    let Some((id, code)) = response_of(response) else {
-        return "no response";
-    };
-    match message.answer(id, code, moment) {
-        Reply::Answered => "answered",
-        Reply::Provisional => "provisional",
-        Reply::Stranger => "stranger",
-    }
-}
-
-// What a message is.
-fn state_of(alloc: Global, message: &Pending) -> io::Result<String> {
-    let (id, to) = (message.id().number(), message.to());
-    let text = said(alloc, message.text())?;
-    Ok(format!(in alloc; "{id}  {to}  {text}")?)
-}
-
-// `1500 sent`.
-fn unlike_repeat(alloc: Global, message: &mut Pending, rest: &str) -> io::Result<Option<String>> {
-    let (moment, wanted) = rest.split_once(' ').unwrap_or((rest, ""));
-    match moment.parse::<u32>() {
-        Ok(moment) => unless_said(alloc, repeated(message, u64::from(moment)), wanted),
-        Err(_) => no_such_row(alloc),
-    }
-}
-
-// `10000000 100 at 1200 provisional`.
-fn unlike_answer(alloc: Global, message: &mut Pending, rest: &str) -> io::Result<Option<String>> {
-    let (response, end) = rest.split_once(" at ").unwrap_or((rest, ""));
-    let (moment, wanted) = end.split_once(' ').unwrap_or((end, ""));
-    match moment.parse::<u32>() {
-        Ok(moment) => unless_said(
-            alloc,
-            answered(message, response, u64::from(moment)),
-            wanted,
-        ),
-        Err(_) => no_such_row(alloc),
+// `at 1200`.
+fn moment_in(row: &mut Row<'_>) -> io::Result<u32> {
+    match row.before(" ") {
+        "at" => row.number(),
+        _ => Err(unread()),
     }
 }
 
@@ -103,54 +41,67 @@ pub struct MessageTale {
 }
 
 impl MessageTale {
-    fn begins(&mut self, alloc: Global, rest: &str) -> io::Result<Option<String>> {
-        let (sent, text) = rest.split_once("  ").unwrap_or((rest, ""));
-        let Some((id, moment)) = id_at(sent) else {
-            return no_such_row(alloc);
-        };
-        let text = value_of(alloc, text)?;
-        self.message = Pending::begin(alloc, id, agent(), text.as_bytes(), u64::from(moment))?;
-        Ok(None)
+    // `10000000 at 1000  TEXT`.
+    fn begins(&mut self, alloc: Global, row: &mut Row<'_>) -> io::Result<()> {
+        let (id, moment) = (id_in(row)?, u64::from(moment_in(row)?));
+        let text = value_of(alloc, row.rest().trim_start())?;
+        let agent = SocketAddrV4::new(Ipv4Addr::LOCALHOST, 2727);
+        self.message = Pending::begin(alloc, id, agent, text.as_bytes(), moment)?;
+        Ok(())
     }
 
-    // What is done to the message is done to a copy, which takes its place once all is done.
-    fn turn(&mut self, alloc: Global, word: &str, rest: &str) -> io::Result<Option<String>> {
-        let mut message = self.message.try_copy()?;
-        let unlike = match word {
-            "repeat" => unlike_repeat(alloc, &mut message, rest)?,
-            _ => unlike_answer(alloc, &mut message, rest)?,
-        };
-        self.message = message;
-        Ok(unlike)
+    // `1500`: what it does then.
+    fn repeat(&mut self, row: &mut Row<'_>) -> io::Result<&'static str> {
+        let moment = u64::from(row.number()?);
+        if self.message.due() != moment {
+            return Ok("not due");
+        }
+        Ok(match self.message.repeat(moment) {
+            Repeat::Sent => "sent",
+            Repeat::GivenUp => "given up",
+        })
     }
-}
 
-impl Kept for MessageTale {
-    fn copy(&self, _alloc: Global) -> io::Result<MessageTale> {
-        Ok(MessageTale {
-            message: self.message.try_copy()?,
+    // `10000000 100 at 1200`: what the response is to it.
+    fn answer(&mut self, row: &mut Row<'_>) -> io::Result<&'static str> {
+        let id = id_in(row)?;
+        let code = row.before(" ").parse::<u16>().ok().ok_or(unread())?;
+        let moment = u64::from(moment_in(row)?);
+        Ok(match self.message.answer(id, code, moment) {
+            Reply::Answered => "answered",
+            Reply::Provisional => "provisional",
+            Reply::Stranger => "stranger",
         })
     }
 }
 
-impl Tale for MessageTale {
+impl Thing for MessageTale {
     fn begin(alloc: Global) -> io::Result<MessageTale> {
-        let id = TransactionId::of(1);
-        let message = Pending::begin(alloc, id, agent(), b"", 0)?;
+        let agent = SocketAddrV4::new(Ipv4Addr::LOCALHOST, 2727);
+        let message = Pending::begin(alloc, TransactionId::of(1), agent, b"", 0)?;
         Ok(MessageTale { message })
     }
 
-    fn unlike(&mut self, alloc: Global, row: &str) -> io::Result<Option<String>> {
-        let (word, rest) = row.split_once(' ').unwrap_or((row, ""));
-        match word {
-            "begins" => self.begins(alloc, rest),
-            "repeat" | "answer" => self.turn(alloc, word, rest),
-            "due" => unless_number(alloc, self.message.due(), rest),
-            "is" => {
-                let state = state_of(alloc, &self.message)?;
-                unless_said(alloc, state.as_str(), rest.trim_start())
+    fn copy(&self, _alloc: Global) -> io::Result<MessageTale> {
+        let message = self.message.try_copy()?;
+        Ok(MessageTale { message })
+    }
+
+    fn turn(&mut self, alloc: Global, row: &mut Row<'_>) -> io::Result<String> {
+        match row.before(" ") {
+            "begins" => {
+                self.begins(alloc, row)?;
+                Ok(String::new(alloc))
             }
-            _ => no_such_row(alloc),
+            "repeat" => Ok(self.repeat(row)?.to_string(alloc)?),
+            "answer" => Ok(self.answer(row)?.to_string(alloc)?),
+            "due" => number_text(alloc, self.message.due()),
+            "is" => {
+                let (id, to) = (self.message.id().number(), self.message.to());
+                let text = said(alloc, self.message.text())?;
+                Ok(format!(in alloc; "{id}  {to}  {text}")?)
+            }
+            _ => Err(unread()),
         }
     }
 }

@@ -1,7 +1,7 @@
 //! Bytes and numbers as rows say them.
 use std::alloc::Global;
 use std::io;
-use tales::{unless_said, yes_or_no};
+use tales::{Row, yes_or_no};
 
 /// Bytes as a text.
 pub fn text_of(alloc: Global, bytes: &[u8]) -> io::Result<String> {
@@ -13,13 +13,28 @@ pub fn number_text(alloc: Global, number: u64) -> io::Result<String> {
     Ok(format!(in alloc; "{number}")?)
 }
 
-/// A number that a row doesn't say; nothing where it says it.
-pub fn unless_number(alloc: Global, number: u64, wanted: &str) -> io::Result<Option<String>> {
-    let given = number_text(alloc, number)?;
-    unless_said(alloc, given.as_str(), wanted)
-}
-
 /// A judgement as a text.
 pub fn judged(alloc: Global, is_so: bool) -> io::Result<String> {
     Ok(yes_or_no(is_so).to_string(alloc)?)
+}
+
+// Whether this is one of the fields of a text.
+fn has_field(text: &str, wanted: &str) -> bool {
+    for field in text.split("  ") {
+        if field == wanted {
+            return true;
+        }
+    }
+    false
+}
+
+/// A text of fields, and nothing where it has all fields that are left of a row.
+pub fn unless_fields(alloc: Global, text: &str, row: &mut Row<'_>) -> io::Result<String> {
+    for field in row.left().split("  ") {
+        if !has_field(text, field) {
+            return Ok(text.to_string(alloc)?);
+        }
+    }
+    row.rest();
+    Ok(String::new(alloc))
 }

@@ -5,17 +5,16 @@
 
 mod bytes;
 mod commands;
-mod connection_options;
 mod descriptions;
-mod events;
 mod maps;
 mod messages;
 mod names;
 mod packing;
+mod spelled;
 
 use std::alloc::Global;
 use std::io;
-use tales::{Tale, bytes_of, said, unless_said};
+use tales::{Row, Tale, bytes_of, unless_left, unread};
 
 /// Rows that stand alone.
 #[derive(Drop)]
@@ -31,8 +30,20 @@ pub fn numbered(call: &str) -> (&str, u16) {
     (call, 0)
 }
 
-// What one of the modules gives of a value, each of which knows calls of its own.
-fn answer_of_text(alloc: Global, call: &str, value: &[u8]) -> io::Result<String> {
+// What a call gives of a value; each of the modules knows calls of its own.
+fn answer(alloc: Global, call: &str, value: &[u8]) -> io::Result<String> {
+    if let Some(given) = spelled::answer(alloc, call, value) {
+        return given;
+    }
+    if let Some(given) = maps::answer(alloc, call, value) {
+        return given;
+    }
+    if let Some(given) = commands::answer(alloc, call, value) {
+        return given;
+    }
+    if let Some(given) = descriptions::answer(alloc, call, value) {
+        return given;
+    }
     if let Some(given) = bytes::answer(alloc, call, value) {
         return given;
     }
@@ -42,34 +53,7 @@ fn answer_of_text(alloc: Global, call: &str, value: &[u8]) -> io::Result<String>
     if let Some(given) = packing::answer(alloc, call, value) {
         return given;
     }
-    match messages::answer(alloc, call, value) {
-        Some(given) => given,
-        None => said(alloc, b"no such call"),
-    }
-}
-
-fn answer_of_command(alloc: Global, call: &str, value: &[u8]) -> io::Result<String> {
-    if let Some(given) = commands::answer(alloc, call, value) {
-        return given;
-    }
-    if let Some(given) = descriptions::answer(alloc, call, value) {
-        return given;
-    }
-    match connection_options::answer(alloc, call, value) {
-        Some(given) => given,
-        None => answer_of_text(alloc, call, value),
-    }
-}
-
-// What a call gives of a value.
-fn answer(alloc: Global, call: &str, value: &[u8]) -> io::Result<String> {
-    if let Some(given) = events::answer(alloc, call, value) {
-        return given;
-    }
-    match maps::answer(alloc, call, value) {
-        Some(given) => given,
-        None => answer_of_command(alloc, call, value),
-    }
+    messages::answer(alloc, call, value).unwrap_or(Err(unread()))
 }
 
 // Whether a row says this answer.
@@ -81,34 +65,16 @@ fn is_said(answer: &str, wanted: &str) -> bool {
     }
 }
 
-// What a call gives of a value that the row doesn't say.
-fn unlike_call(alloc: Global, call: &str, field: &str, wanted: &str) -> io::Result<Option<String>> {
-    let value = bytes_of(alloc, field)?;
-    let given = answer(alloc, call, &value)?;
-    if is_said(given.as_str(), wanted) {
-        return Ok(None);
-    }
-    Ok(Some(given))
-}
-
-fn with_place(alloc: Global, given: &str, place: usize) -> io::Result<String> {
-    let place = place.saturating_add(1);
-    Ok(format!(in alloc; "{given} for value {place}")?)
-}
-
-// The same of each value, with its place.
-fn unlike_each(
-    alloc: Global,
-    call: &str,
-    values: &str,
-    wanted: &str,
-) -> io::Result<Option<String>> {
+// What a call gives of one of the values that the row doesn't say, with its place; else what the row says.
+fn given(alloc: Global, call: &str, values: &str, wanted: &str) -> io::Result<String> {
     for (place, field) in values.split("  ").enumerate() {
-        if let Some(given) = unlike_call(alloc, call, field, wanted)? {
-            return Ok(Some(with_place(alloc, given.as_str(), place)?));
+        let value = bytes_of(alloc, field)?;
+        let given = answer(alloc, call, &value)?;
+        if !is_said(given.as_str(), wanted) {
+            return Ok(format!(in alloc; "{given} for value {}", place.saturating_add(1))?);
         }
     }
-    Ok(None)
+    Ok(wanted.to_string(alloc)?)
 }
 
 impl Tale for Values {
@@ -119,11 +85,12 @@ impl Tale for Values {
     fn unlike(&mut self, alloc: Global, row: &str) -> io::Result<Option<String>> {
         let (rest, wanted) = row.rsplit_once("  ").unwrap_or((row, ""));
         let (call, values) = rest.split_once("  ").unwrap_or((rest, ""));
-        match maps::answer_of_all(alloc, call, values)? {
-            Some(given) => unless_said(alloc, given, wanted),
+        let given = match call {
+            "verdict" | "in range" => maps::answer_of_two(alloc, call, values),
             // Without a value the row would say nothing of the call.
-            None if values.is_empty() => Ok(Some("no value".to_string(alloc)?)),
-            None => unlike_each(alloc, call, values, wanted),
-        }
+            _ if values.is_empty() => Err(unread()),
+            _ => given(alloc, call, values, wanted),
+        };
+        unless_left(alloc, given, &Row::of(wanted))
     }
 }

@@ -9,6 +9,7 @@
 mod again;
 mod count;
 mod files;
+mod row;
 mod rows;
 mod settings;
 mod texts;
@@ -17,7 +18,8 @@ mod turns;
 pub use crate::again::refused;
 pub use crate::count::Count;
 pub use crate::files::{Kinds, play};
+pub use crate::row::{Row, unread};
 pub use crate::rows::{Tale, told};
 pub use crate::settings::SETTINGS;
 pub use crate::texts::{bytes_of, in_full, or_none, put_piece, said, value_of, yes_or_no};
-pub use crate::turns::{code_text, no_such_row, unless_said};
+pub use crate::turns::{code_text, no_such_row, or_unread, unless_left, unless_said};

@@ -8,7 +8,7 @@
 ghost use Rattle.std.specs.Prelude.{◌≤◌, length};
 ghost use Rattle.digit_map.specs.Verdict.{most_letters};
 
-use crate::texts::{judged, text_of};
+use crate::texts::judged;
 use digit_map::{
     MOST_LETTERS, MapChange, MapFault, MapText, Matcher, SlowMap, Verdict, is_in_range, is_range,
     read_change, read_map,
@@ -31,8 +31,8 @@ fn letters_of(alloc: Global, dialled: &[u8]) -> Result<Option<Vec<Letter>>, OutO
     Ok(Some(letters))
 }
 
-// What is said of the last of these letters, fed one by one.
-fn fed(matcher: &mut Dialling, letters: &[Letter]) -> Option<Verdict>
+// What is said of the last of these letters, fed one by one, and whether T would complete them.
+fn fed(matcher: &mut Dialling, letters: &[Letter]) -> (Option<Verdict>, bool)
     requires { length letters.now ≤ most_letters }
 {
     matcher.clear();
@@ -40,7 +40,7 @@ fn fed(matcher: &mut Dialling, letters: &[Letter]) -> Option<Verdict>
     for letter in letters {
         said = Some(matcher.feed(*letter));
     }
-    said
+    (said, matcher.critical())
 }
 
 fn verdict_text(said: Option<Verdict>, is_critical: bool) -> &'static str {
@@ -55,7 +55,7 @@ fn verdict_text(said: Option<Verdict>, is_critical: bool) -> &'static str {
     }
 }
 
-// What a matcher of any kind says of the last of these letters, and whether T would complete them.
+// The same by a matcher of any kind.
 fn said<M: Matcher>(
     alloc: Global,
     map: &MapText,
@@ -71,31 +71,6 @@ fn said<M: Matcher>(
     Ok((said, matcher.critical()))
 }
 
-// The same, where a matcher of another kind has said this.
-fn is_said_by<M: Matcher>(
-    alloc: Global,
-    map: &MapText,
-    letters: &[Letter],
-    expected: (Option<Verdict>, bool),
-) -> Result<bool, OutOfMemory>
-    requires { length letters.now ≤ most_letters }
-{
-    let given = said::<M>(alloc, map, letters)?;
-    Ok(given == expected)
-}
-
-fn is_slow_copy_critical(alloc: Global, map: &MapText) -> Result<bool, OutOfMemory> {
-    let matcher = SlowMap::start(alloc, map)?;
-    let copy = matcher.try_copy()?;
-    Ok(copy.critical())
-}
-
-fn is_compiled_copy_critical(alloc: Global, map: &MapText) -> Result<bool, OutOfMemory> {
-    let matcher = Compiled::start(alloc, map)?;
-    let copy = matcher.try_copy()?;
-    Ok(copy.critical())
-}
-
 // Whether matchers of the other kinds say the same, and their copies before any letter.
 fn others_say(
     alloc: Global,
@@ -105,40 +80,23 @@ fn others_say(
 ) -> Result<bool, OutOfMemory>
     requires { length letters.now ≤ most_letters }
 {
-    let slow = is_slow_copy_critical(alloc, map)?;
-    let compiled = is_compiled_copy_critical(alloc, map)?;
-    let is_said = is_said_by::<SlowMap>(alloc, map, letters, expected)?;
-    Ok(slow == compiled && is_said && is_said_by::<Compiled>(alloc, map, letters, expected)?)
+    let slow = SlowMap::start(alloc, map)?.try_copy()?;
+    let compiled = Compiled::start(alloc, map)?.try_copy()?;
+    Ok(
+        slow.critical() == compiled.critical()
+            && said::<SlowMap>(alloc, map, letters)? == expected
+            && said::<Compiled>(alloc, map, letters)? == expected,
+    )
 }
 
-// What is said of the last of these letters, and whether T would complete them.
-fn dialled(matcher: &mut Dialling, letters: &[Letter]) -> (Option<Verdict>, bool)
-    requires { length letters.now ≤ most_letters }
-{
-    let said = fed(matcher, letters);
-    (said, matcher.critical())
-}
-
-// Whether a copy says the same after it was fed these letters, and before it is fed them anew.
-fn copy_says(
-    matcher: &Dialling,
-    letters: &[Letter],
-    expected: (Option<Verdict>, bool),
-) -> Result<bool, OutOfMemory>
-    requires { length letters.now ≤ most_letters }
-{
-    let mut copy = matcher.try_copy()?;
-    let (_, is_critical) = expected;
-    Ok(copy.critical() == is_critical && dialled(&mut copy, letters) == expected)
-}
-
-// By a map, by a copy of what matches, and by the other kinds of matchers.
+// By a map, by a copy of what matches, after and before it is fed, and by the other kinds of matchers.
 fn verdict_by(alloc: Global, map: &MapText, letters: &[Letter]) -> io::Result<&'static str>
     requires { length letters.now ≤ most_letters }
 {
     let mut matcher = Dialling::start(alloc, map)?;
-    let (said, is_critical) = dialled(&mut matcher, letters);
-    if !copy_says(&matcher, letters, (said, is_critical))? {
+    let (said, is_critical) = fed(&mut matcher, letters);
+    let mut copy = matcher.try_copy()?;
+    if copy.critical() != is_critical || fed(&mut copy, letters) != (said, is_critical) {
         return Ok("a copy says something else");
     }
     if others_say(alloc, map, letters, (said, is_critical))? {
@@ -147,18 +105,15 @@ fn verdict_by(alloc: Global, map: &MapText, letters: &[Letter]) -> io::Result<&'
     Ok("another matcher says something else")
 }
 
-fn verdict_of(alloc: Global, map: &MapText, dialled: &[u8]) -> io::Result<&'static str> {
-    match letters_of(alloc, dialled)? {
-        Some(letters) if letters.len() <= MOST_LETTERS => verdict_by(alloc, map, &letters),
-        _ => Ok("no letters"),
-    }
-}
-
 fn verdict(alloc: Global, map: &[u8], dialled: &[u8]) -> io::Result<&'static str> {
-    match read_map(alloc, map) {
-        Ok(map) => verdict_of(alloc, &map, dialled),
-        Err(MapFault::OutOfMemory) => Err(refused()),
-        Err(_) => Ok("no map"),
+    let map = match read_map(alloc, map) {
+        Ok(map) => map,
+        Err(MapFault::OutOfMemory) => return Err(refused()),
+        Err(_) => return Ok("no map"),
+    };
+    match letters_of(alloc, dialled)? {
+        Some(letters) if letters.len() <= MOST_LETTERS => verdict_by(alloc, &map, &letters),
+        _ => Ok("no letters"),
     }
 }
 
@@ -172,58 +127,43 @@ fn in_range(range: &[u8], key: &[u8]) -> &'static str {
     }
 }
 
-/// The answer of a call of two values; nothing where there is no such call here.
-pub fn answer_of_all(alloc: Global, call: &str, fields: &str) -> io::Result<Option<&'static str>> {
-    if call != "verdict" && call != "in range" {
-        return Ok(None);
-    }
+/// The answer of a call of two values: of `verdict` or `in range`.
+pub fn answer_of_two(alloc: Global, call: &str, fields: &str) -> io::Result<String> {
     let (one, other) = fields.split_once("  ").unwrap_or((fields, ""));
-    let one = bytes_of(alloc, one)?;
-    let other = bytes_of(alloc, other)?;
-    Ok(Some(match call {
+    let (one, other) = (bytes_of(alloc, one)?, bytes_of(alloc, other)?);
+    let given = match call {
         "verdict" => verdict(alloc, &one, &other)?,
         _ => in_range(&one, &other),
-    }))
+    };
+    Ok(given.to_string(alloc)?)
 }
 
-// A map, by a copy of it.
-fn map_text(alloc: Global, map: &MapText) -> io::Result<String> {
-    let copy = map.try_copy()?;
-    text_of(alloc, copy.as_bytes())
-}
-
-fn read(alloc: Global, value: &[u8]) -> io::Result<String> {
-    match read_map(alloc, value) {
-        Ok(map) => map_text(alloc, &map),
-        Err(fault) => code_text(alloc, CodeFault::from(fault)),
-    }
-}
-
-fn change_text(alloc: Global, change: &MapChange) -> io::Result<String> {
-    match change {
-        MapChange::Keep => Ok("keep".to_string(alloc)?),
-        MapChange::Remove => Ok("remove".to_string(alloc)?),
-        MapChange::Replace(map) => map_text(alloc, map),
-    }
-}
-
-fn changed(alloc: Global, value: &[u8]) -> io::Result<String> {
-    let given = if value == b"-".as_slice() {
+// A map, by a copy of it; of `change` what a D makes of the map that stands.
+fn map_text(alloc: Global, call: &str, value: &[u8]) -> Result<String, CodeFault> {
+    let named = if value == b"-".as_slice() {
         None
     } else {
         Some(value)
     };
-    match read_change(alloc, given) {
-        Ok(change) => change_text(alloc, &change),
-        Err(fault) => code_text(alloc, CodeFault::from(fault)),
-    }
+    let map = match call {
+        "map" => read_map(alloc, value)?,
+        _ => match read_change(alloc, named)? {
+            MapChange::Keep => return Ok("keep".to_string(alloc)?),
+            MapChange::Remove => return Ok("remove".to_string(alloc)?),
+            MapChange::Replace(map) => map,
+        },
+    };
+    let copy = map.try_copy()?;
+    Ok(String::from_utf8_lossy(alloc, copy.as_bytes())?)
 }
 
 /// The answer of a call of one value; nothing where there is no such call here.
 pub fn answer(alloc: Global, call: &str, value: &[u8]) -> Option<io::Result<String>> {
     match call {
-        "map" => Some(read(alloc, value)),
-        "change" => Some(changed(alloc, value)),
+        "map" | "change" => Some(match map_text(alloc, call, value) {
+            Ok(text) => Ok(text),
+            Err(fault) => code_text(alloc, fault),
+        }),
         "range" => Some(judged(alloc, is_range(value))),
         _ => None,
     }

@@ -7,7 +7,7 @@ use endpoint_names::{
 use std::alloc::Global;
 use std::io;
 use std::net::Ipv4Addr;
-use tales::{or_none, said};
+use tales::{or_none, said, unread};
 
 /// The domain of the endpoints.
 pub const DOMAIN: &[u8] = b"rgw.example.net";
@@ -52,26 +52,23 @@ fn means(name: &[u8], line: u16) -> bool {
     }
 }
 
-// The host at a place: `h00` at 127.0.0.0, `h01` at 127.0.0.1, and so on; whether the table takes it.
-fn add_host(alloc: Global, table: &mut Table, place: u16) -> io::Result<bool> {
-    let name = format!(in alloc; "h{place:02}")?;
-    let [_, octet] = place.to_be_bytes();
-    let added = table.add(name.as_str().as_bytes(), Ipv4Addr::new(127, 0, 0, octet));
-    Ok(added.is_ok())
-}
-
-// A table of so many hosts; none where it doesn't take one of them.
-fn hosts(alloc: Global, count: u16) -> io::Result<Option<Table>> {
+// A table of so many hosts: `h00` at 127.0.0.0, `h01` at 127.0.0.1, and so on.
+fn hosts(alloc: Global, count: u16) -> io::Result<Table> {
     let mut table = Table::new();
     for place in 0..count {
-        if !add_host(alloc, &mut table, place)? {
-            return Ok(None);
-        }
+        let name = format!(in alloc; "h{place:02}")?;
+        let [_, octet] = place.to_be_bytes();
+        let added = table.add(name.as_bytes(), Ipv4Addr::new(127, 0, 0, octet));
+        added.ok().ok_or(unread())?;
     }
-    Ok(Some(table))
+    Ok(table)
 }
 
-fn table_fault_text(alloc: Global, fault: TableFault) -> io::Result<String> {
+// What becomes of a host that is added to a table.
+fn added(alloc: Global, table: &mut Table, name: &[u8]) -> io::Result<String> {
+    let Err(fault) = table.add(name, Ipv4Addr::LOCALHOST) else {
+        return said(alloc, b"taken");
+    };
     let text = match fault {
         TableFault::NotADomain => "no domain",
         TableFault::Twice => "twice",
@@ -80,43 +77,26 @@ fn table_fault_text(alloc: Global, fault: TableFault) -> io::Result<String> {
     Ok(format!(in alloc; "{} {text}", fault as u8)?)
 }
 
-fn added_to(alloc: Global, table: &mut Table, name: &[u8]) -> io::Result<String> {
-    match table.add(name, Ipv4Addr::LOCALHOST) {
-        Ok(()) => said(alloc, b"taken"),
-        Err(fault) => table_fault_text(alloc, fault),
+// What a call gives of a host's name and a table of so many hosts.
+fn of_host(alloc: Global, call: &str, name: &[u8], count: u16) -> io::Result<String> {
+    let mut table = hosts(alloc, count)?;
+    match call {
+        "host added to" => added(alloc, &mut table, name),
+        _ => or_none(alloc, table.address_of(name)),
     }
 }
 
-// What becomes of a host that is added to a table of so many.
-fn added(alloc: Global, name: &[u8], count: u16) -> io::Result<String> {
-    match hosts(alloc, count)? {
-        Some(mut table) => added_to(alloc, &mut table, name),
-        None => said(alloc, b"no such table"),
+// Where the entity is that a text names, where ca.example.net is known to be at 127.0.0.1, or no host is known.
+fn place_of(alloc: Global, text: &[u8], is_host_known: bool) -> io::Result<String> {
+    let mut table = Table::new();
+    if is_host_known {
+        let added = table.add(b"ca.example.net", Ipv4Addr::LOCALHOST);
+        added.ok().ok_or(unread())?;
     }
-}
-
-fn address_among(alloc: Global, name: &[u8], count: u16) -> io::Result<String> {
-    match hosts(alloc, count)? {
-        Some(table) => or_none(alloc, table.address_of(name)),
-        None => Ok("no such table".to_string(alloc)?),
-    }
-}
-
-// Where the entity is that a text names.
-fn place_of(alloc: Global, text: &[u8], table: &Table) -> io::Result<String> {
-    match read_entity(text, table) {
-        Some(entity) if entity.text.as_bytes() != text => { Ok("another text".to_string(alloc)?) }
+    match read_entity(text, &table) {
+        Some(entity) if entity.text.as_bytes() != text => Ok("another text".to_string(alloc)?),
         Some(entity) => or_none(alloc, Some(entity.address)),
         None => Ok("none".to_string(alloc)?),
-    }
-}
-
-// The same where ca.example.net is known to be at 127.0.0.1.
-fn place_with_host(alloc: Global, text: &[u8]) -> io::Result<String> {
-    let mut table = Table::new();
-    match table.add(b"ca.example.net", Ipv4Addr::LOCALHOST) {
-        Ok(()) => place_of(alloc, text, &table),
-        Err(_) => Ok("no such table".to_string(alloc)?),
     }
 }
 
@@ -128,10 +108,9 @@ pub fn answer(alloc: Global, call: &str, value: &[u8]) -> Option<io::Result<Stri
         "written name" => written(alloc, value),
         "means line" => judged(alloc, means(value, number)),
         "domain" => judged(alloc, is_domain(value)),
-        "host added to" => added(alloc, value, number),
-        "host among" => address_among(alloc, value, number),
-        "entity" => place_with_host(alloc, value),
-        "entity without hosts" => place_of(alloc, value, &Table::new()),
+        "host added to" | "host among" => of_host(alloc, call, value, number),
+        "entity" => place_of(alloc, value, true),
+        "entity without hosts" => place_of(alloc, value, false),
         _ => return None,
     })
 }

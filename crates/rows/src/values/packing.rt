@@ -5,7 +5,7 @@ ghost use Rattle.piggyback.specs.Packing.{is_joinable};
 
 use crate::texts::judged;
 use crate::values::numbered;
-use mg_bytes::Text;
+use mg_bytes::{Text, put_decimal};
 use piggyback::{is_joinable, join, parts};
 use std::alloc::Global;
 use std::io;
@@ -46,21 +46,17 @@ fn datagrams_of(alloc: Global, value: &[u8], max: usize) -> io::Result<Vec<Text>
     Ok(join(alloc, &texts, max)?)
 }
 
-fn joined(alloc: Global, value: &[u8], max: usize) -> io::Result<String> {
+// The datagrams, or how long each is.
+fn joined(alloc: Global, call: &str, value: &[u8], max: usize) -> io::Result<String> {
     let mut out = Vec::new(alloc);
     for datagram in &datagrams_of(alloc, value, max)? {
-        put_piece(&mut out, datagram.as_bytes())?;
+        match call {
+            "lengths in" => put_decimal(alloc, &mut out, datagram.as_bytes().len() as u64)?,
+            _ => out.extend_from_slice(datagram.as_bytes())?,
+        }
+        out.push(b'|')?;
     }
     said(alloc, &out)
-}
-
-// How long the datagrams are.
-fn lengths(alloc: Global, value: &[u8], max: usize) -> io::Result<String> {
-    let mut out = String::new(alloc);
-    for datagram in &datagrams_of(alloc, value, max)? {
-        write!(out, "{}|", datagram.as_bytes().len())?;
-    }
-    Ok(out)
 }
 
 /// What a call gives; nothing where there is no such call here.
@@ -70,8 +66,7 @@ pub fn answer(alloc: Global, call: &str, value: &[u8]) -> Option<io::Result<Stri
     Some(match call {
         "parts" => parts_in(alloc, value),
         "joinable in" => judged(alloc, is_joinable(value, max)),
-        "joined in" => joined(alloc, value, max),
-        "lengths in" => lengths(alloc, value, max),
+        "joined in" | "lengths in" => joined(alloc, call, value, max),
         _ => return None,
     })
 }
