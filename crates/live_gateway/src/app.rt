@@ -7,7 +7,7 @@ use crate::message_tally::MessageTally;
 use crate::report::report;
 use crate::session::serve;
 use crate::telephones::Telephones;
-use crate::trace::{Trace, TraceState};
+use crate::trace::{Told, Trace, TraceState};
 use crate::words::{Settings, WordFault, read_words};
 use gateway_core::Gateway;
 use rgw_play::{LIMIT, PlayFault, gateway_of, read_key_at_fault, read_limited};
@@ -64,22 +64,15 @@ fn config_ending<'a>(alloc: Global, file: &'a str, text: &[u8], fault: PlayFault
 }
 
 // The text of the configuration.
-fn config_text<'a, R: Files>(rt: &R, alloc: Global, file: &'a str) -> Result<Vec<u8>, Ending<'a>> {
+fn config_text<R: Files>(rt: &R, alloc: Global, file: &str) -> Result<Vec<u8>, PlayFault> {
     let mut reader = match File::open(rt, file) {
         Ok(reader) => reader,
-        Err(e) if e.kind() == ErrorKind::OutOfMemory => return Err(Ending::OutOfMemory),
-        Err(_) => return Err(Ending::Unreadable { file }),
+        Err(e) if e.kind() == ErrorKind::OutOfMemory => return Err(PlayFault::OutOfMemory),
+        Err(_) => return Err(PlayFault::Read),
     };
-    let text = match read_limited(alloc, &mut reader) {
-        Ok(text) => text,
-        Err(fault) => return Err(file_ending(file, fault)),
-    };
+    let text = read_limited(alloc, &mut reader)?;
     if text.len() > LIMIT {
-        return Err(Ending::Config {
-            file,
-            number: BAD_TOML,
-            key: None,
-        });
+        return Err(PlayFault::Config { number: BAD_TOML });
     }
     Ok(text)
 }
@@ -124,12 +117,12 @@ fn tell_addresses<R: Net + Clock + Eprint>(rt: &R, ends: &Ends<'_, R>) -> io::Re
     eprintln!(rt; "listen {listen} phones {phones}")
 }
 
-// How a trace that stands so ends the program.
-fn trace_ending<'a>(state: TraceState) -> Ending<'a> {
+// Whether a trace that stands so was written to its end.
+fn trace_result<'a>(state: TraceState) -> Result<(), Ending<'a>> {
     match state {
-        TraceState::Off | TraceState::On => Ending::Served,
-        TraceState::OutOfMemory => Ending::OutOfMemory,
-        TraceState::Write => Ending::Write,
+        TraceState::Off | TraceState::On => Ok(()),
+        TraceState::OutOfMemory => Err(Ending::OutOfMemory),
+        TraceState::Write => Err(Ending::Write),
     }
 }
 
@@ -139,16 +132,16 @@ fn serve_wire<'w, R: Net + Clock + Print + Eprint>(
     alloc: Global,
     gateway: &mut Gateway,
     wire: &mut LiveWire<'_, R>,
-) -> Ending<'w> {
+) -> Result<(), Ending<'w>> {
     let faults = serve(rt, alloc, gateway, wire);
-    wire.journal.trace.end();
+    wire.journal.trace.tell(Told::End);
     wire.journal.trace.write(rt);
     let Ok(counts) = report(alloc, gateway, &wire.journal.tally, faults) else {
-        return Ending::OutOfMemory;
+        return Err(Ending::OutOfMemory);
     };
     // Nobody is left who could be told that standard error failed.
     let _ = eprint!(rt; "{counts}");
-    trace_ending(wire.journal.trace.state())
+    trace_result(wire.journal.trace.state())
 }
 
 // The journal, whose trace has begun.
@@ -161,7 +154,7 @@ fn journal_of<'w>(
         return Err(Ending::OutOfMemory);
     };
     let mut trace = Trace::new(alloc, settings.trace);
-    trace.begin(text);
+    trace.tell(Told::Config { text });
     Ok(Journal {
         tally,
         trace,
@@ -176,37 +169,28 @@ fn serve_with<'w, R: Files + Net + Clock + Print + Eprint>(
     settings: &Settings<'w>,
     text: &[u8],
     gateway: &mut Gateway,
-) -> Result<Ending<'w>, Ending<'w>> {
-    let mut journal = journal_of(alloc, settings, text)?;
+) -> Result<(), Ending<'w>> {
+    let journal = journal_of(alloc, settings, text)?;
     let ends = open_ends(rt, alloc, settings)?;
-    let _ = tell_addresses(rt, &ends);
-    journal.trace.write(rt);
     let mut wire = LiveWire::new(ends, journal);
-    Ok(serve_wire(rt, alloc, gateway, &mut wire))
+    let _ = tell_addresses(rt, &wire.ends);
+    wire.journal.trace.write(rt);
+    serve_wire(rt, alloc, gateway, &mut wire)
 }
 
 // Does what the settings ask.
-fn perform_settings<'w, R: Files + Net + Clock + Print + Eprint>(
+fn perform<'w, R: Files + Net + Clock + Print + Eprint>(
     rt: &R,
     alloc: Global,
     settings: &Settings<'w>,
-) -> Result<Ending<'w>, Ending<'w>> {
-    let text = config_text(rt, alloc, settings.config)?;
+) -> Result<(), Ending<'w>> {
+    let text = match config_text(rt, alloc, settings.config) {
+        Ok(text) => text,
+        Err(fault) => return Err(file_ending(settings.config, fault)),
+    };
     match gateway_of(alloc, text.as_slice()) {
         Ok(mut gateway) => serve_with(rt, alloc, settings, text.as_slice(), &mut gateway),
         Err(fault) => Err(config_ending(alloc, settings.config, text.as_slice(), fault)),
-    }
-}
-
-// Does what the words ask.
-fn perform<'w, R: AllocGlobal + Files + Net + Clock + Print + Eprint>(
-    rt: &R,
-    alloc: Global,
-    words: &'w [String],
-) -> Result<Ending<'w>, Ending<'w>> {
-    match read_words(alloc, words) {
-        Ok(settings) => perform_settings(rt, alloc, &settings),
-        Err(fault) => Err(Ending::from(fault)),
     }
 }
 
@@ -215,8 +199,12 @@ fn ending_of<'w, R: AllocGlobal + Files + Net + Clock + Print + Eprint>(
     rt: &R,
     words: &'w [String],
 ) -> Ending<'w> {
-    match perform(rt, rt.alloc(), words) {
-        Ok(ending) => ending,
+    let settings = match read_words(rt.alloc(), words) {
+        Ok(settings) => settings,
+        Err(fault) => return Ending::from(fault),
+    };
+    match perform(rt, rt.alloc(), &settings) {
+        Ok(()) => Ending::Served,
         Err(ending) => ending,
     }
 }

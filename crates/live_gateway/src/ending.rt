@@ -1,5 +1,5 @@
 //! How the program ends: its status, and what it says then.
-use crate::help::{USAGE, put_help, put_version};
+use crate::help::{HELP, USAGE, VERSIONS, put_pieces};
 use crate::words::WordFault;
 use gateway_core::ConfigKey;
 use rgw_play::name_of_config_fault;
@@ -72,31 +72,37 @@ impl<'a> From<WordFault> for Ending<'a> {
     }
 }
 
+// What is written of a configuration.
+fn put_config<W: fmt::Write>(
+    f: &mut fmt::Formatter<W>,
+    file: &str,
+    number: u8,
+    key: Option<ConfigKey>,
+) -> fmt::Result {
+    let name = name_of_config_fault(number);
+    write!(f, "{file}: config {number} {name}")?;
+    match key {
+        Some(key) => put_pieces(f, &[": ", key.name(), "\n"]),
+        None => f.write_str("\n"),
+    }
+}
+
 // What is written: on standard output what the words ask, else a line on standard error, or nothing
 // where it served.
 impl<'a> fmt::Display for Ending<'a> {
     fn fmt<W: fmt::Write>(&self, f: &mut fmt::Formatter<W>) -> fmt::Result {
         match *self {
             Ending::Served => Ok(()),
-            Ending::Help => put_help(f),
-            Ending::Version => put_version(f),
-            Ending::Usage => writeln!(f, "{}", USAGE),
-            Ending::BadAddress { word } => writeln!(f, "{word}: no address a.b.c.d:port"),
-            Ending::Config { file, number, key } => {
-                let name = name_of_config_fault(number);
-                match key {
-                    Some(key) => {
-                        let key = key.name();
-                        writeln!(f, "{file}: config {number} {name}: {key}")
-                    }
-                    None => writeln!(f, "{file}: config {number} {name}"),
-                }
-            }
-            Ending::Unreadable { file } => writeln!(f, "{file}: read fault"),
+            Ending::Help => put_pieces(f, &HELP),
+            Ending::Version => put_pieces(f, &VERSIONS),
+            Ending::Usage => put_pieces(f, &[USAGE, "\n"]),
+            Ending::BadAddress { word } => put_pieces(f, &[word, ": no address a.b.c.d:port\n"]),
+            Ending::Config { file, number, key } => put_config(f, file, number, key),
+            Ending::Unreadable { file } => put_pieces(f, &[file, ": read fault\n"]),
             Ending::Unbound { word, address } => writeln!(f, "{word} {address}: no socket"),
-            Ending::Clock => writeln!(f, "clock fault"),
-            Ending::Write => writeln!(f, "write fault"),
-            Ending::OutOfMemory => writeln!(f, "out of memory"),
+            Ending::Clock => f.write_str("clock fault\n"),
+            Ending::Write => f.write_str("write fault\n"),
+            Ending::OutOfMemory => f.write_str("out of memory\n"),
         }
     }
 }

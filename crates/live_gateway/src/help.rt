@@ -16,15 +16,19 @@ pub const PHONES: &str = "127.0.0.1:2428";
 pub const USAGE: &str =
     "usage: rgwd CONFIG [--listen ADDRESS] [--phones ADDRESS] [--trace] [--stop-after MS]";
 
-// What the words say. The places of the defaults are left open.
+// What the words say, from the end of the first line on. The places of the defaults are left open.
 const ABOVE: &str = "
+
 An MGCP gateway of telephone lines, on a network. It serves until it is stopped.
 
   CONFIG              the file of its configuration, in TOML
-";
+  --listen ADDRESS    of its socket for call agents; else ";
 
-const TRACE: &str =
-    "  --trace             all that happens is written to standard output; else nothing is
+const BETWEEN: &str = "
+  --phones ADDRESS    of its telephones' socket; else ";
+
+const BELOW: &str = "
+  --trace             all that happens is written to standard output; else nothing is
   --stop-after MS     it ends at this moment of its clock, in ms; else it goes on
   --help, --version   this, or the version, on standard output
 
@@ -32,25 +36,16 @@ ADDRESS is a.b.c.d:port, and port 0 any free one. Both sockets take datagrams (U
 More: the manual page rgwd(8), and docs/OPERATING.md.
 ";
 
-/// Writes how the program is used.
-pub fn put_help<W: fmt::Write>(f: &mut fmt::Formatter<W>) -> fmt::Result {
-    writeln!(f, "{}", USAGE)?;
-    f.write_str(ABOVE)?;
-    writeln!(
-        f,
-        "  --listen ADDRESS    of its socket for call agents; else {}",
-        LISTEN
-    )?;
-    writeln!(
-        f,
-        "  --phones ADDRESS    of its telephones' socket; else {}",
-        PHONES
-    )?;
-    f.write_str(TRACE)
-}
+/// How the program is used, in pieces.
+pub const HELP: [&str; 6] = [USAGE, ABOVE, LISTEN, BETWEEN, PHONES, BELOW];
 
-/// Writes the version of the program, and of its protocol.
-pub fn put_version<W: fmt::Write>(f: &mut fmt::Formatter<W>) -> fmt::Result {
-    writeln!(f, "rgwd {}", VERSION)?;
-    writeln!(f, "MGCP 1.0 (RFC 3435)")
+/// The version of the program, and of its protocol, in pieces.
+pub const VERSIONS: [&str; 3] = ["rgwd ", VERSION, "\nMGCP 1.0 (RFC 3435)\n"];
+
+/// Writes the pieces of a text.
+pub fn put_pieces<W: fmt::Write>(f: &mut fmt::Formatter<W>, pieces: &[&str]) -> fmt::Result {
+    for piece in pieces {
+        f.write_str(piece)?;
+    }
+    Ok(())
 }

@@ -5,6 +5,7 @@ ghost use Rattle.gateway_core.specs.Wire.{IsWithin};
 use crate::clock::{LONGEST_TICK, LiveClock};
 use crate::journal::Journal;
 use crate::telephones::{TelephoneRequest, Telephones};
+use crate::trace::Told;
 use gateway_core::{DATAGRAM_ROOM, Input, Wire, WireFault};
 use std::io;
 use std::io::ErrorKind;
@@ -164,7 +165,10 @@ impl<'a, R: Net + Clock> LiveWire<'a, R> {
         self.journal.given = Some(input);
         match input {
             Input::Datagram { source, len } => self.journal.datagram(source, &room[..len]),
-            Input::Phone { .. } => self.journal.trace.line(self.ends.telephones.line()),
+            Input::Phone { .. } => {
+                let line = self.ends.telephones.line();
+                self.journal.trace.tell(Told::Line { line });
+            }
             Input::Tick { moment } => self.journal.trace.tick(moment),
             Input::End => {}
         }

@@ -39,39 +39,52 @@ fn lost_of(gateway: &Gateway) -> u64 {
     lost
 }
 
+// Each number, with what stands before it.
+fn put_numbers(text: &mut String, numbers: &[(&str, u64)]) -> Result<(), AllocError> {
+    for (before, number) in numbers {
+        write!(text, "{before}{number}")?;
+    }
+    Ok(())
+}
+
 fn put_commands(text: &mut String, tally: &MessageTally) -> Result<(), AllocError> {
-    text.push_str("commands")?;
+    text.push_str("\ncommands")?;
     for (word, number) in VERB_WORDS.iter().zip(tally.commands.iter()) {
         write!(text, " {word} {number}")?;
     }
-    text.push('\n')?;
     Ok(())
 }
 
 fn put_answers(text: &mut String, tally: &MessageTally) -> Result<(), AllocError> {
-    text.push_str("answers")?;
+    text.push_str("\nanswers")?;
     for (code, number) in tally.answers.iter() {
         write!(text, " {code:03} {number}")?;
     }
-    writeln!(text, " repeated {}", tally.answers_again)?;
     Ok(())
 }
 
-fn put_own(text: &mut String, tally: &MessageTally) -> Result<(), AllocError> {
-    let notifications = tally.notifications;
-    let notifications_again = tally.notifications_again;
-    let announcements = tally.announcements;
-    let announcements_again = tally.announcements_again;
-    let given_up = tally.given_up;
-    writeln!(
+// What is told behind the answers.
+fn put_others(
+    text: &mut String,
+    tally: &MessageTally,
+    lost: u64,
+    faults: Faults,
+) -> Result<(), AllocError> {
+    put_numbers(
         text,
-        "notifications {notifications} repeated {notifications_again}"
-    )?;
-    writeln!(
-        text,
-        "announcements {announcements} repeated {announcements_again} after given up {given_up}"
-    )?;
-    Ok(())
+        &[
+            (" repeated ", tally.answers_again),
+            ("\nnotifications ", tally.notifications),
+            (" repeated ", tally.notifications_again),
+            ("\nannouncements ", tally.announcements),
+            (" repeated ", tally.announcements_again),
+            (" after given up ", tally.given_up),
+            ("\nlost events ", lost),
+            (" refused ", faults.refused),
+            ("\nfaults receive ", faults.receive),
+            (" send ", faults.send),
+        ],
+    )
 }
 
 /// The counts as text.
@@ -82,22 +95,23 @@ pub fn report(
     faults: Faults,
 ) -> Result<String, AllocError> {
     let mut text = String::new(alloc);
-    let came = tally.datagrams_in;
-    let went = tally.datagrams_out;
-    writeln!(text, "datagrams in {came} out {went}")?;
+    put_numbers(
+        &mut text,
+        &[
+            ("datagrams in ", tally.datagrams_in),
+            (" out ", tally.datagrams_out),
+        ],
+    )?;
     put_commands(&mut text, tally)?;
-    let responses = tally.responses;
-    let others = tally.others;
-    writeln!(text, "responses {responses} no message {others}")?;
+    put_numbers(
+        &mut text,
+        &[
+            ("\nresponses ", tally.responses),
+            (" no message ", tally.others),
+        ],
+    )?;
     put_answers(&mut text, tally)?;
-    put_own(&mut text, tally)?;
-    let lost = lost_of(gateway);
-    let Faults {
-        refused,
-        receive,
-        send,
-    } = faults;
-    writeln!(text, "lost events {lost} refused {refused}")?;
-    writeln!(text, "faults receive {receive} send {send}")?;
+    put_others(&mut text, tally, lost_of(gateway), faults)?;
+    text.push_str("\n")?;
     Ok(text)
 }

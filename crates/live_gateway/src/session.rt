@@ -3,7 +3,8 @@ ghost use Rattle.std.specs.Prelude.{◌≤◌, ◌↔◌, IsTrue};
 
 use crate::live_wire::LiveWire;
 use crate::report::Faults;
-use crate::telephones::TelephoneRequest;
+use crate::telephones::{TelephoneRequest, Telephones};
+use crate::trace::{Told, Trace};
 use gateway_core::{Gateway, Input, Refusal};
 use mg_bytes::OutOfMemory;
 use mg_line::Act;
@@ -60,62 +61,80 @@ fn refusal_text(alloc: Global, refusal: Refusal) -> Result<Vec<u8>, OutOfMemory>
     Ok(text)
 }
 
-impl<'a, R: Net + Clock> LiveWire<'a, R> {
-    // The gateway refused an act: the telephone is told why.
-    fn refuse_act(&mut self, alloc: Global, refusal: Refusal) {
-        if refusal == Refusal::OutOfMemory {
-            self.journal.trace.refused();
-            self.ends.telephones.answer(OUT_OF_MEMORY);
-            return;
+// The gateway refused an act: the telephone is told why.
+fn refuse_act(alloc: Global, telephones: &mut Telephones, trace: &mut Trace, refusal: Refusal) {
+    if refusal == Refusal::OutOfMemory {
+        trace.refused();
+        telephones.answer(OUT_OF_MEMORY);
+        return;
+    }
+    match refusal_text(alloc, refusal) {
+        Ok(text) => {
+            let text = text.as_slice();
+            trace.tell(Told::Shown { text });
+            telephones.answer(text);
         }
-        match refusal_text(alloc, refusal) {
-            Ok(text) => {
-                self.journal.trace.shown(text.as_slice());
-                self.ends.telephones.answer(text.as_slice());
-            }
-            Err(_) => {
-                self.journal.trace.took();
-                self.ends.telephones.answer(OUT_OF_MEMORY);
-            }
+        Err(_) => {
+            trace.tell(Told::Taken);
+            telephones.answer(OUT_OF_MEMORY);
         }
     }
+}
 
+fn answer_question(
+    alloc: Global,
+    gateway: &Gateway,
+    telephones: &mut Telephones,
+    trace: &mut Trace,
+    line: u16,
+) {
+    match shown(alloc, gateway, line) {
+        Ok(text) => {
+            let text = text.as_slice();
+            let line = telephones.line();
+            trace.tell(Told::Line { line });
+            trace.tell(Told::Shown { text });
+            telephones.answer(text);
+        }
+        Err(_) => telephones.answer(OUT_OF_MEMORY),
+    }
+}
+
+// Answers what needs no turn, up to the next act.
+fn answer_questions(
+    alloc: Global,
+    gateway: &Gateway,
+    telephones: &mut Telephones,
+    trace: &mut Trace,
+) {
+    for _ in 0..MOST_REQUESTS {
+        match telephones.request() {
+            Some(TelephoneRequest::Show { line }) => {
+                answer_question(alloc, gateway, telephones, trace, line);
+            }
+            Some(TelephoneRequest::Unknown) => telephones.answer(UNKNOWN),
+            Some(TelephoneRequest::OutOfMemory) => telephones.answer(OUT_OF_MEMORY),
+            Some(TelephoneRequest::Act { .. }) | None => return,
+        }
+    }
+}
+
+impl<'a, R: Net + Clock> LiveWire<'a, R> {
     // A turn is over, which was refused or not.
     fn settle(&mut self, alloc: Global, gateway: &Gateway, is_refused: bool) {
         self.ends.clock.set(gateway.now());
         match (self.journal.given, is_refused) {
             (Some(Input::Phone { line, act }), true) => {
-                self.refuse_act(alloc, refusal_of(gateway, line, act));
+                let refusal = refusal_of(gateway, line, act);
+                let telephones = &mut self.ends.telephones;
+                refuse_act(alloc, telephones, &mut self.journal.trace, refusal);
             }
             (Some(Input::Phone { .. }), false) => {
-                self.journal.trace.took();
+                self.journal.trace.tell(Told::Taken);
                 self.ends.telephones.answer(DONE);
             }
             (_, true) => self.journal.trace.refused(),
-            (_, false) => self.journal.trace.took(),
-        }
-    }
-
-    fn answer_question(&mut self, alloc: Global, gateway: &Gateway, line: u16) {
-        match shown(alloc, gateway, line) {
-            Ok(text) => {
-                self.journal.trace.line(self.ends.telephones.line());
-                self.journal.trace.shown(text.as_slice());
-                self.ends.telephones.answer(text.as_slice());
-            }
-            Err(_) => self.ends.telephones.answer(OUT_OF_MEMORY),
-        }
-    }
-
-    // Answers what needs no turn, up to the next act.
-    fn answer_questions(&mut self, alloc: Global, gateway: &Gateway) {
-        for _ in 0..MOST_REQUESTS {
-            match self.ends.telephones.request() {
-                Some(TelephoneRequest::Show { line }) => self.answer_question(alloc, gateway, line),
-                Some(TelephoneRequest::Unknown) => self.ends.telephones.answer(UNKNOWN),
-                Some(TelephoneRequest::OutOfMemory) => self.ends.telephones.answer(OUT_OF_MEMORY),
-                Some(TelephoneRequest::Act { .. }) | None => return,
-            }
+            (_, false) => self.journal.trace.tell(Told::Taken),
         }
     }
 }
@@ -135,8 +154,9 @@ pub fn serve<R: Net + Clock + Print>(
             return faults;
         }
         wire.settle(alloc, gateway, served.refused > 0);
-        wire.answer_questions(alloc, gateway);
-        wire.journal.trace.write(rt);
+        let trace = &mut wire.journal.trace;
+        answer_questions(alloc, gateway, &mut wire.ends.telephones, trace);
+        trace.write(rt);
     }
     faults
 }

@@ -38,24 +38,25 @@ pub struct Telephones {
 
 // What a line asks for, if it isn't empty.
 fn request_in(alloc: Global, line: &[u8]) -> Option<TelephoneRequest> {
-    match line_in(alloc, line) {
-        Ok(Some(ScriptLine::Empty)) => None,
-        Ok(
-            Some(
-                ScriptLine::Whole {
-                    step: Step::Phone { line, act },
-                },
-            ),
-        ) => Some(TelephoneRequest::Act { line, act }),
-        Ok(
-            Some(
-                ScriptLine::Whole {
-                    step: Step::Show { line },
-                },
-            ),
-        ) => Some(TelephoneRequest::Show { line }),
-        Ok(_) => Some(TelephoneRequest::Unknown),
-        Err(_) => Some(TelephoneRequest::OutOfMemory),
+    let Ok(said) = line_in(alloc, line) else {
+        return Some(TelephoneRequest::OutOfMemory);
+    };
+    match &said {
+        Some(ScriptLine::Empty) => None,
+        Some(ScriptLine::Whole { step }) => Some(request_of(step)),
+        _ => Some(TelephoneRequest::Unknown),
+    }
+}
+
+// What a step asks for.
+fn request_of(step: &Step) -> TelephoneRequest {
+    match step {
+        Step::Phone { line, act } => TelephoneRequest::Act {
+            line: *line,
+            act: *act,
+        },
+        Step::Show { line } => TelephoneRequest::Show { line: *line },
+        _ => TelephoneRequest::Unknown,
     }
 }
 

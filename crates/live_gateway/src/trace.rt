@@ -54,11 +54,54 @@ pub struct Trace {
     told: u64,
 }
 
-fn put_text(alloc: Global, out: &mut Vec<u8>, address: SocketAddrV4) -> Result<(), OutOfMemory> {
-    let mut text = String::new(alloc);
-    write!(text, "{address}")?;
-    out.extend_from_slice(text.as_bytes())?;
+/// What a trace is told.
+#[derive(Clone, Copy)]
+pub enum Told<'a> {
+    /// The text of the configuration, with which it begins.
+    Config {
+        text: &'a [u8],
+    },
+    /// A datagram is given to the gateway.
+    Datagram {
+        source: SocketAddrV4,
+        bytes: &'a [u8],
+    },
+    /// What this line says is given to the gateway, or asked of it.
+    Line {
+        line: &'a [u8],
+    },
+    /// The gateway took what it was given, and has sent all that it sends.
+    Taken,
+    /// The gateway sends a datagram.
+    Sent {
+        to: SocketAddrV4,
+        bytes: &'a [u8],
+    },
+    /// These lines are printed, of what was given or asked last.
+    Shown {
+        text: &'a [u8],
+    },
+    /// Nothing comes any more.
+    End,
+}
+
+fn put_pieces(out: &mut Vec<u8>, pieces: &[&[u8]]) -> Result<(), OutOfMemory> {
+    for piece in pieces {
+        out.extend_from_slice(piece)?;
+    }
     Ok(())
+}
+
+// An address, with what stands before and after it.
+fn put_address(
+    alloc: Global,
+    out: &mut Vec<u8>,
+    before: &[u8],
+    address: SocketAddrV4,
+    after: &[u8],
+) -> Result<(), OutOfMemory> {
+    let text = format!(in alloc; "{address}")?;
+    put_pieces(out, &[before, text.as_bytes(), after])
 }
 
 fn hex_digit(value: u8) -> u8
@@ -69,8 +112,7 @@ fn hex_digit(value: u8) -> u8
 
 fn put_hex(out: &mut Vec<u8>, bytes: &[u8]) -> Result<(), OutOfMemory> {
     for byte in bytes {
-        out.push(hex_digit(*byte / 16))?;
-        out.push(hex_digit(*byte % 16))?;
+        out.extend_from_slice(&[hex_digit(*byte / 16), hex_digit(*byte % 16)])?;
     }
     Ok(())
 }
@@ -83,25 +125,17 @@ fn put_datagram(
     bytes: &[u8],
 ) -> Result<(), OutOfMemory> {
     if bytes.is_empty() {
-        out.extend_from_slice(b"from ")?;
-        put_text(alloc, out, source)?;
-        out.extend_from_slice(b"\n--\n")?;
-        return Ok(());
+        return put_address(alloc, out, b"from ", source, b"\n--\n");
     }
-    out.extend_from_slice(b"raw ")?;
-    put_text(alloc, out, source)?;
-    out.push(b' ')?;
+    put_address(alloc, out, b"raw ", source, b" ")?;
     put_hex(out, bytes)?;
-    out.push(b'\n')?;
-    Ok(())
+    out.extend_from_slice(b"\n")
 }
 
 // Lines that are printed.
 fn put_marked(out: &mut Vec<u8>, text: &[u8]) -> Result<(), OutOfMemory> {
     for line in lines(text) {
-        out.extend_from_slice(MARK)?;
-        out.extend_from_slice(line)?;
-        out.push(b'\n')?;
+        put_pieces(out, &[MARK, line, b"\n"])?;
     }
     Ok(())
 }
@@ -134,14 +168,6 @@ impl Trace {
         matches!(self.state, TraceState::On)
     }
 
-    // Where memory was refused nothing is told from then on.
-    fn note(&mut self, done: Result<(), OutOfMemory>) {
-        if done.is_err() {
-            self.state = TraceState::OutOfMemory;
-            self.out.clear();
-        }
-    }
-
     // The script's clock goes to the gateway's.
     fn tell_clock(&mut self) -> Result<(), OutOfMemory> {
         if self.told == self.clock {
@@ -150,8 +176,7 @@ impl Trace {
         self.told = self.clock;
         self.out.extend_from_slice(b"at ")?;
         put_decimal(self.alloc, &mut self.out, self.clock)?;
-        self.out.push(b'\n')?;
-        Ok(())
+        self.out.extend_from_slice(b"\n")
     }
 
     // The gateway's clock goes to this moment.
@@ -165,35 +190,80 @@ impl Trace {
 
     // The input of this turn is told, and the moment at which it came.
     fn tell_input(&mut self) -> Result<(), OutOfMemory> {
-        match self.pending {
-            Pending::Nothing => {}
+        let pending = self.pending;
+        self.pending = Pending::Nothing;
+        match pending {
+            Pending::Nothing => Ok(()),
             Pending::Tick { moment } => {
                 self.pass(moment)?;
-                self.tell_clock()?;
+                self.tell_clock()
             }
             Pending::Lines => {
                 self.tell_clock()?;
-                self.out.extend_from_slice(self.lines.as_slice())?;
+                self.out.extend_from_slice(self.lines.as_slice())
             }
         }
-        self.pending = Pending::Nothing;
-        Ok(())
     }
 
-    fn try_begin(&mut self, config: &[u8]) -> Result<(), OutOfMemory> {
+    fn begin(&mut self, config: &[u8]) -> Result<(), OutOfMemory> {
         self.out.extend_from_slice(config)?;
-        if !matches!(config, [] | [.., b'\n']) {
-            self.out.push(b'\n')?;
+        if config.is_empty() || config.ends_with(b"\n") {
+            self.out.extend_from_slice(b"%%\n")
+        } else {
+            self.out.extend_from_slice(b"\n%%\n")
         }
-        self.out.extend_from_slice(b"%%\n")?;
-        Ok(())
     }
 
-    /// Begins with the text of the configuration.
-    pub fn begin(&mut self, config: &[u8]) {
-        if self.is_on() {
-            let done = self.try_begin(config);
-            self.note(done);
+    // The lines of this turn's input come.
+    fn new_lines(&mut self) {
+        self.pending = Pending::Lines;
+        self.lines.clear();
+    }
+
+    // A tick may be told later, with those that follow.
+    fn take(&mut self) -> Result<(), OutOfMemory> {
+        if let Pending::Tick { moment } = self.pending {
+            self.pending = Pending::Nothing;
+            return self.pass(moment);
+        }
+        self.tell_input()
+    }
+
+    fn send(&mut self, to: SocketAddrV4, bytes: &[u8]) -> Result<(), OutOfMemory> {
+        self.tell_input()?;
+        put_address(self.alloc, &mut self.out, b"| > ", to, b"\n")?;
+        put_marked(&mut self.out, bytes)?;
+        self.out.extend_from_slice(b"| --\n")
+    }
+
+    fn show(&mut self, text: &[u8]) -> Result<(), OutOfMemory> {
+        self.tell_input()?;
+        put_marked(&mut self.out, text)
+    }
+
+    fn try_tell(&mut self, told: Told<'_>) -> Result<(), OutOfMemory> {
+        match told {
+            Told::Config { text } => self.begin(text),
+            Told::Datagram { source, bytes } => {
+                self.new_lines();
+                put_datagram(self.alloc, &mut self.lines, source, bytes)
+            }
+            Told::Line { line } => {
+                self.new_lines();
+                put_pieces(&mut self.lines, &[line, b"\n"])
+            }
+            Told::Taken => self.take(),
+            Told::Sent { to, bytes } => self.send(to, bytes),
+            Told::Shown { text } => self.show(text),
+            Told::End => self.tell_clock(),
+        }
+    }
+
+    /// Tells this. Where memory was refused nothing is told from then on.
+    pub fn tell(&mut self, told: Told<'_>) {
+        if self.is_on() && self.try_tell(told).is_err() {
+            self.state = TraceState::OutOfMemory;
+            self.out.clear();
         }
     }
 
@@ -202,91 +272,9 @@ impl Trace {
         self.pending = Pending::Tick { moment };
     }
 
-    /// A datagram is given to the gateway.
-    pub fn datagram(&mut self, source: SocketAddrV4, bytes: &[u8]) {
-        if self.is_on() {
-            self.lines.clear();
-            self.pending = Pending::Lines;
-            let done = put_datagram(self.alloc, &mut self.lines, source, bytes);
-            self.note(done);
-        }
-    }
-
-    fn try_line(&mut self, line: &[u8]) -> Result<(), OutOfMemory> {
-        self.lines.clear();
-        self.lines.extend_from_slice(line)?;
-        self.lines.push(b'\n')?;
-        Ok(())
-    }
-
-    /// What this line says is given to the gateway, or asked of it.
-    pub fn line(&mut self, line: &[u8]) {
-        if self.is_on() {
-            self.pending = Pending::Lines;
-            let done = self.try_line(line);
-            self.note(done);
-        }
-    }
-
     /// The gateway refused what it was given, for want of memory.
     pub fn refused(&mut self) {
         self.pending = Pending::Nothing;
-    }
-
-    // A tick may be told later, with those that follow.
-    fn try_took(&mut self) -> Result<(), OutOfMemory> {
-        if let Pending::Tick { moment } = self.pending {
-            self.pending = Pending::Nothing;
-            return self.pass(moment);
-        }
-        self.tell_input()
-    }
-
-    /// The gateway took what it was given, and has sent all that it sends.
-    pub fn took(&mut self) {
-        if self.is_on() {
-            let done = self.try_took();
-            self.note(done);
-        }
-    }
-
-    fn try_sent(&mut self, to: SocketAddrV4, bytes: &[u8]) -> Result<(), OutOfMemory> {
-        self.tell_input()?;
-        self.out.extend_from_slice(b"| > ")?;
-        put_text(self.alloc, &mut self.out, to)?;
-        self.out.push(b'\n')?;
-        put_marked(&mut self.out, bytes)?;
-        self.out.extend_from_slice(b"| --\n")?;
-        Ok(())
-    }
-
-    /// The gateway sends a datagram.
-    pub fn sent(&mut self, to: SocketAddrV4, bytes: &[u8]) {
-        if self.is_on() {
-            let done = self.try_sent(to, bytes);
-            self.note(done);
-        }
-    }
-
-    fn try_shown(&mut self, text: &[u8]) -> Result<(), OutOfMemory> {
-        self.tell_input()?;
-        put_marked(&mut self.out, text)
-    }
-
-    /// These lines are printed, of what was given or asked last.
-    pub fn shown(&mut self, text: &[u8]) {
-        if self.is_on() {
-            let done = self.try_shown(text);
-            self.note(done);
-        }
-    }
-
-    /// Nothing comes any more.
-    pub fn end(&mut self) {
-        if self.is_on() {
-            let done = self.tell_clock();
-            self.note(done);
-        }
     }
 
     /// Writes what isn't written yet.

@@ -41,45 +41,49 @@ impl From<AllocError> for WordFault {
     }
 }
 
-// A word with a value behind it.
-fn valued<'a>(alloc: Global, name: &'a str) -> Arg<'a> {
-    Arg::new(alloc, name).long(name).action(ArgAction::Set)
+// A word of the command line.
+#[derive(Clone, Copy)]
+enum Word {
+    Config,
+    Listen,
+    Phones,
+    Trace,
+    StopAfter,
 }
 
-fn config_word<'a>(alloc: Global) -> Arg<'a> {
-    Arg::new(alloc, "config")
-        .required(true)
-        .action(ArgAction::Set)
-}
-
-fn trace_word<'a>(alloc: Global) -> Arg<'a> {
-    Arg::new(alloc, "trace")
-        .long("trace")
-        .action(ArgAction::SetTrue)
-}
-
-fn stop_word<'a>(alloc: Global) -> Arg<'a> {
-    valued(alloc, "stop-after").value_parser(clap::value_parser!(u64))
-}
+const WORDS: [Word; 5] = [
+    Word::Config,
+    Word::Listen,
+    Word::Phones,
+    Word::Trace,
+    Word::StopAfter,
+];
 
 fn address_word<'a>(alloc: Global, name: &'a str, value: &'a str) -> Arg<'a> {
-    valued(alloc, name).default_value(value)
+    Arg::new(alloc, name).long(name).default_value(value)
 }
 
-// With the words that say where the sockets are.
-fn with_sockets<'a>(alloc: Global, command: Command<'a>) -> Result<Command<'a>, AllocError> {
-    command
-        .arg(address_word(alloc, "listen", LISTEN))?
-        .arg(address_word(alloc, "phones", PHONES))
+// What clap is told of a word.
+fn arg_of<'a>(alloc: Global, word: Word) -> Arg<'a> {
+    match word {
+        Word::Config => Arg::new(alloc, "config").required(true),
+        Word::Listen => address_word(alloc, "listen", LISTEN),
+        Word::Phones => address_word(alloc, "phones", PHONES),
+        Word::Trace => Arg::new(alloc, "trace")
+            .long("trace")
+            .action(ArgAction::SetTrue),
+        Word::StopAfter => Arg::new(alloc, "stop-after")
+            .long("stop-after")
+            .value_parser(clap::value_parser!(u64)),
+    }
 }
 
 fn command<'a>(alloc: Global) -> Result<Command<'a>, AllocError> {
-    let command = Command::new(alloc, "rgwd")
-        .version(VERSION)
-        .arg(config_word(alloc))?;
-    with_sockets(alloc, command)?
-        .arg(trace_word(alloc))?
-        .arg(stop_word(alloc))
+    let mut command = Command::new(alloc, "rgwd").version(VERSION);
+    for word in WORDS.iter() {
+        command = command.arg(arg_of(alloc, *word))?;
+    }
+    Ok(command)
 }
 
 // The address behind a word.
@@ -107,14 +111,6 @@ fn fault_of(kind: ErrorKind) -> WordFault {
     }
 }
 
-// What is found in words.
-fn matches_of(alloc: Global, words: &[String]) -> Result<ArgMatches<'_>, WordFault> {
-    match command(alloc)?.try_get_matches_from(words) {
-        Ok(matches) => Ok(matches),
-        Err(fault) => Err(fault_of(fault.kind())),
-    }
-}
-
 fn settings_in<'a>(matches: &ArgMatches<'a>) -> Result<Settings<'a>, WordFault> {
     let Some(config) = matches.get_str("config") else {
         return Err(WordFault::Usage);
@@ -130,6 +126,8 @@ fn settings_in<'a>(matches: &ArgMatches<'a>) -> Result<Settings<'a>, WordFault> 
 
 /// Reads the words of a command line, of which the first is the program's name.
 pub fn read_words(alloc: Global, words: &[String]) -> Result<Settings<'_>, WordFault> {
-    let matches = matches_of(alloc, words)?;
-    settings_in(&matches)
+    match command(alloc)?.try_get_matches_from(words) {
+        Ok(matches) => settings_in(&matches),
+        Err(fault) => Err(fault_of(fault.kind())),
+    }
 }
