@@ -31,21 +31,27 @@ pub struct Command {
     pub rest: Text,
 }
 
-// Whether a field is a refusal, of a world or of an agent.
+// The refusals of a world and of an agent.
+const REFUSALS: [&str; 10] = [
+    "2 TickTooFar",
+    "3 ClockBack",
+    "4 NoSuchLine",
+    "5 PhoneState",
+    "6 NoMoreIds",
+    "7 BadCommand",
+    "8 NoSuchPacket",
+    "9 PacketTooOld",
+    "2 NoMoreIds",
+    "3 BadCommand",
+];
+
 fn is_refusal(field: &str) -> bool {
-    match field {
-        "2 TickTooFar"
-        | "3 ClockBack"
-        | "4 NoSuchLine"
-        | "5 PhoneState"
-        | "6 NoMoreIds"
-        | "7 BadCommand"
-        | "8 NoSuchPacket"
-        | "9 PacketTooOld"
-        | "2 NoMoreIds"
-        | "3 BadCommand" => true,
-        _ => false,
+    for refusal in &REFUSALS {
+        if *refusal == field {
+            return true;
+        }
     }
+    false
 }
 
 /// The fields of a row, and the refusal that is its last, or nothing.
