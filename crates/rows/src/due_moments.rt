@@ -1,4 +1,4 @@
-//! A table of due moments, a row each. Line 0 is the gateway itself.
+//! A table of due moments of 96 lines, a row each. Line 0 is the gateway itself.
 //!
 //! - `set 1 T 500` timer T of line 1 is due at this moment, in ms, in place of the one that was set for it; `set 0-32
 //!   signal 8 600` signal 8 of each of these lines; the kinds are `T`, `signal 0` and so on, `message` and `announcement`;
@@ -13,6 +13,9 @@ use std::alloc::Global;
 use std::io;
 use tales::{Row, unread};
 use timers::{Due, Kind};
+
+// How many lines the table has beside the gateway itself.
+const LINES: u16 = 96;
 
 /// A kind of some lines.
 #[derive(Clone, Copy)]
@@ -86,7 +89,10 @@ impl DueTale {
         let places = places_of(row).ok_or(unread())?;
         let moment = u64::from(row.number()?);
         for line in places.first..=places.last {
-            self.due.set(line, places.kind, moment)?;
+            if !self.due.has_place(line, places.kind) {
+                return Err(unread());
+            }
+            self.due.set(line, places.kind, moment);
         }
         Ok(())
     }
@@ -94,6 +100,9 @@ impl DueTale {
     fn clear(&mut self, row: &mut Row<'_>) -> io::Result<()> {
         let places = places_of(row).ok_or(unread())?;
         for line in places.first..=places.last {
+            if !self.due.has_place(line, places.kind) {
+                return Err(unread());
+            }
             self.due.clear(line, places.kind);
         }
         Ok(())
@@ -102,7 +111,7 @@ impl DueTale {
 
 impl Thing for DueTale {
     fn begin(alloc: Global) -> io::Result<DueTale> {
-        let due = Due::new(alloc);
+        let due = Due::new(alloc, LINES)?;
         Ok(DueTale { due })
     }
 

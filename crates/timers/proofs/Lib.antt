@@ -1,7 +1,6 @@
 pub mod OrderLemmas
-pub mod QueueLemmas
-pub mod KeepLemmas
-pub mod TableLemmas
 pub mod LeastLemmas
-pub mod Computing
 pub mod TableLaws
+pub mod TreeLemmas
+pub mod LeavesLemmas
+pub mod Computing

@@ -1,131 +1,222 @@
 -- Setting, clearing and what is least, of every table.
-use Rattle.std.proofs.Common.{◌≡◌, ◌≢◌, ℕ, Bool, true, false, cond, Some, ◌∷◌, [], refl, ap, sym, ◌∙◌}
-use Rattle.std.specs.Prelude.{not, filter, All, Any}
+use Rattle.std.proofs.Common.{◌≡◌, ◌≢◌, ℕ, Bool, true, false, cond, Some, None, ◌∷◌, [], refl, ap, sym, ◌∙◌, subst}
+use Rattle.std.specs.Prelude.{◌==◌, ◌&&◌, not, All, Any}
 use Rattle.std.specs.List.{AllByRecursion, Contains}
 use Rattle.std.specs.declared.cmp.Ordering.{Ordering}
 use Rattle.std.specs.declared.cmp.Ordering.TheVariants.{Less, Equal, Greater}
-use Rattle.std.specs.Ordering.{is_eq, match_ordering}
-use Rattle.std.specs.BTreeMap.{is_at, insert_entry}
+use Rattle.std.specs.Ordering.{is_eq, is_lt}
+use Rattle.std.proofs.lemmas.Bool.{eqb-true, eq-eqb}
 use Rattle.std.proofs.lemmas.Cmp.{tied_itself}
 use Rattle.std.proofs.lemmas.List.Elements.{recursion_from_All, All-from_recursion, All-contains_itself}
 use Rattle.timers.specs.declared.kind.Kind.{Kind}
-use Rattle.timers.specs.declared.place.Place.{Place}
 use Rattle.timers.specs.declared.entry.Entry.{Entry}
-use Rattle.timers.specs.Order.{place_cmp, comes_before}
-use Rattle.timers.specs.Table.{Table, place_at, is_place, with_moment, without, entry_of, least_of, IsLeast}
-use Rattle.timers.specs.Queue.{place_of}
-use Rattle.timers.proofs.OrderLemmas.{place_total}
-use Rattle.timers.proofs.TableLemmas.{is_at-itself}
-use Rattle.timers.proofs.LeastLemmas.{least_keeps, least_first, same_from_neither}
+use Rattle.timers.specs.Order.{kind_cmp, place_cmp, comes_before}
+use Rattle.timers.specs.Table.{Table, due, place_at, is_of, moment_of, without, with_entry, with_moment, least_of, IsLeast}
+use Rattle.timers.proofs.OrderLemmas.{kind_total, kind_exact}
+use Rattle.timers.proofs.LeastLemmas.{least_keeps, least_first, if_some, same_from_neither}
 
--- what is put twice, where the rest is so already
-put_twice : (place : Place) (moment later : ℕ) (set : Place × ℕ) (table rest once : Table) →
-    insert_entry place_cmp rest place later ≡ once → (order : Ordering) → place_cmp place set.0 ≡ order →
-    insert_entry place_cmp (match_ordering order ((place, moment) ∷ set ∷ table) ((set.0, moment) ∷ table) (set ∷ rest))
-    place later
-    ≡ match_ordering order ((place, later) ∷ set ∷ table) ((set.0, later) ∷ table) (set ∷ once)
-put_twice place moment later set table rest once inner Less is =
-    ap (λ (o : Ordering). match_ordering o ((place, later) ∷ (place, moment) ∷ set ∷ table)
-    ((place, later) ∷ set ∷ table)
-    ((place, moment) ∷ insert_entry place_cmp (set ∷ table) place later)) (tied_itself place_total place)
-put_twice place moment later set table rest once inner Equal is =
-    ap (λ (o : Ordering). match_ordering o ((place, later) ∷ (set.0, moment) ∷ table) ((set.0, later) ∷ table)
-    ((set.0, moment) ∷ insert_entry place_cmp table place later)) is
-put_twice place moment later set table rest once inner Greater is =
-    ap (λ (o : Ordering). match_ordering o ((place, later) ∷ set ∷ rest) ((set.0, later) ∷ rest)
-    (set ∷ insert_entry place_cmp rest place later)) is
-    ∙ ap (λ r. set ∷ r) inner
+-- What is of a line and a kind
 
-insert_twice : (place : Place) (moment later : ℕ) (table : Table) →
-    insert_entry place_cmp (insert_entry place_cmp table place moment) place later
-    ≡ insert_entry place_cmp table place later
-insert_twice place moment later [] =
-    ap (λ (o : Ordering). match_ordering o ((place, later) ∷ (place, moment) ∷ []) ((place, later) ∷ [])
-    ((place, moment) ∷ (place, later) ∷ [])) (tied_itself place_total place)
-insert_twice place moment later (set ∷ table) =
-    put_twice place moment later set table (insert_entry place_cmp table place moment)
-    (insert_entry place_cmp table place later) (insert_twice place moment later table) (place_cmp place set.0) refl
+equal_from : (o : Ordering) → is_eq o ≡ true → o ≡ Equal
+equal_from Less e = absurd cc
+equal_from Equal e = refl
+equal_from Greater e = absurd cc
 
-pub with_moment-with_moment : (table : Table) (line : ℕ) (kind : Kind) (moment later : ℕ) →
-    with_moment (with_moment table line kind moment) line kind later ≡ with_moment table line kind later
-with_moment-with_moment table line kind moment later = insert_twice (place_at line kind) moment later table
+both : (x y : Bool) → (x && y) ≡ true → (x ≡ true) × (y ≡ true)
+both true true e = (refl, refl)
+both true false e = absurd cc
+both false true e = absurd cc
+both false false e = absurd cc
 
--- what stands at a place is cleared, whatever its moment
-cleared_at : (place : Place) (set : Place × ℕ) (rest : Table) → is_at (place_cmp place) set.0 ≡ true →
-    filter (λ s. not (is_at (place_cmp place) s.0)) (set ∷ rest) ≡ filter (λ s. not (is_at (place_cmp place) s.0)) rest
-cleared_at place set rest is =
-    ap (λ b. cond (not b) (set ∷ filter (λ (s : Place × ℕ). not (is_at (place_cmp place) s.0)) rest)
-    (filter (λ (s : Place × ℕ). not (is_at (place_cmp place) s.0)) rest)) is
+true_false : {X : Type 0} (b : Bool) → b ≡ true → b ≡ false → X
+true_false b t f = absurd cc
 
-cleared_once_put : (place : Place) (moment : ℕ) (set : Place × ℕ) (table rest : Table) →
-    filter (λ s. not (is_at (place_cmp place) s.0)) rest ≡ filter (λ s. not (is_at (place_cmp place) s.0)) table →
-    (order : Ordering) → place_cmp place set.0 ≡ order →
-    filter (λ s. not (is_at (place_cmp place) s.0))
-    (match_ordering order ((place, moment) ∷ set ∷ table) ((set.0, moment) ∷ table) (set ∷ rest))
-    ≡ filter (λ s. not (is_at (place_cmp place) s.0)) (set ∷ table)
-cleared_once_put place moment set table rest inner Less is =
-    cleared_at place (place, moment) (set ∷ table) (is_at-itself place)
-cleared_once_put place moment set table rest inner Equal is =
-    cleared_at place (set.0, moment) table (ap is_eq is) ∙ sym (cleared_at place set table (ap is_eq is))
-cleared_once_put place moment set table rest inner Greater is =
-    ap (λ (r : Table). cond (not (is_at (place_cmp place) set.0)) (set ∷ r) r) inner
+pub is_of-itself : (entry : Entry) → is_of entry.line entry.kind entry ≡ true
+is_of-itself entry =
+    ap (λ b. b && is_eq (kind_cmp entry.kind entry.kind)) (eq-eqb entry.line entry.line refl)
+    ∙ ap is_eq (tied_itself kind_total entry.kind)
 
-cleared_put : (place : Place) (moment : ℕ) (table : Table) →
-    filter (λ s. not (is_at (place_cmp place) s.0)) (insert_entry place_cmp table place moment)
-    ≡ filter (λ s. not (is_at (place_cmp place) s.0)) table
-cleared_put place moment [] = cleared_at place (place, moment) [] (is_at-itself place)
-cleared_put place moment (set ∷ table) =
-    cleared_once_put place moment set table (insert_entry place_cmp table place moment) (cleared_put place moment table)
-    (place_cmp place set.0) refl
+pub is_of-same : (line : ℕ) (kind : Kind) (entry : Entry) → is_of line kind entry ≡ true →
+    (line ≡ entry.line) × (kind ≡ entry.kind)
+is_of-same line kind entry is =
+    let parts = both (line == entry.line) (is_eq (kind_cmp kind entry.kind)) is in
+    (eqb-true line entry.line parts.0, kind_exact kind entry.kind (equal_from (kind_cmp kind entry.kind) parts.1))
+
+-- an entry is not of another line and another kind
+is_of-apart : (line : ℕ) (kind : Kind) (line' : ℕ) (kind' : Kind) (entry : Entry) → place_at line' kind' ≢ place_at line kind →
+    is_of line kind entry ≡ true → is_of line' kind' entry ≡ false
+is_of-apart line kind line' kind' entry apart is = by (is_of line' kind' entry) refl
+  where
+    by : (x : Bool) → is_of line' kind' entry ≡ x → x ≡ false
+    by true e =
+        let here = is_of-same line kind entry is in
+        let there = is_of-same line' kind' entry e in
+        absurd (apart (λ i. ((there.0 ∙ sym here.0) i, (there.1 ∙ sym here.1) i)))
+    by false e = refl
+
+-- nothing of a table is of a line and a kind
+abbrev pub NoneOf : ℕ → Kind → Table → Type 0
+NoneOf line kind table = AllByRecursion (λ entry. is_of line kind entry ≡ false) table
+
+pub without_none : (line : ℕ) (kind : Kind) (table : Table) → NoneOf line kind table → without table line kind ≡ table
+without_none line kind [] none = refl
+without_none line kind (set ∷ table) none =
+    ap (λ b. cond (not b) (set ∷ without table line kind) (without table line kind)) none.0
+    ∙ ap (λ t. set ∷ t) (without_none line kind table none.1)
+
+none_left : (line : ℕ) (kind : Kind) (table : Table) → NoneOf line kind (without table line kind)
+none_left line kind [] = tt
+none_left line kind (set ∷ table) = by (is_of line kind set) refl (none_left line kind table)
+  where
+    by : (x : Bool) → is_of line kind set ≡ x → NoneOf line kind (without table line kind) →
+        NoneOf line kind (cond (not x) (set ∷ without table line kind) (without table line kind))
+    by true e rest = rest
+    by false e rest = (e, rest)
+
+-- What is found
+
+found_none : (line : ℕ) (kind : Kind) (table : Table) → NoneOf line kind table → moment_of table line kind ≡ None
+found_none line kind [] none = refl
+found_none line kind (set ∷ table) none =
+    ap (λ b. cond b (Some set.moment) (moment_of table line kind)) none.0 ∙ found_none line kind table none.1
+
+-- what holds of all that is set holds of what is found
+pub at_found : (P : Entry → Type 0) (table : Table) → AllByRecursion P table →
+    (line : ℕ) (kind : Kind) (moment : ℕ) → moment_of table line kind ≡ Some moment → P (due moment line kind)
+at_found P [] all line kind moment is = absurd (none_some is)
+  where
+    none_some : None ≡ Some moment → ⊥
+    none_some e = cc
+at_found P (set ∷ table) all line kind moment is =
+    by (is_of line kind set) refl (at_found P table all.1 line kind moment) is
+  where
+    some_same : (x y : ℕ) → Some x ≡ Some y → x ≡ y
+    some_same x y e = cc
+
+    by : (x : Bool) → is_of line kind set ≡ x →
+        (moment_of table line kind ≡ Some moment → P (due moment line kind)) →
+        cond x (Some set.moment) (moment_of table line kind) ≡ Some moment → P (due moment line kind)
+    by true e rest found =
+        let same = is_of-same line kind set e in
+        let moments : set.moment ≡ moment = some_same set.moment moment found in
+        subst P (λ i. record { moment = moments i; line = (sym same.0) i; kind = (sym same.1) i }) all.0
+    by false e rest found = rest found
+
+-- Once an entry is set
+
+found_here : (line : ℕ) (kind : Kind) (entry : Entry) → is_of line kind entry ≡ true → (table : Table) →
+    NoneOf line kind table → moment_of (with_entry table entry) line kind ≡ Some entry.moment
+found_here line kind entry is [] none = ap (λ b. cond b (Some entry.moment) None) is
+found_here line kind entry is (set ∷ table) none =
+    by (is_lt (place_cmp entry set)) (found_here line kind entry is table none.1)
+  where
+    by : (x : Bool) → moment_of (with_entry table entry) line kind ≡ Some entry.moment →
+        moment_of (cond x (entry ∷ set ∷ table) (set ∷ with_entry table entry)) line kind ≡ Some entry.moment
+    by true rest = ap (λ b. cond b (Some entry.moment) (moment_of (set ∷ table) line kind)) is
+    by false rest = ap (λ b. cond b (Some set.moment) (moment_of (with_entry table entry) line kind)) none.0 ∙ rest
+
+found_other : (line : ℕ) (kind : Kind) (entry : Entry) → is_of line kind entry ≡ false → (table : Table) →
+    moment_of (with_entry table entry) line kind ≡ moment_of table line kind
+found_other line kind entry is [] = ap (λ b. cond b (Some entry.moment) None) is
+found_other line kind entry is (set ∷ table) =
+    by (is_lt (place_cmp entry set)) (found_other line kind entry is table)
+  where
+    by : (x : Bool) → moment_of (with_entry table entry) line kind ≡ moment_of table line kind →
+        moment_of (cond x (entry ∷ set ∷ table) (set ∷ with_entry table entry)) line kind
+        ≡ moment_of (set ∷ table) line kind
+    by true rest = ap (λ b. cond b (Some entry.moment) (moment_of (set ∷ table) line kind)) is
+    by false rest = ap (λ r. cond (is_of line kind set) (Some set.moment) r) rest
+
+cleared_again : (line : ℕ) (kind : Kind) (entry : Entry) → is_of line kind entry ≡ true → (table : Table) →
+    without (with_entry table entry) line kind ≡ without table line kind
+cleared_again line kind entry is [] = ap (λ b. cond (not b) (entry ∷ []) []) is
+cleared_again line kind entry is (set ∷ table) =
+    by (is_lt (place_cmp entry set)) (cleared_again line kind entry is table)
+  where
+    by : (x : Bool) → without (with_entry table entry) line kind ≡ without table line kind →
+        without (cond x (entry ∷ set ∷ table) (set ∷ with_entry table entry)) line kind
+        ≡ without (set ∷ table) line kind
+    by true rest =
+        ap (λ b. cond (not b) (entry ∷ without (set ∷ table) line kind) (without (set ∷ table) line kind)) is
+    by false rest = ap (λ (t : Table). cond (not (is_of line kind set)) (set ∷ t) t) rest
+
+-- The laws
+
+pub moment_of-with_moment : (table : Table) (line : ℕ) (kind : Kind) (moment : ℕ) →
+    moment_of (with_moment table line kind moment) line kind ≡ Some moment
+moment_of-with_moment table line kind moment =
+    found_here line kind (due moment line kind) (is_of-itself (due moment line kind)) (without table line kind)
+    (none_left line kind table)
+
+pub moment_of-without : (table : Table) (line : ℕ) (kind : Kind) → moment_of (without table line kind) line kind ≡ None
+moment_of-without table line kind = found_none line kind (without table line kind) (none_left line kind table)
+
+pub moment_of-without_other : (table : Table) (line : ℕ) (kind : Kind) (line' : ℕ) (kind' : Kind) →
+    place_at line' kind' ≢ place_at line kind →
+    moment_of (without table line kind) line' kind' ≡ moment_of table line' kind'
+moment_of-without_other [] line kind line' kind' apart = refl
+moment_of-without_other (set ∷ table) line kind line' kind' apart =
+    by (is_of line kind set) refl (moment_of-without_other table line kind line' kind' apart)
+  where
+    by : (x : Bool) → is_of line kind set ≡ x →
+        moment_of (without table line kind) line' kind' ≡ moment_of table line' kind' →
+        moment_of (cond (not x) (set ∷ without table line kind) (without table line kind)) line' kind'
+        ≡ moment_of (set ∷ table) line' kind'
+    by true e rest =
+        rest
+        ∙ sym (ap (λ b. cond b (Some set.moment) (moment_of table line' kind'))
+        (is_of-apart line kind line' kind' set apart e))
+    by false e rest = ap (λ r. cond (is_of line' kind' set) (Some set.moment) r) rest
+
+pub moment_of-with_other : (table : Table) (line : ℕ) (kind : Kind) (moment line' : ℕ) (kind' : Kind) →
+    place_at line' kind' ≢ place_at line kind →
+    moment_of (with_moment table line kind moment) line' kind' ≡ moment_of table line' kind'
+moment_of-with_other table line kind moment line' kind' apart =
+    found_other line' kind' (due moment line kind)
+    (is_of-apart line kind line' kind' (due moment line kind) apart (is_of-itself (due moment line kind)))
+    (without table line kind)
+    ∙ moment_of-without_other table line kind line' kind' apart
 
 pub without-with_moment : (table : Table) (line : ℕ) (kind : Kind) (moment : ℕ) →
     without (with_moment table line kind moment) line kind ≡ without table line kind
-without-with_moment table line kind moment = cleared_put (place_at line kind) moment table
+without-with_moment table line kind moment =
+    cleared_again line kind (due moment line kind) (is_of-itself (due moment line kind)) (without table line kind)
+    ∙ without_none line kind (without table line kind) (none_left line kind table)
 
--- nothing that is left is at the place
-all_apart : (line : ℕ) (kind : Kind) (table : Table) →
-    AllByRecursion (λ set. place_of (entry_of set) ≢ place_at line kind) (without table line kind)
-all_apart line kind [] = tt
-all_apart line kind (set ∷ table) = by_here (is_place line kind set.0) refl (all_apart line kind table)
-  where
-    by_here : (here : Bool) → is_place line kind set.0 ≡ here →
-        AllByRecursion (λ (s : Place × ℕ). place_of (entry_of s) ≢ place_at line kind) (without table line kind) →
-        AllByRecursion (λ (s : Place × ℕ). place_of (entry_of s) ≢ place_at line kind)
-        (cond (not here) (set ∷ without table line kind) (without table line kind))
-    by_here true is rest = rest
-    by_here false is rest = (
-      λ e. differs (sym is ∙ ap (is_place line kind) e ∙ is_at-itself (place_at line kind)),
-      rest,
-    )
-      where
-        differs : false ≡ true → ⊥
-        differs e = cc
+pub with_moment-with_moment : (table : Table) (line : ℕ) (kind : Kind) (moment later : ℕ) →
+    with_moment (with_moment table line kind moment) line kind later ≡ with_moment table line kind later
+with_moment-with_moment table line kind moment later =
+    ap (λ t. with_entry t (due later line kind)) (without-with_moment table line kind moment)
 
-pub least_of-without : (table : Table) (line : ℕ) (kind : Kind) (entry : Entry) →
-    least_of (without table line kind) ≡ Some entry → place_at entry.line entry.kind ≢ place_at line kind
-least_of-without table line kind entry is =
-    least_keeps (λ (e : Entry). place_of e ≢ place_at line kind) (without table line kind)
-    (all_apart line kind table) entry is
-
-all_mapped : (P Q : Place × ℕ → Type 0) → ((set : Place × ℕ) → P set → Q set) → (table : Table) →
+all_mapped : (P Q : Entry → Type 0) → ((entry : Entry) → P entry → Q entry) → (table : Table) →
     AllByRecursion P table → AllByRecursion Q table
 all_mapped P Q f [] all = tt
 all_mapped P Q f (set ∷ table) all = (f set all.0, all_mapped P Q f table all.1)
 
-pub least_is_set : (table : Table) (entry : Entry) → least_of table ≡ Some entry →
-    Any (λ set. entry_of set ≡ entry) table
+pub least_of-without : (table : Table) (line : ℕ) (kind : Kind) (entry : Entry) →
+    least_of (without table line kind) ≡ Some entry → place_at entry.line entry.kind ≢ place_at line kind
+least_of-without table line kind entry is same =
+    let none : is_of line kind entry ≡ false =
+    if_some (λ (e : Entry). is_of line kind e ≡ false) (least_of (without table line kind)) entry
+    (least_keeps (λ (e : Entry). is_of line kind e ≡ false) (without table line kind) (none_left line kind table)) is in
+    true_false (is_of entry.line entry.kind entry) (is_of-itself entry)
+    (ap (λ (place : ℕ × Kind). is_of place.0 place.1 entry) same ∙ none)
+
+pub least_is_set : (table : Table) (entry : Entry) → least_of table ≡ Some entry → Any (λ set. set ≡ entry) table
 least_is_set table entry is =
-    least_keeps (λ (e : Entry). Any (λ (set : Place × ℕ). entry_of set ≡ e) table) table
-    (all_mapped (Contains table) (λ s. Any (λ (set : Place × ℕ). entry_of set ≡ entry_of s) table)
-    (λ s h. (h.0, s, h.1, h.2, refl)) table
-    (recursion_from_All (Contains table) table (All-contains_itself table)))
-    entry is
+    if_some (λ (e : Entry). Any (λ (set : Entry). set ≡ e) table) (least_of table) entry
+    (least_keeps (λ (e : Entry). Any (λ (set : Entry). set ≡ e) table) table
+    (all_mapped (Contains table) (λ e. Any (λ (set : Entry). set ≡ e) table)
+    (λ e h. (h.0, e, h.1, h.2, refl)) table
+    (recursion_from_All (Contains table) table (All-contains_itself table))))
+    is
 
 pub least_is_first : (table : Table) (entry : Entry) → least_of table ≡ Some entry →
-    All (λ set. comes_before (entry_of set) entry ≡ false) table
+    All (λ set. comes_before set entry ≡ false) table
 least_is_first table entry is =
-    All-from_recursion (λ (set : Place × ℕ). comes_before (entry_of set) entry ≡ false) table
-    (least_first table entry is)
+    All-from_recursion (λ (set : Entry). comes_before set entry ≡ false) table
+    (if_some (λ (e : Entry). AllByRecursion (λ (set : Entry). comes_before set e ≡ false) table) (least_of table) entry
+    (least_first table) is)
 
 pub one_least : (table : Table) (entry other : Entry) → IsLeast table entry → IsLeast table other → entry ≡ other
 one_least table entry other is is' =

@@ -1,16 +1,7 @@
 -- What the worked examples speak of.
 use Rattle.std.specs.Prelude.{ℕ, zero, suc, List, [], ◌∷◌, length, fold, Option, Some, None}
-use Rattle.timers.specs.declared.kind.Kind.{Kind}
-use Rattle.timers.specs.declared.place.Place.{Place}
 use Rattle.timers.specs.declared.entry.Entry.{Entry}
-use Rattle.timers.specs.Table.{Table, place_at, with_moment, without, least_of}
-
--- a moment that is set at a place
-abbrev pub at : ℕ → Kind → ℕ → Place × ℕ
-at line kind moment = (place_at line kind, moment)
-
-abbrev pub due : ℕ → ℕ → Kind → Entry
-due moment line kind = record { moment = moment; line = line; kind = kind }
+use Rattle.timers.specs.Table.{Table, with_moment, without, least_of}
 
 -- the table in which these are set one after the other
 abbrev pub table_of : List Entry → Table

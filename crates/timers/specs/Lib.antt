@@ -1,4 +1,4 @@
 pub mod Order
 pub mod Table
-pub mod Queue
+pub mod Leaves
 pub mod Example

@@ -1,10 +1,9 @@
 -- The order in which things fall due (this gateway's profile).
-use Rattle.std.specs.Prelude.{ℕ, Bool}
+use Rattle.std.specs.Prelude.{ℕ, Bool, if◌then◌else◌, Option, Some, None}
 use Rattle.std.specs.declared.cmp.Ordering.{Ordering}
 use Rattle.std.specs.Ordering.{nat_cmp, then_cmp, on, is_lt}
 use Rattle.timers.specs.declared.kind.Kind.{Kind}
 use Rattle.timers.specs.declared.kind.Kind.TheVariants.{Timer, Signal, Message, Announcement}
-use Rattle.timers.specs.declared.place.Place.{Place}
 use Rattle.timers.specs.declared.entry.Entry.{Entry}
 
 -- the kinds come in this order
@@ -26,14 +25,19 @@ abbrev pub kind_cmp : Kind → Kind → Ordering
 kind_cmp = then_cmp (on kind_turn nat_cmp) (on signal_place nat_cmp)
 
 -- by line, the gateway itself first; then by kind
-abbrev pub place_cmp : Place → Place → Ordering
-place_cmp = then_cmp (on (λ place. place.line) nat_cmp) (on (λ place. place.kind) kind_cmp)
+abbrev pub place_cmp : Entry → Entry → Ordering
+place_cmp = then_cmp (on (λ entry. entry.line) nat_cmp) (on (λ entry. entry.kind) kind_cmp)
 
--- by moment; then by line, the gateway itself first; then by kind
+-- by moment; then by line and by kind
 abbrev pub entry_cmp : Entry → Entry → Ordering
-entry_cmp = then_cmp (on (λ entry. entry.moment) nat_cmp)
-    (then_cmp (on (λ entry. entry.line) nat_cmp) (on (λ entry. entry.kind) kind_cmp))
+entry_cmp = then_cmp (on (λ entry. entry.moment) nat_cmp) place_cmp
 
 -- one falls due before another
 abbrev pub comes_before : Entry → Entry → Bool
 comes_before entry other = is_lt (entry_cmp entry other)
+
+-- of two, where there are both, the one that falls due first
+abbrev pub earlier : Option Entry → Option Entry → Option Entry
+earlier None other = other
+earlier (Some entry) None = Some entry
+earlier (Some entry) (Some other) = if comes_before other entry then Some other else Some entry

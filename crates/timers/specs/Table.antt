@@ -1,51 +1,64 @@
 -- A table of due moments, and what of it falls due first.
-use Rattle.std.specs.Prelude.{◌≡◌, ℕ, Bool, false, not, if◌then◌else◌, List, [], ◌∷◌, filter, Option, Some, None}
-use Rattle.std.specs.Map.{lookup}
-use Rattle.std.specs.BTreeMap.{is_at, insert_entry}
+use Rattle.std.specs.Prelude.{◌≡◌, ℕ, ◌≤◌, ◌<◌, ◌==◌, ◌&&◌, Bool, false, not, if◌then◌else◌, List, [], ◌∷◌, filter, Option, Some, None}
+use Rattle.std.specs.Ordering.{is_eq, is_lt}
 use Rattle.timers.specs.declared.kind.Kind.{Kind}
-use Rattle.timers.specs.declared.place.Place.{Place}
+use Rattle.timers.specs.declared.kind.TheConstants.{SIGNAL_COUNT}
 use Rattle.timers.specs.declared.entry.Entry.{Entry}
-use Rattle.timers.specs.Order.{place_cmp, comes_before}
+use Rattle.timers.specs.Order.{signal_place, kind_cmp, place_cmp, comes_before, earlier}
 
--- what is set: places with their moments in ms, each place once, in the order of the places
+-- what is set: for each kind of each line once at most, in the order of the lines and of the kinds
 abbrev pub Table : Type 0
-Table = List (Place × ℕ)
+Table = List Entry
 
-abbrev pub place_at : ℕ → Kind → Place
-place_at line kind = record { line = line; kind = kind }
+-- a table of the gateway itself, which is line 0, and of so many lines
+pub record DueState : Type 0 where
+  pub lines : ℕ
+  pub table : Table
 
--- it is the place of this line and this kind
-abbrev pub is_place : ℕ → Kind → Place → Bool
-is_place line kind = is_at (place_cmp (place_at line kind))
+abbrev pub nothing_set : ℕ → DueState
+nothing_set lines = record { lines = lines; table = [] }
+
+abbrev pub due : ℕ → ℕ → Kind → Entry
+due moment line kind = record { moment = moment; line = line; kind = kind }
+
+abbrev pub place_at : ℕ → Kind → ℕ × Kind
+place_at line kind = (line, kind)
+
+-- it falls due on this line, and is of this kind
+abbrev pub is_of : ℕ → Kind → Entry → Bool
+is_of line kind entry = line == entry.line && is_eq (kind_cmp kind entry.kind)
+
+-- a table of so many lines has a place for it: line 0 is the gateway itself, and a signal is one of the table of signals
+pub record HasPlace (lines line : ℕ) (kind : Kind) : Type 0 where
+  pub within : line ≤ lines
+  pub known : signal_place kind < SIGNAL_COUNT
 
 -- the moment that is set for a line and a kind
 abbrev pub moment_of : Table → ℕ → Kind → Option ℕ
-moment_of table line kind = lookup (is_place line kind) table
-
--- the table with this moment for a line and a kind, in place of the one that was set
-abbrev pub with_moment : Table → ℕ → Kind → ℕ → Table
-with_moment table line kind moment = insert_entry place_cmp table (place_at line kind) moment
+moment_of [] line kind = None
+moment_of (entry ∷ table) line kind = if is_of line kind entry then Some entry.moment else moment_of table line kind
 
 -- the table with none for a line and a kind
 abbrev pub without : Table → ℕ → Kind → Table
-without table line kind = filter (λ set. not (is_place line kind set.0)) table
+without table line kind = filter (λ entry. not (is_of line kind entry)) table
 
--- what is set at a place, as it falls due
-abbrev pub entry_of : Place × ℕ → Entry
-entry_of set = record { moment = set.1; line = set.0.line; kind = set.0.kind }
+-- the table with one more, before those of later lines and kinds
+abbrev pub with_entry : Table → Entry → Table
+with_entry [] entry = entry ∷ []
+with_entry (set ∷ table) entry =
+    if is_lt (place_cmp entry set) then entry ∷ set ∷ table else set ∷ with_entry table entry
 
--- of two entries the one that falls due first
-abbrev pub first_of_both : Entry → Option Entry → Entry
-first_of_both entry None = entry
-first_of_both entry (Some other) = if comes_before other entry then other else entry
+-- the table with this moment for a line and a kind, in place of the one that was set
+abbrev pub with_moment : Table → ℕ → Kind → ℕ → Table
+with_moment table line kind moment = with_entry (without table line kind) (due moment line kind)
 
 -- of all that is set, what falls due first
 abbrev pub least_of : Table → Option Entry
 least_of [] = None
-least_of (set ∷ table) = Some (first_of_both (entry_of set) (least_of table))
+least_of (entry ∷ table) = earlier (Some entry) (least_of table)
 
 -- the same as a fact: the entry is set, and nothing that is set comes before it
 pub record IsLeast (table : Table) (entry : Entry) : Type 0 where
   pub set : moment_of table entry.line entry.kind ≡ Some entry.moment
   pub first : (line : ℕ) (kind : Kind) (moment : ℕ) → moment_of table line kind ≡ Some moment
-      → comes_before (record { moment = moment; line = line; kind = kind }) entry ≡ false
+      → comes_before (due moment line kind) entry ≡ false

@@ -1,107 +1,101 @@
 //! A table of due moments.
-ghost use Rattle.std.specs.Prelude.{◌≡◌, ◌↔◌, ◌<◌, [], OnOk, OnErr, IfOk, IsTrue, IsSome, IfSome};
-ghost use Rattle.std.specs.BTreeSet.{btree_set_len, contains, IsLowerBound};
-ghost use Rattle.timers.specs.Table.{with_moment, without, least_of, IsLeast};
+ghost use Rattle.std.specs.Prelude.{◌≡◌, ◌↔◌, ◌<◌, IsTrue, IfOk, IfSome};
+ghost use Rattle.timers.specs.Order.{signal_place};
+ghost use Rattle.timers.specs.Leaves.{leaf_of};
+ghost use Rattle.timers.specs.Table.{HasPlace, nothing_set, with_moment, without, least_of, IsLeast};
 
 use crate::entry::Entry;
-use crate::kind::Kind;
-use crate::place::Place;
+use crate::kind::{KIND_COUNT, Kind, SIGNAL_COUNT, is_known, number_of};
+use crate::winners::Winners;
 use mg_bytes::OutOfMemory;
-use std::alloc::{AllocError, Global};
-use std::collections::{BTreeMap, BTreeSet};
+use std::alloc::Global;
 use std::marker::Model;
 
-/// What falls due, and when: for each kind of each line one moment at most, in ms.
+/// What falls due, and when: for each kind of each line one moment at most, in ms. Line 0 is the gateway itself.
 ///
-/// A contract sees the moments that are set, each by its place (`Table`). No call but `try_copy` goes through all that
-/// is set.
+/// A contract sees how many lines there are, and the entries that are set (`DueState`). All memory is taken by `new`
+/// and `try_copy`.
 #[derive(Drop)]
 pub struct Due {
-    moments: BTreeMap<Place, u64>,
-    // The same, in the order in which it falls due.
-    queue: BTreeSet<Entry>,
+    lines: u16,
+    // A leaf for each kind of each line.
+    winners: Winners,
 }
 
 impl Model for Due {
-    ghost use Rattle.timers.specs.Table.{Table};
-    ghost use Rattle.timers.specs.Queue.{IsKept};
+    ghost use Rattle.timers.specs.Table.{DueState};
+    ghost use Rattle.timers.specs.Leaves.{set_in, IsKept};
 
-    ghost Value = { Table };
+    ghost Value = { DueState };
 
-    ghost view = { λ due. due.moments.entries };
+    ghost view = { λ due. record { lines = due.lines; table = set_in due.winners } };
 
-    ghost invariant = { λ due. IsKept due.moments due.queue };
+    ghost invariant = { λ due. IsKept due.lines due.winners };
 }
 
 impl Due {
-    /// A table in which nothing is set. It takes no memory yet.
-    pub fn new(alloc: Global) -> Self
-        ensures { result ≡ [] }
+    /// A table for the gateway itself and so many lines, in which nothing is set. An error is for want of memory only.
+    pub fn new(alloc: Global, lines: u16) -> Result<Self, OutOfMemory>
+        ensures { IfOk result (λ due. due ≡ nothing_set lines) }
     {
-        Self {
-            moments: BTreeMap::new(alloc),
-            queue: BTreeSet::new(alloc),
-        }
+        let winners = Winners::new(alloc, (usize::from(lines) + 1) * KIND_COUNT)?;
+        Ok(Due { lines, winners })
     }
 
-    /// Sets the moment, in ms, at which the kind falls due on the line, in place of the one that was set for it. After
-    /// an error nothing changed.
-    pub fn set(&mut self, line: u16, kind: Kind, moment: u64) -> Result<(), OutOfMemory>
-        ensures ok { OnOk result (self.new ≡ with_moment self.old line kind moment) }
-        ensures err { OnErr result (self.new ≡ self.old) }
+    /// Whether the table has a place for the kind on the line: the line is one of its lines, or 0, and a signal is one of
+    /// the table of signals.
+    pub fn has_place(&self, line: u16, kind: Kind) -> bool
+        ensures { IsTrue result ↔ HasPlace self.now.lines line kind }
     {
-        let entry = Entry { moment, line, kind };
-        self.queue.insert(entry)?;
-        let Ok(set) = self.moments.insert(Place { line, kind }, moment) else {
-            self.queue.remove(&entry);
-            return Err(AllocError);
-        };
-        match set {
-            Some(old) if old != moment => {
-                self.queue.remove(&Entry {
-                    moment: old,
-                    line,
-                    kind,
-                });
-                Ok(())
-            }
-            _ => Ok(()),
-        }
+        line <= self.lines && is_known(kind)
     }
 
-    /// Takes out the moment that is set for the kind on the line, where there is one. It takes no memory.
+    /// Sets the moment, in ms, at which the kind falls due on the line, in place of the one that was set for it.
+    pub fn set(&mut self, line: u16, kind: Kind, moment: u64)
+        requires { HasPlace self.old.lines line kind }
+        ensures table { self.new.table ≡ with_moment self.old.table line kind moment }
+        ensures lines { self.new.lines ≡ self.old.lines }
+    {
+        self.winners
+            .put(leaf_of(line, kind), Some(Entry { moment, line, kind }));
+    }
+
+    /// Takes out the moment that is set for the kind on the line, where there is one.
     pub fn clear(&mut self, line: u16, kind: Kind)
-        ensures { self.new ≡ without self.old line kind }
+        requires { HasPlace self.old.lines line kind }
+        ensures table { self.new.table ≡ without self.old.table line kind }
+        ensures lines { self.new.lines ≡ self.old.lines }
     {
-        if let Some(moment) = self.moments.remove(&Place { line, kind }) {
-            self.queue.remove(&Entry { moment, line, kind });
-        }
+        self.winners.put(leaf_of(line, kind), None);
     }
 
-    /// What falls due first, by moment, then by line, then by kind; `None` where nothing is set. It takes no memory.
+    /// What falls due first, by moment, then by line, then by kind; `None` where nothing is set.
     pub fn least(&self) -> Option<Entry>
-        ensures least { result ≡ least_of self.now }
+        ensures least { result ≡ least_of self.now.table }
         // It is set, and nothing that is set comes before it.
-        ensures first { IfSome result (IsLeast self.now) }
+        ensures first { IfSome result (IsLeast self.now.table) }
+        // So it can be cleared.
+        ensures place { IfSome result (λ entry. HasPlace self.now.lines entry.line entry.kind) }
     {
-        first_of(&self.queue)
+        self.winners.first()
     }
 
     /// An equal table of its own. An error changes nothing, as the table is only read.
     pub fn try_copy(&self) -> Result<Self, OutOfMemory>
         ensures { IfOk result (λ copy. copy ≡ self.now) }
     {
-        let moments = self.moments.clone()?;
-        let queue = self.queue.clone()?;
-        Ok(Self { moments, queue })
+        let winners = self.winners.try_copy()?;
+        Ok(Due {
+            lines: self.lines,
+            winners,
+        })
     }
 }
 
-// The first of a queue, in the order that entries derive: it is in it, and nothing in it comes before.
-fn first_of(queue: &BTreeSet<Entry>) -> Option<Entry>
-    ensures some { IsSome result ↔ (0 < btree_set_len queue.now) }
-    ensures member { IfSome result (λ entry. IsTrue (contains ⟦<Entry as Ord>⟧.cmp queue.now entry)) }
-    ensures least { IfSome result (λ entry. IsLowerBound ⟦<Entry as Ord>⟧.cmp queue.now entry) }
+// The leaf of a kind of a line: line after line, and for each all kinds.
+fn leaf_of(line: u16, kind: Kind) -> usize
+    requires { signal_place kind < SIGNAL_COUNT }
+    ensures { result ≡ leaf_of line kind }
 {
-    queue.first().copied()
+    usize::from(line) * KIND_COUNT + number_of(kind)
 }

@@ -1,4 +1,6 @@
 //! What falls due, and when.
+ghost use Rattle.std.specs.Prelude.{◌≡◌};
+ghost use Rattle.timers.specs.Order.{earlier};
 
 use crate::kind::Kind;
 
@@ -11,4 +13,15 @@ pub struct Entry {
     /// 0 is the gateway itself; its lines count from 1.
     pub line: u16,
     pub kind: Kind,
+}
+
+/// Of two, where there are both, the one that falls due first.
+pub fn earlier(one: Option<Entry>, other: Option<Entry>) -> Option<Entry>
+    ensures { result ≡ earlier one other }
+{
+    match (one, other) {
+        (None, _) => other,
+        (Some(first), Some(second)) if second < first => other,
+        (Some(_), _) => one,
+    }
 }

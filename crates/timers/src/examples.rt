@@ -3,14 +3,24 @@
 
 ghost use Rattle.std.specs.Prelude.{◌≡◌, [], ◌∷◌, Some, None};
 ghost use Rattle.timers.specs.declared.kind.Kind.TheVariants.{Timer, Signal, Message, Announcement};
-ghost use Rattle.timers.specs.Table.{moment_of, with_moment, without, least_of, IsLeast};
-ghost use Rattle.timers.specs.Example.{at, due, table_of, drained, drained_from};
+ghost use Rattle.timers.specs.Table.{HasPlace, nothing_set, due, moment_of, with_moment, without, least_of, IsLeast};
+ghost use Rattle.timers.specs.Example.{table_of, drained, drained_from};
 
 /// Where nothing is set, nothing falls due.
 pub fn nothing_falls_due_of_an_empty_table()
     ensures least { least_of [] ≡ None }
     ensures moment { moment_of [] 0 Announcement ≡ None }
     ensures cleared { without [] 1 Timer ≡ [] }
+{}
+
+/// A table has a place for each kind of the gateway itself and of each of its lines, and at the opening nothing is set.
+pub fn a_table_has_a_place_for_each_kind_of_each_line()
+    ensures gateway { HasPlace 0 0 Announcement }
+    ensures last { HasPlace 96 96 Message }
+    ensures further { HasPlace 96 97 Timer → ⊥ }
+    ensures signal { HasPlace 1 1 (Signal 8) }
+    ensures no_signal { HasPlace 1 1 (Signal 9) → ⊥ }
+    ensures opening { nothing_set 96 ≡ record { lines = 96; table = [] } }
 {}
 
 /// What falls due earlier comes first, on whatever line and of whatever kind.
@@ -77,8 +87,8 @@ pub fn one_kind_of_one_line_is_cleared()
 /// A table is one list, in whatever order its moments were set: by line, then by kind.
 pub fn a_table_is_in_the_order_of_its_places()
     ensures order { table_of (due 9 2 Timer ∷ due 8 1 Message ∷ due 7 1 (Signal 1) ∷ due 6 0 Announcement ∷ [])
-        ≡ at 0 Announcement 6 ∷ at 1 (Signal 1) 7 ∷ at 1 Message 8 ∷ at 2 Timer 9 ∷ [] }
+        ≡ due 6 0 Announcement ∷ due 7 1 (Signal 1) ∷ due 8 1 Message ∷ due 9 2 Timer ∷ [] }
     ensures found { moment_of (table_of (due 9 2 Timer ∷ due 8 1 Message ∷ [])) 1 Message ≡ Some 8 }
     ensures other { moment_of (table_of (due 9 2 Timer ∷ due 8 1 Message ∷ [])) 2 Message ≡ None }
-    ensures replaced { with_moment (at 1 Timer 5 ∷ at 2 Timer 9 ∷ []) 2 Timer 3 ≡ at 1 Timer 5 ∷ at 2 Timer 3 ∷ [] }
+    ensures replaced { with_moment (due 5 1 Timer ∷ due 9 2 Timer ∷ []) 2 Timer 3 ≡ due 5 1 Timer ∷ due 3 2 Timer ∷ [] }
 {}

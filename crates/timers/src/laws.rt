@@ -4,8 +4,7 @@ ghost use Rattle.timers.specs.declared.kind.Kind.{Kind};
 ghost use Rattle.timers.specs.declared.kind.Kind.TheVariants.{Timer, Signal, Message, Announcement};
 ghost use Rattle.timers.specs.declared.entry.Entry.{Entry};
 ghost use Rattle.timers.specs.Order.{comes_before};
-ghost use Rattle.timers.specs.Table.{Table, place_at, moment_of, with_moment, without, entry_of, least_of, IsLeast};
-ghost use Rattle.timers.specs.Example.{due};
+ghost use Rattle.timers.specs.Table.{Table, due, place_at, moment_of, with_moment, without, least_of, IsLeast};
 
 /// What is set for a kind of a line falls due at that moment.
 pub fn what_is_set_falls_due_at_its_moment()
@@ -41,9 +40,9 @@ pub fn one_moment_takes_the_place_of_another()
 /// What falls due first is set, and nothing that is set comes before it; only where nothing is set there is none.
 pub fn nothing_comes_before_the_least()
     ensures set { (table : Table) (entry : Entry) → least_of table ≡ Some entry →
-        Any (λ set. entry_of set ≡ entry) table }
+        Any (λ set. set ≡ entry) table }
     ensures first { (table : Table) (entry : Entry) → least_of table ≡ Some entry →
-        All (λ set. comes_before (entry_of set) entry ≡ false) table }
+        All (λ set. comes_before set entry ≡ false) table }
     ensures none { (table : Table) → least_of table ≡ None → table ≡ [] }
 {}
 

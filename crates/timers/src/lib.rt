@@ -10,9 +10,8 @@ mod entry;
 pub mod examples;
 mod kind;
 pub mod laws;
-mod place;
+mod winners;
 
 pub use crate::due::Due;
-pub use crate::entry::Entry;
-pub use crate::kind::Kind;
-pub use crate::place::Place;
+pub use crate::entry::{Entry, earlier};
+pub use crate::kind::{Kind, SIGNAL_COUNT};

@@ -1,4 +1,4 @@
-use Rattle.timers.proofs.TableLemmas.{moment_of-with_other, moment_of-without_other}
+use Rattle.timers.proofs.TableLaws.{moment_of-with_other, moment_of-without_other}
 use Rattle.timers.proofs.laws.the_others_stay_as_they_are.Goals as goal
 
 pub returns-clause-set : goal.returns-clause-set

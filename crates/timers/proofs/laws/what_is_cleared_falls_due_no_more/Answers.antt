@@ -1,5 +1,4 @@
-use Rattle.timers.proofs.TableLemmas.{moment_of-without}
-use Rattle.timers.proofs.TableLaws.{least_of-without}
+use Rattle.timers.proofs.TableLaws.{moment_of-without, least_of-without}
 use Rattle.timers.proofs.laws.what_is_cleared_falls_due_no_more.Goals as goal
 
 pub returns-clause-moment : goal.returns-clause-moment

@@ -1,17 +1,29 @@
-use Rattle.std.proofs.Common.{ap, ◌∙◌, subst}
+use Rattle.std.proofs.Common.{ap, ◌∙◌, sym, subst, Option}
 use Rattle.std.specs.Prelude.{IfSome}
-use Rattle.timers.specs.Table.{Table, least_of, IsLeast}
-use Rattle.timers.proofs.LeastLemmas.{told_first, told_least}
+use Rattle.timers.specs.declared.entry.Entry.{Entry}
+use Rattle.timers.specs.Table.{DueState, HasPlace, least_of, IsLeast}
+use Rattle.timers.specs.Leaves.{set_in}
+use Rattle.timers.proofs.LeavesLemmas.{first_is_least, least_is_least, least_within}
 use Rattle.timers.proofs.due.Due.least.Goals as goal
 
 pub returns-clause-least : goal.returns-clause-least
 returns-clause-least c =
-    told_least c.self.inside.moments c.self.inside.queue c.self.invariant c.first_of.result
-    (c.first_of.ensures.some, c.first_of.ensures.member, c.first_of.ensures.least)
-    ∙ ap least_of c.self.view_is
+    c.first.ensures
+    ∙ first_is_least c.self.inside.winners
+    ∙ ap (λ (state : DueState). least_of state.table) c.self.view_is
 
 pub returns-clause-first : goal.returns-clause-first
 returns-clause-first c =
-    subst (λ (table : Table). IfSome c.first_of.result (IsLeast table)) c.self.view_is
-    (told_first c.self.inside.moments c.self.inside.queue c.self.invariant c.first_of.result
-    (c.first_of.ensures.some, c.first_of.ensures.member, c.first_of.ensures.least))
+    subst (λ (state : DueState). IfSome c.first.result (IsLeast state.table)) c.self.view_is
+    (subst (λ (first : Option Entry). IfSome first (IsLeast (set_in c.self.inside.winners)))
+    (sym (c.first.ensures ∙ first_is_least c.self.inside.winners))
+    (least_is_least c.self.inside.winners c.self.invariant.placed))
+
+pub returns-clause-place : goal.returns-clause-place
+returns-clause-place c =
+    subst (λ (state : DueState). IfSome c.first.result (λ entry. HasPlace state.lines entry.line entry.kind))
+    c.self.view_is
+    (subst (λ (first : Option Entry). IfSome first (λ entry.
+    HasPlace c.self.inside.lines entry.line entry.kind))
+    (sym (c.first.ensures ∙ first_is_least c.self.inside.winners))
+    (least_within c.self.inside.lines c.self.inside.winners c.self.invariant))

@@ -1,66 +1,24 @@
-use Rattle.std.proofs.Common.{ap, ◌∙◌, sym, Some}
-use Rattle.timers.specs.Table.{place_at, with_moment}
-use Rattle.timers.proofs.KeepLemmas.{keeps_new, keeps_again, keeps_moved, keeps_back, in_order}
-use Rattle.timers.proofs.TableLemmas.{insert_entry-with_moment}
+use Rattle.std.proofs.Common.{ap, ◌∙◌, sym, subst, Some, slice_set}
+use Rattle.timers.specs.Table.{DueState, HasPlace, due, with_moment}
+use Rattle.timers.specs.Leaves.{set_in, IsKept}
+use Rattle.timers.proofs.LeavesLemmas.{set_in-set, kept_still, leaf_within}
 use Rattle.timers.proofs.due.Due.set.Goals as goal
 
-pub invariant_of-self-in_default : goal.invariant_of-self-in_default
-invariant_of-self-in_default c =
-    record {
-      ordered = in_order c.insert-2.new.self c.in_default.ensures.ordered;
-      queued =
-          keeps_back c.self.inside.moments c.self.inside.queue (place_at c.args.line c.args.kind) c.args.moment
-          c.insert-2.new.self c.insert.new.self c.remove.new.self c.self.invariant.queued c.in_default.ensures.absent
-          c.in_default.ensures.err c.in_ok-insert.ensures.updates.0 c.remove.ensures.updates.0;
-    }
+pub invariant_of-self : goal.invariant_of-self
+invariant_of-self c =
+    subst (IsKept c.self.inside.lines) (sym c.put.ensures)
+    (kept_still c.self.inside.lines c.leaf_of.result c.self.inside.winners
+    (Some (due c.args.moment c.args.line c.args.kind))
+    (record { of_table = c.requires.known; here = c.leaf_of.ensures }) c.self.invariant)
 
-pub invariant_of-self-then-old-moment : goal.invariant_of-self-then-old-moment
-invariant_of-self-then-old-moment c =
-    record {
-      ordered = in_order c.insert-2.new.self c.in-Ok.ensures.ordered;
-      queued =
-          keeps_moved c.self.inside.moments c.self.inside.queue
-          (place_at c.args.line c.args.kind) c.in-Some.old c.args.moment
-          c.insert-2.new.self c.insert.new.self c.remove-in-Some.new.self c.self.invariant.queued
-          (sym c.in-Ok.ensures.old ∙ c.in-Some.is) c.if-old-moment.true c.in-Ok.ensures.updates.0
-          c.in_ok-insert.ensures.updates.0 c.remove-in-Some.ensures.updates.0;
-    }
-
-pub invariant_of-self-else-old-moment : goal.invariant_of-self-else-old-moment
-invariant_of-self-else-old-moment c =
-    record {
-      ordered = in_order c.insert-2.new.self c.in-Ok.ensures.ordered;
-      queued =
-          keeps_again c.self.inside.moments c.self.inside.queue (place_at c.args.line c.args.kind) c.args.moment
-          c.insert-2.new.self c.insert.new.self c.self.invariant.queued
-          (sym c.in-Ok.ensures.old ∙ c.in-Some.is ∙ ap Some c.if-old-moment.false)
-          c.in-Ok.ensures.updates.0 c.in_ok-insert.ensures.updates.0;
-    }
-
-pub invariant_of-self-in_default-set : goal.invariant_of-self-in_default-set
-invariant_of-self-in_default-set c =
-    record {
-      ordered = in_order c.insert-2.new.self c.in-Ok.ensures.ordered;
-      queued =
-          keeps_new c.self.inside.moments c.self.inside.queue (place_at c.args.line c.args.kind) c.args.moment
-          c.insert-2.new.self c.insert.new.self c.self.invariant.queued
-          (sym c.in-Ok.ensures.old ∙ c.in_default-set.is) c.in-Ok.ensures.updates.0 c.in_ok-insert.ensures.updates.0;
-    }
-
-pub returns-in-Some-clause-ok : goal.returns-in-Some-clause-ok
-returns-in-Some-clause-ok c =
-    c.in-Ok.ensures.entries
-    ∙ insert_entry-with_moment c.args.line c.args.kind c.args.moment c.self.inside.moments.entries
-    ∙ ap (λ table. with_moment table c.args.line c.args.kind c.args.moment) c.self.view_is
-
-pub returns-in_default-set-clause-ok : goal.returns-in_default-set-clause-ok
-returns-in_default-set-clause-ok c =
-    c.in-Ok.ensures.entries
-    ∙ insert_entry-with_moment c.args.line c.args.kind c.args.moment c.self.inside.moments.entries
-    ∙ ap (λ table. with_moment table c.args.line c.args.kind c.args.moment) c.self.view_is
-
-pub returns-in_default-set-2-clause-ok : goal.returns-in_default-set-2-clause-ok
-returns-in_default-set-2-clause-ok c =
-    c.in-Ok.ensures.entries
-    ∙ insert_entry-with_moment c.args.line c.args.kind c.args.moment c.self.inside.moments.entries
-    ∙ ap (λ table. with_moment table c.args.line c.args.kind c.args.moment) c.self.view_is
+pub returns-clause-table : goal.returns-clause-table
+returns-clause-table c =
+    let leaves = c.self.inside.winners in
+    let entry = due c.args.moment c.args.line c.args.kind in
+    ap set_in c.put.ensures
+    ∙ ap (λ leaf. set_in (slice_set leaves leaf (Some entry))) c.leaf_of.ensures
+    ∙ set_in-set leaves entry c.requires.known c.self.invariant.placed
+    (leaf_within c.self.inside.lines c.args.line c.args.kind leaves
+    (subst (λ (state : DueState). HasPlace state.lines c.args.line c.args.kind) (sym c.self.view_is) c.requires)
+    c.self.invariant)
+    ∙ ap (λ (state : DueState). with_moment state.table c.args.line c.args.kind c.args.moment) c.self.view_is
