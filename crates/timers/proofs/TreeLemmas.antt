@@ -1,6 +1,6 @@
 -- The root of a tree of winners is the first of its leaves.
-use Rattle.std.proofs.Common.{◌≡◌, ℕ, zero, suc, ◌+◌, ◌*◌, ◌/◌, ◌<◌, ◌≤◌, ◌≢◌, ◌==◌, Bool, true, false, List, length, drop, get_or, set, replicate, Option, None, refl, sym, ap, ◌∙◌, arith, add-one, drop-cons, get_or-set_other, get_or-set_same}
-use Rattle.std.proofs.lemmas.List.{drop_all}
+use Rattle.std.proofs.Common.{◌≡◌, ℕ, zero, suc, ◌+◌, ◌*◌, ◌/◌, ◌<◌, ◌≤◌, ◌≢◌, ◌==◌, Bool, true, false, List, length, drop, get_or, set, replicate, Option, None, refl, sym, ap, ◌∙◌, subst, arith, add-one, drop-cons, get_or-set_other, get_or-set_same}
+use Rattle.std.proofs.lemmas.List.{drop_all, get_or_default}
 use Rattle.std.proofs.lemmas.Bool.Decides.{nat_tests}
 use Rattle.timers.specs.declared.entry.Entry.{Entry}
 use Rattle.timers.specs.Order.{earlier}
@@ -74,13 +74,27 @@ root_first leaves nodes tree =
     ∙ root_of leaves nodes tree tree.some
     ∙ best_first nodes leaves leaves (omega arith)
 
+-- what was taken of the two children is their earlier one
+pub won_by : (nodes : Nodes) (node : ℕ) (left right winner : Option Entry) → 2 * node + 1 < length nodes →
+    left ≡ get_or nodes (2 * node) left → right ≡ get_or nodes (2 * node + 1) right → winner ≡ earlier left right →
+    winner ≡ earlier (at nodes (2 * node)) (at nodes (2 * node + 1))
+won_by nodes node left right winner within l r is =
+    is
+    ∙ ap (λ x. earlier x right) (l ∙ get_or_default nodes (2 * node) left None (omega arith))
+    ∙ ap (earlier (at nodes (2 * node))) (r ∙ get_or_default nodes (2 * node + 1) right None within)
+
 -- a tree, but that this node may not be the earlier of its children
 pub record IsTreeBut (but leaves : ℕ) (nodes : Nodes) : Type 0 where
   pub won : (node : ℕ) → 1 ≤ node → node < leaves → node ≢ but → IsWon nodes node
 
-pub whole : (leaves : ℕ) (nodes : Nodes) → IsTreeBut 0 leaves nodes → (node : ℕ) → 1 ≤ node → node < leaves →
-    IsWon nodes node
-whole leaves nodes tree node one within = tree.won node one within (λ e. omega arith)
+-- where that node is too, it is a tree
+pub whole : (but leaves : ℕ) (nodes : Nodes) → IsTreeBut but leaves nodes → IsWon nodes but →
+    (node : ℕ) → 1 ≤ node → node < leaves → IsWon nodes node
+whole but leaves nodes tree is node one within = by (node == but) refl
+  where
+    by : (x : Bool) → (node == but) ≡ x → IsWon nodes node
+    by true e = let same : but ≡ node = grind (arith, nat_tests, e) in subst (IsWon nodes) same is
+    by false e = tree.won node one within (λ same. absurd (grind (arith, nat_tests, e, same)))
 
 -- another node changes, and none of its children
 won_still : (nodes : Nodes) (node changed : ℕ) (entry : Option Entry) → node ≢ changed → 2 * node ≢ changed →

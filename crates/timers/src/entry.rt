@@ -1,5 +1,5 @@
 //! What falls due, and when.
-ghost use Rattle.std.specs.Prelude.{◌≡◌};
+ghost use Rattle.std.specs.Prelude.{◌≡◌, ◌↔◌, IsTrue};
 ghost use Rattle.timers.specs.Order.{earlier};
 
 use crate::kind::Kind;
@@ -24,4 +24,11 @@ pub fn earlier(one: Option<Entry>, other: Option<Entry>) -> Option<Entry>
         (Some(first), Some(second)) if second < first => other,
         (Some(_), _) => one,
     }
+}
+
+// Whether both are one, or there is none of either.
+pub(crate) fn is_same(one: Option<Entry>, other: Option<Entry>) -> bool
+    ensures { IsTrue result ↔ (one ≡ other) }
+{
+    one == other
 }

@@ -2,7 +2,7 @@
 ghost use Rattle.std.specs.Prelude.{◌≡◌, ◌<◌, ◌^◌, length, replicate, slice_set, IfOk, None};
 ghost use Rattle.timers.specs.Leaves.{first_of};
 
-use crate::entry::{Entry, earlier};
+use crate::entry::{Entry, earlier, is_same};
 use mg_bytes::OutOfMemory;
 use std::alloc::Global;
 use std::marker::Model;
@@ -51,7 +51,12 @@ impl Winners {
         self.nodes[node] = entry;
         node /= 2;
         while node > 0 {
-            self.nodes[node] = earlier(self.nodes[2 * node], self.nodes[2 * node + 1]);
+            let winner = earlier(self.nodes[2 * node], self.nodes[2 * node + 1]);
+            // Where the winner stays, all further up does.
+            if is_same(winner, self.nodes[node]) {
+                return;
+            }
+            self.nodes[node] = winner;
             node /= 2;
         }
     }

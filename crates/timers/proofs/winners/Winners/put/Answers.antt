@@ -1,8 +1,7 @@
-use Rattle.std.proofs.Common.{◌≡◌, ◌<◌, ◌≤◌, ◌+◌, ◌*◌, length, slice_set, None, ap, ◌∙◌, arith}
+use Rattle.std.proofs.Common.{◌≡◌, ◌<◌, ◌≤◌, ◌+◌, ◌*◌, length, slice_set, None, ap, sym, ◌∙◌, arith}
 use Rattle.std.proofs.lemmas.List.{drop-set-add, drop-set-lt, get_or_default}
 use Rattle.std.proofs.lemmas.Grind.{common_steps}
-use Rattle.timers.specs.Order.{earlier}
-use Rattle.timers.proofs.TreeLemmas.{at, leaf_changed, node_mended}
+use Rattle.timers.proofs.TreeLemmas.{at, won_by, leaf_changed, node_mended, whole}
 use Rattle.timers.proofs.winners.Winners.put.Goals as goal
 
 pub loop-node-init : goal.loop-node-init
@@ -31,20 +30,36 @@ loop-node-preserved c =
     let below : node < leaves = c.loop-node.invariant.within in
     let inside : node < length nodes = omega arith in
     let some : 1 ≤ node = omega arith in
-    let left : c.index.result.now ≡ at nodes (2 * node) =
-    c.index.ensures ∙ get_or_default nodes (2 * node) c.index.result.now None (omega arith) in
-    let right : c.index-in-loop-node.result.now ≡ at nodes (2 * node + 1) =
-    c.index-in-loop-node.ensures
-    ∙ get_or_default nodes (2 * node + 1) c.index-in-loop-node.result.now None (omega arith) in
     record {
       size = grind (arith, common_steps, size);
       some = c.loop-node.invariant.some;
       few = c.loop-node.invariant.few;
       within = omega arith;
       tree =
-          node_mended node leaves nodes c.earlier.result c.loop-node.invariant.tree some inside
-          (c.earlier.ensures
-          ∙ ap (λ x. earlier x c.index-in-loop-node.result.now) left
-          ∙ ap (λ x. earlier (at nodes (2 * node)) x) right);
-      leaves = drop-set-lt leaves nodes node c.earlier.result below ∙ c.loop-node.invariant.leaves;
+          node_mended node leaves nodes c.earlier-winner.result c.loop-node.invariant.tree some inside
+          (won_by nodes node c.index.result.now c.index-in-loop-node.result.now c.earlier-winner.result (omega arith)
+          c.index.ensures c.index-in-loop-node.ensures c.earlier-winner.ensures);
+      leaves = drop-set-lt leaves nodes node c.earlier-winner.result below ∙ c.loop-node.invariant.leaves;
+    }
+
+pub invariant_of-self-then-is_same : goal.invariant_of-self-then-is_same
+invariant_of-self-then-is_same c =
+    let leaves = c.loop-node.self-inside.leaves in
+    let nodes = c.loop-node.self-inside.nodes.items in
+    let node = c.loop-node.node in
+    let size : length nodes ≡ 2 * leaves = c.loop-node.invariant.size in
+    let below : node < leaves = c.loop-node.invariant.within in
+    let inside : node < length nodes = omega arith in
+    let has : c.index-in-loop-node-2.result.now ≡ at nodes node =
+    c.index-in-loop-node-2.ensures ∙ get_or_default nodes node c.index-in-loop-node-2.result.now None inside in
+    let same : c.earlier-winner.result ≡ c.index-in-loop-node-2.result.now = c.is_same.ensures.0 c.if-is_same.true in
+    record {
+      size = size;
+      some = c.loop-node.invariant.some;
+      few = c.loop-node.invariant.few;
+      won =
+          whole node leaves nodes c.loop-node.invariant.tree
+          (sym (same ∙ has)
+          ∙ won_by nodes node c.index.result.now c.index-in-loop-node.result.now c.earlier-winner.result (omega arith)
+          c.index.ensures c.index-in-loop-node.ensures c.earlier-winner.ensures);
     }
