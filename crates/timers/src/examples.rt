@@ -3,6 +3,7 @@
 
 ghost use Rattle.std.specs.Prelude.{◌≡◌, [], ◌∷◌, Some, None};
 ghost use Rattle.timers.specs.declared.kind.Kind.TheVariants.{Timer, Signal, Message, Announcement};
+ghost use Rattle.timers.specs.Order.{earlier};
 ghost use Rattle.timers.specs.Table.{HasPlace, nothing_set, due, moment_of, with_moment, without, least_of, IsLeast};
 ghost use Rattle.timers.specs.Example.{table_of, drained, drained_from};
 
@@ -16,6 +17,7 @@ pub fn nothing_falls_due_of_an_empty_table()
 /// A table has a place for each kind of the gateway itself and of each of its lines, and at the opening nothing is set.
 pub fn a_table_has_a_place_for_each_kind_of_each_line()
     ensures gateway { HasPlace 0 0 Announcement }
+    ensures line { HasPlace 96 1 Timer }
     ensures last { HasPlace 96 96 Message }
     ensures further { HasPlace 96 97 Timer → ⊥ }
     ensures signal { HasPlace 1 1 (Signal 8) }
@@ -45,6 +47,16 @@ pub fn on_one_line_the_kinds_have_their_order()
         ∷ due 500 1 Timer ∷ due 500 1 (Signal 0) ∷ [])
         ≡ due 500 1 Timer ∷ due 500 1 (Signal 0) ∷ due 500 1 (Signal 2) ∷ due 500 1 (Signal 11) ∷ due 500 1 Message
         ∷ due 500 1 Announcement ∷ [] }
+{}
+
+/// Of two the one that falls due first is the earlier, in whatever order they come; of one alone that one.
+pub fn the_earlier_of_two()
+    ensures moment { earlier (Some (due 16 2 Timer)) (Some (due 15 7 Announcement)) ≡ Some (due 15 7 Announcement) }
+    ensures turned { earlier (Some (due 15 7 Announcement)) (Some (due 16 2 Timer)) ≡ Some (due 15 7 Announcement) }
+    ensures line { earlier (Some (due 500 1 Timer)) (Some (due 500 0 Announcement)) ≡ Some (due 500 0 Announcement) }
+    ensures alone { earlier (Some (due 16 2 Timer)) None ≡ Some (due 16 2 Timer) }
+    ensures other { earlier None (Some (due 16 2 Timer)) ≡ Some (due 16 2 Timer) }
+    ensures none { earlier None None ≡ None }
 {}
 
 /// What is least is set, at this moment, and nothing that is set comes before it.
