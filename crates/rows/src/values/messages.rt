@@ -20,11 +20,17 @@ fn fault_text(alloc: Global, fault: &TextFault) -> io::Result<String> {
     Ok(format!(in alloc; "{number} {words} {}", id.number())?)
 }
 
+fn kind_of(alloc: Global, message: &Message<'_>) -> io::Result<String> {
+    match message {
+        Message::Command { id, .. } => Ok(format!(in alloc; "command {}", id.number())?),
+        Message::Response { .. } => Ok("response".to_string(alloc)?),
+    }
+}
+
 // What a text is read as.
 fn kind(alloc: Global, text: &[u8]) -> io::Result<String> {
     match read_message(alloc, text) {
-        Ok(Message::Command { id, .. }) => Ok(format!(in alloc; "command {}", id.number())?),
-        Ok(Message::Response { .. }) => Ok("response".to_string(alloc)?),
+        Ok(message) => kind_of(alloc, &message),
         Err(fault) => fault_text(alloc, &fault),
     }
 }
