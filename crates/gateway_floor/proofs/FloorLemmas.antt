@@ -1,14 +1,12 @@
 -- What is saved of the floor is put back, and what comes to one line after the other.
 use Rattle.std.proofs.Common.{◌≡◌, ℕ, zero, suc, ◌+◌, ◌-◌, ◌<◌, ◌≤◌, Bool, true, false, List, [], ◌∷◌, ◌++◌, length, map, filter, drop, Option, Some, None, refl, sym, ◌∙◌, ap, subst, append_assoc, append-nil, get_or, arith}
-use Rattle.std.specs.Prelude.{slice_set, not, ◌==◌, if◌then◌else◌}
+use Rattle.std.specs.Prelude.{slice_set, ◌==◌, if◌then◌else◌}
 use Rattle.std.specs.Option.{unwrap_or}
 use Rattle.std.proofs.lemmas.Option.{slice_get-get_or}
 use Rattle.mg_line.specs.declared.phone.Act.{Act}
-use Rattle.mg_line.specs.Acting.{is_heeded}
 use Rattle.plain_machine.specs.Acting.{acted_on, acted}
 use Rattle.std.specs.List.{enumerate_from}
 use Rattle.std.proofs.lemmas.Bool.Decides.{nat_tests}
-use Rattle.std.proofs.lemmas.Grind.{common_steps}
 use Rattle.std.proofs.lemmas.List.{set-set, set-get_or, map-append, drop_all}
 use Rattle.command_forms.specs.declared.forms.Target.{Target}
 use Rattle.command_forms.specs.Meaning.{is_for}
@@ -24,7 +22,6 @@ use Rattle.plain_machine.specs.Falling.{due_by, happened, pass}
 use Rattle.plain_machine.proofs.EffectLaws.{on_this, same_station}
 use Rattle.plain_machine.proofs.FirstLemmas.{by_moment}
 use Rattle.plain_machine.proofs.FallingLaws.{pass_none, pass_some, left, left_falls}
-use Rattle.plain_machine.specs.Refusing.{is_unheeded}
 use Rattle.gateway_stations.specs.Telling.{MayTell, IsLine}
 use Rattle.gateway_floor.specs.declared.floor.Saved.{Saved}
 use Rattle.gateway_floor.specs.declared.floor.Saved.TheVariants.{OfLine, OfGateway}
@@ -55,13 +52,6 @@ saved_more log log' saved was is back grown = ap (λ (x : List Saved). restored 
 -- what was saved last is put back
 pub restored_less : (log log' : List Saved) (saved : Saved) (was is : Endpoints) → log ≡ log' ++ saved ∷ [] → is ≡ undone saved was → restored log' is ≡ restored log was
 restored_less log log' saved was is popped set = ap (restored log') set ∙ sym (restored_snoc log' saved was) ∙ ap (λ (x : List Saved). restored x was) (sym popped)
-
--- a station isn't added by that
-pub undone_lines : (saved : Saved) (was is : Endpoints) → is ≡ undone saved was → length is.stations ≡ length was.stations
-undone_lines (OfLine place station) was is set = ap (λ (e : Endpoints). length e.stations) set ∙ same_length was.stations place station where
-  same_length : (stations : List Station) (place : ℕ) (station : Station) → length (slice_set stations place station) ≡ length stations
-  same_length stations place station = grind (arith, common_steps)
-undone_lines (OfGateway own) was is set = ap (λ (e : Endpoints). length e.stations) set
 
 pub restored_none : (log : List Saved) (endpoints : Endpoints) → log ≡ [] → restored log endpoints ≡ endpoints
 unfolding restored
@@ -198,41 +188,63 @@ several_end lines place stations turn floor out past = rw (meant_end lines place
 floor_is : {e e' f f' : Endpoints} → e ≡ e' → f ≡ f' → ◌≡◌ {A = FloorState} (record { endpoints = e; found = f }) (record { endpoints = e'; found = f' })
 floor_is same found = rw (same, found) refl
 
--- the floor with these stations, this of the gateway itself, and what was saved
-abbrev floor_of : List Saved → List Station → Own → FloorState
-floor_of log stations own = record { endpoints = manned stations own; found = restored log (manned stations own) }
+-- the floor with these endpoints, and what was saved
+abbrev floor_of : List Saved → Endpoints → FloorState
+floor_of log endpoints = record { endpoints = endpoints; found = restored log endpoints }
+
+abbrev with_place : Endpoints → ℕ → Station → Endpoints
+with_place endpoints place station = record endpoints { stations = slice_set endpoints.stations place station }
+
+-- a station that was exchanged is put back
+put_back : (endpoints is : Endpoints) (place : ℕ) (was station : Station) → was ≡ get_or endpoints.stations place was → is ≡ with_place endpoints place station
+    → undone (OfLine place was) is ≡ endpoints
+put_back endpoints is place was station had set =
+    ap (undone (OfLine place was)) set
+    ∙ ap (λ (x : List Station). let e : Endpoints = record endpoints { stations = x } in e)
+    (exchanged_back endpoints.stations (slice_set endpoints.stations place station) place was station had refl)
 
 -- a station is put
-pub put_done : (log log' : List Saved) (stations is : List Station) (own : Own) (place line : ℕ) (was station : Station) (floor : FloorState) → floor ≡ floor_of log stations own
-    → was ≡ get_or stations place was → is ≡ slice_set stations place station → log' ≡ log ++ OfLine place was ∷ [] → place ≡ line - 1
-    → floor_of log' is own ≡ record floor { endpoints = with_station floor.endpoints line station }
-put_done log log' stations is own place line was station floor view had set grown same =
-    floor_is (ap (λ (x : List Station). manned x own) set ∙ ap (λ (p : ℕ). manned (slice_set stations p station) own) same)
-    (saved_more log log' (OfLine place was) (manned stations own) (manned is own)
-    (ap (λ (x : List Station). manned x own) (exchanged_back stations is place was station had set)) grown)
+pub put_done : (log log' : List Saved) (endpoints is : Endpoints) (place line : ℕ) (was station : Station) (floor : FloorState) → floor ≡ floor_of log endpoints
+    → was ≡ get_or endpoints.stations place was → is ≡ with_place endpoints place station → log' ≡ log ++ OfLine place was ∷ [] → place ≡ line - 1
+    → floor_of log' is ≡ record floor { endpoints = with_station floor.endpoints line station }
+put_done log log' endpoints is place line was station floor view had set grown same =
+    floor_is (set ∙ ap (λ (p : ℕ). with_place endpoints p station) same)
+    (saved_more log log' (OfLine place was) endpoints is (put_back endpoints is place was station had set) grown)
     ∙ ap (λ (f : FloorState). let g : FloorState = record f { endpoints = with_station f.endpoints line station } in g) (sym view)
 
+-- what was put is put back, and isn't saved
+undone_is : (log log' : List Saved) (endpoints back : Endpoints) (floor : FloorState) → floor ≡ floor_of log endpoints → back ≡ endpoints → log' ≡ log → floor_of log' back ≡ floor
+undone_is log log' endpoints back floor view there same =
+    floor_is there (ap (λ (x : List Saved). restored x back) same ∙ ap (restored log) there) ∙ sym view
+
 -- a station isn't put
-pub put_undone : (log log' : List Saved) (stations is back : List Station) (own own' : Own) (place : ℕ) (was station : Station) (floor : FloorState) → floor ≡ floor_of log stations own
-    → was ≡ get_or stations place was → is ≡ slice_set stations place station → manned back own' ≡ undone (OfLine place was) (manned is own) → log' ≡ log
-    → floor_of log' back own' ≡ floor
-put_undone log log' stations is back own own' place was station floor view had set undo same =
-    let there : manned back own' ≡ manned stations own = undo ∙ ap (λ (x : List Station). manned x own) (exchanged_back stations is place was station had set) in
-    floor_is there (ap (λ (x : List Saved). restored x (manned back own')) same ∙ ap (restored log) there) ∙ sym view
+pub put_undone : (log log' : List Saved) (endpoints is back : Endpoints) (place : ℕ) (was station : Station) (floor : FloorState) → floor ≡ floor_of log endpoints
+    → was ≡ get_or endpoints.stations place was → is ≡ with_place endpoints place station → back ≡ undone (OfLine place was) is → log' ≡ log → floor_of log' back ≡ floor
+put_undone log log' endpoints is back place was station floor view had set undo same =
+    undone_is log log' endpoints back floor view (undo ∙ put_back endpoints is place was station had set) same
+
+own_back : (endpoints is : Endpoints) (was own : Own) → was ≡ endpoints.own → is ≡ with_own endpoints own → undone (OfGateway was) is ≡ endpoints
+own_back endpoints is was own had set = ap (undone (OfGateway was)) set ∙ ap (λ (x : Own). with_own endpoints x) had
 
 -- what the gateway keeps for itself is put
-pub own_done : (log log' : List Saved) (stations : List Station) (was is own : Own) (floor : FloorState) → floor ≡ floor_of log stations was
-    → is ≡ own → log' ≡ log ++ OfGateway was ∷ [] → floor_of log' stations is ≡ record floor { endpoints = with_own floor.endpoints own }
-own_done log log' stations was is own floor view set grown =
-    floor_is (ap (manned stations) set) (saved_more log log' (OfGateway was) (manned stations was) (manned stations is) refl grown)
+pub own_done : (log log' : List Saved) (endpoints is : Endpoints) (was own kept : Own) (floor : FloorState) → floor ≡ floor_of log endpoints
+    → was ≡ endpoints.own → kept ≡ own → is ≡ with_own endpoints kept → log' ≡ log ++ OfGateway was ∷ []
+    → floor_of log' is ≡ record floor { endpoints = with_own floor.endpoints own }
+own_done log log' endpoints is was own kept floor view had same set grown =
+    floor_is (set ∙ ap (with_own endpoints) same) (saved_more log log' (OfGateway was) endpoints is (own_back endpoints is was kept had set) grown)
     ∙ ap (λ (f : FloorState). let g : FloorState = record f { endpoints = with_own f.endpoints own } in g) (sym view)
 
+-- and isn't put
+pub own_undone : (log log' : List Saved) (endpoints is back : Endpoints) (was kept : Own) (floor : FloorState) → floor ≡ floor_of log endpoints
+    → was ≡ endpoints.own → is ≡ with_own endpoints kept → back ≡ undone (OfGateway was) is → log' ≡ log → floor_of log' back ≡ floor
+own_undone log log' endpoints is back was kept floor view had set undo same =
+    undone_is log log' endpoints back floor view (undo ∙ own_back endpoints is was kept had set) same
+
 -- all that was saved is put back
-pub all_undone : (log log' : List Saved) (stations : List Station) (own : Own) (found : Endpoints) → log ≡ [] → log' ≡ [] → restored log (manned stations own) ≡ found
-    → floor_of log' stations own ≡ settled_at found
-all_undone log log' stations own found none still same =
-    let here : manned stations own ≡ found = sym (restored_none log (manned stations own) none) ∙ same in
-    floor_is here (restored_none log' (manned stations own) still ∙ here)
+pub all_undone : (log log' : List Saved) (endpoints found : Endpoints) → log ≡ [] → log' ≡ [] → restored log endpoints ≡ found → floor_of log' endpoints ≡ settled_at found
+all_undone log log' endpoints found none still same =
+    let here : endpoints ≡ found = sym (restored_none log endpoints none) ∙ same in
+    floor_is here (restored_none log' endpoints still ∙ here)
 
 -- a line whose station stays as it is
 pub goes_still : (line : ℕ) (station : Station) (becomes : Option Station) (turn : Station → Turn) (floor : FloorState) (were are : List OutDatagram) → becomes ≡ None
@@ -252,19 +264,11 @@ station_there : (stations : List Station) (own : Own) (number : ℕ) (station : 
     → station_at (manned stations own) number ≡ Some station
 station_there stations own number station some inside is = rw (not_zero number some) (slice_get-get_or stations (number - 1) station inside ∙ ap Some (sym is))
 
-pub not_true : (b : Bool) → not b ≡ true → b ≡ false
-not_true true e = absurd cc
-not_true false e = refl
-
 -- an act that a line doesn't heed is done in place
 pub is_there : (stations : List Station) (own : Own) (number place : ℕ) (station : Station) → IsLine number → number - 1 < length stations → place ≡ number → station ≡ get_or stations (place - 1) station
     → station_at (manned stations own) number ≡ Some station
 is_there stations own number place station line within same is =
     station_there stations own number station line.some within (is ∙ ap (λ n. get_or stations (n - 1) station) same)
-
-pub unheeded_there : (stations : List Station) (own : Own) (number : ℕ) (act : Act) (station : Station) → station_at (manned stations own) number ≡ Some station
-    → is_unheeded (station_at (manned stations own) number) act ≡ true → is_heeded station.line act ≡ false
-unheeded_there stations own number act station here free = not_true (is_heeded station.line act) (rw here at free)
 
 pub passes_over : (setup : Setup) (stations : List Station) (own : Own) (number place moment : ℕ) (act : Act) (station becomes : Station) → place ≡ number
     → station_at (manned stations own) number ≡ Some station → silent becomes ≡ acted_on setup number moment act station

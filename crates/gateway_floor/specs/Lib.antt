@@ -1,3 +1,4 @@
 pub mod FloorState
+pub mod DueTable
 pub mod Saving
 pub mod Tells

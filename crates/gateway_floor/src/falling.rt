@@ -1,32 +1,16 @@
-//! What falls due first of all, and what happens then, each at its own moment (RFC 3435, 2.1.5, 2.1.7,
-//! 3.5.3 and 4.4.6).
-ghost use Rattle.std.specs.Prelude.{◌≡◌, ◌<◌, ◌≤◌, ◌^◌, length};
+//! What falls due happens, the first first, each thing at its own moment (RFC 3435, 2.1.5, 2.1.7, 3.5.3 and 4.4.6).
+ghost use Rattle.std.specs.Prelude.{◌≡◌};
 ghost use Rattle.plain_machine.specs.Machine.{on_line, on_own};
-ghost use Rattle.plain_machine.specs.Falling.{first_due, due_by, is_due, happened_on, own_happened, happened, pass};
+ghost use Rattle.plain_machine.specs.Falling.{due_by, is_due, happened_on, own_happened, happened, pass};
 ghost use Rattle.gateway_stations.specs.Telling.{MayTell};
-ghost use Rattle.gateway_floor.specs.Saving.{manned};
 ghost use Rattle.gateway_floor.specs.Tells.{Tells};
-ghost use Rattle.plain_machine.specs.Setup.{most_lines};
 
 use crate::floor::Floor;
-use gateway_stations::{Context, Occasion, due_on, earlier, happened_on, own_happened, post_due};
+use gateway_stations::{Context, Occasion, happened_on, own_happened};
 use mg_bytes::OutOfMemory;
-use plain_machine::{DueItem, OutDatagram, Own, Station, StationDue};
+use plain_machine::{DueItem, OutDatagram, StationDue};
 
-/// What falls due first of all. It takes no memory.
-#[tactic(auto, unfolding(plain_machine::specs::Falling::first_due))]
-pub(crate) fn first_due(own: &Own, stations: &[Station]) -> Option<DueItem>
-    requires { length stations.now ≤ most_lines }
-    ensures { result ≡ first_due (manned stations.now own.now) }
-{
-    let mut first = post_due(0, &own.post);
-    for (place, station) in stations.iter().enumerate() {
-        first = earlier(first, due_on(place as u16 + 1, station));
-    }
-    first
-}
-
-// The same where it is due up to a moment.
+// What falls due first of all, where it is due up to a moment.
 #[tactic(auto, unfolding(plain_machine::specs::Falling::due_by))]
 fn due_by(floor: &Floor, moment: u64) -> Option<DueItem>
     ensures { result ≡ due_by floor.now.endpoints moment }

@@ -4,11 +4,13 @@
 //! where an event failed, it is again what that found.
 #![tactic(auto)]
 
+mod due_table;
 mod falling;
 mod floor;
 mod opening;
 mod requesting;
 mod responding;
+mod timed;
 
 pub use crate::falling::{is_due, pass};
 pub use crate::floor::Floor;

@@ -1,0 +1,31 @@
+use Rattle.std.proofs.Common.{arith, ◌≡◌, ◌<◌, ◌+◌, ◌-◌, ◌≤◌, ◌∙◌, length, ap}
+use Rattle.plain_machine.specs.declared.station.Station.{Station}
+use Rattle.plain_machine.specs.Falling.{due_on}
+use Rattle.gateway_floor.proofs.FloorLemmas.{is_there, passes_over}
+use Rattle.gateway_floor.proofs.DueLemmas.{set_length, got_there, station_in_step, table_renewed}
+use Rattle.gateway_floor.proofs.timed.Timed.pass_over.Goals as goal
+
+pub invariant_of-self : goal.invariant_of-self
+invariant_of-self c =
+    let stations = c.self.inside.stations.items in
+    let place = c.from-place.result - 1 in
+    let is = c.pass_over_on.new.station in
+    let from : c.from-place.result ≡ c.args.line = c.from-place.ensures in
+    let some : 1 ≤ c.args.line = c.requires.line.some in
+    let within : c.args.line - 1 < length c.self.inside.stations.items = rw (← c.self.view_is) at c.requires.within in
+    let inside : c.from-place.result - 1 < length c.self.inside.stations.items = omega (arith, from, within) in
+    let same : c.args.line ≡ c.from-place.result - 1 + 1 = omega (arith, from, some) in (
+      rw (set_length stations place is) c.self.invariant.0,
+      station_in_step stations c.self.inside.own place c.args.line c.index.result.now is c.self.inside.due c.enter.new.table c.self.invariant.1
+          same inside c.index.ensures (c.enter.ensures.lines ∙ c.clear.ensures.lines)
+          (table_renewed c.args.line c.due_on-was.result _ c.due_on-is.result _ c.self.inside.due.table c.clear.new.table.table _
+          c.clear.ensures.table c.due_on-was.ensures c.enter.ensures.table
+          (c.due_on-is.ensures
+          ∙ ap (λ (s : Station). due_on (c.args.line, s)) (c.index-2.ensures ∙ got_there stations place is c.index-2.result.now inside))),
+    )
+
+pub returns : goal.returns
+returns c = λ setup moment. rw (← c.self.view_is)
+    (passes_over setup c.self.inside.stations.items c.self.inside.own c.args.line c.from-place.result moment c.args.act c.index_mut.result.now c.pass_over_on.new.station c.from-place.ensures
+    (is_there _ c.self.inside.own c.args.line c.from-place.result _ c.requires.line (rw (← c.self.view_is) at c.requires.within) c.from-place.ensures c.index_mut.ensures.value)
+    (c.pass_over_on.ensures setup c.args.line moment))

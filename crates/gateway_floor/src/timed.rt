@@ -1,0 +1,191 @@
+//! The endpoints: the stations of a gateway, and what it keeps for itself, with the table of what falls due first of each.
+ghost use Rattle.std.specs.Prelude.{ℕ, ◌≡◌, ◌-◌, ◌<◌, ◌≤◌, false, length, slice_set, slice_index_or, IfOk};
+ghost use Rattle.plain_machine.specs.declared.setup.Setup.{Setup};
+ghost use Rattle.mg_line.specs.Acting.{is_heeded};
+ghost use Rattle.plain_machine.specs.Notifying.{silent};
+ghost use Rattle.plain_machine.specs.Acting.{acted_on};
+ghost use Rattle.plain_machine.specs.Falling.{first_due};
+ghost use Rattle.plain_machine.specs.Setup.{most_lines};
+ghost use Rattle.gateway_stations.specs.Telling.{HasId};
+ghost use Rattle.gateway_floor.specs.Saving.{manned};
+ghost use Rattle.gateway_floor.specs.DueTable.{InStep};
+
+use crate::due_table::{clear, enter, first_in};
+use gateway_stations::{due_on, post_due};
+use mg_bytes::OutOfMemory;
+use mg_line::Act;
+use plain_machine::{DueItem, Own, Station};
+use std::alloc::Global;
+use std::marker::Model;
+use std::mem;
+use timers::Due;
+
+/// What the gateway keeps for itself; its next command has an id, since 0 is none.
+#[derive(Drop)]
+pub(crate) struct Kept {
+    own: Own,
+}
+
+impl Model for Kept {
+    ghost use Rattle.plain_machine.specs.declared.own.Own.{Own};
+    ghost use Rattle.gateway_stations.specs.Telling.{HasId};
+
+    ghost Value = { Own };
+
+    ghost view = { λ k. k.own };
+
+    ghost invariant = { λ k. HasId 0 k.own.post.number };
+
+    ghost inverse = { λ own. record { own = own } };
+}
+
+impl Kept {
+    ghost use Rattle.gateway_stations.specs.Telling.{HasId};
+
+    pub(crate) fn of(own: Own) -> Self
+        requires { HasId 0 own.post.number }
+        ensures { result ≡ own }
+    {
+        Kept { own }
+    }
+
+    pub(crate) fn own(&self) -> &Own
+        ensures value { result.now ≡ self.now }
+        ensures id { HasId 0 result.now.post.number }
+    {
+        &self.own
+    }
+}
+
+/// The stations of a gateway, at most 16, and what it keeps for itself. A contract sees them alone.
+///
+/// The table of what falls due is always in step with them. All its memory is taken by `of`.
+#[derive(Drop)]
+pub(crate) struct Timed {
+    stations: Vec<Station>,
+    own: Kept,
+    due: Due,
+}
+
+impl Model for Timed {
+    ghost use Rattle.std.specs.Prelude.{◌≤◌, length};
+    ghost use Rattle.plain_machine.specs.Machine.{Endpoints};
+    ghost use Rattle.plain_machine.specs.Setup.{most_lines};
+    ghost use Rattle.gateway_floor.specs.Saving.{manned};
+    ghost use Rattle.gateway_floor.specs.DueTable.{InStep};
+
+    ghost Value = { Endpoints };
+
+    ghost view = { λ t. manned t.stations.items t.own };
+
+    ghost invariant = { λ t. (length t.stations.items ≤ most_lines) × InStep (manned t.stations.items t.own) t.due };
+}
+
+impl Timed {
+    ghost use Rattle.std.specs.Prelude.{[], true};
+    ghost use Rattle.plain_machine.specs.Machine.{told, station_at, with_own};
+    ghost use Rattle.plain_machine.specs.Acting.{acted};
+    ghost use Rattle.plain_machine.specs.Refusing.{is_unheeded};
+    ghost use Rattle.gateway_stations.specs.Telling.{IsLine};
+
+    /// These stations, and this of the gateway itself. An error is for want of memory only.
+    pub(crate) fn of(alloc: Global, stations: Vec<Station>, own: Own) -> Result<Self, OutOfMemory>
+        requires few { length stations.items ≤ most_lines }
+        requires id { HasId 0 own.post.number }
+        ensures { IfOk result (λ timed. timed ≡ manned stations.items own) }
+    {
+        let due = filled(alloc, &stations, &own)?;
+        let own = Kept::of(own);
+        Ok(Timed { stations, own, due })
+    }
+
+    /// What falls due first of all.
+    pub(crate) fn first_due(&self) -> Option<DueItem>
+        ensures { result ≡ first_due self.now }
+    {
+        first_in(&self.due)
+    }
+
+    /// What the gateway keeps for itself.
+    pub(crate) fn own(&self) -> &Own
+        ensures value { result.now ≡ self.now.own }
+        ensures id { HasId 0 result.now.post.number }
+    {
+        self.own.own()
+    }
+
+    /// The stations, of which the first is that of line 1.
+    pub(crate) fn stations(&self) -> &[Station]
+        ensures value { result.now ≡ self.now.stations }
+        ensures few { length result.now ≤ most_lines }
+    {
+        &self.stations
+    }
+
+    /// The station at this place becomes this one: what it was.
+    pub(crate) fn exchange(&mut self, place: usize, station: Station) -> Station
+        requires { place < length self.old.stations }
+        ensures was { result ≡ slice_index_or self.old.stations place result }
+        ensures is { self.new ≡ record self.old { stations = slice_set self.old.stations place station } }
+    {
+        let before = &self.stations[place];
+        let line = place as u16 + 1;
+        let was = due_on(line, before);
+        clear(&mut self.due, line, was);
+        let is = due_on(line, &station);
+        enter(&mut self.due, line, is);
+        mem::replace(&mut self.stations[place], station)
+    }
+
+    /// What the gateway keeps for itself becomes this: what it was.
+    pub(crate) fn exchange_own(&mut self, own: Kept) -> Kept
+        ensures was { result ≡ self.old.own }
+        ensures is { self.new ≡ with_own self.old own }
+    {
+        let was = post_due(0, &self.own.own().post);
+        clear(&mut self.due, 0, was);
+        let is = post_due(0, &own.own().post);
+        enter(&mut self.due, 0, is);
+        mem::replace(&mut self.own, own)
+    }
+
+    /// An act at the telephone of a line that doesn't heed it. It takes no memory.
+    pub(crate) fn pass_over(&mut self, line: u16, act: Act)
+        requires line { IsLine line }
+        requires within { line - 1 < length self.old.stations }
+        requires unheeded { is_unheeded (station_at self.old line) act ≡ true }
+        ensures { (setup : Setup) (moment : ℕ) → acted setup self.old line moment act ≡ told self.new [] }
+    {
+        let place = usize::from(line) - 1;
+        let was = due_on(line, &self.stations[place]);
+        clear(&mut self.due, line, was);
+        pass_over_on(&mut self.stations[place], act);
+        let is = due_on(line, &self.stations[place]);
+        enter(&mut self.due, line, is);
+    }
+}
+
+// The table of what falls due first of the gateway itself, and of each line.
+fn filled(alloc: Global, stations: &[Station], own: &Own) -> Result<Due, OutOfMemory>
+    requires { length stations.now ≤ most_lines }
+    ensures { IfOk result (λ due. InStep (manned stations.now own.now) due) }
+{
+    let mut due = Due::new(alloc, stations.len() as u16)?;
+    let first = post_due(0, &own.post);
+    enter(&mut due, 0, first);
+    for (place, station) in stations.iter().enumerate() {
+        let line = place as u16 + 1;
+        let first = due_on(line, station);
+        enter(&mut due, line, first);
+    }
+    Ok(due)
+}
+
+// An act that the line of a station doesn't heed.
+#[tactic(auto, unfolding(plain_machine::specs::Notifying::noted))]
+fn pass_over_on(station: &mut Station, act: Act)
+    requires { is_heeded station.old.line act ≡ false }
+    ensures { (setup : Setup) (line moment : ℕ) → silent station.new ≡ acted_on setup line moment act station.old }
+{
+    station.line.pass_over(act);
+}
