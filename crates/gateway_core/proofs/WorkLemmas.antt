@@ -29,7 +29,6 @@ use Rattle.plain_machine.specs.Happening.{ticked, effect}
 use Rattle.plain_machine.specs.Refusing.{refusal_of, is_unheeded, takes_none, ends, Ends}
 use Rattle.plain_machine.proofs.FallingLaws.{pass_none}
 use Rattle.plain_machine.proofs.NameLemmas.{setup_is, line_writable}
-use Rattle.gateway_floor.proofs.FloorLemmas.{not_true}
 use Rattle.gateway_core.specs.declared.state.State.{State}
 use Rattle.gateway_floor.specs.FloorState.{FloorState, settled_at}
 use Rattle.gateway_core.specs.Sound.{IsSound}
@@ -102,6 +101,10 @@ happened_idly setup was is moment sent none idle machine =
     happened_silently _ was is sent none (machine ∙ rw nothing refl) (rw nothing refl)
 
 -- What takes no memory sends nothing
+
+not_true : (b : Bool) → not b ≡ true → b ≡ false
+not_true true e = absurd cc
+not_true false e = refl
 
 unheeded_silent : (setup : Setup) (endpoints : Endpoints) (line moment : ℕ) (act : Act) (found : Option Station) → is_unheeded found act ≡ true
     → (turned_at found endpoints line (acted_on setup line moment act)).sent ≡ []

@@ -1,5 +1,5 @@
 //! The gateway.
-ghost use Rattle.std.specs.Prelude.{◌≡◌, ◌∷◌, [], List, map, ◌<◌, ◌≤◌, ◌^◌, Some, IfOk, IfErr, OnOk, OnErr};
+ghost use Rattle.std.specs.Prelude.{◌≡◌, ◌∷◌, [], List, map, option_map, ◌<◌, ◌≤◌, ◌^◌, Some, IfOk, IfErr, OnOk, OnErr};
 ghost use Rattle.plain_machine.specs.Setup.{setup_of};
 ghost use Rattle.plain_machine.specs.Event.{GatewayEvent, event_of};
 
@@ -42,6 +42,7 @@ impl Model for Gateway {
 impl Gateway {
     ghost use Rattle.std.specs.Result.{result_err};
     ghost use Rattle.plain_machine.specs.Refusing.{Ends};
+    ghost use Rattle.plain_machine.specs.Falling.{first_due};
     ghost use Rattle.plain_machine.specs.Lists.{plain, hook_of, signals_of, connections_of, lost_of};
     ghost use Rattle.gateway_core.specs.Stands.{Stands, Opens, Took, StoppedAt};
 
@@ -53,9 +54,10 @@ impl Gateway {
     {
         let setup = judged(config)?;
         let stations = opening_stations(alloc, &setup)?;
+        let floor = Floor::of(alloc, stations, opening_own(&setup))?;
         let state = State {
             clock: 0,
-            floor: Floor::of(alloc, stations, opening_own(&setup)),
+            floor,
             history: History::new(alloc),
         };
         match Box::new(alloc, state) {
@@ -137,6 +139,19 @@ impl Gateway {
         ensures below { result < 2 ^ 62 }
     {
         self.state.clock
+    }
+
+    /// The moment, in ms, at which something falls due next: a signal or timer T ends, a command is sent again or given
+    /// up, or an announcement is due (RFC 3435, 2.1.5, 2.1.7, 3.5.3 and 4.4.6). `None` where nothing does. Until then no
+    /// tick does anything but move the clock.
+    pub fn next_due(&self) -> Option<u64>
+        ensures { (events : List GatewayEvent) → Stands self.now events →
+            result ≡ option_map (λ item. item.moment) (first_due (plain self.now.setup events).endpoints) }
+    {
+        match self.state.floor.first_due() {
+            Some(item) => Some(item.moment),
+            None => None,
+        }
     }
 
     // One event, whose outputs go after those that there are.
