@@ -40,7 +40,9 @@ pub(crate) fn act_on(
         line,
         moment: state.clock,
     };
-    let becomes = acted_on(context, occasion, station, act, &mut out)?;
-    state.floor.put(line, becomes)?;
+    let Context { alloc, setup } = context;
+    state.floor.change(line, &mut out, |station, out| {
+        acted_on(Context { alloc, setup }, occasion, station, act, out)
+    })??;
     Ok(out)
 }

@@ -17,7 +17,7 @@ use crate::reporting::{name_alone, names_of};
 use audits::{Endpoint, connection_report, endpoint_report, fitting};
 use command_forms::{Asks, Audit, AuditTarget, Deed, RequestForm, Target, form_while};
 use event_requests::EventRequest;
-use gateway_floor::{Floor, deed_on_all, line_with_place, news_of, refused_by};
+use gateway_floor::{Floor, deed_on_all, line_with_place, refused_by};
 use gateway_stations::{Context, answer_with};
 use mg_bytes::{CodeFault, OutOfMemory, ReturnCode};
 use mg_line::Request;
@@ -119,9 +119,8 @@ fn deed_done(
     if let Some(code) = refused_by(floor, lines, deed) {
         return Ok(Answer::plain(context.alloc, code));
     }
-    let answer = answer_with(context, more, deed, &news_of(floor, lines, deed))?;
-    deed_on_all(context, floor, moment, lines, deed, sent)?;
-    Ok(answer)
+    let news = deed_on_all(context, floor, moment, lines, deed, sent)?;
+    answer_with(context, more, deed, &news)
 }
 
 // A deed on any one line: the least that has a place for one more connection. The answer names it.

@@ -72,15 +72,15 @@ fn attempt(
     ensures ends { Ends (machine_in state.old) (event_of event.entry) (result_err result) }
 {
     let clock = state.clock;
-    state.floor.settle();
+    state.floor.commit();
     state.history.purge(clock);
     match carry_out(context, state, event, outputs) {
         Ok(()) => {
-            state.floor.settle();
+            state.floor.commit();
             Ok(())
         }
         Err(refusal) => {
-            state.floor.undo();
+            state.floor.rollback();
             state.history.undo();
             state.clock = clock;
             Err(refusal)

@@ -30,33 +30,6 @@ use Rattle.gateway_floor.specs.Saving.{manned, undone, restored}
 use Rattle.gateway_floor.specs.Tells.{Goes}
 use Rattle.gateway_stations.specs.Turns.{HasTurn, OwnHasTurn}
 
--- what was saved last is put back first
-restored_snoc : (log : List Saved) (saved : Saved) (endpoints : Endpoints) → restored (log ++ saved ∷ []) endpoints ≡ restored log (undone saved endpoints)
-unfolding restored
-restored_snoc [] saved endpoints = refl
-restored_snoc (first ∷ log) saved endpoints = ap (undone first) (restored_snoc log saved endpoints)
-
--- a station that is exchanged and put back
-exchanged_back : (stations is : List Station) (place : ℕ) (was station : Station) → was ≡ get_or stations place was → is ≡ slice_set stations place station
-    → slice_set is place was ≡ stations
-exchanged_back stations is place was station had set =
-    ap (λ (x : List Station). slice_set x place was) set
-    ∙ set-set stations place station was
-    ∙ ap (λ (x : Station). slice_set stations place x) had
-    ∙ set-get_or stations place was
-
--- what is changed is saved as it was
-saved_more : (log log' : List Saved) (saved : Saved) (was is : Endpoints) → undone saved is ≡ was → log' ≡ log ++ saved ∷ [] → restored log' is ≡ restored log was
-saved_more log log' saved was is back grown = ap (λ (x : List Saved). restored x is) grown ∙ restored_snoc log saved is ∙ ap (restored log) back
-
--- what was saved last is put back
-pub restored_less : (log log' : List Saved) (saved : Saved) (was is : Endpoints) → log ≡ log' ++ saved ∷ [] → is ≡ undone saved was → restored log' is ≡ restored log was
-restored_less log log' saved was is popped set = ap (restored log') set ∙ sym (restored_snoc log' saved was) ∙ ap (λ (x : List Saved). restored x was) (sym popped)
-
-pub restored_none : (log : List Saved) (endpoints : Endpoints) → log ≡ [] → restored log endpoints ≡ endpoints
-unfolding restored
-restored_none log endpoints none = rw none refl
-
 -- ---- what comes to the floor
 
 pub goes_nowhere : (floor : FloorState) (change : Told) (out : List OutDatagram) → change ≡ told floor.endpoints [] → Goes change floor floor out out
@@ -183,78 +156,7 @@ pub several_end : (lines : Target) (place : ℕ) (stations : List Station) (turn
 unfolding on_lines
 several_end lines place stations turn floor out past = rw (meant_end lines place stations past) (goes_nowhere floor (told floor.endpoints []) out refl)
 
--- ---- the floor's own steps
-
-floor_is : {e e' f f' : Endpoints} → e ≡ e' → f ≡ f' → ◌≡◌ {A = FloorState} (record { endpoints = e; found = f }) (record { endpoints = e'; found = f' })
-floor_is same found = rw (same, found) refl
-
--- the floor with these endpoints, and what was saved
-abbrev floor_of : List Saved → Endpoints → FloorState
-floor_of log endpoints = record { endpoints = endpoints; found = restored log endpoints }
-
-abbrev with_place : Endpoints → ℕ → Station → Endpoints
-with_place endpoints place station = record endpoints { stations = slice_set endpoints.stations place station }
-
--- a station that was exchanged is put back
-put_back : (endpoints is : Endpoints) (place : ℕ) (was station : Station) → was ≡ get_or endpoints.stations place was → is ≡ with_place endpoints place station
-    → undone (OfLine place was) is ≡ endpoints
-put_back endpoints is place was station had set =
-    ap (undone (OfLine place was)) set
-    ∙ ap (λ (x : List Station). let e : Endpoints = record endpoints { stations = x } in e)
-    (exchanged_back endpoints.stations (slice_set endpoints.stations place station) place was station had refl)
-
--- a station is put
-pub put_done : (log log' : List Saved) (endpoints is : Endpoints) (place line : ℕ) (was station : Station) (floor : FloorState) → floor ≡ floor_of log endpoints
-    → was ≡ get_or endpoints.stations place was → is ≡ with_place endpoints place station → log' ≡ log ++ OfLine place was ∷ [] → place ≡ line - 1
-    → floor_of log' is ≡ record floor { endpoints = with_station floor.endpoints line station }
-put_done log log' endpoints is place line was station floor view had set grown same =
-    floor_is (set ∙ ap (λ (p : ℕ). with_place endpoints p station) same)
-    (saved_more log log' (OfLine place was) endpoints is (put_back endpoints is place was station had set) grown)
-    ∙ ap (λ (f : FloorState). let g : FloorState = record f { endpoints = with_station f.endpoints line station } in g) (sym view)
-
--- what was put is put back, and isn't saved
-undone_is : (log log' : List Saved) (endpoints back : Endpoints) (floor : FloorState) → floor ≡ floor_of log endpoints → back ≡ endpoints → log' ≡ log → floor_of log' back ≡ floor
-undone_is log log' endpoints back floor view there same =
-    floor_is there (ap (λ (x : List Saved). restored x back) same ∙ ap (restored log) there) ∙ sym view
-
--- a station isn't put
-pub put_undone : (log log' : List Saved) (endpoints is back : Endpoints) (place : ℕ) (was station : Station) (floor : FloorState) → floor ≡ floor_of log endpoints
-    → was ≡ get_or endpoints.stations place was → is ≡ with_place endpoints place station → back ≡ undone (OfLine place was) is → log' ≡ log → floor_of log' back ≡ floor
-put_undone log log' endpoints is back place was station floor view had set undo same =
-    undone_is log log' endpoints back floor view (undo ∙ put_back endpoints is place was station had set) same
-
-own_back : (endpoints is : Endpoints) (was own : Own) → was ≡ endpoints.own → is ≡ with_own endpoints own → undone (OfGateway was) is ≡ endpoints
-own_back endpoints is was own had set = ap (undone (OfGateway was)) set ∙ ap (λ (x : Own). with_own endpoints x) had
-
--- what the gateway keeps for itself is put
-pub own_done : (log log' : List Saved) (endpoints is : Endpoints) (was own kept : Own) (floor : FloorState) → floor ≡ floor_of log endpoints
-    → was ≡ endpoints.own → kept ≡ own → is ≡ with_own endpoints kept → log' ≡ log ++ OfGateway was ∷ []
-    → floor_of log' is ≡ record floor { endpoints = with_own floor.endpoints own }
-own_done log log' endpoints is was own kept floor view had same set grown =
-    floor_is (set ∙ ap (with_own endpoints) same) (saved_more log log' (OfGateway was) endpoints is (own_back endpoints is was kept had set) grown)
-    ∙ ap (λ (f : FloorState). let g : FloorState = record f { endpoints = with_own f.endpoints own } in g) (sym view)
-
--- and isn't put
-pub own_undone : (log log' : List Saved) (endpoints is back : Endpoints) (was kept : Own) (floor : FloorState) → floor ≡ floor_of log endpoints
-    → was ≡ endpoints.own → is ≡ with_own endpoints kept → back ≡ undone (OfGateway was) is → log' ≡ log → floor_of log' back ≡ floor
-own_undone log log' endpoints is back was kept floor view had set undo same =
-    undone_is log log' endpoints back floor view (undo ∙ own_back endpoints is was kept had set) same
-
--- all that was saved is put back
-pub all_undone : (log log' : List Saved) (endpoints found : Endpoints) → log ≡ [] → log' ≡ [] → restored log endpoints ≡ found → floor_of log' endpoints ≡ settled_at found
-all_undone log log' endpoints found none still same =
-    let here : endpoints ≡ found = sym (restored_none log endpoints none) ∙ same in
-    floor_is here (restored_none log' endpoints still ∙ here)
-
--- a line whose station stays as it is
-pub goes_still : (line : ℕ) (station : Station) (becomes : Option Station) (turn : Station → Turn) (floor : FloorState) (were are : List OutDatagram) → becomes ≡ None
-    → Some station ≡ station_at floor.endpoints line → HasTurn (turn station) (unwrap_or becomes station) were are → Goes (on_line floor.endpoints line turn) floor floor were are
-goes_still line station becomes turn floor were are none at has = rw (on_this floor.endpoints line station turn (sym at)) (record {
-  endpoints = ap (λ (x : List Station). let e : Endpoints = record floor.endpoints { stations = x } in e) (sym (same_station (line == 0) floor.endpoints.stations (line - 1) station (sym at)))
-      ∙ ap (with_station floor.endpoints line) (sym (ap (λ (b : Option Station). unwrap_or b station) none) ∙ has.station);
-  found = refl;
-  sent = has.sent;
-})
+-- ---- an act that a line does not heed
 
 not_zero : (n : ℕ) → 1 ≤ n → (n == 0) ≡ false
 not_zero n some = grind (arith, nat_tests, some)

@@ -1,4 +1,5 @@
 pub mod FloorState
 pub mod DueTable
 pub mod Saving
+pub mod Changing
 pub mod Tells

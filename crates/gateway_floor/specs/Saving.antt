@@ -1,20 +1,45 @@
 -- Going back to what an event found.
-use Rattle.std.specs.Prelude.{List, [], ◌∷◌, slice_set}
+use Rattle.std.specs.Prelude.{◌≡◌, ◌≤◌, ◌+◌, ℕ, suc, Bool, true, false, ◌||◌, ◌==◌, List, [], ◌∷◌, Option, slice_set, slice_index_or, length}
+use Rattle.std.specs.Option.{unwrap_or}
 use Rattle.plain_machine.specs.declared.own.Own.{Own}
 use Rattle.plain_machine.specs.declared.station.Station.{Station}
-use Rattle.plain_machine.specs.Machine.{Endpoints, with_own}
+use Rattle.plain_machine.specs.Machine.{Endpoints}
 use Rattle.gateway_floor.specs.declared.floor.Saved.{Saved}
-use Rattle.gateway_floor.specs.declared.floor.Saved.TheVariants.{OfLine, OfGateway}
 
 abbrev pub manned : List Station → Own → Endpoints
 manned stations own = record { stations = stations; own = own }
 
--- what was saved is put back
-abbrev pub undone : Saved → Endpoints → Endpoints
-undone (OfLine place station) endpoints = record endpoints { stations = slice_set endpoints.stations place station }
-undone (OfGateway own) endpoints = with_own endpoints own
+-- all stations that were saved are put back, what was saved last first
+unfoldable pub restored : List Saved → List Station → List Station
+restored [] stations = stations
+restored (saved ∷ more) stations = slice_set (restored more stations) saved.place saved.station
 
--- all that was saved is put back, the last change first
-unfoldable pub restored : List Saved → Endpoints → Endpoints
-restored [] endpoints = endpoints
-restored (saved ∷ more) endpoints = undone saved (restored more endpoints)
+-- and so is what the gateway keeps for itself, where that was saved
+abbrev pub found_in : List Saved → Option Own → Endpoints → Endpoints
+found_in saved own endpoints = manned (restored saved endpoints.stations) (unwrap_or own endpoints.own)
+
+-- the station at this place is saved
+unfoldable pub is_saved : ℕ → List Saved → Bool
+is_saved place [] = false
+is_saved place (saved ∷ more) = (saved.place == place) || is_saved place more
+
+-- what is marked is saved
+abbrev pub IsMarked : List Bool → List Saved → Type 0
+IsMarked touched saved = (place : ℕ) → slice_index_or touched place false ≡ true → is_saved place saved ≡ true
+
+-- the station at this place, which is like this, is saved as well
+pub record IsSavedToo (place : ℕ) (station : Station) (touched touched' : List Bool) (saved saved' : List Saved) : Type 0 where
+  pub flags : length touched' ≡ length touched
+  pub marked : IsMarked touched' saved'
+  pub this : is_saved place saved' ≡ true
+  pub same : (stations : List Station) → station ≡ slice_index_or stations place station → restored saved' stations ≡ restored saved stations
+
+-- at so many places the station isn't saved
+abbrev pub idle : List Bool → ℕ
+idle [] = 0
+idle (true ∷ touched) = idle touched
+idle (false ∷ touched) = suc (idle touched)
+
+-- there is room for saving each station that isn't saved
+abbrev pub HasRoom : ℕ → List Bool → ℕ → Type 0
+HasRoom saved touched capacity = saved + idle touched ≤ capacity

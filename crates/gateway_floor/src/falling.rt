@@ -44,12 +44,13 @@ fn happen_on_line(
         (happened_on due context.entry.setup.now occasion.line occasion.moment))
         floor.old floor.new out.old.items out.new.items }
 {
-    let Some(station) = floor.station(occasion.line) else {
+    let Some(_) = floor.station(occasion.line) else {
         return Ok(());
     };
-    let becomes = happened_on(context, occasion, station, due, out)?;
-    floor.put(occasion.line, becomes)?;
-    Ok(())
+    let Context { alloc, setup } = context;
+    floor.change(occasion.line, out, |station, out| {
+        happened_on(Context { alloc, setup }, occasion, station, due, out)
+    })?
 }
 
 // What falls due of the gateway itself happens.
@@ -64,9 +65,10 @@ fn happen_itself(
     ensures { Tells result (on_own floor.old.endpoints (own_happened due context.entry.setup.now moment))
         floor.old floor.new out.old.items out.new.items }
 {
-    let becomes = own_happened(context, moment, floor.own(), due, out)?;
-    floor.put_own(becomes)?;
-    Ok(())
+    let Context { alloc, setup } = context;
+    floor.change_own(out, |own, out| {
+        own_happened(Context { alloc, setup }, moment, own, due, out)
+    })?
 }
 
 // What falls due happens at its own moment.

@@ -1,54 +1,103 @@
-//! The floor: the stations of a gateway, and what it keeps for itself. They are looked up, changed one at a time, and put
-//! back where an event failed.
-ghost use Rattle.std.specs.Prelude.{ℕ, ◌≡◌, ◌-◌, ◌<◌, ◌≤◌, length, slice_set, IfOk};
+//! The floor: the stations of a gateway, and what it keeps for itself. They are looked up, changed in place, one at a time,
+//! and put back where an event failed.
+ghost use Rattle.std.specs.Prelude.{ℕ, ◌≡◌, ◌-◌, ◌<◌, ◌≤◌, Some, false, length, slice_set, vec_capacity, OnOk, OnErr, IfOk};
+ghost use Rattle.std.specs.Borrow.{MutBor};
+ghost use Rattle.plain_machine.specs.declared.own.Own.{Own};
 ghost use Rattle.plain_machine.specs.declared.setup.Setup.{Setup};
+ghost use Rattle.plain_machine.specs.declared.station.Station.{Station};
 ghost use Rattle.plain_machine.specs.Falling.{first_due};
 ghost use Rattle.gateway_stations.specs.Telling.{HasId};
-ghost use Rattle.gateway_floor.specs.Saving.{manned, undone};
+ghost use Rattle.gateway_floor.specs.Saving.{manned, IsMarked, IsSavedToo, HasRoom};
 ghost use Rattle.plain_machine.specs.Setup.{most_lines};
 
-use crate::timed::{Kept, Timed};
+use crate::timed::Timed;
+use gateway_stations::{same_own, same_station};
 use mg_bytes::OutOfMemory;
 use mg_line::Act;
 use plain_machine::{DueItem, Own, Station};
-use std::alloc::{AllocError, Global};
+use std::alloc::Global;
 use std::marker::Model;
 
-/// What there was before an event changed it.
+/// A station as an event found it.
 #[derive(Drop)]
-enum Saved {
-    /// The station at this place.
-    OfLine { place: usize, station: Station },
-    /// What the gateway keeps for itself.
-    OfGateway(Kept),
+struct Saved {
+    place: usize,
+    station: Station,
 }
 
-/// The stations of a gateway, at most 16, and what it keeps for itself. A contract sees them as they are, and as the
-/// event that happens found them.
+/// The stations of a gateway, at most `MOST_LINES`, and what it keeps for itself. A contract sees them as they are, and as
+/// the event that happens found them.
 ///
-/// What was there before a change is saved, so that it can be put back; that takes no memory.
+/// What an event changes is saved at its first touch, and put back where the event fails, which takes no memory. The room
+/// for that is made once.
 #[derive(Drop)]
 pub struct Floor {
-    alloc: Global,
     endpoints: Timed,
     saved: Vec<Saved>,
+    // At which places the station is saved.
+    touched: Vec<bool>,
+    // What the gateway keeps for itself, where the event changed it.
+    own_saved: Option<Own>,
 }
 
 impl Model for Floor {
+    ghost use Rattle.std.specs.Prelude.{◌≡◌, length, vec_capacity, IfSome};
+    ghost use Rattle.gateway_stations.specs.Telling.{HasId};
     ghost use Rattle.gateway_floor.specs.FloorState.{FloorState};
-    ghost use Rattle.gateway_floor.specs.Saving.{restored};
+    ghost use Rattle.gateway_floor.specs.Saving.{found_in, IsMarked, HasRoom};
 
     ghost Value = { FloorState };
 
-    ghost view = { λ f. record { endpoints = f.endpoints; found = restored f.saved.items f.endpoints } };
+    ghost view = { λ f. record { endpoints = f.endpoints; found = found_in f.saved.items f.own_saved f.endpoints } };
+
+    ghost invariant = { λ f. record {
+      flags : length f.touched.items ≡ length f.endpoints.stations;
+      marked : IsMarked f.touched.items f.saved.items;
+      room : HasRoom (length f.saved.items) f.touched.items (vec_capacity f.saved);
+      own : IfSome f.own_saved (λ own. HasId 0 own.post.number);
+    } };
+}
+
+// The station at this place is saved, if this event didn't do so. After an error, which is for want of memory, all is as it
+// was.
+fn save(
+    saved: &mut Vec<Saved>,
+    touched: &mut Vec<bool>,
+    place: usize,
+    station: &Station,
+) -> Result<(), OutOfMemory>
+    requires within { place < length touched.old.items }
+    requires marked { IsMarked touched.old.items saved.old.items }
+    requires room { HasRoom (length saved.old.items) touched.old.items (vec_capacity saved.old) }
+    ensures ok { OnOk result (IsSavedToo place station.now touched.old.items touched.new.items saved.old.items saved.new.items) }
+    ensures room { OnOk result (HasRoom (length saved.new.items) touched.new.items (vec_capacity saved.new)) }
+    ensures saved { OnErr result (saved.new ≡ saved.old) }
+    ensures touched { OnErr result (touched.new ≡ touched.old) }
+{
+    if !touched[place] {
+        let station = same_station(station)?;
+        saved.push_reserved(Saved { place, station });
+        touched[place] = true;
+    }
+    Ok(())
+}
+
+// The station at this place isn't saved any more.
+fn unmark(touched: &mut Vec<bool>, place: usize)
+    ensures { touched.new.items ≡ slice_set touched.old.items place false }
+{
+    if place < touched.len() {
+        touched[place] = false;
+    }
 }
 
 impl Floor {
-    ghost use Rattle.std.specs.Prelude.{[], true, OnOk, OnErr, OnSome, option_copied};
-    ghost use Rattle.plain_machine.specs.Machine.{told, serves, station_at, with_station, with_own};
+    ghost use Rattle.std.specs.Prelude.{[], true, OnSome, option_copied};
+    ghost use Rattle.plain_machine.specs.Machine.{told, serves, station_at};
     ghost use Rattle.plain_machine.specs.Acting.{acted};
     ghost use Rattle.plain_machine.specs.Refusing.{is_unheeded};
     ghost use Rattle.gateway_floor.specs.FloorState.{settled_at};
+    ghost use Rattle.gateway_floor.specs.Changing.{LineChanges, GatewayChanges, KeepsId};
     ghost use Rattle.gateway_stations.specs.Telling.{IsLine};
 
     /// A floor with these stations, and with this of the gateway itself. An error is for want of memory only.
@@ -58,10 +107,14 @@ impl Floor {
         requires id { HasId 0 own.post.number }
         ensures { IfOk result (λ floor. floor ≡ settled_at (manned stations.items own)) }
     {
+        let saved = Vec::with_capacity(alloc, stations.len())?;
+        let mut touched = Vec::new(alloc);
+        touched.resize(stations.len(), false)?;
         Ok(Floor {
-            alloc,
             endpoints: Timed::of(alloc, stations, own)?,
-            saved: Vec::new(alloc),
+            saved,
+            touched,
+            own_saved: None,
         })
     }
 
@@ -107,58 +160,69 @@ impl Floor {
         self.endpoints.stations().get(usize::from(line) - 1)
     }
 
-    /// The station of the line with this number becomes this one. After an error the floor is as it was.
-    pub fn put(&mut self, line: u16, station: Station) -> Result<(), OutOfMemory>
+    /// The station of the line with this number is changed in place, with what else the change is to see. Where memory for
+    /// saving the station is refused, the floor is as it was.
+    pub fn change<C, T, F: FnOnce(&mut Station, &mut C) -> T>(
+        &mut self,
+        line: u16,
+        with: &mut C,
+        change: F,
+    ) -> Result<T, OutOfMemory>
         requires line { IsLine line }
         requires within { line - 1 < length self.old.endpoints.stations }
-        ensures ok { OnOk result (self.new ≡ record self.old { endpoints = with_station self.old.endpoints line station }) }
+        requires callable { (p : MutBor Station) (q : MutBor C) → station_at self.old.endpoints line ≡ Some p.now
+            → q.now ≡ with.old → F.pre change p q }
+        ensures ok { IfOk result (λ r. LineChanges F.FnOnce change line self.old with.old r self.new with.new) }
         ensures err { OnErr result (self.new ≡ self.old) }
+        ensures with { OnErr result (with.new ≡ with.old) }
     {
         let place = usize::from(line) - 1;
-        let was = self.endpoints.exchange(place, station);
-        let saved = Saved::OfLine {
-            place,
-            station: was,
-        };
-        match self.saved.push(saved) {
-            Ok(()) => Ok(()),
-            Err(refused) => {
-                put_back(&mut self.endpoints, refused.value);
-                Err(AllocError)
-            }
-        }
+        let station = &self.endpoints.stations()[place];
+        save(&mut self.saved, &mut self.touched, place, station)?;
+        Ok(self.endpoints.change(place, with, change))
     }
 
-    /// What the gateway keeps for itself becomes this. After an error the floor is as it was.
-    pub fn put_own(&mut self, own: Own) -> Result<(), OutOfMemory>
-        requires { HasId 0 own.post.number }
-        ensures ok { OnOk result (self.new ≡ record self.old { endpoints = with_own self.old.endpoints own }) }
+    /// What the gateway keeps for itself is changed in place, with what else the change is to see. Where memory for saving
+    /// it is refused, the floor is as it was.
+    pub fn change_own<C, T, F: FnOnce(&mut Own, &mut C) -> T>(
+        &mut self,
+        with: &mut C,
+        change: F,
+    ) -> Result<T, OutOfMemory>
+        requires callable { (p : MutBor Own) (q : MutBor C) → p.now ≡ self.old.endpoints.own → HasId 0 p.now.post.number
+            → q.now ≡ with.old → F.pre change p q }
+        requires keeps { KeepsId F.FnOnce change }
+        ensures ok { IfOk result (λ r. GatewayChanges F.FnOnce change self.old with.old r self.new with.new) }
         ensures err { OnErr result (self.new ≡ self.old) }
+        ensures with { OnErr result (with.new ≡ with.old) }
     {
-        let was = self.endpoints.exchange_own(Kept::of(own));
-        match self.saved.push(Saved::OfGateway(was)) {
-            Ok(()) => Ok(()),
-            Err(refused) => {
-                put_back(&mut self.endpoints, refused.value);
-                Err(AllocError)
-            }
+        if self.own_saved.is_none() {
+            self.own_saved = Some(same_own(self.endpoints.own())?);
         }
+        Ok(self.endpoints.change_own(with, change))
     }
 
-    /// What the next event finds is what is there: nothing is saved any more.
-    #[tactic(auto, unfolding(crate::specs::Saving::restored))]
-    pub fn settle(&mut self)
+    /// What is there is what the next event finds: nothing is saved any more. The room stays.
+    pub fn commit(&mut self)
         ensures { self.new ≡ settled_at self.old.endpoints }
     {
-        self.saved = Vec::new(self.alloc);
+        while let Some(saved) = self.saved.pop() {
+            unmark(&mut self.touched, saved.place);
+        }
+        self.own_saved = None;
     }
 
-    /// An event failed: all is again what it found.
-    pub fn undo(&mut self)
+    /// An event failed: all is again what it found. It takes no memory.
+    pub fn rollback(&mut self)
         ensures { self.new ≡ settled_at self.old.found }
     {
         while let Some(saved) = self.saved.pop() {
-            put_back(&mut self.endpoints, saved);
+            let Saved { place, station } = saved;
+            unmark(&mut self.touched, place);
+            put_back(&mut self.endpoints, place, station);
+        }
+        if let Some(own) = self.own_saved.take() {
+            self.endpoints.exchange_own(own);
         }
     }
 
@@ -174,20 +238,8 @@ impl Floor {
     }
 }
 
-// Puts back what was saved last.
-fn put_back(endpoints: &mut Timed, saved: Saved)
-    ensures { endpoints.new ≡ undone saved endpoints.old }
-{
-    match saved {
-        Saved::OfLine { place, station } => put_at(endpoints, place, station),
-        Saved::OfGateway(own) => {
-            endpoints.exchange_own(own);
-        }
-    }
-}
-
 // The station at this place, if there is one, becomes this one.
-fn put_at(endpoints: &mut Timed, place: usize, station: Station)
+fn put_back(endpoints: &mut Timed, place: usize, station: Station)
     ensures { endpoints.new ≡ record endpoints.old { stations = slice_set endpoints.old.stations place station } }
 {
     if place < endpoints.stations().len() {

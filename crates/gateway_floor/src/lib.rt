@@ -15,5 +15,5 @@ mod timed;
 pub use crate::falling::{is_due, pass};
 pub use crate::floor::Floor;
 pub use crate::opening::{judged, key_at_fault, opening_own, opening_stations};
-pub use crate::requesting::{deed_on_all, line_with_place, news_of, refused_by};
+pub use crate::requesting::{deed_on_all, line_with_place, refused_by};
 pub use crate::responding::respond_to_its_id;

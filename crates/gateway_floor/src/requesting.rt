@@ -1,15 +1,15 @@
 //! A deed on the lines that a command is for: on all of them, or on none (RFC 3435, 2.3.2 to 2.3.9 and 3.2.1.3).
-ghost use Rattle.std.specs.Prelude.{◌≡◌};
-ghost use Rattle.plain_machine.specs.Machine.{on_line};
+ghost use Rattle.std.specs.Prelude.{◌≡◌, IfOk};
+ghost use Rattle.plain_machine.specs.Machine.{station_at, on_line};
 ghost use Rattle.plain_machine.specs.Requesting.{refusal_on, refused_by, deed_on};
-ghost use Rattle.plain_machine.specs.Requesting.{deed_on_all, shown_of, line_with_place};
+ghost use Rattle.plain_machine.specs.Requesting.{deed_on_all, shown_on, shown_of, line_with_place};
 ghost use Rattle.gateway_stations.specs.News.{shown_as};
 ghost use Rattle.gateway_stations.specs.Telling.{MayTell};
 ghost use Rattle.gateway_floor.specs.Tells.{Tells};
 
 use crate::floor::Floor;
 use command_forms::Target;
-use gateway_stations::{Context, News, Occasion, deed_on, has_place, news_on, refusal_by};
+use gateway_stations::{Context, News, Occasion, deed_on, has_place, refusal_by};
 use mg_bytes::OutOfMemory;
 use plain_machine::{LineDeed, OutDatagram, Station};
 
@@ -23,9 +23,9 @@ fn refusal_on(lines: Target, deed: &LineDeed, number: u16, station: &Station) ->
     refusal_by(deed, station)
 }
 
-/// The code of the least line that refuses a deed.
+// The code of the least line that refuses a deed, where it may be for several.
 #[tactic(auto, unfolding(plain_machine::specs::Requesting::refused_by))]
-pub fn refused_by(floor: &Floor, lines: Target, deed: &LineDeed) -> Option<u16>
+fn refused_by_one_of(floor: &Floor, lines: Target, deed: &LineDeed) -> Option<u16>
     ensures { result ≡ refused_by floor.now.endpoints lines deed.now }
 {
     let stations = floor.stations();
@@ -37,7 +37,20 @@ pub fn refused_by(floor: &Floor, lines: Target, deed: &LineDeed) -> Option<u16>
     None
 }
 
-// A deed on this line.
+/// The code of the least line that refuses a deed. It takes no memory.
+pub fn refused_by(floor: &Floor, lines: Target, deed: &LineDeed) -> Option<u16>
+    ensures { result ≡ refused_by floor.now.endpoints lines deed.now }
+{
+    match lines {
+        Target::One(line) => match floor.station(line) {
+            Some(station) => refusal_by(deed, station),
+            None => None,
+        },
+        Target::All | Target::Any => refused_by_one_of(floor, lines, deed),
+    }
+}
+
+// A deed on this line: what there is to be told of its connections.
 #[tactic(auto, unfolding(plain_machine::specs::Machine::on_line))]
 fn deed_on_line(
     context: Context<'_>,
@@ -45,22 +58,23 @@ fn deed_on_line(
     occasion: Occasion,
     deed: &LineDeed,
     sent: &mut Vec<OutDatagram>,
-) -> Result<(), OutOfMemory>
+) -> Result<News, OutOfMemory>
     requires { MayTell context.setup.now occasion.moment }
-    ensures { Tells result (on_line floor.old.endpoints occasion.line (deed_on context.entry.setup.now deed.now
+    ensures told { Tells result (on_line floor.old.endpoints occasion.line (deed_on context.entry.setup.now deed.now
         occasion.moment occasion.line)) floor.old floor.new sent.old.items sent.new.items }
+    ensures news { IfOk result (λ news. shown_as news ≡ shown_on (station_at floor.old.endpoints occasion.line) deed.now) }
 {
-    let Some(station) = floor.station(occasion.line) else {
-        return Ok(());
+    let Some(_) = floor.station(occasion.line) else {
+        return Ok(News::Nothing);
     };
-    let becomes = deed_on(context, occasion, station, deed, sent)?;
-    floor.put(occasion.line, becomes)?;
-    Ok(())
+    let Context { alloc, setup } = context;
+    floor.change(occasion.line, sent, |station, sent| {
+        deed_on(Context { alloc, setup }, occasion, station, deed, sent)
+    })?
 }
 
-/// A deed on each line that it is for, in the order of their numbers, which none of them refuses. After an error, which is
-/// for want of memory, what the event found can still be had.
-pub fn deed_on_all(
+// A deed on each line that it is for, in the order of their numbers, which none of them refuses.
+fn deed_on_each(
     context: Context<'_>,
     floor: &mut Floor,
     moment: u64,
@@ -81,18 +95,29 @@ pub fn deed_on_all(
     Ok(())
 }
 
-/// What there is to be told of connections where a deed is done: of one line that of its connections, of all lines nothing.
+/// A deed on each line that it is for, in the order of their numbers, which none of them refuses: what there is to be told
+/// of connections, of one line that of its connections, of all lines nothing. After an error, which is for want of memory,
+/// what the event found can still be had.
 #[tactic(auto, unfolding(plain_machine::specs::Requesting::shown_of))]
-pub fn news_of(floor: &Floor, lines: Target, deed: &LineDeed) -> News
-    ensures { shown_as result ≡ shown_of floor.now.endpoints lines deed.now }
+pub fn deed_on_all(
+    context: Context<'_>,
+    floor: &mut Floor,
+    moment: u64,
+    lines: Target,
+    deed: &LineDeed,
+    sent: &mut Vec<OutDatagram>,
+) -> Result<News, OutOfMemory>
+    requires { MayTell context.setup.now moment }
+    ensures told { Tells result (deed_on_all context.entry.setup.now floor.old.endpoints lines deed.now moment)
+        floor.old floor.new sent.old.items sent.new.items }
+    ensures news { IfOk result (λ news. shown_as news ≡ shown_of floor.old.endpoints lines deed.now) }
 {
     match lines {
-        Target::One(line) => match floor.station(line) {
-            Some(station) => news_on(deed, station),
-            None => News::Nothing,
-        },
-        Target::All => News::Nothing,
-        Target::Any => News::Nothing,
+        Target::One(line) => deed_on_line(context, floor, Occasion { line, moment }, deed, sent),
+        Target::All | Target::Any => {
+            deed_on_each(context, floor, moment, lines, deed, sent)?;
+            Ok(News::Nothing)
+        }
     }
 }
 

@@ -33,10 +33,14 @@ fn respond_on_line(
     let Some(station) = floor.station(occasion.line) else {
         return Ok(());
     };
-    if let Some(becomes) = responded_on(context, occasion, station, response, out)? {
-        floor.put(occasion.line, becomes)?;
+    // What says nothing to the line changes nothing, and takes no memory.
+    if let Heard::Nothing = heard_on(&station.post, response) {
+        return Ok(());
     }
-    Ok(())
+    let Context { alloc, setup } = context;
+    floor.change(occasion.line, out, |station, out| {
+        responded_on(Context { alloc, setup }, occasion, station, response, out)
+    })?
 }
 
 // What a response does to what the gateway keeps for itself.
@@ -51,9 +55,10 @@ fn respond_to_own(
     ensures { Tells result (on_own floor.old.endpoints (own_responded context.entry.setup.now moment response.now))
         floor.old floor.new out.old.items out.new.items }
 {
-    let becomes = own_responded(context, moment, floor.own(), response, out)?;
-    floor.put_own(becomes)?;
-    Ok(())
+    let Context { alloc, setup } = context;
+    floor.change_own(out, |own, out| {
+        own_responded(Context { alloc, setup }, moment, own, response, out)
+    })?
 }
 
 // This line notifies another agent from now on.
@@ -61,11 +66,10 @@ fn respond_to_own(
 fn redirect_line(floor: &mut Floor, line: u16, agent: Entity) -> Result<(), OutOfMemory>
     ensures { Tells result (on_line floor.old.endpoints line (redirected_on agent line)) floor.old floor.new [] [] }
 {
-    let Some(station) = floor.station(line) else {
+    let Some(_) = floor.station(line) else {
         return Ok(());
     };
-    let becomes = redirected_on(station, agent)?;
-    floor.put(line, becomes)?;
+    floor.change(line, &mut (), |station, _| redirected_on(station, agent))?;
     Ok(())
 }
 
@@ -93,12 +97,13 @@ fn open_line(
         (opened_on agent context.entry.setup.now occasion.moment occasion.line))
         floor.old floor.new out.old.items out.new.items }
 {
-    let Some(station) = floor.station(occasion.line) else {
+    let Some(_) = floor.station(occasion.line) else {
         return Ok(());
     };
-    let becomes = opened_on(context, occasion, station, agent, out)?;
-    floor.put(occasion.line, becomes)?;
-    Ok(())
+    let Context { alloc, setup } = context;
+    floor.change(occasion.line, out, |station, out| {
+        opened_on(Context { alloc, setup }, occasion, station, agent, out)
+    })?
 }
 
 // And so it does each line, in the order of their numbers.

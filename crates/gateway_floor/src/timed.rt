@@ -1,5 +1,8 @@
 //! The endpoints: the stations of a gateway, and what it keeps for itself, with the table of what falls due first of each.
 ghost use Rattle.std.specs.Prelude.{ℕ, ◌≡◌, ◌-◌, ◌<◌, ◌≤◌, false, length, slice_set, slice_index_or, IfOk};
+ghost use Rattle.std.specs.Borrow.{MutBor};
+ghost use Rattle.plain_machine.specs.declared.own.Own.{Own};
+ghost use Rattle.plain_machine.specs.declared.station.Station.{Station};
 ghost use Rattle.plain_machine.specs.declared.setup.Setup.{Setup};
 ghost use Rattle.mg_line.specs.Acting.{is_heeded};
 ghost use Rattle.plain_machine.specs.Notifying.{silent};
@@ -7,6 +10,7 @@ ghost use Rattle.plain_machine.specs.Acting.{acted_on};
 ghost use Rattle.plain_machine.specs.Falling.{first_due};
 ghost use Rattle.plain_machine.specs.Setup.{most_lines};
 ghost use Rattle.gateway_stations.specs.Telling.{HasId};
+ghost use Rattle.gateway_floor.specs.Changing.{StationChanges, OwnChanges, KeepsId};
 ghost use Rattle.gateway_floor.specs.Saving.{manned};
 ghost use Rattle.gateway_floor.specs.DueTable.{InStep};
 
@@ -17,53 +21,15 @@ use mg_line::Act;
 use plain_machine::{DueItem, Own, Station};
 use std::alloc::Global;
 use std::marker::Model;
-use std::mem;
 use timers::Due;
 
-/// What the gateway keeps for itself; its next command has an id, since 0 is none.
-#[derive(Drop)]
-pub(crate) struct Kept {
-    own: Own,
-}
-
-impl Model for Kept {
-    ghost use Rattle.plain_machine.specs.declared.own.Own.{Own};
-    ghost use Rattle.gateway_stations.specs.Telling.{HasId};
-
-    ghost Value = { Own };
-
-    ghost view = { λ k. k.own };
-
-    ghost invariant = { λ k. HasId 0 k.own.post.number };
-
-    ghost inverse = { λ own. record { own = own } };
-}
-
-impl Kept {
-    ghost use Rattle.gateway_stations.specs.Telling.{HasId};
-
-    pub(crate) fn of(own: Own) -> Self
-        requires { HasId 0 own.post.number }
-        ensures { result ≡ own }
-    {
-        Kept { own }
-    }
-
-    pub(crate) fn own(&self) -> &Own
-        ensures value { result.now ≡ self.now }
-        ensures id { HasId 0 result.now.post.number }
-    {
-        &self.own
-    }
-}
-
-/// The stations of a gateway, at most 16, and what it keeps for itself. A contract sees them alone.
+/// The stations of a gateway, at most `MOST_LINES`, and what it keeps for itself. A contract sees them alone.
 ///
 /// The table of what falls due is always in step with them. All its memory is taken by `of`.
 #[derive(Drop)]
 pub(crate) struct Timed {
     stations: Vec<Station>,
-    own: Kept,
+    own: Own,
     due: Due,
 }
 
@@ -71,6 +37,7 @@ impl Model for Timed {
     ghost use Rattle.std.specs.Prelude.{◌≤◌, length};
     ghost use Rattle.plain_machine.specs.Machine.{Endpoints};
     ghost use Rattle.plain_machine.specs.Setup.{most_lines};
+    ghost use Rattle.gateway_stations.specs.Telling.{HasId};
     ghost use Rattle.gateway_floor.specs.Saving.{manned};
     ghost use Rattle.gateway_floor.specs.DueTable.{InStep};
 
@@ -78,7 +45,11 @@ impl Model for Timed {
 
     ghost view = { λ t. manned t.stations.items t.own };
 
-    ghost invariant = { λ t. (length t.stations.items ≤ most_lines) × InStep (manned t.stations.items t.own) t.due };
+    ghost invariant = { λ t. record {
+      few : length t.stations.items ≤ most_lines;
+      id : HasId 0 t.own.post.number;
+      due : InStep (manned t.stations.items t.own) t.due;
+    } };
 }
 
 impl Timed {
@@ -95,7 +66,6 @@ impl Timed {
         ensures { IfOk result (λ timed. timed ≡ manned stations.items own) }
     {
         let due = filled(alloc, &stations, &own)?;
-        let own = Kept::of(own);
         Ok(Timed { stations, own, due })
     }
 
@@ -111,7 +81,7 @@ impl Timed {
         ensures value { result.now ≡ self.now.own }
         ensures id { HasId 0 result.now.post.number }
     {
-        self.own.own()
+        &self.own
     }
 
     /// The stations, of which the first is that of line 1.
@@ -122,31 +92,69 @@ impl Timed {
         &self.stations
     }
 
-    /// The station at this place becomes this one: what it was.
-    pub(crate) fn exchange(&mut self, place: usize, station: Station) -> Station
-        requires { place < length self.old.stations }
-        ensures was { result ≡ slice_index_or self.old.stations place result }
-        ensures is { self.new ≡ record self.old { stations = slice_set self.old.stations place station } }
+    /// The station at this place is changed in place, with what else the change is to see.
+    pub(crate) fn change<C, T, F: FnOnce(&mut Station, &mut C) -> T>(
+        &mut self,
+        place: usize,
+        with: &mut C,
+        change: F,
+    ) -> T
+        requires within { place < length self.old.stations }
+        requires callable { (p : MutBor Station) (q : MutBor C) → p.now ≡ slice_index_or self.old.stations place p.now
+            → q.now ≡ with.old → F.pre change p q }
+        ensures { StationChanges F.FnOnce change place self.old with.old result self.new with.new }
     {
-        let before = &self.stations[place];
         let line = place as u16 + 1;
-        let was = due_on(line, before);
+        let was = due_on(line, &self.stations[place]);
+        clear(&mut self.due, line, was);
+        let result = change(&mut self.stations[place], with);
+        let is = due_on(line, &self.stations[place]);
+        enter(&mut self.due, line, is);
+        result
+    }
+
+    /// What the gateway keeps for itself is changed in place, with what else the change is to see.
+    pub(crate) fn change_own<C, T, F: FnOnce(&mut Own, &mut C) -> T>(
+        &mut self,
+        with: &mut C,
+        change: F,
+    ) -> T
+        requires callable { (p : MutBor Own) (q : MutBor C) → p.now ≡ self.old.own → HasId 0 p.now.post.number
+            → q.now ≡ with.old → F.pre change p q }
+        requires keeps { KeepsId F.FnOnce change }
+        ensures { OwnChanges F.FnOnce change self.old with.old result self.new with.new }
+    {
+        let was = post_due(0, &self.own.post);
+        clear(&mut self.due, 0, was);
+        let result = change(&mut self.own, with);
+        let is = post_due(0, &self.own.post);
+        enter(&mut self.due, 0, is);
+        result
+    }
+
+    /// The station at this place becomes this one.
+    pub(crate) fn exchange(&mut self, place: usize, station: Station)
+        requires { place < length self.old.stations }
+        ensures { self.new ≡ record self.old { stations = slice_set self.old.stations place station } }
+    {
+        let line = place as u16 + 1;
+        let was = due_on(line, &self.stations[place]);
         clear(&mut self.due, line, was);
         let is = due_on(line, &station);
         enter(&mut self.due, line, is);
-        mem::replace(&mut self.stations[place], station)
+        self.stations[place] = station;
     }
 
-    /// What the gateway keeps for itself becomes this: what it was.
-    pub(crate) fn exchange_own(&mut self, own: Kept) -> Kept
-        ensures was { result ≡ self.old.own }
-        ensures is { self.new ≡ with_own self.old own }
+    /// What the gateway keeps for itself becomes this.
+    pub(crate) fn exchange_own(&mut self, own: Own)
+        requires { HasId 0 own.post.number }
+        ensures { self.new ≡ with_own self.old own }
     {
-        let was = post_due(0, &self.own.own().post);
+        let was = post_due(0, &self.own.post);
         clear(&mut self.due, 0, was);
-        let is = post_due(0, &own.own().post);
+        let is = post_due(0, &own.post);
         enter(&mut self.due, 0, is);
-        mem::replace(&mut self.own, own)
+        self.own = own;
     }
 
     /// An act at the telephone of a line that doesn't heed it. It takes no memory.

@@ -1,17 +1,19 @@
 //! A line, or the gateway itself, announces that it is in service again; and what a response is to what is in flight
 //! (RFC 3435, 2.3.12, 3.5, 4.4.6 and 4.4.7).
-ghost use Rattle.std.specs.Prelude.{◌≡◌, ◌∷◌, [], ◌<◌, ◌^◌, true, codes, IsTrue, IfOk};
+ghost use Rattle.std.specs.Prelude.{◌≡◌, ◌∷◌, [], ◌<◌, ◌^◌, true, codes, None, IsTrue, IfOk, OnOk};
+ghost use Rattle.std.specs.Option.{unwrap_or};
 ghost use Rattle.std.specs.List.{list_all};
 ghost use Rattle.mgcp_text.specs.Writing.{is_writable_param, is_writable};
 ghost use Rattle.endpoint_names.specs.Table.{is_domain};
 ghost use Rattle.plain_machine.specs.Announcing.{announced_lines, method_of, announcement, announced, announced_on};
 ghost use Rattle.plain_machine.specs.Announcing.{heard_on, put_off, replied};
+ghost use Rattle.restart.specs.declared.restart.Restart.TheVariants.{Serving};
 ghost use Rattle.gateway_stations.specs.Telling.{MayTell, HasId};
 ghost use Rattle.gateway_stations.specs.Turns.{PostHasTurn};
 
 use crate::context::Context;
-use crate::posting::{Occasion, begin, copy_of, with_entity, with_pending};
-use endpoint_names::{Pattern, write_name};
+use crate::posting::{Occasion, begin, redirect};
+use endpoint_names::{Entity, Pattern, write_name};
 use mg_bytes::OutOfMemory;
 use mgcp_text::{Bytes, Message, Param, Params, TransactionId, Verb};
 use plain_machine::{OutDatagram, Post, Response};
@@ -84,39 +86,40 @@ fn announcement(
 fn announced(
     context: Context<'_>,
     occasion: Occasion,
-    post: &Post,
+    post: &mut Post,
     out: &mut Vec<OutDatagram>,
-) -> Result<Post, OutOfMemory>
-    requires id { HasId occasion.line post.now.number }
+) -> Result<(), OutOfMemory>
+    requires id { HasId occasion.line post.old.number }
     requires may { MayTell context.setup.now occasion.moment }
-    ensures { IfOk result (λ becomes. PostHasTurn
-        (announced context.entry.setup.now occasion.line occasion.moment post.now)
-        becomes out.old.items out.new.items) }
+    ensures turn { OnOk result (PostHasTurn (announced context.entry.setup.now occasion.line occasion.moment post.old)
+        post.new out.old.items out.new.items) }
+    ensures id { HasId occasion.line post.new.number }
 {
     let id = post.number.id_on(occasion.line);
     let said = announcement(context, occasion.line, id)?;
-    let mut becomes = begin(context, occasion, post, &said, out)?;
-    becomes.restart = Restart::Announced;
-    Ok(becomes)
+    begin(context, occasion, post, &said, out)?;
+    post.restart = Restart::Announced;
+    Ok(())
 }
 
 /// What waits under a post announces itself: where nothing waits, nothing is sent. An error is for want of memory only.
 pub(crate) fn announced_on(
     context: Context<'_>,
     occasion: Occasion,
-    post: &Post,
+    post: &mut Post,
     out: &mut Vec<OutDatagram>,
-) -> Result<Post, OutOfMemory>
-    requires id { HasId occasion.line post.now.number }
+) -> Result<(), OutOfMemory>
+    requires id { HasId occasion.line post.old.number }
     requires may { MayTell context.setup.now occasion.moment }
-    ensures { IfOk result (λ becomes. PostHasTurn
-        (announced_on context.entry.setup.now occasion.line occasion.moment post.now)
-        becomes out.old.items out.new.items) }
+    ensures turn { OnOk result (PostHasTurn
+        (announced_on context.entry.setup.now occasion.line occasion.moment post.old)
+        post.new out.old.items out.new.items) }
+    ensures id { HasId occasion.line post.new.number }
 {
     match post.restart {
         Restart::Waiting(_) => announced(context, occasion, post, out),
-        Restart::Announced => copy_of(post),
-        Restart::Serving => copy_of(post),
+        Restart::Announced => Ok(()),
+        Restart::Serving => Ok(()),
     }
 }
 
@@ -134,16 +137,22 @@ pub fn heard_on(post: &Post, response: &Response) -> Heard
 }
 
 // A provisional response puts off what is due of a post.
-fn put_off(response: &Response, moment: u64, post: &Post) -> Result<Post, OutOfMemory>
+fn put_off(response: &Response, moment: u64, post: &mut Post)
     requires { moment < 2 ^ 62 }
-    ensures { IfOk result (λ becomes. becomes ≡ put_off response.now moment post.now) }
+    ensures { post.new ≡ put_off response.now moment post.old }
 {
-    let Some(message) = &post.pending else {
-        return copy_of(post);
-    };
-    let mut message = message.try_copy()?;
-    let _ = message.answer(response.id, response.code, moment);
-    Ok(with_pending(post, Some(message)))
+    if let Some(message) = &mut post.pending {
+        let _ = message.answer(response.id, response.code, moment);
+    }
+}
+
+// The command in flight under a post is answered: the entity that the answer names is notified from now on.
+fn end_flight(post: &mut Post, agent: Option<Entity>)
+    ensures { post.new ≡ record post.old { entity = unwrap_or agent post.old.entity; pending = None; restart = Serving } }
+{
+    redirect(post, agent);
+    post.pending = None;
+    post.restart = Restart::Serving;
 }
 
 /// What becomes of a post at a response that is this to it. An error is for want of memory only.
@@ -151,29 +160,26 @@ fn put_off(response: &Response, moment: u64, post: &Post) -> Result<Post, OutOfM
 pub(crate) fn replied(
     context: Context<'_>,
     occasion: Occasion,
-    post: &Post,
+    post: &mut Post,
     response: &Response,
     heard: Heard,
     out: &mut Vec<OutDatagram>,
-) -> Result<Post, OutOfMemory>
-    requires id { HasId occasion.line post.now.number }
+) -> Result<(), OutOfMemory>
+    requires id { HasId occasion.line post.old.number }
     requires may { MayTell context.setup.now occasion.moment }
-    ensures { IfOk result (λ becomes. PostHasTurn
-        (replied heard context.entry.setup.now occasion.line occasion.moment response.now post.now)
-        becomes out.old.items out.new.items) }
+    ensures turn { OnOk result (PostHasTurn
+        (replied heard context.entry.setup.now occasion.line occasion.moment response.now post.old)
+        post.new out.old.items out.new.items) }
+    ensures id { HasId occasion.line post.new.number }
 {
     match heard {
-        Heard::Nothing => copy_of(post),
+        Heard::Nothing => {}
         Heard::PutOff => put_off(response, occasion.moment, post),
         Heard::Redirected(agent) => {
-            let redirected = with_entity(Some(agent), post)?;
-            announced(context, occasion, &redirected, out)
+            post.entity = agent;
+            announced(context, occasion, post, out)?;
         }
-        Heard::Answered(agent) => Ok(Post {
-            entity: agent.unwrap_or(post.entity),
-            number: post.number,
-            pending: None,
-            restart: Restart::Serving,
-        }),
+        Heard::Answered(agent) => end_flight(post, agent),
     }
+    Ok(())
 }

@@ -1,12 +1,13 @@
 //! What a deed does to the connections of a line, and what its answer tells of them (RFC 3435, 2.3.5 to 2.3.9).
-ghost use Rattle.std.specs.Prelude.{◌≡◌, true, codes, Ok, IfOk};
+ghost use Rattle.std.specs.Prelude.{◌≡◌, true, codes, IfOk, OnErr};
 ghost use Rattle.std.specs.List.{list_all};
+ghost use Rattle.std.specs.Result.{result_err};
 ghost use Rattle.mgcp_text.specs.Writing.{is_writable_param, is_writable_body};
 ghost use Rattle.sdp_subset.specs.Writing.{session_text};
-ghost use Rattle.connections.specs.Standing.{left_by, created, modified, deleted};
+ghost use Rattle.connections.specs.Standing.{created, modified, deleted};
 ghost use Rattle.plain_machine.specs.Connecting.{id_param, counts_param, created_shown, modified_shown, deleted_shown};
-ghost use Rattle.plain_machine.specs.Connecting.{showing, showing_what, done_code};
-ghost use Rattle.plain_machine.specs.Requesting.{encoding_with, connected_on, shown_by, answer_with};
+ghost use Rattle.plain_machine.specs.Connecting.{showing, showing_what, connected, done_code};
+ghost use Rattle.plain_machine.specs.Requesting.{encoding_with, connected_on, with_connections, shown_by, answer_with};
 ghost use Rattle.gateway_stations.specs.News.{shown_as, connected_as};
 
 use crate::context::Context;
@@ -30,25 +31,17 @@ pub enum News {
     Counted,
 }
 
-/// The connections of a line after a deed, and what there is to be told of them.
-#[derive(Drop)]
-pub(crate) struct Connected {
-    pub connections: Connections,
-    pub news: News,
-}
-
-fn begun(
+// One is created.
+fn created(
     encoding: Encoding,
     creation: &Creation,
-    mut connections: Connections,
-) -> Result<Connected, u16>
-    ensures { connected_as result ≡ showing created_shown (created encoding creation.now connections) }
+    connections: &mut Connections,
+) -> Result<News, u16>
+    ensures made { connected_as result connections.new ≡ showing created_shown (created encoding creation.now connections.old) }
+    ensures refused { OnErr result (connections.new ≡ connections.old) }
 {
     match connections.create(encoding, creation.copy()) {
-        Ok(created) => Ok(Connected {
-            connections,
-            news: News::Began(created),
-        }),
+        Ok(created) => Ok(News::Began(created)),
         Err(CodeFault::Code(code)) => Err(code),
         Err(CodeFault::OutOfMemory) => unreachable!(),
     }
@@ -64,20 +57,20 @@ fn news_of(shown: Option<Session>) -> News
     }
 }
 
-fn changed(
+// One is modified.
+fn modified(
     encoding: Encoding,
     call: &Identifier,
     id: &Identifier,
     change: &Change,
-    mut connections: Connections,
-) -> Result<Connected, u16>
-    ensures { connected_as result ≡ showing modified_shown (modified encoding call.now id.now change.now connections) }
+    connections: &mut Connections,
+) -> Result<News, u16>
+    ensures made { connected_as result connections.new
+        ≡ showing modified_shown (modified encoding call.now id.now change.now connections.old) }
+    ensures refused { OnErr result (connections.new ≡ connections.old) }
 {
     match connections.modify(encoding, call, id, change.copy()) {
-        Ok(shown) => Ok(Connected {
-            connections,
-            news: news_of(shown),
-        }),
+        Ok(shown) => Ok(news_of(shown)),
         Err(CodeFault::Code(code)) => Err(code),
         Err(CodeFault::OutOfMemory) => unreachable!(),
     }
@@ -94,21 +87,21 @@ fn counted(deletion: &Deletion) -> News
     }
 }
 
-fn ended(deletion: &Deletion, mut connections: Connections) -> Result<Connected, u16>
-    ensures { connected_as result ≡ showing_what (deleted_shown deletion.now) (deleted deletion.now connections) }
+// Some are deleted.
+fn deleted(deletion: &Deletion, connections: &mut Connections) -> Result<News, u16>
+    ensures made { connected_as result connections.new
+        ≡ showing_what (deleted_shown deletion.now) (deleted deletion.now connections.old) }
+    ensures refused { OnErr result (connections.new ≡ connections.old) }
 {
     match connections.delete(deletion) {
-        Ok(()) => Ok(Connected {
-            connections,
-            news: counted(deletion),
-        }),
+        Ok(()) => Ok(counted(deletion)),
         Err(CodeFault::Code(code)) => Err(code),
         Err(CodeFault::OutOfMemory) => unreachable!(),
     }
 }
 
-/// The encoding that a station has for a deed: one that is given counts already.
-pub(crate) fn encoding_with(deed: &LineDeed, station: &Station) -> Encoding
+// The encoding that a station has for a deed: one that is given counts already.
+fn encoding_with(deed: &LineDeed, station: &Station) -> Encoding
     ensures { result ≡ encoding_with deed.now station.now }
 {
     match deed.encoding {
@@ -117,45 +110,54 @@ pub(crate) fn encoding_with(deed: &LineDeed, station: &Station) -> Encoding
     }
 }
 
-/// The connections of a station after a deed, and what there is to be told of them; or the code with which they refuse it.
-/// The station stays as it is. It takes no memory.
+// A deed on connections: what there is to be told of them, or the code with which they refuse it, which changes nothing.
 #[tactic(auto, unfolding(plain_machine::specs::Connecting::connected))]
-pub(crate) fn connected_on(deed: &LineDeed, station: &Station) -> Result<Connected, u16>
-    ensures { connected_as result ≡ connected_on deed.now station.now }
+fn connected(
+    deed: &ConnectionDeed,
+    encoding: Encoding,
+    connections: &mut Connections,
+) -> Result<News, u16>
+    ensures made { connected_as result connections.new ≡ connected deed.now encoding connections.old }
+    ensures refused { OnErr result (connections.new ≡ connections.old) }
+{
+    match deed {
+        ConnectionDeed::Keep => Ok(News::Nothing),
+        ConnectionDeed::Create(creation) => created(encoding, creation, connections),
+        ConnectionDeed::Modify { call, id, change } => {
+            modified(encoding, call, id, change, connections)
+        }
+        ConnectionDeed::Delete(deletion) => deleted(deletion, connections),
+    }
+}
+
+/// The code with which the connections of a station refuse a deed. It takes no memory.
+#[tactic(auto, unfolding(plain_machine::specs::Connecting::connected))]
+pub(crate) fn connections_refuse(deed: &LineDeed, station: &Station) -> Option<u16>
+    ensures { result ≡ result_err (connected_on deed.now station.now) }
+{
+    if let ConnectionDeed::Keep = deed.connections {
+        return None;
+    }
+    let mut tried = station.connections.copy();
+    match connected(&deed.connections, encoding_with(deed, station), &mut tried) {
+        Ok(_) => None,
+        Err(code) => Some(code),
+    }
+}
+
+/// A deed on the connections of a station, with the encoding that is given: what there is to be told of them. What they
+/// refuse leaves them as they are. It takes no memory.
+pub(crate) fn connect(deed: &LineDeed, station: &mut Station) -> News
+    ensures station { station.new ≡ with_connections deed.now station.old }
+    ensures news { shown_as result ≡ shown_by (connected_on deed.now station.old) }
 {
     let encoding = encoding_with(deed, station);
-    let connections = station.connections.copy();
-    match &deed.connections {
-        ConnectionDeed::Keep => Ok(Connected {
-            connections,
-            news: News::Nothing,
-        }),
-        ConnectionDeed::Create(creation) => begun(encoding, creation, connections),
-        ConnectionDeed::Modify { call, id, change } => {
-            changed(encoding, call, id, change, connections)
-        }
-        ConnectionDeed::Delete(deletion) => ended(deletion, connections),
-    }
-}
-
-/// The connections of a station after a deed; what it refuses leaves them as they are.
-pub(crate) fn connections_left(deed: &LineDeed, station: &Station) -> Connections
-    ensures { result ≡ left_by station.now.connections (connected_on deed.now station.now) }
-{
-    match connected_on(deed, station) {
-        Ok(done) => done.connections,
-        Err(_) => station.connections.copy(),
-    }
-}
-
-/// What there is to be told of the connections of a station after a deed.
-pub fn news_on(deed: &LineDeed, station: &Station) -> News
-    ensures { shown_as result ≡ shown_by (connected_on deed.now station.now) }
-{
-    match connected_on(deed, station) {
-        Ok(done) => done.news,
+    let news = match connected(&deed.connections, encoding, &mut station.connections) {
+        Ok(news) => news,
         Err(_) => News::Nothing,
-    }
+    };
+    station.encoding = encoding;
+    news
 }
 
 // The identifier of a connection (RFC 3435, 2.3.5).

@@ -1,7 +1,7 @@
 //! What falls due on a station, and of the gateway itself: of a line the end of timer T and the ends of signals; and of
 //! both the repeats of the command in flight, and the announcement, each at its own moment (RFC 3435, 2.1.5, 2.1.7, 3.5.3
 //! and 4.4.6).
-ghost use Rattle.std.specs.Prelude.{◌≡◌, option_map, IfOk};
+ghost use Rattle.std.specs.Prelude.{◌≡◌, option_map, OnOk};
 ghost use Rattle.mg_line.specs.Falling.{due_of};
 ghost use Rattle.restart.specs.Restarting.{announced_at};
 ghost use Rattle.plain_machine.specs.Falling.{line_item, command_item, announcement_item, post_due, due_on, earlier};
@@ -12,8 +12,7 @@ ghost use Rattle.gateway_stations.specs.Turns.{HasTurn, OwnHasTurn};
 use crate::announcing::announced_on;
 use crate::context::Context;
 use crate::notifying::tell;
-use crate::posting::{Occasion, copy_of, resent_on};
-use crate::station::{with_line, with_post};
+use crate::posting::{Occasion, resent_on};
 use mg_bytes::OutOfMemory;
 use plain_machine::{DueItem, OutDatagram, Own, Post, Station, StationDue};
 
@@ -93,35 +92,23 @@ pub fn earlier(first: Option<DueItem>, other: Option<DueItem>) -> Option<DueItem
 pub fn happened_on(
     context: Context<'_>,
     occasion: Occasion,
-    station: &Station,
+    station: &mut Station,
     due: StationDue,
     out: &mut Vec<OutDatagram>,
-) -> Result<Station, OutOfMemory>
+) -> Result<(), OutOfMemory>
     requires line { IsLine occasion.line }
     requires may { MayTell context.setup.now occasion.moment }
-    ensures { IfOk result (λ becomes. HasTurn
-        (happened_on due context.entry.setup.now occasion.line occasion.moment station.now)
-        becomes out.old.items out.new.items) }
+    ensures { OnOk result (HasTurn
+        (happened_on due context.entry.setup.now occasion.line occasion.moment station.old)
+        station.new out.old.items out.new.items) }
 {
     match due {
         StationDue::OfLine(due) => {
-            let step = station.line.fire(due, occasion.moment)?;
-            tell(
-                context,
-                occasion,
-                with_line(station, step.line)?,
-                step.notice,
-                out,
-            )
+            let notice = station.line.fire(due, occasion.moment)?;
+            tell(context, occasion, station, notice, out)
         }
-        StationDue::Resend => {
-            let post = resent_on(context, occasion, &station.post, out)?;
-            with_post(station, post)
-        }
-        StationDue::Announce => {
-            let post = announced_on(context, occasion, &station.post, out)?;
-            with_post(station, post)
-        }
+        StationDue::Resend => resent_on(context, occasion, &mut station.post, out),
+        StationDue::Announce => announced_on(context, occasion, &mut station.post, out),
     }
 }
 
@@ -131,20 +118,20 @@ pub fn happened_on(
 pub fn own_happened(
     context: Context<'_>,
     moment: u64,
-    own: &Own,
+    own: &mut Own,
     due: StationDue,
     out: &mut Vec<OutDatagram>,
-) -> Result<Own, OutOfMemory>
-    requires id { HasId 0 own.now.post.number }
+) -> Result<(), OutOfMemory>
+    requires id { HasId 0 own.old.post.number }
     requires may { MayTell context.setup.now moment }
-    ensures { IfOk result (λ becomes. OwnHasTurn (own_happened due context.entry.setup.now moment own.now)
-        becomes out.old.items out.new.items) }
+    ensures turn { OnOk result (OwnHasTurn (own_happened due context.entry.setup.now moment own.old)
+        own.new out.old.items out.new.items) }
+    ensures id { HasId 0 own.new.post.number }
 {
     let occasion = Occasion { line: 0, moment };
-    let post = match due {
-        StationDue::OfLine(_) => copy_of(&own.post)?,
-        StationDue::Resend => resent_on(context, occasion, &own.post, out)?,
-        StationDue::Announce => announced_on(context, occasion, &own.post, out)?,
-    };
-    Ok(Own { post })
+    match due {
+        StationDue::OfLine(_) => Ok(()),
+        StationDue::Resend => resent_on(context, occasion, &mut own.post, out),
+        StationDue::Announce => announced_on(context, occasion, &mut own.post, out),
+    }
 }

@@ -1,7 +1,8 @@
 //! What is done on one station of a gateway: a line with its post, its encoding and its connections.
 //!
-//! Each call takes a station and gives what becomes of it; what it sends goes behind the messages that there are
-//! (RFC 3435, 2.3, 3.5 and 4.4). What is done under a post is done so for the gateway itself too.
+//! Each call changes a station in place; what it sends goes behind the messages that there are (RFC 3435, 2.3, 3.5 and
+//! 4.4). Where memory is refused half way, what the station is isn't said: its owner, the floor, puts it back. What is done
+//! under a post is done so for the gateway itself too.
 #![tactic(auto)]
 
 mod acting;
@@ -17,9 +18,10 @@ mod station;
 
 pub use crate::acting::acted_on;
 pub use crate::announcing::heard_on;
-pub use crate::connecting::{News, answer_with, news_on};
+pub use crate::connecting::{News, answer_with};
 pub use crate::context::Context;
 pub use crate::falling::{due_on, earlier, happened_on, own_happened, post_due};
 pub use crate::posting::Occasion;
 pub use crate::requesting::{deed_on, has_place, refusal_by};
 pub use crate::responding::{opened_on, own_responded, redirected_on, responded_on};
+pub use crate::station::{same_own, same_station};

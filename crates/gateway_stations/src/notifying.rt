@@ -1,5 +1,5 @@
 //! A line tells what it has to tell: a notification goes out, and is in flight from then on (RFC 3435, 2.3.4 and 3.5).
-ghost use Rattle.std.specs.Prelude.{◌≡◌, ◌∷◌, [], true, false, codes, IsTrue, IfOk};
+ghost use Rattle.std.specs.Prelude.{◌≡◌, ◌∷◌, [], true, false, codes, IsTrue, IfOk, OnOk};
 ghost use Rattle.std.specs.List.{list_all, list_any};
 ghost use Rattle.mg_bytes.specs.Blanks.{is_blank};
 ghost use Rattle.mg_bytes.specs.Lines.{is_line_feed};
@@ -75,15 +75,15 @@ fn notification<'n>(
 fn notified(
     context: Context<'_>,
     occasion: Occasion,
-    post: &Post,
+    post: &mut Post,
     notice: &Notice,
     out: &mut Vec<OutDatagram>,
-) -> Result<Post, OutOfMemory>
+) -> Result<(), OutOfMemory>
     requires line { IsLine occasion.line }
     requires may { MayTell context.setup.now occasion.moment }
-    ensures { IfOk result (λ becomes. PostHasTurn (with_command occasion.line occasion.moment post.now
-        (notification context.entry.setup.now occasion.line (id_on occasion.line post.now.number) notice.now))
-        becomes out.old.items out.new.items) }
+    ensures { OnOk result (PostHasTurn (with_command occasion.line occasion.moment post.old
+        (notification context.entry.setup.now occasion.line (id_on occasion.line post.old.number) notice.now))
+        post.new out.old.items out.new.items) }
 {
     let id = post.number.id_on(occasion.line);
     let said = notification(context, occasion.line, id, notice)?;
@@ -94,25 +94,17 @@ fn notified(
 pub(crate) fn tell(
     context: Context<'_>,
     occasion: Occasion,
-    station: Station,
+    station: &mut Station,
     notice: Option<Notice>,
     out: &mut Vec<OutDatagram>,
-) -> Result<Station, OutOfMemory>
+) -> Result<(), OutOfMemory>
     requires line { IsLine occasion.line }
     requires may { MayTell context.setup.now occasion.moment }
-    ensures { IfOk result (λ becomes. HasTurn (with_notice context.entry.setup.now occasion.line occasion.moment station notice)
-        becomes out.old.items out.new.items) }
+    ensures { OnOk result (HasTurn (with_notice context.entry.setup.now occasion.line occasion.moment station.old notice)
+        station.new out.old.items out.new.items) }
 {
     match notice {
-        None => Ok(station),
-        Some(notice) => {
-            let post = notified(context, occasion, &station.post, &notice, out)?;
-            Ok(Station {
-                line: station.line,
-                post,
-                encoding: station.encoding,
-                connections: station.connections,
-            })
-        }
+        None => Ok(()),
+        Some(notice) => notified(context, occasion, &mut station.post, &notice, out),
     }
 }

@@ -1,6 +1,6 @@
 //! What is done under a post, be it a line's or that of the gateway itself: a command begins, and is sent again or given
 //! up (RFC 3435, 3.5 and 4.3).
-ghost use Rattle.std.specs.Prelude.{◌≡◌, ◌<◌, ◌^◌, IsTrue, IfOk};
+ghost use Rattle.std.specs.Prelude.{◌≡◌, ◌<◌, ◌^◌, IsTrue, IfOk, OnOk};
 ghost use Rattle.std.specs.Option.{unwrap_or};
 ghost use Rattle.mgcp_text.specs.Writing.{is_writable};
 ghost use Rattle.plain_machine.specs.Posting.{wait_of, given_up, with_command, resent_on};
@@ -45,27 +45,13 @@ pub(crate) fn copy_of(post: &Post) -> Result<Post, OutOfMemory>
     })
 }
 
-/// The same post with another command in flight.
-pub(crate) fn with_pending(post: &Post, pending: Option<Pending>) -> Post
-    ensures { result ≡ record post.now { pending = pending } }
+/// What is sent under a post goes to this entity from now on, where one is given.
+pub(crate) fn redirect(post: &mut Post, entity: Option<Entity>)
+    ensures { post.new ≡ record post.old { entity = unwrap_or entity post.old.entity } }
 {
-    Post {
-        entity: post.entity,
-        number: post.number,
-        pending,
-        restart: post.restart,
-    }
-}
-
-/// The same post with another notified entity, where one is given.
-pub(crate) fn with_entity(entity: Option<Entity>, post: &Post) -> Result<Post, OutOfMemory>
-    ensures { IfOk result (λ becomes. becomes ≡ record post.now { entity = unwrap_or entity post.now.entity }) }
-{
-    let mut becomes = copy_of(post)?;
     if let Some(entity) = entity {
-        becomes.entity = entity;
+        post.entity = entity;
     }
-    Ok(becomes)
 }
 
 /// A command that can be written begins under a post: it goes out under the next id, and is in flight. An error is for
@@ -73,27 +59,25 @@ pub(crate) fn with_entity(entity: Option<Entity>, post: &Post) -> Result<Post, O
 pub(crate) fn begin(
     context: Context<'_>,
     occasion: Occasion,
-    post: &Post,
+    post: &mut Post,
     said: &Message<'_>,
     out: &mut Vec<OutDatagram>,
-) -> Result<Post, OutOfMemory>
-    requires id { HasId occasion.line post.now.number }
+) -> Result<(), OutOfMemory>
+    requires id { HasId occasion.line post.old.number }
     requires early { occasion.moment < 2 ^ 62 }
     requires writable { IsTrue (is_writable said.now) }
-    ensures { IfOk result (λ becomes. PostHasTurn (with_command occasion.line occasion.moment post.now said.now)
-        becomes out.old.items out.new.items) }
+    ensures turn { OnOk result (PostHasTurn (with_command occasion.line occasion.moment post.old said.now)
+        post.new out.old.items out.new.items) }
+    ensures id { HasId occasion.line post.new.number }
 {
     let id = post.number.id_on(occasion.line);
     let to = post.entity.address;
     let text = write_message(context.alloc, said)?;
     let pending = Pending::begin(context.alloc, id, to, text.as_bytes(), occasion.moment)?;
     send(out, to, occasion.moment, text)?;
-    Ok(Post {
-        entity: post.entity,
-        number: post.number.after_on(occasion.line),
-        pending: Some(pending),
-        restart: post.restart,
-    })
+    post.number = post.number.after_on(occasion.line);
+    post.pending = Some(pending);
+    Ok(())
 }
 
 // How long the gateway itself waits before it announces itself, or a line that lost its agent (in ms).
@@ -107,41 +91,36 @@ fn wait_of(setup: &Setup, line: u16) -> u32
     }
 }
 
-// A post whose command was given up: nothing is in flight, and the wait for an announcement begins.
-fn given_up(context: Context<'_>, occasion: Occasion, post: &Post) -> Post
+// The command in flight under a post is given up: the wait for an announcement begins.
+fn give_up(context: Context<'_>, occasion: Occasion, post: &mut Post)
     requires { occasion.moment < 2 ^ 62 }
-    ensures { result ≡ given_up context.entry.setup.now occasion.line occasion.moment post.now }
+    ensures { post.new ≡ given_up context.entry.setup.now occasion.line occasion.moment post.old }
 {
-    Post {
-        entity: post.entity,
-        number: post.number,
-        pending: None,
-        restart: Restart::begin(occasion.moment, wait_of(context.setup, occasion.line)),
-    }
+    post.pending = None;
+    post.restart = Restart::begin(occasion.moment, wait_of(context.setup, occasion.line));
 }
 
 /// The command in flight under a post is sent again or given up. An error is for want of memory only.
 pub(crate) fn resent_on(
     context: Context<'_>,
     occasion: Occasion,
-    post: &Post,
+    post: &mut Post,
     out: &mut Vec<OutDatagram>,
-) -> Result<Post, OutOfMemory>
+) -> Result<(), OutOfMemory>
     requires { occasion.moment < 2 ^ 62 }
-    ensures { IfOk result (λ becomes. PostHasTurn
-        (resent_on context.entry.setup.now occasion.line occasion.moment post.now)
-        becomes out.old.items out.new.items) }
+    ensures turn { OnOk result (PostHasTurn (resent_on context.entry.setup.now occasion.line occasion.moment post.old)
+        post.new out.old.items out.new.items) }
+    ensures number { post.new.number ≡ post.old.number }
 {
-    let Some(message) = &post.pending else {
-        return copy_of(post);
+    let Some(message) = &mut post.pending else {
+        return Ok(());
     };
-    let mut message = message.try_copy()?;
     match message.repeat(occasion.moment) {
-        Repeat::GivenUp => Ok(given_up(context, occasion, post)),
+        Repeat::GivenUp => give_up(context, occasion, post),
         Repeat::Sent => {
             let text = Text::of(Vec::from_slice(context.alloc, message.text())?);
             send(out, message.to(), occasion.moment, text)?;
-            Ok(with_pending(post, Some(message)))
         }
     }
+    Ok(())
 }

@@ -1,31 +1,27 @@
-//! A station with another line or another post.
+//! Equal stations, and equal values of what the gateway keeps for itself.
 ghost use Rattle.std.specs.Prelude.{◌≡◌, IfOk};
 
 use crate::posting::copy_of;
 use mg_bytes::OutOfMemory;
-use mg_line::Line;
-use plain_machine::{Post, Station};
+use plain_machine::{Own, Station};
 
-/// The same station with another line.
-pub(crate) fn with_line(station: &Station, line: Line) -> Result<Station, OutOfMemory>
-    ensures { IfOk result (λ becomes. becomes ≡ record station.now { line = line }) }
+/// An equal station. An error is for want of memory only.
+pub fn same_station(station: &Station) -> Result<Station, OutOfMemory>
+    ensures { IfOk result (λ copy. copy ≡ station.now) }
 {
     Ok(Station {
-        line,
+        line: station.line.try_copy()?,
         post: copy_of(&station.post)?,
         encoding: station.encoding,
         connections: station.connections.copy(),
     })
 }
 
-/// The same station with another post.
-pub(crate) fn with_post(station: &Station, post: Post) -> Result<Station, OutOfMemory>
-    ensures { IfOk result (λ becomes. becomes ≡ record station.now { post = post }) }
+/// An equal value of what the gateway keeps for itself. An error is for want of memory only.
+pub fn same_own(own: &Own) -> Result<Own, OutOfMemory>
+    ensures { IfOk result (λ copy. copy ≡ own.now) }
 {
-    Ok(Station {
-        line: station.line.try_copy()?,
-        post,
-        encoding: station.encoding,
-        connections: station.connections.copy(),
+    Ok(Own {
+        post: copy_of(&own.post)?,
     })
 }

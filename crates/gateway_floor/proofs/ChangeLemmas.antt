@@ -1,0 +1,82 @@
+-- What a change in place does to the floor.
+use Rattle.std.proofs.Common.{◌≡◌, ℕ, ◌-◌, Bool, List, [], Option, Some, refl, sym, ap, ◌∙◌, subst, get_or, set}
+use Rattle.std.specs.Prelude.{slice_set}
+use Rattle.std.specs.Option.{unwrap_or}
+use Rattle.std.specs.Global.{Vec}
+use Rattle.transmission.specs.declared.output.OutDatagram.{OutDatagram}
+use Rattle.plain_machine.specs.declared.own.Own.{Own}
+use Rattle.plain_machine.specs.declared.station.Station.{Station}
+use Rattle.plain_machine.specs.Notifying.{Turn, silent}
+use Rattle.plain_machine.specs.Machine.{Endpoints, OwnTurn, station_at, with_station, with_own, on_line, on_own}
+use Rattle.gateway_stations.specs.Turns.{HasTurn, OwnHasTurn}
+use Rattle.gateway_floor.specs.declared.floor.Saved.{Saved}
+use Rattle.gateway_floor.specs.FloorState.{FloorState, settled_at}
+use Rattle.gateway_floor.specs.Saving.{manned, restored, found_in, IsSavedToo}
+use Rattle.gateway_floor.specs.Changing.{Call, Leaves, LineChanges, GatewayChanges}
+use Rattle.gateway_floor.specs.Tells.{Goes}
+use Rattle.gateway_floor.proofs.FloorLemmas.{goes_on_line, goes_on_own}
+use Rattle.gateway_floor.proofs.SavingLemmas.{changed_found, restored_none}
+
+pub floor_is : {e e' f f' : Endpoints} → e ≡ e' → f ≡ f' → ◌≡◌ {A = FloorState} (record { endpoints = e; found = f }) (record { endpoints = e'; found = f' })
+floor_is same found = rw (same, found) refl
+
+-- the floor with these endpoints, and what was saved
+abbrev pub floor_of : List Saved → Option Own → Endpoints → FloorState
+floor_of log own endpoints = record { endpoints = endpoints; found = found_in log own endpoints }
+
+-- a station is changed
+pub line_changed : (log log' : List Saved) (own : Option Own) (endpoints is : Endpoints) (place line : ℕ) (was becomes : Station) (touched touched' : List Bool) (floor : FloorState)
+    → floor ≡ floor_of log own endpoints → place ≡ line - 1 → was ≡ get_or endpoints.stations place was → IsSavedToo place was touched touched' log log'
+    → is ≡ record endpoints { stations = slice_set endpoints.stations place becomes }
+    → floor_of log' own is ≡ record floor { endpoints = with_station floor.endpoints line becomes }
+line_changed log log' own endpoints is place line was becomes touched touched' floor view at here saved set_is =
+    floor_is (set_is ∙ ap (λ (p : ℕ). let e : Endpoints = record endpoints { stations = slice_set endpoints.stations p becomes } in e) at)
+    (ap (found_in log' own) set_is
+    ∙ ap (λ (x : List Station). manned x (unwrap_or own endpoints.own)) (changed_found place was becomes touched touched' log log' endpoints.stations here saved))
+    ∙ ap (λ (f : FloorState). let g : FloorState = record f { endpoints = with_station f.endpoints line becomes } in g) (sym view)
+
+-- what the gateway keeps for itself is changed
+pub own_changed : (log : List Saved) (saved own : Option Own) (endpoints is : Endpoints) (becomes : Own) (floor : FloorState) → floor ≡ floor_of log saved endpoints
+    → own ≡ Some (unwrap_or saved endpoints.own) → is ≡ with_own endpoints becomes
+    → floor_of log own is ≡ record floor { endpoints = with_own floor.endpoints becomes }
+own_changed log saved own endpoints is becomes floor view kept set_is =
+    floor_is set_is
+    (ap (λ (o : Option Own). found_in log o is) kept ∙ ap (λ (e : Endpoints). manned (restored log e.stations) (unwrap_or saved endpoints.own)) set_is)
+    ∙ ap (λ (f : FloorState). let g : FloorState = record f { endpoints = with_own f.endpoints becomes } in g) (sym view)
+
+-- a change by a rule of one station
+pub goes_changed : {F T : Type 0} (g : Call F Station (Vec OutDatagram) T) (f : F) (line : ℕ) (was : FloorState) (with : Vec OutDatagram) (r : T) (is : FloorState) (left : Vec OutDatagram) (turn : Station → Turn)
+    → (changes : LineChanges g f line was with r is left)
+    → HasTurn (turn changes.leaves.shown.now) changes.leaves.leaves.now changes.leaves.lent.now.items changes.leaves.back.now.items
+    → Goes (on_line was.endpoints line turn) was is with.items left.items
+goes_changed g f line was with r is left turn changes has =
+    let leaves = changes.leaves in
+    let turned : HasTurn (turn changes.station) changes.becomes with.items left.items =
+    rw (sym leaves.shows, leaves.becomes, sym leaves.lends, leaves.gives) has in
+    goes_on_line was.endpoints line changes.station changes.becomes turn was is with.items left.items refl (sym changes.here) turned changes.floor
+
+-- and of the gateway itself
+pub own_goes_changed : {F T : Type 0} (g : Call F Own (Vec OutDatagram) T) (f : F) (was : FloorState) (with : Vec OutDatagram) (r : T) (is : FloorState) (left : Vec OutDatagram) (turn : Own → OwnTurn)
+    → (changes : GatewayChanges g f was with r is left)
+    → OwnHasTurn (turn changes.leaves.shown.now) changes.leaves.leaves.now changes.leaves.lent.now.items changes.leaves.back.now.items
+    → Goes (on_own was.endpoints turn) was is with.items left.items
+own_goes_changed g f was with r is left turn changes has =
+    let leaves = changes.leaves in
+    let turned : OwnHasTurn (turn was.endpoints.own) changes.becomes with.items left.items =
+    rw (sym leaves.shows, leaves.becomes, sym leaves.lends, leaves.gives) has in
+    goes_on_own was.endpoints.own changes.becomes turn was is with.items left.items refl turned changes.floor
+
+-- a change that sends nothing
+pub goes_silent : {F C T : Type 0} (g : Call F Station C T) (f : F) (line : ℕ) (was : FloorState) (with : C) (r : T) (is : FloorState) (left : C) (turn : Station → Turn)
+    → (changes : LineChanges g f line was with r is left) → silent changes.leaves.leaves.now ≡ turn changes.leaves.shown.now
+    → Goes (on_line was.endpoints line turn) was is [] []
+goes_silent g f line was with r is left turn changes same =
+    let leaves = changes.leaves in
+    let turned : silent changes.becomes ≡ turn changes.station = ap silent leaves.becomes ∙ same ∙ ap turn leaves.shows in
+    goes_on_line was.endpoints line changes.station changes.becomes turn was is [] [] refl (sym changes.here)
+    (record { station = ap (λ (t : Turn). t.station) turned; sent = rw (sym turned) refl }) changes.floor
+
+-- all is put back
+pub all_back : (log log' : List Saved) (own own' : Option Own) (endpoints : Endpoints) → log ≡ [] → log' ≡ [] → own ≡ own'
+    → floor_of log' own' endpoints ≡ floor_of log own endpoints
+all_back log log' own own' endpoints none still same = rw (none, still, same) refl

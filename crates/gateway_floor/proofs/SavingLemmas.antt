@@ -1,0 +1,194 @@
+-- Stations that are saved and put back, and the marks that say which are saved.
+use Rattle.std.proofs.Common.{◌≡◌, ℕ, zero, suc, ◌+◌, ◌<◌, ◌≤◌, ◌≢◌, ◌==◌, ◌||◌, Bool, true, false, List, [], ◌∷◌, ◌++◌, length, get_or, set, replicate, refl, sym, ap, ◌∙◌, arith, get_or-set_other}
+use Rattle.std.proofs.lemmas.Grind.{common_steps}
+use Rattle.std.proofs.lemmas.List.{set-set, set-get_or, set_comm, set_past, length-set}
+use Rattle.std.proofs.lemmas.Bool.Decides.{nat_tests}
+use Rattle.std.proofs.Math.ListN.{get_or-eq_default}
+use Rattle.plain_machine.specs.declared.station.Station.{Station}
+use Rattle.gateway_floor.specs.declared.floor.Saved.{Saved}
+use Rattle.gateway_floor.specs.Saving.{restored, is_saved, IsMarked, IsSavedToo, HasRoom, idle}
+
+same_of : (i j : ℕ) → (i == j) ≡ true → i ≡ j
+same_of i j e = grind (arith, nat_tests, e)
+
+other_of : (i j : ℕ) → (i == j) ≡ false → i ≢ j
+other_of i j e same = absurd (grind (arith, nat_tests, e, same))
+
+is_itself : (i : ℕ) → (i == i) ≡ true
+is_itself i = grind (arith, nat_tests)
+
+-- Saving
+
+restored_snoc : (log : List Saved) (saved : Saved) (es : List Station) → restored (log ++ saved ∷ []) es ≡ restored log (set es saved.place saved.station)
+unfolding restored
+restored_snoc [] saved es = refl
+restored_snoc (first ∷ log) saved es = ap (λ r. set r first.place first.station) (restored_snoc log saved es)
+
+pub restored_none : (log : List Saved) (es : List Station) → log ≡ [] → restored log es ≡ es
+unfolding restored
+restored_none log es none = rw none refl
+
+pub restored_less : (log log' : List Saved) (saved : Saved) (es : List Station) → log ≡ log' ++ saved ∷ [] → restored log' (set es saved.place saved.station) ≡ restored log es
+restored_less log log' saved es popped = sym (restored_snoc log' saved es) ∙ ap (λ x. restored x es) (sym popped)
+
+-- a station is saved as it is
+pub restored_more : (log log' : List Saved) (saved : Saved) (es : List Station) → log' ≡ log ++ saved ∷ [] → saved.station ≡ get_or es saved.place saved.station → restored log' es ≡ restored log es
+restored_more log log' saved es grown is =
+    ap (λ x. restored x es) grown ∙ restored_snoc log saved es
+    ∙ ap (λ e. restored log (set es saved.place e)) is ∙ ap (restored log) (set-get_or es saved.place saved.station)
+
+restored_twice : (log : List Saved) (es : List Station) (k : ℕ) (x e : Station) → set (restored log (set es k x)) k e ≡ set (restored log es) k e
+unfolding restored
+restored_twice [] es k x e = set-set es k x e
+restored_twice (t ∷ log) es k x e = by (t.place == k) refl (restored_twice log es k x e) where
+  by : (b : Bool) → (t.place == k) ≡ b → set (restored log (set es k x)) k e ≡ set (restored log es) k e → set (set (restored log (set es k x)) t.place t.station) k e ≡ set (set (restored log es) t.place t.station) k e
+  by true same rest =
+      ap (λ n. set (set (restored log (set es k x)) n t.station) k e) (same_of t.place k same)
+      ∙ set-set (restored log (set es k x)) k t.station e ∙ rest ∙ sym (set-set (restored log es) k t.station e)
+      ∙ ap (λ n. set (set (restored log es) n t.station) k e) (sym (same_of t.place k same))
+  by false other rest =
+      set_comm (restored log (set es k x)) t.place k t.station e (other_of t.place k other)
+      ∙ ap (λ r. set r t.place t.station) rest
+      ∙ sym (set_comm (restored log es) t.place k t.station e (other_of t.place k other))
+
+-- a saved station may change
+pub restored_over : (log : List Saved) (es : List Station) (k : ℕ) (x : Station) → is_saved k log ≡ true → restored log (set es k x) ≡ restored log es
+unfolding restored is_saved
+restored_over [] es k x saved = absurd cc
+restored_over (t ∷ log) es k x saved = by (t.place == k) refl saved (restored_over log es k x) where
+  by : (b : Bool) → (t.place == k) ≡ b → (b || is_saved k log) ≡ true → (is_saved k log ≡ true → restored log (set es k x) ≡ restored log es) → set (restored log (set es k x)) t.place t.station ≡ set (restored log es) t.place t.station
+  by true same saved rest =
+      ap (λ n. set (restored log (set es k x)) n t.station) (same_of t.place k same) ∙ restored_twice log es k x t.station
+      ∙ ap (λ n. set (restored log es) n t.station) (sym (same_of t.place k same))
+  by false other saved rest = ap (λ r. set r t.place t.station) (rest saved)
+
+-- The marks
+
+saved_snoc : (log : List Saved) (saved : Saved) (k : ℕ) → is_saved k (log ++ saved ∷ []) ≡ (is_saved k log || (saved.place == k))
+unfolding is_saved
+saved_snoc [] saved k = or_false (saved.place == k) where
+  or_false : (b : Bool) → (b || false) ≡ b
+  or_false true = refl
+  or_false false = refl
+saved_snoc (t ∷ log) saved k = ap (λ b. (t.place == k) || b) (saved_snoc log saved k) ∙ assoc (t.place == k) (is_saved k log) (saved.place == k) where
+  assoc : (a b d : Bool) → (a || (b || d)) ≡ ((a || b) || d)
+  assoc true b d = refl
+  assoc false b d = refl
+
+pub marked_less : (touched : List Bool) (log log' : List Saved) (saved : Saved) → IsMarked touched log → log ≡ log' ++ saved ∷ [] → IsMarked (set touched saved.place false) log'
+marked_less touched log log' saved marked popped k on = by (saved.place == k) refl where
+  never : (b : Bool) → b ≡ false → b ≡ true → is_saved k log' ≡ true
+  never b p q = absurd cc
+
+  off : length touched ≤ k → get_or (set touched k false) k false ≡ false
+  off past = ap (λ t. get_or t k false) (set_past touched k false past) ∙ get_or-eq_default touched false past
+
+  cleared : (b : Bool) → get_or (set touched k false) k false ≡ false
+  cleared b = grind (arith, common_steps, off)
+
+  last : (a b : Bool) → (a || b) ≡ true → b ≡ false → a ≡ true
+  last true b p q = refl
+  last false b p q = absurd cc
+
+  by : (b : Bool) → (saved.place == k) ≡ b → is_saved k log' ≡ true
+  by true same = never (get_or (set touched saved.place false) k false) (ap (λ n. get_or (set touched n false) k false) (same_of saved.place k same) ∙ cleared true) on
+  by false other =
+      let ne : k ≢ saved.place = λ e. other_of saved.place k other (sym e) in
+      let was : is_saved k log ≡ true = marked k (sym (get_or-set_other touched saved.place k false false ne) ∙ on) in
+      last (is_saved k log') (saved.place == k) (sym (saved_snoc log' saved k) ∙ ap (is_saved k) (sym popped) ∙ was) other
+
+pub marked_more : (touched : List Bool) (log log' : List Saved) (saved : Saved) → IsMarked touched log → log' ≡ log ++ saved ∷ [] → IsMarked (set touched saved.place true) log'
+marked_more touched log log' saved marked grown k on = ap (is_saved k) grown ∙ saved_snoc log saved k ∙ by (saved.place == k) refl where
+  or_true : (a b : Bool) → b ≡ true → (a || b) ≡ true
+  or_true true b e = refl
+  or_true false b e = e
+
+  or_left : (a b : Bool) → a ≡ true → (a || b) ≡ true
+  or_left true b e = refl
+  or_left false b e = absurd cc
+
+  by : (b : Bool) → (saved.place == k) ≡ b → (is_saved k log || (saved.place == k)) ≡ true
+  by true same = or_true (is_saved k log) (saved.place == k) same
+  by false other =
+      let ne : k ≢ saved.place = λ e. other_of saved.place k other (sym e) in
+      or_left (is_saved k log) (saved.place == k) (marked k (sym (get_or-set_other touched saved.place k true false ne) ∙ on))
+
+pub marked_none : (n : ℕ) (touched : List Bool) (log : List Saved) → touched ≡ replicate n false → IsMarked touched log
+marked_none n touched log is k on = absurd (by n k (ap (λ t. get_or t k false) (sym is) ∙ on)) where
+  by : (n k : ℕ) → get_or (replicate n false) k false ≡ true → ⊥
+  by zero k e = absurd cc
+  by (suc n) zero e = absurd cc
+  by (suc n) (suc k) e = by n k e
+
+-- What is taken back
+
+pub put_back : (log log' : List Saved) (saved : Saved) (es found : List Station) → log ≡ log' ++ saved ∷ [] → restored log es ≡ found
+    → restored log' (set es saved.place saved.station) ≡ found
+put_back log log' saved es found popped was = restored_less log log' saved es popped ∙ was
+
+pub unmarked_by : (touched touched' : List Bool) (log log' : List Saved) (saved : Saved) → IsMarked touched log → log ≡ log' ++ saved ∷ [] → touched' ≡ set touched saved.place false → IsMarked touched' log'
+unmarked_by touched touched' log log' saved marked popped is k on = marked_less touched log log' saved marked popped k (ap (λ t. get_or t k false) (sym is) ∙ on)
+
+pub none_of : (log : List Saved) → length log ≡ 0 → log ≡ []
+none_of [] none = refl
+none_of (x ∷ log) none = absurd (omega arith)
+
+-- it is saved
+pub saved_now : (place : ℕ) (station copy : Station) (touched : List Bool) (log log' : List Saved) → IsMarked touched log → copy ≡ station
+    → log' ≡ log ++ (record { place = place; station = copy }) ∷ [] → IsSavedToo place station touched (set touched place true) log log'
+saved_now place station copy touched log log' marked is grown =
+    let saved : Saved = record { place = place; station = copy } in
+    record {
+      flags = length-set touched place true;
+      marked = marked_more touched log log' saved marked grown;
+      this = ap (is_saved place) grown ∙ saved_snoc log saved place ∙ or_true (is_saved place log) (place == place) (is_itself place);
+      same = λ es there. restored_more log log' saved es grown (is ∙ there ∙ ap (get_or es place) (sym is));
+    } where
+      or_true : (a b : Bool) → b ≡ true → (a || b) ≡ true
+      or_true true b e = refl
+      or_true false b e = e
+
+-- The room
+
+idle_marked : (touched : List Bool) (k : ℕ) → k < length touched → get_or touched k false ≡ false → idle touched ≡ suc (idle (set touched k true))
+idle_marked [] k within off = absurd (omega arith)
+idle_marked (true ∷ touched) zero within off = absurd cc
+idle_marked (false ∷ touched) zero within off = refl
+idle_marked (true ∷ touched) (suc k) within off = idle_marked touched k (omega arith) off
+idle_marked (false ∷ touched) (suc k) within off = ap (λ n. suc n) (idle_marked touched k (omega arith) off)
+
+pub idle_unmarked : (touched : List Bool) (k : ℕ) → idle (set touched k false) ≤ suc (idle touched)
+idle_unmarked [] k = omega arith
+idle_unmarked (true ∷ touched) zero = omega arith
+idle_unmarked (false ∷ touched) zero = omega arith
+idle_unmarked (true ∷ touched) (suc k) = idle_unmarked touched k
+idle_unmarked (false ∷ touched) (suc k) = omega (arith, idle_unmarked touched k)
+
+pub idle_none : (n : ℕ) (touched : List Bool) → touched ≡ replicate n false → idle touched ≡ n
+idle_none n touched is = ap idle is ∙ by n where
+  by : (n : ℕ) → idle (replicate n false) ≡ n
+  by zero = refl
+  by (suc n) = ap (λ m. suc m) (by n)
+
+pub room_for : (touched : List Bool) (place saved capacity : ℕ) → HasRoom saved touched capacity → place < length touched → get_or touched place false ≡ false → saved < capacity
+room_for touched place saved capacity room within off = omega (arith, room, idle_marked touched place within off)
+
+pub room_after : (touched : List Bool) (place saved saved' capacity : ℕ) → HasRoom saved touched capacity → place < length touched → get_or touched place false ≡ false → saved' ≡ saved + 1
+    → HasRoom saved' (set touched place true) capacity
+room_after touched place saved saved' capacity room within off more = omega (arith, room, idle_marked touched place within off, more)
+
+pub room_back : (touched touched' : List Bool) (place saved saved' capacity capacity' : ℕ) → HasRoom saved touched capacity → touched' ≡ set touched place false → saved' + 1 ≡ saved → capacity' ≡ capacity
+    → HasRoom saved' touched' capacity'
+room_back touched touched' place saved saved' capacity capacity' room is less same = omega (arith, room, idle_unmarked touched place, ap idle is, less, same)
+
+pub off_of : (touched : List Bool) (place : ℕ) (x : Bool) → x ≡ get_or touched place x → x ≡ false → get_or touched place false ≡ false
+off_of touched place true is test = absurd cc
+off_of touched place false is test = sym is
+
+pub room_first : (n saved : ℕ) (flags : List Bool) (capacity : ℕ) → flags ≡ replicate n false → saved ≡ 0 → n ≤ capacity → HasRoom saved flags capacity
+room_first n saved flags capacity is none room = omega (arith, idle_none n flags is, none, room)
+
+-- a station that is saved changes in place
+pub changed_found : (place : ℕ) (was becomes : Station) (touched touched' : List Bool) (log log' : List Saved) (es : List Station) → was ≡ get_or es place was
+    → IsSavedToo place was touched touched' log log' → restored log' (set es place becomes) ≡ restored log es
+changed_found place was becomes touched touched' log log' es here saved = restored_over log' es place becomes saved.this ∙ saved.same es here

@@ -1,0 +1,61 @@
+-- Changes in place: what a call makes of what it is lent.
+use Rattle.std.specs.Prelude.{◌≡◌, ℕ, Some, slice_set, slice_index_or}
+use Rattle.std.specs.Borrow.{MutBor}
+use denote.Param.Members.{Once}
+use Rattle.plain_machine.specs.declared.own.Own.{Own}
+use Rattle.plain_machine.specs.declared.station.Station.{Station}
+use Rattle.plain_machine.specs.Machine.{Endpoints, station_at, with_station, with_own}
+use Rattle.gateway_stations.specs.Telling.{HasId}
+use Rattle.gateway_floor.specs.FloorState.{FloorState}
+
+-- what is lent to a call, and what it gives back with its result: something that changes, and what else the change sees
+abbrev pub Lent : Type 0 → Type 0 → Type 0
+Lent A C = MutBor A × (MutBor C × Unit {0})
+
+abbrev pub Call : Type 0 → Type 0 → Type 0 → Type 0 → Type 1
+Call F A C T = Once F (Lent A C) (T × Lent A C)
+
+-- a call, lent this, gives r and leaves that
+pub record Leaves {F A C T : Type 0} (g : Call F A C T) (f : F) (was : A) (with : C) (r : T) (is : A) (left : C) : Type 0 where
+  pub shown : MutBor A
+  pub leaves : MutBor A
+  pub lent : MutBor C
+  pub back : MutBor C
+  pub called : g.post f (shown, (lent, tt)) (r, (leaves, (back, tt)))
+  pub shows : shown.now ≡ was
+  pub lends : lent.now ≡ with
+  pub becomes : is ≡ leaves.now
+  pub gives : left ≡ back.now
+
+-- the station at this place becomes what a call leaves of it
+pub record StationChanges {F C T : Type 0} (g : Call F Station C T) (f : F) (place : ℕ) (was : Endpoints) (with : C) (r : T) (is : Endpoints) (left : C) : Type 0 where
+  pub station : Station
+  pub becomes : Station
+  pub here : station ≡ slice_index_or was.stations place station
+  pub leaves : Leaves g f station with r becomes left
+  pub endpoints : is ≡ record was { stations = slice_set was.stations place becomes }
+
+-- what the gateway keeps for itself becomes what a call leaves of it
+pub record OwnChanges {F C T : Type 0} (g : Call F Own C T) (f : F) (was : Endpoints) (with : C) (r : T) (is : Endpoints) (left : C) : Type 0 where
+  pub becomes : Own
+  pub leaves : Leaves g f was.own with r becomes left
+  pub endpoints : is ≡ with_own was becomes
+
+-- of what has an id for its next command, a call leaves what has one
+abbrev pub KeepsId : {F C T : Type 0} → Call F Own C T → F → Type 0
+KeepsId g f = (shown leaves : MutBor Own) (lent back : MutBor _) (r : _) → HasId 0 shown.now.post.number
+    → g.post f (shown, (lent, tt)) (r, (leaves, (back, tt))) → HasId 0 leaves.now.post.number
+
+-- the station of a line becomes what a call leaves of it, and what the event found can still be had
+pub record LineChanges {F C T : Type 0} (g : Call F Station C T) (f : F) (line : ℕ) (was : FloorState) (with : C) (r : T) (is : FloorState) (left : C) : Type 0 where
+  pub station : Station
+  pub becomes : Station
+  pub here : station_at was.endpoints line ≡ Some station
+  pub leaves : Leaves g f station with r becomes left
+  pub floor : is ≡ record was { endpoints = with_station was.endpoints line becomes }
+
+-- and so does what the gateway keeps for itself
+pub record GatewayChanges {F C T : Type 0} (g : Call F Own C T) (f : F) (was : FloorState) (with : C) (r : T) (is : FloorState) (left : C) : Type 0 where
+  pub becomes : Own
+  pub leaves : Leaves g f was.endpoints.own with r becomes left
+  pub floor : is ≡ record was { endpoints = with_own was.endpoints becomes }
