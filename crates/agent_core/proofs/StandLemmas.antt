@@ -5,6 +5,7 @@ use Rattle.std.specs.Result.{result_err}
 use Rattle.std.proofs.lemmas.Bool.{leb-false}
 use Rattle.std.proofs.lemmas.Bool.Decides.{nat_tests}
 use Rattle.mg_bytes.specs.Bytes.{space}
+use Rattle.outbound.specs.Flight.{InFlight}
 use Rattle.history.proofs.RecallLaws.{recalls_itself, recalls_purged}
 use Rattle.plain_machine.specs.declared.refusal.Refusal.{Refusal}
 use Rattle.plain_machine.specs.declared.refusal.Refusal.TheVariants.{TickTooFar, ClockBack}
@@ -18,6 +19,7 @@ use Rattle.agent_core.specs.declared.setup.AgentSetup.{AgentSetup}
 use Rattle.agent_core.specs.declared.state.Answered.{Answered}
 use Rattle.agent_core.specs.declared.state.State.{State}
 use Rattle.agent_core.specs.Agent.{AgentMachine, AgentEffect, FinalAnswer, agent_opening, answer_for, observed_on}
+use Rattle.agent_core.specs.Flying.{first_flight}
 use Rattle.agent_core.specs.Issuing.{command_text, is_good, greatest_id, issued, issue_refusal}
 use Rattle.agent_core.specs.Hearing.{AgentEvent, issues, hears, agent_after, agent_effect, agent_refusal, event_refused, issue_refused, hearing_refusal, plain_agent}
 use Rattle.agent_core.specs.AgentAlike.{AgentAlike}
@@ -128,6 +130,11 @@ pub answered_is : (a : AgentState) (answers : List Answered) (id : ℕ) (events 
 answered_is a answers id events here s =
     find_final id answers
     ∙ ap (λ (x : List FinalAnswer). option_map answer_in (find (λ answer. answer.id == id) x)) (sym here ∙ sym (ap (λ (m : AgentMachine). m.answers) s.alike.same))
+
+pub flights_are : (a : AgentState) (flights : List InFlight) (events : List AgentEvent) → a.machine.flights ≡ flights → AgentStands a events
+    → option_map (λ flight. flight.due) (first_flight flights) ≡ option_map (λ flight. flight.due) (first_flight (plain_agent a.setup events).flights)
+flights_are a flights events here s =
+    ap (λ (x : List InFlight). option_map (λ flight. flight.due) (first_flight x)) (sym here ∙ sym (ap (λ (m : AgentMachine). m.flights) s.alike.same))
 
 pub taken_is : (a : AgentState) (line : ℕ) (events : List AgentEvent) → AgentStands a events → observed_on line a.machine ≡ observed_on line (plain_agent a.setup events)
 taken_is a line events s = sym (ap (observed_on line) s.alike.same)

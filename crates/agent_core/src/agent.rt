@@ -4,6 +4,7 @@ ghost use Rattle.std.specs.Result.{result_err};
 ghost use Rattle.plain_machine.specs.Event.{event_of};
 ghost use Rattle.plain_machine.specs.Refusing.{ends};
 ghost use Rattle.agent_core.specs.Agent.{answer_for, observed_on};
+ghost use Rattle.agent_core.specs.Flying.{first_flight};
 ghost use Rattle.agent_core.specs.Issuing.{issue_refusal};
 ghost use Rattle.agent_core.specs.Hearing.{AgentEvent, issues, hears, hearing_refusal, plain_agent};
 ghost use Rattle.agent_core.specs.State.{answer_in, answered_with};
@@ -163,6 +164,15 @@ impl Agent {
             option_copied result ≡ option_map answer_in (answer_for id (plain_agent self.now.setup events)) }
     {
         answer_with(self.state.answers.as_slice(), id)
+    }
+
+    /// The moment, in ms, at which something falls due next: a command is sent again, or given up (RFC 3435, 3.5.3 and 4.3).
+    /// `None` where nothing is in flight. Until then no tick does anything but move the clock. This takes no memory.
+    pub fn next_due(&self) -> Option<u64>
+        ensures { (events : List AgentEvent) → AgentStands self.now events →
+            result ≡ option_map (λ flight. flight.due) (first_flight (plain_agent self.now.setup events).flights) }
+    {
+        self.state.flights.next_due()
     }
 
     /// All that notifications of a line told, joined; nothing of a line that there isn't. This takes no memory.

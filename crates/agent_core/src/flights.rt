@@ -1,5 +1,5 @@
 //! The commands in flight.
-ghost use Rattle.std.specs.Prelude.{◌≡◌, ◌<◌, ◌≤◌, ◌*◌, ◌++◌, ◌∷◌, [], length, find, position, slice_set, slice_index_or, OnOk, OnErr, OnSome, option_copied};
+ghost use Rattle.std.specs.Prelude.{◌≡◌, ◌<◌, ◌≤◌, ◌*◌, ◌++◌, ◌∷◌, [], length, find, position, slice_set, slice_index_or, OnOk, OnErr, OnSome, option_copied, option_map};
 ghost use Rattle.agent_core.specs.Growing.{grown_to, settled, undone};
 ghost use Rattle.agent_core.specs.Flights.{flights_in, holds_id, exchanged, sooner_at, put_back};
 ghost use Rattle.agent_core.specs.Flying.{has_id, first_flight, if_due, with_flight, without_flight};
@@ -72,6 +72,14 @@ impl Flights {
         } else {
             None
         }
+    }
+
+    /// When something falls due next, in ms.
+    pub(crate) fn next_due(&self) -> Option<u64>
+        ensures { result ≡ option_map (λ flight. flight.due) (first_flight self.now.is) }
+    {
+        let flight = first_flight(&self.places)?;
+        Some(flight.due())
     }
 
     /// How many things fall due at most: of each flight seven repeats, and its end.

@@ -11,13 +11,14 @@
 //! - `sends 500 127.0.0.1:2427  AUEP 1 aaln/1@~¶` the next datagram that wasn't told yet: its moment, where it goes, and its
 //!   bytes; `sends none`;
 //! - `firsts 1-4096` announcements with these ids come from the gateway one by one, and each is answered at once by 200;
+//! - `due 500` when something falls due next; `due none`;
 //! - `answers 1  200  200 1 OK¶` the answer to the command with this id; `answers 2  none`;
 //! - `taken 1  L/hd,D/5` what notifications of a line told; `taken 2  none`.
 use crate::forms::{
     act_in, address_in, answers, command_in, range_in, taken, unless_number, unless_refused,
     unless_told, with_refusal,
 };
-use crate::gateways::{agent_address, gateway_address};
+use crate::gateways::{agent_address, due, gateway_address};
 use crate::outputs::{datagram_at, is_just};
 use agent_core::{Agent, IssueFault, Issued};
 use gateway_core::{Event, Outputs, Refusal};
@@ -229,6 +230,7 @@ impl Tale for AgentTale {
             "at" => self.at(alloc, rest),
             "sends" => self.sends(alloc, rest),
             "firsts" => self.firsts(alloc, rest),
+            "due" => due(alloc, self.agent.next_due(), rest),
             "answers" => answers(alloc, &self.agent, rest),
             "taken" => taken(alloc, &self.agent, rest),
             _ => no_such_row(alloc),

@@ -51,6 +51,15 @@ pub fn config_with(alloc: Global, lines: u32, entity: &[u8]) -> Result<Config, O
     })
 }
 
+/// `1500`, `none`: when something falls due next.
+pub fn due(alloc: Global, next: Option<u64>, wanted: &str) -> io::Result<Option<String>> {
+    let given = match next {
+        Some(moment) => format!(in alloc; "{moment}")?,
+        None => "none".to_string(alloc)?,
+    };
+    unless_said(alloc, given.as_str(), wanted)
+}
+
 /// `1 off`: the telephone of a line.
 pub fn hook(alloc: Global, gateway: &Gateway, fields: &str) -> io::Result<Option<String>> {
     let (line, wanted) = fields.split_once(' ').unwrap_or((fields, ""));

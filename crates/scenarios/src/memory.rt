@@ -10,9 +10,10 @@
 //! - `audits 1-20000` audits of line 1 with these ids come from the agent, the first after 10 ms, one each 10 ms, and each is
 //!   answered at once by 200 and by nothing else;
 //! - `sent 200 1200 OK¶` the next datagram that was handed to the wire, which goes to the agent; `sent none`;
+//! - `due 501` when something falls due next; `due none`;
 //! - `hook 1 off` the telephone of a line.
 use crate::forms::{number_in, range_in};
-use crate::gateways::{agent_address, hook, usual_gateway};
+use crate::gateways::{agent_address, due, hook, usual_gateway};
 use crate::outputs::is_just;
 use crate::planned::{event_of, planned_in};
 use gateway_core::{Event, Gateway, Outputs, Served, Wire};
@@ -179,6 +180,7 @@ impl Tale for MemoryTale {
             "run" => return self.run(alloc, rest),
             "audits" => return self.audits(alloc, rest),
             "sent" => return self.sent(alloc, rest),
+            "due" => return due(alloc, self.gateway.next_due(), rest),
             "hook" => return hook(alloc, &self.gateway, rest),
             _ => return no_such_row(alloc),
         }
