@@ -179,3 +179,10 @@ passes_over setup stations own number place moment act station becomes same at p
     on_this (manned stations own) number station (acted_on setup number moment act) at
     ∙ ap (λ (t : Turn). with_turn (manned stations own) number t) (sym passed)
     ∙ ap (λ n. told (manned (slice_set stations (n - 1) becomes) own) []) (sym same)
+
+-- the station at the place of a line
+pub stands_there : (endpoints : Endpoints) (line number place : ℕ) (station : Station) → IsLine line → line - 1 < length endpoints.stations → number ≡ line → place ≡ number - 1
+    → station ≡ get_or endpoints.stations place station → station_at endpoints line ≡ Some station
+stands_there endpoints line number place station is within same at here =
+    let place_is : place ≡ line - 1 = omega (arith, same, at) in
+    station_there endpoints.stations endpoints.own line station is.some within (here ∙ ap (λ n. get_or endpoints.stations n station) place_is)

@@ -1,4 +1,3 @@
 pub mod TellLemmas
 pub mod NewsLemmas
 pub mod ResponseLemmas
-pub mod OwnLemmas

@@ -1,5 +1,6 @@
--- What a response is to a station, by what it is to its command in flight.
-use Rattle.std.proofs.Common.{◌≡◌, ℕ, List, Option, ap, ◌∙◌, subst, append-nil}
+-- What the answer to its command in flight does to a station.
+use Rattle.std.proofs.Common.{◌≡◌, ℕ, List, Option, Result, Ok, Err, ap, ◌∙◌, subst, append-nil}
+use Rattle.std.specs.Prelude.{OnOk}
 use Rattle.endpoint_names.specs.declared.entity.Entity.{Entity}
 use Rattle.mg_line.specs.Answering.{answered}
 use Rattle.restart.specs.declared.heard.Heard.{Heard}
@@ -15,30 +16,11 @@ use Rattle.plain_machine.specs.Notifying.{posted, noted}
 use Rattle.plain_machine.specs.Responding.{responded_as, responded_on}
 use Rattle.gateway_stations.specs.Turns.{HasTurn, PostHasTurn}
 
-posted_turn : (station becomes : Station) (turn : PostTurn) (post : Post) (were are : List OutDatagram) → PostHasTurn turn post were are → becomes ≡ record station { post = post }
-    → HasTurn (posted station turn) becomes were are
-posted_turn station becomes turn post were are has same =
-    record { station = same ∙ ap (λ (p : Post). let s : Station = record station { post = p } in s) has.post; sent = has.sent }
-
 heard_so : (setup : Setup) (line moment : ℕ) (response : Response) (station becomes : Station) (heard : Heard) (were are : List OutDatagram) → heard ≡ heard_on station.post response
     → HasTurn (responded_as heard setup line moment response station) becomes were are → HasTurn (responded_on setup line moment response station) becomes were are
 unfolding responded_on
 heard_so setup line moment response station becomes heard were are is has =
     subst (λ (h : Heard). HasTurn (responded_as h setup line moment response station) becomes were are) is has
-
-pub is_put_off : (setup : Setup) (line moment : ℕ) (response : Response) (station becomes : Station) (post : Post) (were are : List OutDatagram) → PutOff ≡ heard_on station.post response
-    → PostHasTurn (replied PutOff setup line moment response station.post) post were are → becomes ≡ record station { post = post }
-    → HasTurn (responded_on setup line moment response station) becomes were are
-is_put_off setup line moment response station becomes post were are is has same =
-    heard_so setup line moment response station becomes PutOff were are is
-    (posted_turn station becomes (replied PutOff setup line moment response station.post) post were are has same)
-
-pub is_redirected : (setup : Setup) (line moment : ℕ) (response : Response) (station becomes : Station) (agent : Entity) (post : Post) (were are : List OutDatagram)
-    → Redirected agent ≡ heard_on station.post response → PostHasTurn (replied (Redirected agent) setup line moment response station.post) post were are
-    → becomes ≡ record station { post = post } → HasTurn (responded_on setup line moment response station) becomes were are
-is_redirected setup line moment response station becomes agent post were are is has same =
-    heard_so setup line moment response station becomes (Redirected agent) were are is
-    (posted_turn station becomes (replied (Redirected agent) setup line moment response station.post) post were are has same)
 
 -- the answer sends nothing by itself
 answer_silent : (agent : Option Entity) (setup : Setup) (line moment : ℕ) (response : Response) (station : Station) (post : Post) (were mid : List OutDatagram)
@@ -56,3 +38,8 @@ is_answered setup line moment response station becomes agent post were mid are i
     heard_so setup line moment response station becomes (Answered agent) were are is
     (subst (λ (p : Post). HasTurn (noted setup line moment (record station { post = p }) (answered station.line moment)) becomes were are) has.post
     (subst (λ (x : List OutDatagram). HasTurn (noted setup line moment (record station { post = post }) (answered station.line moment)) becomes x are) same goes))
+
+-- where it ends well
+pub on_ok : {A E : Type 0} {P Q : Type 0} (result : Result A E) → (P → Q) → OnOk result P → OnOk result Q
+on_ok (Ok value) then has = then has
+on_ok (Err fault) then has = has

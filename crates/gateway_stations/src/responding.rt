@@ -31,10 +31,16 @@ pub fn responded_on(
         station.new out.old.items out.new.items) }
 {
     let heard = heard_on(&station.post, response);
-    replied(context, occasion, &mut station.post, response, heard, out)?;
     match heard {
-        Heard::Answered(_) => answered_on(context, occasion, station, out),
-        Heard::Nothing | Heard::PutOff | Heard::Redirected(_) => Ok(()),
+        Heard::Nothing => Ok(()),
+        Heard::PutOff => replied(context, occasion, &mut station.post, response, heard, out),
+        Heard::Redirected(_) => {
+            replied(context, occasion, &mut station.post, response, heard, out)
+        }
+        Heard::Answered(_) => {
+            replied(context, occasion, &mut station.post, response, heard, out)?;
+            answered_on(context, occasion, station, out)
+        }
     }
 }
 

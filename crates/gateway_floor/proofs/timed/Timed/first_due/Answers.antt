@@ -7,5 +7,5 @@ use Rattle.gateway_floor.proofs.timed.Timed.first_due.Goals as goal
 pub returns : goal.returns
 returns c =
     c.first_in.ensures.item
-    ∙ first_is_least (manned c.self.inside.stations.items c.self.inside.own) c.self.inside.due c.self.invariant.1 c.first_in.ensures.first
+    ∙ first_is_least (manned c.self.inside.stations.items c.self.inside.own) c.self.inside.due c.self.invariant.due c.first_in.ensures.first
     ∙ ap first_due c.self.view_is

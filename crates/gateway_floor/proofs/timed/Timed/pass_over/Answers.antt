@@ -15,8 +15,8 @@ invariant_of-self c =
     let within : c.args.line - 1 < length c.self.inside.stations.items = rw (← c.self.view_is) at c.requires.within in
     let inside : c.from-place.result - 1 < length c.self.inside.stations.items = omega (arith, from, within) in
     let same : c.args.line ≡ c.from-place.result - 1 + 1 = omega (arith, from, some) in (
-      rw (set_length stations place is) c.self.invariant.0,
-      station_in_step stations c.self.inside.own place c.args.line c.index.result.now is c.self.inside.due c.enter.new.table c.self.invariant.1
+      rw (set_length stations place is) c.self.invariant.few,
+      station_in_step stations c.self.inside.own place c.args.line c.index.result.now is c.self.inside.due c.enter.new.table c.self.invariant.due
           same inside c.index.ensures (c.enter.ensures.lines ∙ c.clear.ensures.lines)
           (table_renewed c.args.line c.due_on-was.result _ c.due_on-is.result _ c.self.inside.due.table c.clear.new.table.table _
           c.clear.ensures.table c.due_on-was.ensures c.enter.ensures.table
