@@ -19,8 +19,8 @@ use crate::keeping::Thing;
 use crate::requests;
 use crate::texts::{judged, unless_fields};
 use acts::{act_of, due_of};
-use mg_bytes::{CodeFault, OutOfMemory};
-use mg_line::{Line, LineStep, Notice};
+use mg_bytes::CodeFault;
+use mg_line::{Line, Notice};
 use parameters::request_of;
 use shown::{state_of, told};
 use std::alloc::Global;
@@ -37,13 +37,6 @@ pub struct LineTale {
 }
 
 impl LineTale {
-    // The line is as a step leaves it; what it has to tell.
-    fn go_on(&mut self, step: Result<LineStep, OutOfMemory>) -> Result<Option<Notice>, CodeFault> {
-        let LineStep { line, notice } = step?;
-        self.line = line;
-        Ok(notice)
-    }
-
     // A request with these parameters; a code where the line refuses it.
     fn asked(
         &mut self,
@@ -57,8 +50,7 @@ impl LineTale {
         if let Some(code) = self.line.check(&request) {
             return Err(CodeFault::Code(code));
         }
-        let step = self.line.request(&request, moment);
-        self.go_on(step)
+        Ok(self.line.request(&request, moment)?)
     }
 
     // An act that the hook state allows: it is done, or isn't heeded.
@@ -75,8 +67,7 @@ impl LineTale {
             return Err(NO_TURN);
         }
         if is_heeded {
-            let step = self.line.phone(act, moment);
-            return self.go_on(step);
+            return Ok(self.line.phone(act, moment)?);
         }
         if self.line.heeds(act) {
             return Err(NO_TURN);
@@ -92,8 +83,7 @@ impl LineTale {
         if self.line.due() != Some((moment, due)) {
             return Err(NO_TURN);
         }
-        let step = self.line.fire(due, moment);
-        self.go_on(step)
+        Ok(self.line.fire(due, moment)?)
     }
 
     // A turn at this moment.
@@ -111,14 +101,8 @@ impl LineTale {
             "asks" => self.asked(alloc, row.parameters(), moment),
             "idles" => self.acted(what, moment, false),
             "falls" => self.fallen(what, moment),
-            "answered" => {
-                let step = self.line.answered(moment);
-                self.go_on(step)
-            }
-            "opened" => {
-                let step = self.line.opened(moment);
-                self.go_on(step)
-            }
+            "answered" => Ok(self.line.answered(moment)?),
+            "opened" => Ok(self.line.opened(moment)?),
             _ => self.acted(words, moment, true),
         }
     }
@@ -136,9 +120,9 @@ impl LineTale {
 
 impl Thing for LineTale {
     fn begin(alloc: Global) -> io::Result<LineTale> {
-        let line = Line::new(alloc)?;
-        let step = line.opened(0)?;
-        Ok(LineTale { line: step.line })
+        let mut line = Line::new(alloc)?;
+        line.opened(0)?;
+        Ok(LineTale { line })
     }
 
     fn copy(&self, _alloc: Global) -> io::Result<LineTale> {
