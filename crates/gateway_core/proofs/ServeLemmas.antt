@@ -1,5 +1,5 @@
 -- Turns of a gateway that is served, one after the other.
-use Rattle.std.proofs.Common.{◌≡◌, ℕ, ◌+◌, ◌-◌, ◌<◌, ◌≤◌, ◌^◌, min, Bool, true, false, cond, List, [], ◌∷◌, ◌++◌, length, get_or, take, map, Option, Some, None, refl, sym, ◌∙◌, ap, subst, append_assoc, append-nil, arith}
+use Rattle.std.proofs.Common.{◌≡◌, ℕ, ◌+◌, ◌-◌, ◌<◌, ◌≤◌, ◌^◌, true, false, cond, List, [], ◌∷◌, ◌++◌, length, get_or, take, map, Option, Some, None, refl, sym, ◌∙◌, ap, subst, append_assoc, append-nil, arith}
 use Rattle.std.specs.List.{flat_map, sum_by, count_by}
 use Rattle.std.proofs.lemmas.Bool.{false≢true}
 use Rattle.std.proofs.lemmas.List.{map-append, length-append, take_more}
@@ -8,13 +8,12 @@ use Rattle.std.proofs.lemmas.Grind.{flat_map-append}
 use Rattle.transmission.specs.declared.output.OutDatagram.{OutDatagram}
 use Rattle.plain_machine.specs.declared.setup.Setup.{Setup}
 use Rattle.plain_machine.specs.Event.{GatewayEvent}
-use Rattle.plain_machine.specs.Lists.{outputs_from, plain}
 use Rattle.gateway_core.specs.declared.served.Served.{Served}
 use Rattle.gateway_core.specs.declared.serving.TurnEnd.{TurnEnd}
 use Rattle.gateway_core.specs.declared.serving.TurnEnd.TheVariants as ends
 use Rattle.gateway_core.specs.GatewayState.{GatewayState}
-use Rattle.gateway_core.specs.Stands.{Stands, Took}
-use Rattle.gateway_core.specs.Wire.{Grows, counted, WireLog, Traffic, Carries, end, takes, gives}
+use Rattle.gateway_core.specs.Stands.{Took}
+use Rattle.gateway_core.specs.Wire.{Grows, counted, WireLog, Carries, end, takes, gives}
 use Rattle.gateway_core.specs.Serving.{Turn, took, refused, failed, given_at, taken_at, outputs_at, send_faults_at, is_failed, is_refused, handed_of, taken_in, outputs_in, traffic_in, HasReasons, Serves}
 use Rattle.gateway_core.specs.Turning.{handing, traffic_at, Went, Ended, Turned, noted}
 use Rattle.gateway_core.proofs.StandLemmas.{took_on, took_none}

@@ -1,5 +1,6 @@
 -- What a change in place does to the floor.
-use Rattle.std.proofs.Common.{◌≡◌, ℕ, ◌-◌, Bool, List, [], Option, Some, refl, sym, ap, ◌∙◌, subst, get_or, set}
+use Rattle.std.proofs.Common.{◌≡◌, ℕ, ◌-◌, Bool, List, [], Option, Some, None, false, ◌∷◌, ◌++◌, length, refl, sym, ap, ◌∙◌, get_or, set}
+use Rattle.std.proofs.lemmas.List.{length-set}
 use Rattle.std.specs.Prelude.{slice_set}
 use Rattle.std.specs.Option.{unwrap_or}
 use Rattle.std.specs.Global.{Vec}
@@ -7,15 +8,15 @@ use Rattle.transmission.specs.declared.output.OutDatagram.{OutDatagram}
 use Rattle.plain_machine.specs.declared.own.Own.{Own}
 use Rattle.plain_machine.specs.declared.station.Station.{Station}
 use Rattle.plain_machine.specs.Notifying.{Turn, silent}
-use Rattle.plain_machine.specs.Machine.{Endpoints, OwnTurn, station_at, with_station, with_own, on_line, on_own}
+use Rattle.plain_machine.specs.Machine.{Endpoints, OwnTurn, with_station, with_own, on_line, on_own}
 use Rattle.gateway_stations.specs.Turns.{HasTurn, OwnHasTurn}
 use Rattle.gateway_floor.specs.declared.floor.Saved.{Saved}
 use Rattle.gateway_floor.specs.FloorState.{FloorState, settled_at}
 use Rattle.gateway_floor.specs.Saving.{manned, restored, found_in, IsSavedToo}
-use Rattle.gateway_floor.specs.Changing.{Call, Leaves, LineChanges, GatewayChanges}
+use Rattle.gateway_floor.specs.Changing.{Call, LineChanges, GatewayChanges}
 use Rattle.gateway_floor.specs.Tells.{Goes}
 use Rattle.gateway_floor.proofs.FloorLemmas.{goes_on_line, goes_on_own}
-use Rattle.gateway_floor.proofs.SavingLemmas.{changed_found, restored_none}
+use Rattle.gateway_floor.proofs.SavingLemmas.{changed_found, restored_less, restored_none}
 
 pub floor_is : {e e' f f' : Endpoints} → e ≡ e' → f ≡ f' → ◌≡◌ {A = FloorState} (record { endpoints = e; found = f }) (record { endpoints = e'; found = f' })
 floor_is same found = rw (same, found) refl
@@ -76,7 +77,43 @@ goes_silent g f line was with r is left turn changes same =
     goes_on_line was.endpoints line changes.station changes.becomes turn was is [] [] refl (sym changes.here)
     (record { station = ap (λ (t : Turn). t.station) turned; sent = rw (sym turned) refl }) changes.floor
 
--- all is put back
-pub all_back : (log log' : List Saved) (own own' : Option Own) (endpoints : Endpoints) → log ≡ [] → log' ≡ [] → own ≡ own'
-    → floor_of log' own' endpoints ≡ floor_of log own endpoints
-all_back log log' own own' endpoints none still same = rw (none, still, same) refl
+-- what was saved last is put back
+pub back_found : (log log' : List Saved) (saved : Saved) (own : Option Own) (was is found : Endpoints) → log ≡ log' ++ saved ∷ []
+    → is ≡ record was { stations = slice_set was.stations saved.place saved.station } → found_in log own was ≡ found → found_in log' own is ≡ found
+back_found log log' saved own was is found popped set_is same =
+    ap (found_in log' own) set_is
+    ∙ ap (λ (x : List Station). manned x (unwrap_or own was.own)) (restored_less log log' saved was.stations popped)
+    ∙ same
+
+back_length : (endpoints is : Endpoints) (place : ℕ) (station : Station) → is ≡ record endpoints { stations = slice_set endpoints.stations place station }
+    → length is.stations ≡ length endpoints.stations
+back_length endpoints is place station set_is = ap (λ (e : Endpoints). length e.stations) set_is ∙ length-set endpoints.stations place station
+
+pub back_flags : (touched touched' : List Bool) (place at : ℕ) (station : Station) (endpoints is : Endpoints) → length touched ≡ length endpoints.stations
+    → touched' ≡ set touched at false → is ≡ record endpoints { stations = slice_set endpoints.stations place station } → length touched' ≡ length is.stations
+back_flags touched touched' place at station endpoints is flags unmarked set_is =
+    ap length unmarked ∙ length-set touched at false ∙ flags ∙ sym (back_length endpoints is place station set_is)
+
+-- nothing is saved any more
+pub none_saved : (log : List Saved) (endpoints was : Endpoints) → log ≡ [] → endpoints ≡ was → floor_of log None endpoints ≡ settled_at was
+none_saved log endpoints was none same =
+    floor_is same (ap (λ (x : List Station). manned x endpoints.own) (restored_none log endpoints.stations none) ∙ same)
+
+-- all stations are put back, and nothing of the gateway itself was changed
+pub stations_back : (log log' : List Saved) (own own' : Option Own) (endpoints found : Endpoints) → log ≡ [] → log' ≡ [] → own ≡ None → own' ≡ None → found_in log own endpoints ≡ found
+    → floor_of log' own' endpoints ≡ settled_at found
+stations_back log log' own own' endpoints found none still unsaved gone same =
+    ap (λ (o : Option Own). floor_of log' o endpoints) gone
+    ∙ none_saved log' endpoints found still
+    (ap (λ (x : List Station). manned x endpoints.own) (sym (restored_none log endpoints.stations none))
+    ∙ ap (λ (o : Option Own). found_in log o endpoints) (sym unsaved) ∙ same)
+
+-- and what the gateway keeps for itself is put back
+pub own_back : (log log' : List Saved) (own : Own) (saved saved' : Option Own) (endpoints is found : Endpoints) → log ≡ [] → log' ≡ [] → saved ≡ Some own → saved' ≡ None
+    → found_in log saved endpoints ≡ found → is ≡ with_own endpoints own → floor_of log' saved' is ≡ settled_at found
+own_back log log' own saved saved' endpoints is found none still kept gone same set_is =
+    ap (λ (o : Option Own). floor_of log' o is) gone
+    ∙ none_saved log' is found still
+    (set_is
+    ∙ ap (λ (x : List Station). manned x own) (sym (restored_none log endpoints.stations none))
+    ∙ ap (λ (o : Option Own). found_in log o endpoints) (sym kept) ∙ same)

@@ -1,15 +1,19 @@
 -- What is saved of the floor is put back, and what comes to one line after the other.
-use Rattle.std.proofs.Common.{◌≡◌, ℕ, zero, suc, ◌+◌, ◌-◌, ◌<◌, ◌≤◌, Bool, true, false, List, [], ◌∷◌, ◌++◌, length, map, filter, drop, Option, Some, None, refl, sym, ◌∙◌, ap, subst, append_assoc, append-nil, get_or, arith}
+use Rattle.std.proofs.Common.{◌≡◌, ℕ, zero, suc, ◌+◌, ◌-◌, ◌<◌, ◌≤◌, Bool, true, false, List, [], ◌∷◌, ◌++◌, length, map, filter, drop, Some, None, refl, sym, ◌∙◌, ap, subst, append_assoc, append-nil, get_or, arith}
 use Rattle.std.specs.Prelude.{slice_set, ◌==◌, if◌then◌else◌}
-use Rattle.std.specs.Option.{unwrap_or}
 use Rattle.std.proofs.lemmas.Option.{slice_get-get_or}
 use Rattle.mg_line.specs.declared.phone.Act.{Act}
 use Rattle.plain_machine.specs.Acting.{acted_on, acted}
 use Rattle.std.specs.List.{enumerate_from}
 use Rattle.std.proofs.lemmas.Bool.Decides.{nat_tests}
-use Rattle.std.proofs.lemmas.List.{set-set, set-get_or, map-append, drop_all}
+use Rattle.std.proofs.lemmas.List.{map-append, drop_all}
 use Rattle.command_forms.specs.declared.forms.Target.{Target}
 use Rattle.command_forms.specs.Meaning.{is_for}
+use Rattle.restart.specs.declared.heard.Heard.{Heard}
+use Rattle.restart.specs.declared.heard.Heard.TheVariants.{Nothing}
+use Rattle.plain_machine.specs.declared.response.Response.{Response}
+use Rattle.plain_machine.specs.Announcing.{heard_on}
+use Rattle.plain_machine.specs.Responding.{responded_as, responded_on}
 use Rattle.plain_machine.specs.declared.own.Own.{Own}
 use Rattle.plain_machine.specs.declared.station.Station.{Station}
 use Rattle.transmission.specs.declared.output.OutDatagram.{OutDatagram}
@@ -23,10 +27,8 @@ use Rattle.plain_machine.proofs.EffectLaws.{on_this, same_station}
 use Rattle.plain_machine.proofs.FirstLemmas.{by_moment}
 use Rattle.plain_machine.proofs.FallingLaws.{pass_none, pass_some, left, left_falls}
 use Rattle.gateway_stations.specs.Telling.{MayTell, IsLine}
-use Rattle.gateway_floor.specs.declared.floor.Saved.{Saved}
-use Rattle.gateway_floor.specs.declared.floor.Saved.TheVariants.{OfLine, OfGateway}
-use Rattle.gateway_floor.specs.FloorState.{FloorState, settled_at}
-use Rattle.gateway_floor.specs.Saving.{manned, undone, restored}
+use Rattle.gateway_floor.specs.FloorState.{FloorState}
+use Rattle.gateway_floor.specs.Saving.{manned}
 use Rattle.gateway_floor.specs.Tells.{Goes}
 use Rattle.gateway_stations.specs.Turns.{HasTurn, OwnHasTurn}
 
@@ -155,6 +157,21 @@ pub several_end : (lines : Target) (place : ℕ) (stations : List Station) (turn
     → Goes (on_lines (meant_from lines place stations) floor.endpoints turn) floor floor out out
 unfolding on_lines
 several_end lines place stations turn floor out past = rw (meant_end lines place stations past) (goes_nowhere floor (told floor.endpoints []) out refl)
+
+-- ---- a response that says nothing to a line
+
+pub goes_unheard : (setup : Setup) (line moment : ℕ) (response : Response) (station : Station) (floor : FloorState) (out : List OutDatagram) → Some station ≡ station_at floor.endpoints line
+    → Nothing ≡ heard_on station.post response → Goes (on_line floor.endpoints line (responded_on setup line moment response)) floor floor out out
+unfolding responded_on
+goes_unheard setup line moment response station floor out at unheard =
+    let quiet : responded_as (heard_on station.post response) setup line moment response station ≡ silent station =
+    ap (λ (heard : Heard). responded_as heard setup line moment response station) (sym unheard) in
+    rw (on_this floor.endpoints line station (responded_on setup line moment response) (sym at)) (record {
+      endpoints = ap (λ (x : List Station). let e : Endpoints = record floor.endpoints { stations = x } in e) (sym (same_station (line == 0) floor.endpoints.stations (line - 1) station (sym at)))
+          ∙ ap (λ (t : Turn). with_station floor.endpoints line t.station) (sym quiet);
+      found = refl;
+      sent = sym (append-nil out) ∙ ap (λ (t : Turn). out ++ datagrams_of t.sent) (sym quiet);
+    })
 
 -- ---- an act that a line does not heed
 

@@ -1,10 +1,9 @@
 -- What is for one line comes to that line alone.
-use Rattle.std.proofs.Common.{◌≡◌, ℕ, zero, suc, ◌+◌, ◌-◌, ◌<◌, ◌≤◌, ◌≢◌, ◌==◌, Bool, true, false, List, [], ◌∷◌, ◌++◌, map, filter, Option, Some, None, refl, sym, ap, ◌∙◌, arith, append-nil}
+use Rattle.std.proofs.Common.{◌≡◌, ℕ, suc, ◌+◌, ◌-◌, ◌<◌, ◌≤◌, ◌==◌, Bool, true, false, List, [], ◌∷◌, ◌++◌, map, filter, Option, Some, None, refl, sym, ap, ◌∙◌, arith, append-nil}
 use Rattle.std.specs.Prelude.{if◌then◌else◌, slice_get, option_and_then}
 use Rattle.std.specs.List.{enumerate_from}
 use Rattle.std.proofs.lemmas.Bool.Decides.{nat_tests, Decides-eqb}
 use Rattle.mg_bytes.specs.Checks.{first_fault}
-use Rattle.command_forms.specs.declared.forms.Target.{Target}
 use Rattle.command_forms.specs.declared.forms.Target.TheVariants.{One}
 use Rattle.command_forms.specs.Meaning.{is_for}
 use Rattle.plain_machine.specs.declared.line_deed.LineDeed.{LineDeed}
@@ -37,18 +36,18 @@ none_meant line n (station ∷ more) less =
 
 one_meant : (line n : ℕ) (stations : List Station) → n ≤ line → meant_in line n stations ≡ only line (slice_get stations (line - n))
 one_meant line n [] from = refl
-one_meant line n (station ∷ more) from = by_number (line == n) refl where
-  by_number : (b : Bool) → (line == n) ≡ b
+one_meant line n (station ∷ more) from = by_number (line == n) refl (λ far. one_meant line (n + 1) more far) where
+  by_number : (b : Bool) → (line == n) ≡ b → (n + 1 ≤ line → meant_in line (n + 1) more ≡ only line (slice_get more (line - (n + 1))))
       → (if b then n ∷ meant_in line (n + 1) more else meant_in line (n + 1) more) ≡ only line (slice_get (station ∷ more) (line - n))
-  by_number true is =
+  by_number true is behind =
       let same : line ≡ n = (Decides-eqb line n).0 is in
       let first : line - n ≡ 0 = omega (arith, same) in
       ap (λ (rest : List ℕ). n ∷ rest) (none_meant line (n + 1) more (omega (arith, same)))
       ∙ ap (λ (x : ℕ). x ∷ []) (sym same)
       ∙ sym (ap (λ (place : ℕ). only line (slice_get (station ∷ more) place)) first)
-  by_number false other =
+  by_number false other behind =
       let next : line - n ≡ suc (line - (n + 1)) = (let far = later line n from other in omega (arith, far)) in
-      one_meant line (n + 1) more (later line n from other)
+      behind (later line n from other)
       ∙ sym (ap (λ (place : ℕ). only line (slice_get (station ∷ more) place)) next)
 
 abbrev refused_in : ℕ → LineDeed → ℕ → List Station → Option ℕ
@@ -64,23 +63,24 @@ none_refused line deed n (station ∷ more) less =
 one_refused : (line : ℕ) (deed : LineDeed) (n : ℕ) (stations : List Station) → n ≤ line
     → refused_in line deed n stations ≡ option_and_then (refusal_by deed) (slice_get stations (line - n))
 one_refused line deed n [] from = refl
-one_refused line deed n (station ∷ more) from = by_number (line == n) refl where
+one_refused line deed n (station ∷ more) from = by_number (line == n) refl (λ far. one_refused line deed (n + 1) more far) where
   alone : (refusal : Option ℕ) (rest : List (Option ℕ)) → first_fault rest ≡ None → first_fault (refusal ∷ rest) ≡ refusal
   alone None rest none = none
   alone (Some code) rest none = refl
 
   by_number : (b : Bool) → (line == n) ≡ b
+      → (n + 1 ≤ line → refused_in line deed (n + 1) more ≡ option_and_then (refusal_by deed) (slice_get more (line - (n + 1))))
       → first_fault ((if b then refusal_by deed station else None) ∷ map (refusal_on (One line) deed) (enumerate_from (n + 1) more))
       ≡ option_and_then (refusal_by deed) (slice_get (station ∷ more) (line - n))
-  by_number true is =
+  by_number true is behind =
       let same : line ≡ n = (Decides-eqb line n).0 is in
       let first : line - n ≡ 0 = omega (arith, same) in
       alone (refusal_by deed station) (map (refusal_on (One line) deed) (enumerate_from (n + 1) more))
       (none_refused line deed (n + 1) more (omega (arith, same)))
       ∙ sym (ap (λ (place : ℕ). option_and_then (refusal_by deed) (slice_get (station ∷ more) place)) first)
-  by_number false other =
+  by_number false other behind =
       let next : line - n ≡ suc (line - (n + 1)) = (let far = later line n from other in omega (arith, far)) in
-      one_refused line deed (n + 1) more (later line n from other)
+      behind (later line n from other)
       ∙ sym (ap (λ (place : ℕ). option_and_then (refusal_by deed) (slice_get (station ∷ more) place)) next)
 
 -- Of the lines of a gateway

@@ -1,6 +1,6 @@
 //! The floor: the stations of a gateway, and what it keeps for itself. They are looked up, changed in place, one at a time,
 //! and put back where an event failed.
-ghost use Rattle.std.specs.Prelude.{ℕ, ◌≡◌, ◌-◌, ◌<◌, ◌≤◌, Some, false, length, slice_set, vec_capacity, OnOk, OnErr, IfOk};
+ghost use Rattle.std.specs.Prelude.{ℕ, ◌≡◌, ◌-◌, ◌<◌, ◌≤◌, Some, false, length, replicate, slice_set, vec_capacity, OnOk, OnErr, IfOk};
 ghost use Rattle.std.specs.Borrow.{MutBor};
 ghost use Rattle.plain_machine.specs.declared.own.Own.{Own};
 ghost use Rattle.plain_machine.specs.declared.setup.Setup.{Setup};
@@ -58,6 +58,15 @@ impl Model for Floor {
     } };
 }
 
+// Marks for so many stations, of which none is saved.
+fn untouched(alloc: Global, stations: usize) -> Result<Vec<bool>, OutOfMemory>
+    ensures { IfOk result (λ touched. touched.items ≡ replicate stations false) }
+{
+    let mut touched = Vec::new(alloc);
+    touched.resize(stations, false)?;
+    Ok(touched)
+}
+
 // The station at this place is saved, if this event didn't do so. After an error, which is for want of memory, all is as it
 // was.
 fn save(
@@ -91,6 +100,13 @@ fn unmark(touched: &mut Vec<bool>, place: usize)
     }
 }
 
+// What was saved is forgotten.
+fn forget(touched: &mut Vec<bool>, saved: Saved)
+    ensures { touched.new.items ≡ slice_set touched.old.items saved.place false }
+{
+    unmark(touched, saved.place);
+}
+
 impl Floor {
     ghost use Rattle.std.specs.Prelude.{[], true, OnSome, option_copied};
     ghost use Rattle.plain_machine.specs.Machine.{told, serves, station_at};
@@ -108,10 +124,10 @@ impl Floor {
         ensures { IfOk result (λ floor. floor ≡ settled_at (manned stations.items own)) }
     {
         let saved = Vec::with_capacity(alloc, stations.len())?;
-        let mut touched = Vec::new(alloc);
-        touched.resize(stations.len(), false)?;
+        let touched = untouched(alloc, stations.len())?;
+        let endpoints = Timed::of(alloc, stations, own)?;
         Ok(Floor {
-            endpoints: Timed::of(alloc, stations, own)?,
+            endpoints,
             saved,
             touched,
             own_saved: None,
@@ -207,7 +223,7 @@ impl Floor {
         ensures { self.new ≡ settled_at self.old.endpoints }
     {
         while let Some(saved) = self.saved.pop() {
-            unmark(&mut self.touched, saved.place);
+            forget(&mut self.touched, saved);
         }
         self.own_saved = None;
     }

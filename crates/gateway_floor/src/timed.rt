@@ -104,8 +104,9 @@ impl Timed {
             → q.now ≡ with.old → F.pre change p q }
         ensures { StationChanges F.FnOnce change place self.old with.old result self.new with.new }
     {
+        let station = &self.stations[place];
         let line = place as u16 + 1;
-        let was = due_on(line, &self.stations[place]);
+        let was = due_on(line, station);
         clear(&mut self.due, line, was);
         let result = change(&mut self.stations[place], with);
         let is = due_on(line, &self.stations[place]);
@@ -137,8 +138,9 @@ impl Timed {
         requires { place < length self.old.stations }
         ensures { self.new ≡ record self.old { stations = slice_set self.old.stations place station } }
     {
+        let before = &self.stations[place];
         let line = place as u16 + 1;
-        let was = due_on(line, &self.stations[place]);
+        let was = due_on(line, before);
         clear(&mut self.due, line, was);
         let is = due_on(line, &station);
         enter(&mut self.due, line, is);
@@ -162,7 +164,8 @@ impl Timed {
         requires line { IsLine line }
         requires within { line - 1 < length self.old.stations }
         requires unheeded { is_unheeded (station_at self.old line) act ≡ true }
-        ensures { (setup : Setup) (moment : ℕ) → acted setup self.old line moment act ≡ told self.new [] }
+        ensures acted { (setup : Setup) (moment : ℕ) → acted setup self.old line moment act ≡ told self.new [] }
+        ensures lines { length self.new.stations ≡ length self.old.stations }
     {
         let place = usize::from(line) - 1;
         let was = due_on(line, &self.stations[place]);

@@ -6,16 +6,16 @@ use Rattle.gateway_core.proofs.WorkLemmas.{as_found, puts_settled}
 use Rattle.gateway_core.proofs.working.attempt.Goals as goal
 
 pub returns-in-Ok-clause-all : goal.returns-in-Ok-clause-all
-returns-in-Ok-clause-all c = puts_settled _ c.carry_out.new.state _ _ _ refl refl c.settle-in-Ok.ensures (rw (c.settle.ensures, c.purge.ensures.kept) at c.in-Ok.ensures.ok)
+returns-in-Ok-clause-all c = puts_settled _ c.carry_out.new.state _ _ _ refl refl c.commit-in-Ok.ensures (rw (c.commit.ensures, c.purge.ensures.kept) at c.in-Ok.ensures.ok)
 
 pub returns-in-Ok-clause-ends : goal.returns-in-Ok-clause-ends
-returns-in-Ok-clause-ends c = ends_purged (machine_in c.args.state.now) (event_of c.args.event) _ (rw (c.settle.ensures, c.purge.ensures.kept) at c.in-Ok.ensures.ends)
+returns-in-Ok-clause-ends c = ends_purged (machine_in c.args.state.now) (event_of c.args.event) _ (rw (c.commit.ensures, c.purge.ensures.kept) at c.in-Ok.ensures.ends)
 
 pub returns-in-Err-clause-all : goal.returns-in-Err-clause-all
 returns-in-Err-clause-all c = record {
-  machine = as_found c.args.state.now _ _ c.carry_out.new.state (c.in-Err.ensures.found ∙ rw (c.settle.ensures, c.purge.ensures.kept) refl) c.undo.ensures c.undo-in-Err.ensures;
+  machine = as_found c.args.state.now _ _ c.carry_out.new.state (c.in-Err.ensures.found ∙ rw (c.commit.ensures, c.purge.ensures.kept) refl) c.rollback.ensures c.undo.ensures;
   outputs = c.in-Err.ensures.err;
 }
 
 pub returns-in-Err-clause-ends : goal.returns-in-Err-clause-ends
-returns-in-Err-clause-ends c = ends_purged (machine_in c.args.state.now) (event_of c.args.event) _ (rw (c.settle.ensures, c.purge.ensures.kept) at c.in-Err.ensures.ends)
+returns-in-Err-clause-ends c = ends_purged (machine_in c.args.state.now) (event_of c.args.event) _ (rw (c.commit.ensures, c.purge.ensures.kept) at c.in-Err.ensures.ends)

@@ -1,24 +1,14 @@
-use Rattle.std.proofs.Common.{◌<◌, length, sym, ◌∙◌, rules}
-use Rattle.gateway_floor.proofs.FloorLemmas.{several_next, several_skip, several_end}
+use Rattle.std.proofs.Common.{sym, ap, ◌∙◌, subst}
+use Rattle.command_forms.specs.declared.forms.Target.{Target}
+use Rattle.plain_machine.specs.Machine.{Told}
+use Rattle.plain_machine.specs.Requesting.{deed_on, deed_on_all}
+use Rattle.gateway_floor.specs.Tells.{Tells}
+use Rattle.gateway_floor.proofs.OneLemmas.{lines_one}
 use Rattle.gateway_floor.proofs.requesting.deed_on_all.Goals as goal
-use Rattle.gateway_floor.proofs.requesting.deed_on_all.Goals.{then-is_for+in_ok-deed_on_line, else-is_for}
 
-pub loop-place-preserved : goal.loop-place-preserved
-loop-place-preserved c =
-    let inside : c.loop-place.place < length c.args.floor.now.endpoints.stations = rw (← c.stations-place-end.ensures.value) c.loop-place-test.true in
-    elim c.if-is_for.branch [
-      | then-is_for+in_ok-deed_on_line w ↦ record {
-        completes = λ is are rest. c.loop-place.invariant.completes is are
-            (several_next c.args.lines c.loop-place.place _ _ _ c.if-is_for.floor is _ _ are inside (sym w.if-is_for.true ∙ c.is_for.ensures)
-            (rw (w.floor-is, w.sent-is) w.in_ok-deed_on_line.ensures) rest);
-        found = rw w.floor-is (w.in_ok-deed_on_line.ensures.found ∙ c.loop-place.invariant.found);
-      }
-      | else-is_for w ↦ record {
-        completes = λ is are rest. c.loop-place.invariant.completes is are
-            (several_skip c.args.lines c.loop-place.place _ _ _ is _ are inside (sym w.if-is_for.false ∙ c.is_for.ensures) (rw (w.floor-is, w.sent-is) at rest));
-        found = rw w.floor-is c.loop-place.invariant.found;
-      }
-    ]
-
-pub returns : goal.returns
-returns c = c.loop-place.invariant.completes _ _ (several_end c.args.lines c.loop-place.place _ _ _ _ (rw (← c.stations-place-end.ensures.value) (search rules)))
+pub returns-in-One-clause-told : goal.returns-in-One-clause-told
+returns-in-One-clause-told c =
+    subst (λ (change : Told). Tells c.deed_on_line.result change c.args.floor.now c.deed_on_line.new.floor c.args.sent.now.items c.deed_on_line.new.sent.items)
+    (sym (lines_one c.args.floor.now.endpoints c.in-One.line (deed_on c.args.context.setup.now c.args.deed.now c.args.moment))
+    ∙ ap (λ (lines : Target). deed_on_all c.args.context.setup.now c.args.floor.now.endpoints lines c.args.deed.now c.args.moment) (sym c.in-One.is))
+    c.deed_on_line.ensures.told

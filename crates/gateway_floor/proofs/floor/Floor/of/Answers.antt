@@ -1,13 +1,16 @@
-use Rattle.std.proofs.Common.{◌≡◌, replicate, false, arith, rules}
+use Rattle.std.proofs.Common.{◌≡◌, ◌∙◌, ap, length, false, arith, rules}
+use Rattle.std.proofs.lemmas.List.{length-replicate}
+use Rattle.plain_machine.specs.Machine.{Endpoints}
 use Rattle.gateway_floor.proofs.SavingLemmas.{room_first, marked_none}
 use Rattle.gateway_floor.proofs.floor.Floor.of.Goals as goal
 
 pub invariant_of-result : goal.invariant_of-result
 invariant_of-result c =
-    let flags : c.resize.new.self.items ≡ replicate c.len-2.result false = search rules in
+    let all : length c.in_ok-endpoints.endpoints.stations ≡ length c.args.stations.items = ap (λ (e : Endpoints). length e.stations) c.in_ok-endpoints.ensures in
+    let marks : length c.in_ok-touched.touched.items ≡ c.len-2.result = ap length c.in_ok-touched.ensures ∙ length-replicate c.len-2.result false in
     record {
-      flags = search rules;
-      marked = marked_none _ _ _ flags;
-      room = room_first _ _ _ _ flags (search rules) (omega (arith, c.in_ok-saved.ensures.exact, c.len.ensures, c.len-2.ensures));
-      own = search rules;
+      flags = omega (arith, all, marks, c.len-2.ensures, c.args.stations.ok.0);
+      marked = marked_none _ _ _ c.in_ok-touched.ensures;
+      room = room_first _ _ _ _ c.in_ok-touched.ensures (search rules) (omega (arith, c.in_ok-saved.ensures.exact, c.len.ensures, c.len-2.ensures));
+      own = tt;
     }

@@ -1,24 +1,45 @@
-use Rattle.std.proofs.Common.{rules, arith, ◌≡◌, ◌≤◌, ◌<◌, ◌+◌, ◌∙◌, length, refl, sym, ap}
+use Rattle.std.proofs.Common.{arith, ◌≤◌, ◌<◌, ◌+◌, ◌∙◌, length, refl, ap}
+use Rattle.std.specs.Prelude.{slice_set, slice_index_or}
 use Rattle.plain_machine.specs.declared.station.Station.{Station}
 use Rattle.plain_machine.specs.Falling.{due_on}
+use Rattle.plain_machine.specs.Machine.{Endpoints}
 use Rattle.plain_machine.specs.Setup.{most_lines}
 use Rattle.gateway_floor.proofs.DueLemmas.{set_length, got_there, station_in_step, table_renewed}
 use Rattle.gateway_floor.proofs.timed.Timed.change.Goals as goal
 
+pub overflow_cast-line : goal.overflow_cast-line
+overflow_cast-line g c =
+    let few : length c.self.inside.stations.items ≤ most_lines = c.self.invariant.few in
+    let inside : c.args.place < length c.self.inside.stations.items = rw (← c.self.view_is) at c.requires.within in
+    omega (arith, few, inside)
+
+pub overflow_add-line : goal.overflow_add-line
+overflow_add-line g c =
+    let few : length c.self.inside.stations.items ≤ most_lines = c.self.invariant.few in
+    let inside : c.args.place < length c.self.inside.stations.items = rw (← c.self.view_is) at c.requires.within in
+    omega (arith, few, inside)
+
 pub invariant_of-self : goal.invariant_of-self
 invariant_of-self g c =
-    let stations = c.self.inside.stations.items in
-    let place = c.args.place in
-    let line = c.args.place + 1 in
-    let is = c.change-result.new.arg2 in
     let inside : c.args.place < length c.self.inside.stations.items = rw (← c.self.view_is) at c.requires.within in
     record {
-      few = rw (set_length stations place is) c.self.invariant.few;
+      few = rw (set_length c.self.inside.stations.items c.args.place c.change-result.new.arg2) c.self.invariant.few;
       id = c.self.invariant.id;
-      due = station_in_step stations c.self.inside.own place line c.index.result.now is c.self.inside.due c.enter.new.table
-          c.self.invariant.due refl inside c.index.ensures (c.enter.ensures.lines ∙ c.clear.ensures.lines)
-          (table_renewed line c.due_on-was.result _ c.due_on-is.result _ c.self.inside.due.table c.clear.new.table.table _ c.clear.ensures.table
+      due = station_in_step c.self.inside.stations.items c.self.inside.own c.args.place (c.args.place + 1) c.index-station.result.now c.change-result.new.arg2 c.self.inside.due c.enter.new.table
+          c.self.invariant.due refl inside c.index-station.ensures (c.enter.ensures.lines ∙ c.clear.ensures.lines)
+          (table_renewed (c.args.place + 1) c.due_on-was.result (due_on (c.args.place + 1, c.index-station.result.now)) c.due_on-is.result (due_on (c.args.place + 1, c.change-result.new.arg2))
+          c.self.inside.due.table c.clear.new.table.table c.enter.new.table.table c.clear.ensures.table
           c.due_on-was.ensures c.enter.ensures.table
           (c.due_on-is.ensures
-          ∙ ap (λ (s : Station). due_on (line, s)) (c.index-2.ensures ∙ got_there stations place is c.index-2.result.now inside)));
+          ∙ ap (λ (s : Station). due_on (c.args.place + 1, s))
+          (c.index.ensures ∙ got_there c.self.inside.stations.items c.args.place c.change-result.new.arg2 c.index.result.now inside)));
     }
+
+pub returns : goal.returns
+returns g c = record {
+  station = c.index_mut.result.now;
+  becomes = c.change-result.new.arg2;
+  here = c.index_mut.ensures.value ∙ ap (λ (e : Endpoints). slice_index_or e.stations c.args.place c.index_mut.result.now) c.self.view_is;
+  leaves = record { shown = c.index_mut.result; leaves = _; lent = _; back = _; called = c.change-result.ensures; shows = refl; lends = refl; becomes = refl; gives = refl };
+  endpoints = ap (λ (e : Endpoints). let f : Endpoints = record e { stations = slice_set e.stations c.args.place c.change-result.new.arg2 } in f) c.self.view_is;
+}

@@ -1,5 +1,6 @@
 use Rattle.std.proofs.Common.{arith, ◌≡◌, ◌<◌, ◌+◌, ◌-◌, ◌≤◌, ◌∙◌, length, ap}
 use Rattle.plain_machine.specs.declared.station.Station.{Station}
+use Rattle.plain_machine.specs.Machine.{Endpoints}
 use Rattle.plain_machine.specs.Falling.{due_on}
 use Rattle.gateway_floor.proofs.FloorLemmas.{is_there, passes_over}
 use Rattle.gateway_floor.proofs.DueLemmas.{set_length, got_there, station_in_step, table_renewed}
@@ -14,18 +15,23 @@ invariant_of-self c =
     let some : 1 ≤ c.args.line = c.requires.line.some in
     let within : c.args.line - 1 < length c.self.inside.stations.items = rw (← c.self.view_is) at c.requires.within in
     let inside : c.from-place.result - 1 < length c.self.inside.stations.items = omega (arith, from, within) in
-    let same : c.args.line ≡ c.from-place.result - 1 + 1 = omega (arith, from, some) in (
-      rw (set_length stations place is) c.self.invariant.few,
-      station_in_step stations c.self.inside.own place c.args.line c.index.result.now is c.self.inside.due c.enter.new.table c.self.invariant.due
+    let same : c.args.line ≡ c.from-place.result - 1 + 1 = omega (arith, from, some) in record {
+      few = rw (set_length stations place is) c.self.invariant.few;
+      id = c.self.invariant.id;
+      due = station_in_step stations c.self.inside.own place c.args.line c.index.result.now is c.self.inside.due c.enter.new.table c.self.invariant.due
           same inside c.index.ensures (c.enter.ensures.lines ∙ c.clear.ensures.lines)
           (table_renewed c.args.line c.due_on-was.result _ c.due_on-is.result _ c.self.inside.due.table c.clear.new.table.table _
           c.clear.ensures.table c.due_on-was.ensures c.enter.ensures.table
           (c.due_on-is.ensures
-          ∙ ap (λ (s : Station). due_on (c.args.line, s)) (c.index-2.ensures ∙ got_there stations place is c.index-2.result.now inside))),
-    )
+          ∙ ap (λ (s : Station). due_on (c.args.line, s)) (c.index-2.ensures ∙ got_there stations place is c.index-2.result.now inside)));
+    }
 
-pub returns : goal.returns
-returns c = λ setup moment. rw (← c.self.view_is)
+pub returns-clause-acted : goal.returns-clause-acted
+returns-clause-acted c = λ setup moment. rw (← c.self.view_is)
     (passes_over setup c.self.inside.stations.items c.self.inside.own c.args.line c.from-place.result moment c.args.act c.index_mut.result.now c.pass_over_on.new.station c.from-place.ensures
     (is_there _ c.self.inside.own c.args.line c.from-place.result _ c.requires.line (rw (← c.self.view_is) at c.requires.within) c.from-place.ensures c.index_mut.ensures.value)
     (c.pass_over_on.ensures setup c.args.line moment))
+
+pub returns-clause-lines : goal.returns-clause-lines
+returns-clause-lines c =
+    set_length c.self.inside.stations.items (c.from-place.result - 1) c.pass_over_on.new.station ∙ ap (λ (e : Endpoints). length e.stations) c.self.view_is

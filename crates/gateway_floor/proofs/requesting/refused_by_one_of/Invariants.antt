@@ -2,7 +2,7 @@ use Rattle.std.proofs.Common.{◌≡◌, ◌+◌, map, drop}
 use Rattle.std.specs.List.{enumerate_from}
 use Rattle.mg_bytes.specs.Checks.{first_fault}
 use Rattle.plain_machine.specs.Requesting.{refusal_on}
-use Rattle.gateway_floor.proofs.requesting.refused_by.Given as goal
+use Rattle.gateway_floor.proofs.requesting.refused_by_one_of.Given as goal
 
 -- the first fault of the rest is the first of all
 abbrev pub invariant-loop-place : goal.invariant-loop-place

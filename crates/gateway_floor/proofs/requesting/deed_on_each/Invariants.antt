@@ -5,7 +5,7 @@ use Rattle.plain_machine.specs.Requesting.{deed_on, deed_on_all}
 use Rattle.gateway_floor.specs.FloorState.{FloorState}
 use Rattle.gateway_floor.specs.Tells.{Goes}
 use Rattle.gateway_floor.proofs.FloorLemmas.{meant_from}
-use Rattle.gateway_floor.proofs.requesting.deed_on_all.Given as goal
+use Rattle.gateway_floor.proofs.requesting.deed_on_each.Given as goal
 
 -- what completes the rest completes the whole
 abbrev pub invariant-loop-place : goal.invariant-loop-place

@@ -1,0 +1,22 @@
+use Rattle.std.proofs.Common.{◌∙◌, refl, ap}
+use Rattle.plain_machine.specs.Falling.{own_due}
+use Rattle.plain_machine.specs.Machine.{Endpoints, with_own}
+use Rattle.gateway_floor.proofs.DueLemmas.{own_in_step, table_renewed}
+use Rattle.gateway_floor.proofs.timed.Timed.change_own.Goals as goal
+
+pub invariant_of-self : goal.invariant_of-self
+invariant_of-self g c = record {
+  few = c.self.invariant.few;
+  id = c.requires.keeps _ _ _ _ _ c.self.invariant.id c.change-result.ensures;
+  due = own_in_step c.self.inside.stations.items c.self.inside.own c.change-result.new.arg2 c.self.inside.due c.enter.new.table c.self.invariant.due
+      (c.enter.ensures.lines ∙ c.clear.ensures.lines)
+      (table_renewed 0 c.post_due-was.result (own_due c.self.inside.own) c.post_due-is.result (own_due c.change-result.new.arg2)
+      c.self.inside.due.table c.clear.new.table.table c.enter.new.table.table c.clear.ensures.table c.post_due-was.ensures c.enter.ensures.table c.post_due-is.ensures);
+}
+
+pub returns : goal.returns
+returns g c = record {
+  becomes = c.change-result.new.arg2;
+  leaves = record { shown = _; leaves = _; lent = _; back = _; called = c.change-result.ensures; shows = ap (λ (e : Endpoints). e.own) c.self.view_is; lends = refl; becomes = refl; gives = refl };
+  endpoints = ap (λ (e : Endpoints). with_own e c.change-result.new.arg2) c.self.view_is;
+}
