@@ -11,20 +11,20 @@ use mg_packages::{Event, Signal};
 
 /// Events are held in the order in which they come, and each as often as it comes.
 pub fn events_are_held_in_order()
-    ensures none { nothing_held 64 ≡ holds 64 [] 0 }
-    ensures three { held_of 64 (come (Event.OnHook ∷ Event.OffHook ∷ Event.OnHook ∷ []))
-        ≡ holds 64 (Event.OnHook ∷ Event.OffHook ∷ Event.OnHook ∷ []) 0 }
+    ensures none { nothing_held 4 ≡ holds 4 [] 0 }
+    ensures three { held_of 4 (come (Event.OnHook ∷ Event.OffHook ∷ Event.OnHook ∷ []))
+        ≡ holds 4 (Event.OnHook ∷ Event.OffHook ∷ Event.OnHook ∷ []) 0 }
     ensures behind { holding (holds 2 (Event.Flash ∷ []) 7) (Observed.Happened Event.OnHook)
         ≡ holds 2 (Event.Flash ∷ Event.OnHook ∷ []) 7 }
     ensures signal { (holding (nothing_held 1) (Observed.Ended Signal.DialTone)).events
         ≡ Observed.Ended Signal.DialTone ∷ [] }
 {}
 
-/// An event that finds no room is lost: 64 flashes are held, and the 65th is counted.
+/// An event that finds no room is lost: where there is room for four, four flashes are held, and what comes then is
+/// counted.
 pub fn an_event_without_room_is_lost()
-    ensures held_64 { held_of 64 (come (replicate 64 Event.Flash)) ≡ holds 64 (replicate 64 Event.Flash) 0 }
-    ensures lost_65 { held_of 64 (come (replicate 64 Event.Flash ++ Event.OnHook ∷ []))
-        ≡ holds 64 (replicate 64 Event.Flash) 1 }
+    ensures held { held_of 4 (come (replicate 4 Event.Flash)) ≡ holds 4 (replicate 4 Event.Flash) 0 }
+    ensures lost { held_of 4 (come (replicate 4 Event.Flash ++ Event.OnHook ∷ [])) ≡ holds 4 (replicate 4 Event.Flash) 1 }
     ensures no_room { held_of 0 (come (Event.Flash ∷ Event.OnHook ∷ [])) ≡ holds 0 [] 2 }
     ensures most { holding (holds 0 [] 18446744073709551614) (Observed.Happened Event.Flash) ≡ holds 0 [] most_lost }
     ensures stays { holding (holds 0 [] 18446744073709551615) (Observed.Happened Event.Flash)
@@ -35,8 +35,8 @@ pub fn an_event_without_room_is_lost()
 pub fn events_are_taken_from_the_front()
     ensures first { first_of (happened (Event.OnHook ∷ Event.Flash ∷ [])) ≡ Some (Observed.Happened Event.OnHook) }
     ensures none { first_of [] ≡ None }
-    ensures rest { without_first (holds 64 (Event.OnHook ∷ Event.Flash ∷ []) 3) ≡ holds 64 (Event.Flash ∷ []) 3 }
-    ensures rest_of_none { without_first (holds 64 [] 3) ≡ holds 64 [] 3 }
+    ensures rest { without_first (holds 4 (Event.OnHook ∷ Event.Flash ∷ []) 3) ≡ holds 4 (Event.Flash ∷ []) 3 }
+    ensures rest_of_none { without_first (holds 4 [] 3) ≡ holds 4 [] 3 }
     ensures room_again { held_of 1 (come (Event.OnHook ∷ []) ++ is_taken ∷ come (Event.Flash ∷ []))
         ≡ holds 1 (Event.Flash ∷ []) 0 }
     ensures given { given_of 2 (come (Event.OnHook ∷ Event.OffHook ∷ Event.Flash ∷ []) ++ is_taken ∷ is_taken
@@ -49,5 +49,5 @@ pub fn events_are_taken_from_the_front()
 
 /// Clearing drops the events, and keeps room and count.
 pub fn clearing_keeps_the_count()
-    ensures { cleared (holds 64 (Event.OnHook ∷ Event.Flash ∷ []) 3) ≡ holds 64 [] 3 }
+    ensures { cleared (holds 4 (Event.OnHook ∷ Event.Flash ∷ []) 3) ≡ holds 4 [] 3 }
 {}
