@@ -1,4 +1,4 @@
-//! The quarantine of a line, a row each. It has room for 64 events.
+//! The quarantine of a line, a row each. It has room for as many events as that of a line, `MOST_QUARANTINED`.
 //!
 //! - `room 2` a new one with room for so many; `hold L/hf` this event comes; `clear` all are dropped;
 //! - `take L/hf` what came first is taken out; `take -` there is nothing;
@@ -7,6 +7,7 @@
 use crate::events::{observed_of, spelled};
 use crate::keeping::Thing;
 use crate::texts::number_text;
+use mg_line::MOST_QUARANTINED;
 use quarantine::Buffer;
 use std::alloc::Global;
 use std::io;
@@ -20,7 +21,7 @@ pub struct QuarantineTale {
 
 impl Thing for QuarantineTale {
     fn begin(alloc: Global) -> io::Result<QuarantineTale> {
-        let buffer = Buffer::new(alloc, 64)?;
+        let buffer = Buffer::new(alloc, MOST_QUARANTINED)?;
         Ok(QuarantineTale { buffer })
     }
 
