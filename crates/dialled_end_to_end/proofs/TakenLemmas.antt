@@ -18,7 +18,7 @@ use Rattle.plain_machine.specs.declared.setup.Setup.{Setup}
 use Rattle.plain_machine.specs.Answering.{line_meant}
 use Rattle.plain_machine.specs.Message.{Owner, Said, answer, again, command, resent, acknowledgement, Sent}
 use Rattle.plain_machine.specs.Posting.{line_of_id}
-use Rattle.plain_machine.specs.Setup.{IsSetUp}
+use Rattle.plain_machine.specs.Setup.{IsSetUp, most_lines}
 use Rattle.machine_laws.specs.Notified.{observed_with}
 use Rattle.machine_laws.specs.Saying.{Begun, OneOf, begun_by, begun_at, begun_in}
 use Rattle.machine_laws.proofs.EachLemmas.{Each, each_both, one_of_each, one_to}
@@ -50,7 +50,7 @@ module _ (setup : Setup) (set_up : IsSetUp setup) (line : ℕ) where
   notice_taken : (n : ℕ) (params : List Param) → 1 ≤ n → n ≤ setup.names.lines
       → flat_map (told_of line) (taken_of (agent_of setup) Ntfy (name_text (One n) setup.names.domain) params) ≡ (if n == line then told_along (notified_with Ntfy params) else [])
   notice_taken n params some within =
-      let lines : setup.names.lines ≤ 16 = set_up.lines in
+      let lines : setup.names.lines ≤ most_lines = set_up.lines in
       ap (λ (name : Result Pattern NameFault). flat_map (told_of line) (taken_on (line_meant name) params)) (line_read n setup.names.lines setup.names.domain some within (omega (arith, lines)))
       ∙ by_test (n == line) where
         by_test : (b : Bool) → (if b then observed_with params else []) ++ [] ≡ (if b then told_along (notified_with Ntfy params) else [])

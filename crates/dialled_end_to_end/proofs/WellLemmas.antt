@@ -58,7 +58,7 @@ use Rattle.plain_machine.specs.Notifying.{Turn, notification, with_notice, noted
 use Rattle.plain_machine.specs.Posting.{numbers, id_on, line_of_id, repeated_as, resent_by, resent_on}
 use Rattle.plain_machine.specs.Requesting.{with_entity, with_connections, asked_if, deed_on}
 use Rattle.plain_machine.specs.Responding.{acknowledged, response_with, responded_as, responded_on, own_responded, redirected_on, opened_on}
-use Rattle.plain_machine.specs.Setup.{IsSetUp}
+use Rattle.plain_machine.specs.Setup.{IsSetUp, most_lines}
 use Rattle.gateway_laws.proofs.AnnouncementLemmas.{announcement_writable}
 use Rattle.gateway_laws.proofs.CommandLaws.{Sound, OwnSound, sound_turns, sound_own_turns, opening_is_sound, asked_if_done}
 use Rattle.gateway_laws.proofs.NoticeLemmas.{IsDone, IsTold, opening_is_fine, phoned_done, answered_done, opened_done, fired_done}
@@ -116,7 +116,7 @@ module _ (setup : Setup) (set_up : IsSetUp setup) where
   from_sound : (line : ℕ) (turn : Turn) → line ≤ setup.names.lines → Sound line turn.station → Well turn.sent → GoodTurn line turn
   from_sound line turn within sound well = (record { sound = sound; within = within }, well)
 
-  noted_well : (line moment : ℕ) (station : Station) (done : LineDone) → 1 ≤ line → line ≤ 16 → line ≤ setup.names.lines → station.post.number < numbers → IsDone done
+  noted_well : (line moment : ℕ) (station : Station) (done : LineDone) → 1 ≤ line → line ≤ most_lines → line ≤ setup.names.lines → station.post.number < numbers → IsDone done
       → Well (noted setup line moment station done).sent
   unfolding noted notification
   noted_well line moment station done some few within below is = by_notice done.notice is.told where
@@ -140,7 +140,7 @@ module _ (setup : Setup) (set_up : IsSetUp setup) where
     by_pending None = none_well
     by_pending (Some flight) = by_repeat flight (repeat_of flight moment)
 
-  announced_well : (line moment : ℕ) (post : Post) → line ≤ 16 → post.number < numbers → 1 ≤ id_on line post.number → Well (announced setup line moment post).sent
+  announced_well : (line moment : ℕ) (post : Post) → line ≤ most_lines → post.number < numbers → 1 ≤ id_on line post.number → Well (announced setup line moment post).sent
   unfolding announced announcement
   announced_well line moment post few below some = one_well _ (record {
     line = line;
@@ -150,7 +150,7 @@ module _ (setup : Setup) (set_up : IsSetUp setup) where
     kind = inr refl;
   })
 
-  announced_on_well : (line moment : ℕ) (post : Post) → line ≤ 16 → post.number < numbers → 1 ≤ id_on line post.number → Well (announced_on setup line moment post).sent
+  announced_on_well : (line moment : ℕ) (post : Post) → line ≤ most_lines → post.number < numbers → 1 ≤ id_on line post.number → Well (announced_on setup line moment post).sent
   announced_on_well line moment post few below some = by_restart post.restart where
     by_restart : (restart : Restart) → Well (announced_by restart setup line moment post).sent
     by_restart (Waiting until) = announced_well line moment post few below some
@@ -160,7 +160,7 @@ module _ (setup : Setup) (set_up : IsSetUp setup) where
   some_id : (line : ℕ) (station : Station) → Sound line station → 1 ≤ id_on line station.post.number
   some_id line station s = let one : 1 ≤ line = s.some in omega (arith, one)
 
-  replied_well : (heard : Heard) (line moment : ℕ) (response : Response) (post : Post) → line ≤ 16 → post.number < numbers → 1 ≤ id_on line post.number
+  replied_well : (heard : Heard) (line moment : ℕ) (response : Response) (post : Post) → line ≤ most_lines → post.number < numbers → 1 ≤ id_on line post.number
       → Well (replied heard setup line moment response post).sent
   unfolding replied
   replied_well Nothing line moment response post few below some = none_well
@@ -293,7 +293,7 @@ module _ (setup : Setup) (set_up : IsSetUp setup) where
 
   opening_stands : Stands (opening setup)
   opening_stands =
-      let lines : setup.names.lines ≤ 16 = set_up.lines in
+      let lines : setup.names.lines ≤ most_lines = set_up.lines in
       let sound = opening_is_sound setup set_up in
       record {
         stations = on_made (Stationed setup) (opening_station setup) 1 setup.names.lines

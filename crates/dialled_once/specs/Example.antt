@@ -1,5 +1,5 @@
 -- What comes to the gateway of the worked examples, which has two lines.
-use Rattle.std.specs.Prelude.{ℕ, List, [], ◌∷◌, ◌++◌, map, replicate, codes, Option, option_map}
+use Rattle.std.specs.Prelude.{ℕ, ◌+◌, List, [], ◌∷◌, ◌++◌, map, replicate, codes, Option, option_map}
 use Rattle.std.specs.Option.{unwrap_or}
 use Rattle.event_values.specs.declared.observed.Observed.{Observed}
 use Rattle.event_values.specs.declared.observed.Observed.TheVariants.{Happened}
@@ -10,7 +10,7 @@ use Rattle.event_syntax.specs.declared.request.Reaction.{Reaction}
 use Rattle.event_requests.specs.Choice.{chosen}
 use Rattle.mg_line.specs.declared.phone.Act.TheVariants.{OffHook, OnHook, Key}
 use Rattle.mg_line.specs.declared.phone.Key.TheVariants.{Five, Six}
-use Rattle.mg_line.specs.Line.{LineState, opening_line}
+use Rattle.mg_line.specs.Line.{LineState, opening_line, most_quarantined}
 use Rattle.plain_machine.specs.Event.{GatewayEvent, phone, tick}
 use Rattle.plain_machine.specs.Example.{two_lines, ready, rqnt, response}
 use Rattle.plain_machine.specs.Lists.{plain}
@@ -75,9 +75,9 @@ of_a_telephone =
     ∷ letters.Four ∷ letters.Five ∷ letters.Six ∷ letters.Seven ∷ letters.Eight ∷ letters.Nine ∷ letters.Star ∷ letters.Hash
     ∷ letters.A ∷ letters.B ∷ letters.C ∷ letters.D ∷ [])
 
--- line 1 is asked for all, and lifted; while its notification is out a key is pressed 65 times
+-- line 1 is asked for all, and lifted; while its notification is out a key is pressed once more than there is room for
 abbrev pub asked_and_full : List GatewayEvent
-asked_and_full = asks_for_all 7 (codes "aaln/1") ∷ phone 1 OffHook ∷ replicate 65 (phone 1 (Key Five))
+asked_and_full = asks_for_all 7 (codes "aaln/1") ∷ phone 1 OffHook ∷ replicate (most_quarantined + 1) (phone 1 (Key Five))
 
 -- the course of line 1, where the gateway serves before these events
 abbrev pub course_then : List GatewayEvent → List Step

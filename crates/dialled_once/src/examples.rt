@@ -1,7 +1,7 @@
 //! Worked examples of the definitions, as theorems: each sentence of a definition has one that a slip in it breaks.
 #![tactic(auto, unfolding(crate::proofs::Computing::on_examples))]
 
-ghost use Rattle.std.specs.Prelude.{◌≡◌, ◌++◌, codes, [], ◌∷◌, length, replicate, true, false, Some, None, option_map};
+ghost use Rattle.std.specs.Prelude.{◌≡◌, ◌+◌, ◌++◌, codes, [], ◌∷◌, replicate, true, false, Some, None};
 ghost use Rattle.event_values.specs.declared.handling.Quarantined.TheVariants.{Process};
 ghost use Rattle.event_values.specs.declared.observed.Observed.TheVariants.{Happened, Ended};
 ghost use Rattle.event_syntax.specs.declared.request.Action.TheVariants.{Notify};
@@ -13,6 +13,7 @@ ghost use Rattle.mg_packages.specs.declared.signal.Signal.TheVariants as tones;
 ghost use Rattle.mg_bytes.specs.declared.letter.Letter.TheVariants as letters;
 ghost use Rattle.plain_machine.specs.Event.{phone, tick};
 ghost use Rattle.plain_machine.specs.Example.{ready, rqnt, crcx, dlcx, response};
+ghost use Rattle.mg_line.specs.Line.{most_quarantined};
 ghost use Rattle.mg_line.specs.Story.{requests, with_handling};
 ghost use Rattle.dialled_once.specs.Course.{acts as does, accepts, notifies};
 ghost use Rattle.dialled_once.specs.Following.{Follow, AreInStep, OnceForEach, OnceFrom};
@@ -155,11 +156,12 @@ pub fn else_a_key_behind_an_embedded_request_is_skipped()
     ensures skipped { ¬ ToldOnce (rings_and (codes "E(R(L/hu(N)))") ∷ dials_behind_that) }
 {}
 
-/// The 65th event that waits behind a notification is lost: of 66 acts one is told, and 64 wait.
+/// An event that comes behind as many as can wait is lost: the lifting is told, the keys behind it wait, and the last of
+/// them doesn't.
 pub fn else_an_act_may_be_lost()
-    ensures done { length (done_then asked_and_full) ≡ 66 }
+    ensures done { done_then asked_and_full ≡ lifted ∷ replicate (most_quarantined + 1) five }
     ensures told { told_then asked_and_full ≡ lifted ∷ [] }
-    ensures left { option_map length (left_then asked_and_full) ≡ Some 64 }
+    ensures left { left_then asked_and_full ≡ Some (replicate most_quarantined five) }
     ensures skipped { ¬ ToldOnce asked_and_full }
 {}
 

@@ -109,8 +109,8 @@ pub fn a_refusal_is_about_a_key()
     ensures set_up { (config : Config) → key_at_fault config ≡ None → IfErr (setup_of config) (λ fault. ⊥) }
 {}
 
-/// What a configuration sets up has a domain, 16 lines at most, an address for streams, and room for the ports of 16
-/// lines.
+/// What a configuration sets up has a domain, no more lines than a gateway may, an address for streams, and room for the
+/// ports of all its lines.
 pub fn configurations_set_up_gateways()
     ensures { (config : Config) (setup : Setup) → setup_of config ≡ Ok setup → IsSetUp setup }
 {}
