@@ -36,6 +36,7 @@ pub fn an_identifier_is_a_number_in_hexadecimal()
 pub fn streams_are_received_where_it_is_configured()
     ensures lowest { port_of (record example { media_base = 1024 }) 1 ≡ 1024 }
     ensures last_line { port_of example 16 ≡ 3120 }
+    ensures highest { port_of elsewhere 96 ≡ 64760 }
     ensures station { (ready_station elsewhere 16).connections ≡ no_connections other_host 64120 }
     ensures answer { outputs_from elsewhere (ready_machine elsewhere) (crcx 1 (codes "aaln/16") [] ∷ [])
         ≡ to_agent_at 1000

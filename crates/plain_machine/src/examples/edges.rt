@@ -2,8 +2,9 @@
 //! don't fit, what finds no room, what shares a datagram, and how much may fall due at one moment.
 #![tactic(auto, unfolding(crate::proofs::Computing::on_examples))]
 
-ghost use Rattle.std.specs.Prelude.{◌≡◌, ◌++◌, codes, [], ◌∷◌, replicate, true, false, None, Some, Ok, Err};
-ghost use Rattle.mgcp_text.specs.Answer.{plain_code};
+ghost use Rattle.std.specs.Prelude.{◌≡◌, ◌++◌, codes, [], ◌∷◌, length, replicate, true, false, None, Some, Ok, Err};
+ghost use Rattle.mgcp_text.specs.Answer.{plain_code, response_of};
+ghost use Rattle.mgcp_text.specs.Writing.{written};
 ghost use Rattle.command_forms.specs.declared.forms.Asks.TheVariants.{Reports};
 ghost use Rattle.connections.specs.declared.deletion.Deletion.TheVariants as deletions;
 ghost use Rattle.command_forms.specs.declared.forms.ConnectionDeed.TheVariants as deeds;
@@ -90,6 +91,17 @@ pub fn an_id_counts_in_the_length()
         ≡ only_answer (opening_endpoints (wide 320 12)) (reported (names_of (wide 320 12) (opening_endpoints (wide 320 12)))) }
     ensures long { outputs_of (wide 320 12) (from_agent (codes "AUEP 999999999 *@" ++ replicate 320 97 ++ codes " MGCP 1.0\r\n") ∷ [])
         ≡ one_answer (codes "533 999999999\r\n") }
+{}
+
+/// The names of 96 lines have 3,940 bytes where the domain has 28 letters, and don't fit where it has 29.
+pub fn the_names_of_many_lines_may_not_fit()
+    ensures bytes { length (written (response_of 2102 (reported (names_of (wide 28 96) (opening_endpoints (wide 28 96))))))
+        ≡ 3940 }
+    ensures fit { audited (wide 28 96) (opening_endpoints (wide 28 96)) 2102 audits.All
+        (record { connection = None; items = [] })
+        ≡ Ok (reported (names_of (wide 28 96) (opening_endpoints (wide 28 96)))) }
+    ensures unfit { audited (wide 29 96) (opening_endpoints (wide 29 96)) 2102 audits.All
+        (record { connection = None; items = [] }) ≡ Err 533 }
 {}
 
 /// A K that can't be read confirms nothing; one that can be read confirms, be its command refused or not.
