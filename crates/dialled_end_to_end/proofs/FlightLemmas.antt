@@ -35,11 +35,12 @@ use Rattle.plain_machine.specs.declared.post.Post.{Post}
 use Rattle.plain_machine.specs.declared.response.Response.{Response}
 use Rattle.plain_machine.specs.declared.setup.Setup.{Setup}
 use Rattle.plain_machine.specs.declared.station.Station.{Station}
+use Rattle.plain_machine.specs.Effect.{Effect, silently}
 use Rattle.plain_machine.specs.Announcing.{announcement, announced, announced_by, announced_on, heard_by, heard_on, replied}
 use Rattle.plain_machine.specs.Falling.{happened_on}
 use Rattle.plain_machine.specs.Flights.{IsClosed}
 use Rattle.plain_machine.specs.Message.{Said, answer, again, command, resent, acknowledgement, is_answer, Sent}
-use Rattle.plain_machine.specs.Notifying.{Turn, silent, posted, notification, with_notice, noted}
+use Rattle.plain_machine.specs.Notifying.{posted, notification, with_notice, noted}
 use Rattle.plain_machine.specs.Posting.{repeated_as, resent_by, resent_on}
 use Rattle.plain_machine.specs.Requesting.{with_entity, with_connections, asked_if, deed_on}
 use Rattle.plain_machine.specs.Responding.{responded_as, responded_on, redirected_on, opened_on}
@@ -142,8 +143,8 @@ module _ (A : ℕ → Type 0) (B : Type 0) where
     either : Fine sent station.post.restart station.post.pending ⊎ Gone sent station.post.restart
 
   -- after a turn
-  abbrev FliesOn : List Sent → Turn → Type 0
-  FliesOn sent turn = Flies (sent ++ turn.sent) turn.station
+  abbrev FliesOn : List Sent → Effect Station → Type 0
+  FliesOn sent turn = Flies (sent ++ turn.sent) turn.value
 
   begun_both : (some more : List Sent) → begun_in (some ++ more) ≡ begun_in some ++ begun_in more
   begun_both some more = flat_map-append begun_at some more
@@ -165,7 +166,7 @@ module _ (A : ℕ → Type 0) (B : Type 0) where
 
   -- What a line tells
 
-  noted_silent : (setup : Setup) (line moment : ℕ) (station : Station) (done : LineDone) → done.notice ≡ None → noted setup line moment station done ≡ silent (record station { line = done.line })
+  noted_silent : (setup : Setup) (line moment : ℕ) (station : Station) (done : LineDone) → done.notice ≡ None → noted setup line moment station done ≡ silently (record station { line = done.line })
   unfolding noted
   noted_silent setup line moment station done none = ap (with_notice setup line moment (record station { line = done.line })) none
 
@@ -173,19 +174,19 @@ module _ (A : ℕ → Type 0) (B : Type 0) where
   waits_flies : (setup : Setup) (sent : List Sent) (line moment : ℕ) (station : Station) (done : LineDone) → WaitsOn done → Flies sent station
       → FliesOn sent (noted setup line moment station done)
   waits_flies setup sent line moment station done on f =
-      let still : FliesOn sent (silent (record station { line = done.line })) = record {
+      let still : FliesOn sent (silently (record station { line = done.line })) = record {
         rests = rests_on station.post.restart station.post.pending station.line.state done.line.state f.rests on.state;
         either = either_on sent [] station.post.restart station.post.pending refl f.either;
       } in
-      subst (λ (t : Turn). FliesOn sent t) (sym (noted_silent setup line moment station done on.silent)) still
+      subst (λ (t : Effect Station). FliesOn sent t) (sym (noted_silent setup line moment station done on.silent)) still
 
   -- something, where nothing is in flight
   begins_fine : (setup : Setup) (sent : List Sent) (line moment : ℕ) (station : Station) (done : LineDone) (notice : Notice)
       → Fine sent station.post.restart None → Fine (sent ++ (with_notice setup line moment (record station { line = done.line }) (Some notice)).sent) station.post.restart
-      (with_notice setup line moment (record station { line = done.line }) (Some notice)).station.post.pending
+      (with_notice setup line moment (record station { line = done.line }) (Some notice)).value.post.pending
   unfolding notification
   begins_fine setup sent line moment station done notice f =
-      let turn : Turn = with_notice setup line moment (record station { line = done.line }) (Some notice) in
+      let turn : Effect Station = with_notice setup line moment (record station { line = done.line }) (Some notice) in
       record {
         still = f.still;
         serving = f.serving;
@@ -203,7 +204,7 @@ module _ (A : ℕ → Type 0) (B : Type 0) where
 
     by_either : (notice : Notice) → Fine sent station.post.restart None ⊎ Gone sent station.post.restart
         → Fine (sent ++ (with_notice setup line moment (record station { line = done.line }) (Some notice)).sent) station.post.restart
-        (with_notice setup line moment (record station { line = done.line }) (Some notice)).station.post.pending
+        (with_notice setup line moment (record station { line = done.line }) (Some notice)).value.post.pending
         ⊎ Gone (sent ++ (with_notice setup line moment (record station { line = done.line }) (Some notice)).sent) station.post.restart
     by_either notice (inl f) = inl (begins_fine setup sent line moment station done notice f)
     by_either notice (inr g) = inr (gone_on sent (with_notice setup line moment (record station { line = done.line }) (Some notice)).sent station.post.restart g)
@@ -215,7 +216,7 @@ module _ (A : ℕ → Type 0) (B : Type 0) where
       either = either_on sent [] station.post.restart station.post.pending refl either;
     }
     by_notice (Some notice) awaits = record {
-      rests = subst (λ (r : Restart). Rests r (with_notice setup line moment (record station { line = done.line }) (Some notice)).station.post.pending done.line.state) (sym serving) awaits.state;
+      rests = subst (λ (r : Restart). Rests r (with_notice setup line moment (record station { line = done.line }) (Some notice)).value.post.pending done.line.state) (sym serving) awaits.state;
       either = by_either notice free;
     }
 
@@ -296,7 +297,7 @@ module _ (A : ℕ → Type 0) (B : Type 0) where
 
   announced_on_flies : (setup : Setup) (sent : List Sent) (line moment : ℕ) (station : Station) → Flies sent station → FliesOn sent (posted station (announced_on setup line moment station.post))
   announced_on_flies setup sent line moment station f = by_restart station.post.restart f.rests where
-    same : FliesOn sent (silent station)
+    same : FliesOn sent (silently station)
     same = record { rests = f.rests; either = either_on sent [] station.post.restart station.post.pending refl f.either }
 
     by_restart : (restart : Restart) → Rests restart station.post.pending station.line.state → FliesOn sent (posted station (announced_by restart setup line moment station.post))

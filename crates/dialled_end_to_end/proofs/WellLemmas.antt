@@ -44,6 +44,7 @@ use Rattle.plain_machine.specs.declared.post.Post.{Post}
 use Rattle.plain_machine.specs.declared.response.Response.{Response}
 use Rattle.plain_machine.specs.declared.setup.Setup.{Setup}
 use Rattle.plain_machine.specs.declared.station.Station.{Station}
+use Rattle.plain_machine.specs.Effect.{Effect}
 use Rattle.plain_machine.specs.Acting.{acted_on}
 use Rattle.plain_machine.specs.Announcing.{announcement, announced, announced_by, announced_on, heard_on, replied}
 use Rattle.plain_machine.specs.Answering.{Transaction, executed, transacted_by, handled, took_all}
@@ -54,7 +55,7 @@ use Rattle.plain_machine.specs.Happening.{effect}
 use Rattle.plain_machine.specs.Lists.{sent_from, sent_of}
 use Rattle.plain_machine.specs.Machine.{Machine, opening, opening_station}
 use Rattle.plain_machine.specs.Message.{Owner, own_of, of_none, Said, answer, again, command, resent, acknowledgement, Sent}
-use Rattle.plain_machine.specs.Notifying.{Turn, notification, with_notice, noted}
+use Rattle.plain_machine.specs.Notifying.{notification, with_notice, noted}
 use Rattle.plain_machine.specs.Posting.{numbers, id_on, line_of_id, repeated_as, resent_by, resent_on}
 use Rattle.plain_machine.specs.Requesting.{with_entity, with_connections, asked_if, deed_on}
 use Rattle.plain_machine.specs.Responding.{acknowledged, response_with, responded_as, responded_on, own_responded, redirected_on, opened_on}
@@ -103,7 +104,7 @@ module _ (setup : Setup) (set_up : IsSetUp setup) where
   abbrev Well : List Sent → Type 0
   Well sent = All (IsWell setup) sent
 
-  abbrev GoodTurn : ℕ → Turn → Type 0
+  abbrev GoodTurn : ℕ → Effect Station → Type 0
   GoodTurn line turn = Good (Stationed setup) (IsWell setup) line turn
 
   one_well : (sent : Sent) → IsWell setup sent → Well (sent ∷ [])
@@ -113,7 +114,7 @@ module _ (setup : Setup) (set_up : IsSetUp setup) where
   none_well = All-nil (IsWell setup)
 
   -- a turn that keeps the station sound
-  from_sound : (line : ℕ) (turn : Turn) → line ≤ setup.names.lines → Sound line turn.station → Well turn.sent → GoodTurn line turn
+  from_sound : (line : ℕ) (turn : Effect Station) → line ≤ setup.names.lines → Sound line turn.value → Well turn.sent → GoodTurn line turn
   from_sound line turn within sound well = (record { sound = sound; within = within }, well)
 
   noted_well : (line moment : ℕ) (station : Station) (done : LineDone) → 1 ≤ line → line ≤ most_lines → line ≤ setup.names.lines → station.post.number < numbers → IsDone done
@@ -275,7 +276,7 @@ module _ (setup : Setup) (set_up : IsSetUp setup) where
   texts_well m source [] s = none_well
   texts_well m source (text ∷ texts) s =
       All-append (IsWell setup) (handled setup m source (read_text text)).sent _ (handled_well m source (read_text text) s)
-      (texts_well (handled setup m source (read_text text)).machine source texts
+      (texts_well (handled setup m source (read_text text)).value source texts
       (handled_on_all setup (OnStation setup) OwnSound (IsWell setup) well_turns well_own_turns m source (read_text text) s))
 
   event_well : (m : Machine) (event : GatewayEvent) → Stands m → Well (effect setup m event).sent
@@ -289,7 +290,7 @@ module _ (setup : Setup) (set_up : IsSetUp setup) where
   events_well m [] s = none_well
   events_well m (event ∷ events) s =
       All-append (IsWell setup) (effect setup m event).sent _ (event_well m event s)
-      (events_well (effect setup m event).machine events (event_on_all setup (OnStation setup) OwnSound (IsWell setup) well_turns well_own_turns m event s))
+      (events_well (effect setup m event).value events (event_on_all setup (OnStation setup) OwnSound (IsWell setup) well_turns well_own_turns m event s))
 
   opening_stands : Stands (opening setup)
   opening_stands =

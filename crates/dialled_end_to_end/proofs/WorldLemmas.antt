@@ -68,8 +68,8 @@ sent_on : (setup : Setup) (m : Machine) (es fs : List GatewayEvent) → sent_fro
 unfolding sent_from machine_after
 sent_on setup m [] fs = refl
 sent_on setup m (event ∷ es) fs =
-    ap (λ (x : List Sent). (effect setup m event).sent ++ x) (sent_on setup (effect setup m event).machine es fs)
-    ∙ sym (append_assoc (effect setup m event).sent (sent_from setup (effect setup m event).machine es) _)
+    ap (λ (x : List Sent). (effect setup m event).sent ++ x) (sent_on setup (effect setup m event).value es fs)
+    ∙ sym (append_assoc (effect setup m event).sent (sent_from setup (effect setup m event).value es) _)
 
 sent_more : (setup : Setup) (line : ℕ) (took : List GatewayEvent) (event : GatewayEvent)
     → line_sent setup line (took ++ event ∷ []) ≡ line_sent setup line took ++ of_line line (sent_from setup (plain setup took) (event ∷ []))

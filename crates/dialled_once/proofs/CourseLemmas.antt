@@ -45,6 +45,7 @@ use Rattle.plain_machine.specs.declared.own.Own.{Own}
 use Rattle.plain_machine.specs.declared.response.Response.{Response}
 use Rattle.plain_machine.specs.declared.setup.Setup.{Setup}
 use Rattle.plain_machine.specs.declared.station.Station.{Station}
+use Rattle.plain_machine.specs.Effect.{Effect, silently, effect_map, afterwards}
 use Rattle.plain_machine.specs.Acting.{acted_on, acted}
 use Rattle.plain_machine.specs.Announcing.{announcement, announced, announced_by, heard_by, heard_on, replied}
 use Rattle.plain_machine.specs.Answering.{line_of_name, transaction, executed, transacted_by, handled, took_all}
@@ -56,9 +57,8 @@ use Rattle.plain_machine.specs.Falling.{due_on, own_due, if_by, happened_on, own
 use Rattle.plain_machine.specs.Flights.{IsClosed, InOrderWhile}
 use Rattle.plain_machine.specs.Happening.{effect}
 use Rattle.plain_machine.specs.Lists.{machine_after, sent_from}
-use Rattle.plain_machine.specs.Machine.{Endpoints, Machine, Effect, OwnTurn, Told, told, told_in, serves, station_at, with_own, own_posted, on_line, afterwards}
+use Rattle.plain_machine.specs.Machine.{Endpoints, Machine, told_in, serves, station_at, with_own, own_posted, on_line}
 use Rattle.plain_machine.specs.Message.{Owner, answer_of, own_of, Said, answer, again, command as own_command, resent, acknowledgement, is_answer, Sent}
-use Rattle.plain_machine.specs.Notifying.{Turn, silent}
 use Rattle.plain_machine.specs.Posting.{id_on, line_of_id, repeated_as, resent_by}
 use Rattle.plain_machine.specs.Requesting.{refused_by, lines_meant, deed_on, deed_on_all, shown_of, answer_with, unless_refused, deed_done, line_with_place, done_there, done_for}
 use Rattle.plain_machine.specs.Responding.{response_with, responded_on, own_responded, redirected_on, opened_on, on_all, lines_told, own_heard, responded, heard_from}
@@ -79,23 +79,23 @@ use Rattle.dialled_once.proofs.StationLemmas.{steps_in, Calls, Goes, act_goes, d
 -- The gateway itself serves on, or not yet
 
 -- while it serves it has nothing in flight, and so it stays at what falls due
-free_happens : (setup : Setup) (due : StationDue) (moment : ℕ) (own : Own) → IsFree own → IsFree (own_happened due setup moment own).own
+free_happens : (setup : Setup) (due : StationDue) (moment : ℕ) (own : Own) → IsFree own → IsFree (own_happened due setup moment own).value
 unfolding own_happened announced
 free_happens setup (OfLine due) moment own free = free
 free_happens setup Resend moment own free = by_serving (is_serving own.post.restart) refl where
-  by_repeat : (flight : InFlight) (repeat : Repeat) → is_serving own.post.restart ≡ false → IsFree (own_posted own (repeated_as repeat setup 0 moment own.post flight)).own
+  by_repeat : (flight : InFlight) (repeat : Repeat) → is_serving own.post.restart ≡ false → IsFree (own_posted own (repeated_as repeat setup 0 moment own.post flight)).value
   by_repeat flight SentAgain e = λ serving. absurd (let clash : false ≡ true = sym e ∙ serving in cc)
   by_repeat flight GivenUp e = λ serving. absurd cc
 
-  by_pending : (pending : Option InFlight) → is_serving own.post.restart ≡ false → IsFree (own_posted own (resent_by pending setup 0 moment own.post)).own
+  by_pending : (pending : Option InFlight) → is_serving own.post.restart ≡ false → IsFree (own_posted own (resent_by pending setup 0 moment own.post)).value
   by_pending None e = free
   by_pending (Some flight) e = by_repeat flight (repeat_of flight moment) e
 
-  by_serving : (b : Bool) → is_serving own.post.restart ≡ b → IsFree (own_posted own (resent_by own.post.pending setup 0 moment own.post)).own
-  by_serving true e = subst (λ (pending : Option InFlight). IsFree (own_posted own (resent_by pending setup 0 moment own.post)).own) (sym (free e)) free
+  by_serving : (b : Bool) → is_serving own.post.restart ≡ b → IsFree (own_posted own (resent_by own.post.pending setup 0 moment own.post)).value
+  by_serving true e = subst (λ (pending : Option InFlight). IsFree (own_posted own (resent_by pending setup 0 moment own.post)).value) (sym (free e)) free
   by_serving false e = by_pending own.post.pending e
 free_happens setup Announce moment own free = by_restart own.post.restart refl where
-  by_restart : (restart : Restart) → own.post.restart ≡ restart → IsFree (own_posted own (announced_by restart setup 0 moment own.post)).own
+  by_restart : (restart : Restart) → own.post.restart ≡ restart → IsFree (own_posted own (announced_by restart setup 0 moment own.post)).value
   by_restart (Waiting until) e = λ serving. absurd cc
   by_restart Announced e = free
   by_restart Serving e = free
@@ -105,10 +105,10 @@ serves_passed : (setup : Setup) (moment : ℕ) (was : Own) (is : Turned Own) →
 serves_passed setup moment was is (rests w t none same) free = ap (λ (t : Turned Own). is_serving t.becomes.post.restart) same
 serves_passed setup moment was is (goes_on w item rest t some own same) free =
     ap (λ (t : Turned Own). is_serving t.becomes.post.restart) same
-    ∙ serves_passed setup moment (own_happened item.due setup item.moment was).own rest own (free_happens setup item.due item.moment was free)
+    ∙ serves_passed setup moment (own_happened item.due setup item.moment was).value rest own (free_happens setup item.due item.moment was free)
     ∙ happening_serves setup item.due item.moment was free
 
-pub pass_serves : (setup : Setup) (endpoints : Endpoints) (moment : ℕ) → IsFree endpoints.own → serves (pass setup endpoints moment).endpoints ≡ serves endpoints
+pub pass_serves : (setup : Setup) (endpoints : Endpoints) (moment : ℕ) → IsFree endpoints.own → serves (pass setup endpoints moment).value ≡ serves endpoints
 pass_serves setup endpoints moment free = serves_passed setup moment endpoints.own _ (own_passes setup moment endpoints) free
 
 -- One item by a moment is that item
@@ -123,8 +123,8 @@ some_same : (a b : Station) → Some a ≡ Some b → a ≡ b
 some_same a b e = ap (λ (o : Option Station). unwrap_or o a) e
 
 -- A turn of a station, beside the course of its line and what the line sent so far
-abbrev pub TurnKeeps : (Bool → List Step → List Sent → Station → Type 0) → Bool → List Step → List Sent → Turn → Type 0
-TurnKeeps G serving course sent turn = G serving (course ++ steps_in turn.sent) (sent ++ turn.sent) turn.station
+abbrev pub TurnKeeps : (Bool → List Step → List Sent → Station → Type 0) → Bool → List Step → List Sent → Effect Station → Type 0
+TurnKeeps G serving course sent turn = G serving (course ++ steps_in turn.sent) (sent ++ turn.sent) turn.value
 
 -- what each turn keeps, before the gateway serves and while it does, where H holds of the responses
 pub record StationTurns (setup : Setup) (H : Response → Type 0) (G : Bool → List Step → List Sent → Station → Type 0) : Type 0 where
@@ -178,8 +178,8 @@ module _ (setup : Setup) (H : Response → Type 0) (G : Bool → List Step → L
   Holds course sent endpoints = (s : Station) → station_at endpoints line ≡ Some s → G (serves endpoints) course sent s
 
   -- it goes on so, beside what the line notifies and sends
-  abbrev GoesOn : List Step → List Sent → Told → Type 0
-  GoesOn course sent is = Holds (course ++ notified_in line is.sent) (sent ++ of_line line is.sent) is.endpoints
+  abbrev GoesOn : List Step → List Sent → Effect Endpoints → Type 0
+  GoesOn course sent is = Holds (course ++ notified_in line is.sent) (sent ++ of_line line is.sent) is.value
 
   both_padded : (serving : Bool) (course : List Step) (sent : List Sent) (s : Station) → G serving course sent s → G serving (course ++ []) (sent ++ []) s
   both_padded serving course sent s g =
@@ -193,38 +193,38 @@ module _ (setup : Setup) (H : Response → Type 0) (G : Bool → List Step → L
   course_padded endpoints course sent holds = subst (λ (c : List Step). Holds c sent endpoints) (sym (append-nil course)) holds
 
   -- its own turn
-  turns_hold : (endpoints : Endpoints) (course : List Step) (sent : List Sent) (turn : Station → Turn) (is : Told) → LineTurns line endpoints turn is
-      → ((s : Station) → station_at endpoints line ≡ Some s → TurnKeeps G (serves is.endpoints) course sent (turn s)) → GoesOn course sent is
+  turns_hold : (endpoints : Endpoints) (course : List Step) (sent : List Sent) (turn : Station → Effect Station) (is : Effect Endpoints) → LineTurns line endpoints turn is
+      → ((s : Station) → station_at endpoints line ≡ Some s → TurnKeeps G (serves is.value) course sent (turn s)) → GoesOn course sent is
   turns_hold endpoints course sent turn is turned goes s at = by_station (station_at endpoints line) refl where
-    by_station : (found : Option Station) → station_at endpoints line ≡ found → G (serves is.endpoints) (course ++ notified_in line is.sent) (sent ++ of_line line is.sent) s
-    by_station None none = absurd (none-some s (sym (turned.station ∙ ap (option_map (λ (x : Station). (turn x).station)) none) ∙ at))
+    by_station : (found : Option Station) → station_at endpoints line ≡ found → G (serves is.value) (course ++ notified_in line is.sent) (sent ++ of_line line is.sent) s
+    by_station None none = absurd (none-some s (sym (turned.station ∙ ap (option_map (λ (x : Station). (turn x).value)) none) ∙ at))
     by_station (Some was) here =
-        let same : (turn was).station ≡ s = some_same (turn was).station s (sym (turned.station ∙ ap (option_map (λ (x : Station). (turn x).station)) here) ∙ at) in
+        let same : (turn was).value ≡ s = some_same (turn was).value s (sym (turned.station ∙ ap (option_map (λ (x : Station). (turn x).value)) here) ∙ at) in
         let out : of_line line is.sent ≡ (turn was).sent = turned.sent ∙ ap (sent_by turn) here in
-        subst (λ (x : List Sent). G (serves is.endpoints) (course ++ steps_in x) (sent ++ x) s) (sym out)
-        (subst (λ (x : Station). G (serves is.endpoints) (course ++ steps_in (turn was).sent) (sent ++ (turn was).sent) x) same (goes was here))
+        subst (λ (x : List Sent). G (serves is.value) (course ++ steps_in x) (sent ++ x) s) (sym out)
+        (subst (λ (x : Station). G (serves is.value) (course ++ steps_in (turn was).sent) (sent ++ (turn was).sent) x) same (goes was here))
 
   -- An act
 
   act_holds : (endpoints : Endpoints) (course : List Step) (sent : List Sent) (n moment : ℕ) (act : Act) → Holds course sent endpoints
       → GoesOn (course ++ act_steps line n act) sent (acted setup endpoints n moment act)
   act_holds endpoints course sent n moment act holds = by_line (n == line) (on_one_line endpoints line n (acted_on setup n moment act) (acted_owned setup n moment act)) where
-    is : Told
+    is : Effect Endpoints
     is = acted setup endpoints n moment act
 
-    served : serves is.endpoints ≡ serves endpoints
+    served : serves is.value ≡ serves endpoints
     served = ap (λ (own : Own). is_serving own.post.restart) (own_stays_on endpoints n (acted_on setup n moment act))
 
-    goes : (s : Station) → station_at endpoints line ≡ Some s → G (serves is.endpoints) course sent s
+    goes : (s : Station) → station_at endpoints line ≡ Some s → G (serves is.value) course sent s
     goes s at = subst (λ (b : Bool). G b course sent s) (sym served) (holds s at)
 
     by_line : (b : Bool) → LineTurns line endpoints (turn_if b (acted_on setup n moment act)) is → GoesOn (course ++ (if b then acts act ∷ [] else [])) sent is
     by_line true turned =
         turns_hold endpoints (course ++ acts act ∷ []) sent (acted_on setup n moment act) is turned
-        (λ s at. turns.act (serves is.endpoints) course sent n moment act s (goes s at))
+        (λ s at. turns.act (serves is.value) course sent n moment act s (goes s at))
     by_line false turned =
-        turns_hold endpoints (course ++ []) sent silent is turned
-        (λ s at. both_padded (serves is.endpoints) (course ++ []) sent s (subst (λ (c : List Step). G (serves is.endpoints) c sent s) (sym (append-nil course)) (goes s at)))
+        turns_hold endpoints (course ++ []) sent silently is turned
+        (λ s at. both_padded (serves is.value) (course ++ []) sent s (subst (λ (c : List Step). G (serves is.value) c sent s) (sym (append-nil course)) (goes s at)))
 
   -- A tick
 
@@ -236,10 +236,10 @@ module _ (setup : Setup) (H : Response → Type 0) (G : Bool → List Step → L
       (both_padded serving course sent s (goes s (sym (ap (λ (t : Turned (Option Station)). t.becomes) same) ∙ at)))
   line_passed serving moment None is (goes_on w item rest t first own same) course sent goes s at = absurd (none-some item first)
   line_passed serving moment (Some was) is (goes_on w item rest t first own same) course sent goes s at =
-      let turn : Turn = happened_on item.due setup line item.moment was in
+      let turn : Effect Station = happened_on item.due setup line item.moment was in
       let here = turns.happening serving course sent line item was (by_is moment (due_on (line, was)) item first) (goes was refl) in
-      let after = line_passed serving moment (Some turn.station) rest own (course ++ steps_in turn.sent) (sent ++ turn.sent)
-      (λ x e. subst (λ (y : Station). G serving (course ++ steps_in turn.sent) (sent ++ turn.sent) y) (some_same turn.station x e) here)
+      let after = line_passed serving moment (Some turn.value) rest own (course ++ steps_in turn.sent) (sent ++ turn.sent)
+      (λ x e. subst (λ (y : Station). G serving (course ++ steps_in turn.sent) (sent ++ turn.sent) y) (some_same turn.value x e) here)
       s (sym (ap (λ (t : Turned (Option Station)). t.becomes) same) ∙ at) in
       subst (λ (x : List Sent). G serving (course ++ steps_in x) (sent ++ x) s) (ap (λ (t : Turned (Option Station)). t.sends) (sym same))
       (subst (λ (c : List Step). G serving c (sent ++ (turn.sent ++ rest.sends)) s)
@@ -255,7 +255,7 @@ module _ (setup : Setup) (H : Response → Type 0) (G : Bool → List Step → L
 
   -- A response
 
-  all_hold : (endpoints : Endpoints) (course : List Step) (sent : List Sent) (serving : Bool) (turn : ℕ → Station → Turn)
+  all_hold : (endpoints : Endpoints) (course : List Step) (sent : List Sent) (serving : Bool) (turn : ℕ → Station → Effect Station)
       → ((s : Station) → station_at endpoints line ≡ Some s → TurnKeeps G serving course sent (turn line s)) → LineTurns line endpoints (turn line) (on_all endpoints turn)
       → serves endpoints ≡ serving → GoesOn course sent (on_all endpoints turn)
   all_hold endpoints course sent serving turn goes turned served =
@@ -263,13 +263,13 @@ module _ (setup : Setup) (H : Response → Type 0) (G : Bool → List Step → L
       (λ s at. subst (λ (b : Bool). TurnKeeps G b course sent (turn line s))
       (sym (ap (λ (own : Own). is_serving own.post.restart) (own_stays (lines_meant endpoints All) endpoints turn) ∙ served)) (goes s at))
 
-  abbrev OwnAs : Heard → Endpoints → ℕ → Response → OwnTurn
+  abbrev OwnAs : Heard → Endpoints → ℕ → Response → Effect Own
   OwnAs heard endpoints moment response = own_posted endpoints.own (replied heard setup 0 moment response endpoints.own.post)
 
-  abbrev FirstAs : Heard → Endpoints → ℕ → Response → Told
-  FirstAs heard endpoints moment response = told (with_own endpoints (OwnAs heard endpoints moment response).own) (OwnAs heard endpoints moment response).sent
+  abbrev FirstAs : Heard → Endpoints → ℕ → Response → Effect Endpoints
+  FirstAs heard endpoints moment response = effect_map (with_own endpoints) (OwnAs heard endpoints moment response)
 
-  abbrev HeardAs : Heard → Endpoints → ℕ → Response → Told
+  abbrev HeardAs : Heard → Endpoints → ℕ → Response → Effect Endpoints
   HeardAs heard endpoints moment response = afterwards (FirstAs heard endpoints moment response) (λ next. lines_told heard setup moment next)
 
   -- what the gateway itself sends is not the line's
@@ -299,29 +299,29 @@ module _ (setup : Setup) (H : Response → Type 0) (G : Bool → List Step → L
     by_heard Nothing e = padded endpoints course sent holds
     by_heard PutOff e = padded endpoints course sent holds
     by_heard (Redirected agent) e =
-        let first : Told = FirstAs (Redirected agent) endpoints moment response in
-        let next : Told = on_all first.endpoints (redirected_on agent) in
+        let first : Effect Endpoints = FirstAs (Redirected agent) endpoints moment response in
+        let next : Effect Endpoints = on_all first.value (redirected_on agent) in
         let apart : Redirected agent ≢ Nothing = λ same. absurd cc in
         let out : Sent = record { to = agent.address; moment = moment; owner = own_of 0; said = own_command (announcement setup 0 (id_on 0 endpoints.own.post.number)) } in
-        subst (λ (x : List Sent). Holds (course ++ steps_in x) (sent ++ x) next.endpoints) (sym (behind_own out next.sent refl))
-        (all_hold first.endpoints course sent false (redirected_on agent)
+        subst (λ (x : List Sent). Holds (course ++ steps_in x) (sent ++ x) next.value) (sym (behind_own out next.sent refl))
+        (all_hold first.value course sent false (redirected_on agent)
         (λ s at. turns.redirecting false course sent agent line s (closed (Redirected agent) e apart s at))
-        (on_many_lines (is_for All) (redirected_on agent) (redirected_owned agent) first.endpoints line) refl)
+        (on_many_lines (is_for All) (redirected_on agent) (redirected_owned agent) first.value line) refl)
     by_heard (Answered agent) e =
-        let first : Told = FirstAs (Answered agent) endpoints moment response in
+        let first : Effect Endpoints = FirstAs (Answered agent) endpoints moment response in
         let apart : Answered agent ≢ Nothing = λ same. absurd cc in
-        all_hold first.endpoints course sent true (opened_on agent setup moment)
+        all_hold first.value course sent true (opened_on agent setup moment)
         (λ s at. turns.opening course sent agent moment line s (waiting (Answered agent) e apart s at) (closed (Answered agent) e apart s at))
-        (on_many_lines (is_for All) (opened_on agent setup moment) (opened_owned agent setup moment) first.endpoints line) refl
+        (on_many_lines (is_for All) (opened_on agent setup moment) (opened_owned agent setup moment) first.value line) refl
 
   one_heard_holds : (endpoints : Endpoints) (course : List Step) (sent : List Sent) (n moment : ℕ) (response : Response) → H response → Holds course sent endpoints
       → GoesOn course sent (on_line endpoints n (responded_on setup n moment response))
   one_heard_holds endpoints course sent n moment response hears holds =
       by_line (n == line) (on_one_line endpoints line n (responded_on setup n moment response) (responded_owned setup n moment response)) where
-        is : Told
+        is : Effect Endpoints
         is = on_line endpoints n (responded_on setup n moment response)
 
-        goes : (s : Station) → station_at endpoints line ≡ Some s → G (serves is.endpoints) course sent s
+        goes : (s : Station) → station_at endpoints line ≡ Some s → G (serves is.value) course sent s
         goes s at =
             subst (λ (b : Bool). G b course sent s)
             (sym (ap (λ (own : Own). is_serving own.post.restart) (own_stays_on endpoints n (responded_on setup n moment response)))) (holds s at)
@@ -329,17 +329,17 @@ module _ (setup : Setup) (H : Response → Type 0) (G : Bool → List Step → L
         by_line : (b : Bool) → LineTurns line endpoints (turn_if b (responded_on setup n moment response)) is → GoesOn course sent is
         by_line true turned =
             turns_hold endpoints course sent (responded_on setup n moment response) is turned
-            (λ s at. turns.response (serves is.endpoints) course sent n moment response s hears (goes s at))
-        by_line false turned = turns_hold endpoints course sent silent is turned (λ s at. both_padded (serves is.endpoints) course sent s (goes s at))
+            (λ s at. turns.response (serves is.value) course sent n moment response s hears (goes s at))
+        by_line false turned = turns_hold endpoints course sent silently is turned (λ s at. both_padded (serves is.value) course sent s (goes s at))
 
   heard_holds : (endpoints : Endpoints) (course : List Step) (sent : List Sent) (moment : ℕ) (source : SocketAddrV4) (code id : ℕ) (params : List Param) → KeepOrder endpoints
       → H (response_with setup id code params) → Holds course sent endpoints → GoesOn course sent (heard_from setup endpoints moment source code id params)
   heard_holds endpoints course sent moment source code id params order hears holds =
-      subst (λ (x : List Sent). Holds (course ++ steps_in x) (sent ++ x) is.endpoints) (sym (behind_acknowledged setup line moment source code id params is.sent)) (by_test (line_of_id id == 0)) where
+      subst (λ (x : List Sent). Holds (course ++ steps_in x) (sent ++ x) is.value) (sym (behind_acknowledged setup line moment source code id params is.sent)) (by_test (line_of_id id == 0)) where
         response : Response
         response = response_with setup id code params
 
-        is : Told
+        is : Effect Endpoints
         is = responded setup endpoints moment response
 
         by_test : (b : Bool) → GoesOn course sent (if b then own_heard setup endpoints moment response else on_line endpoints (line_of_id id) (responded_on setup (line_of_id id) moment response))
@@ -361,7 +361,7 @@ module _ (setup : Setup) (H : Response → Type 0) (G : Bool → List Step → L
     goes : (s : Station) → station_at endpoints line ≡ Some s → G true course sent s
     goes s at = subst (λ (b : Bool). G b course sent s) serving (holds s at)
 
-    served : serves whole.told.endpoints ≡ true
+    served : serves whole.told.value ≡ true
     served = ap (λ (own : Own). is_serving own.post.restart) (own_stays (lines_meant endpoints target) endpoints (deed_on setup deed moment)) ∙ serving
 
     by_meant : (b : Bool) → LineTurns line endpoints (turn_if b (deed_on setup deed moment line)) whole.told
@@ -371,9 +371,9 @@ module _ (setup : Setup) (H : Response → Type 0) (G : Bool → List Step → L
         (λ s at. subst (λ (b : Bool). TurnKeeps G b (course ++ accepted deed.request) sent (deed_on setup deed moment line s)) (sym served)
         (turns.deed course sent deed moment line s (goes s at)))
     by_meant false turned =
-        turns_hold endpoints (course ++ []) sent silent whole.told turned
-        (λ s at. both_padded (serves whole.told.endpoints) (course ++ []) sent s
-        (subst (λ (c : List Step). G (serves whole.told.endpoints) c sent s) (sym (append-nil course)) (subst (λ (b : Bool). G b course sent s) (sym served) (goes s at))))
+        turns_hold endpoints (course ++ []) sent silently whole.told turned
+        (λ s at. both_padded (serves whole.told.value) (course ++ []) sent s
+        (subst (λ (c : List Step). G (serves whole.told.value) c sent s) (sym (append-nil course)) (subst (λ (b : Bool). G b course sent s) (sym served) (goes s at))))
 
     by_refusal : (found : Option ℕ)
         → GoesOn (course ++ (if is_for target line && is_none found then accepted deed.request else [])) sent (unless_refused found endpoints whole).told
@@ -418,11 +418,11 @@ module _ (setup : Setup) (H : Response → Type 0) (G : Bool → List Step → L
       → Holds course sent m.endpoints → ((before : List Sent) → Holds course before m.endpoints → GoesOn (course ++ added) before done.told)
       → Holds (course ++ ((if is_new looked then added else []) ++ notified_in line (transacted_by looked m source (transaction id who confirms done)).sent))
       (sent ++ of_line line (transacted_by looked m source (transaction id who confirms done)).sent)
-      (transacted_by looked m source (transaction id who confirms done)).machine.endpoints
+      (transacted_by looked m source (transaction id who confirms done)).value.endpoints
   unfolding executed
   transacted_holds new m source id who confirms done course added sent holds after =
       answered_first m.endpoints course added sent (record { to = source; moment = m.now; owner = answer_of who; said = answer (response_of id done.answer) }) done.told.sent
-      done.told.endpoints refl holds after
+      done.told.value refl holds after
   transacted_holds (repeat text) m source id who confirms done course added sent holds after =
       answered_first m.endpoints course [] sent (record { to = source; moment = m.now; owner = answer_of who; said = again text }) [] m.endpoints refl holds
       (λ before h. padded m.endpoints (course ++ []) before (course_padded m.endpoints course before h))
@@ -432,10 +432,10 @@ module _ (setup : Setup) (H : Response → Type 0) (G : Bool → List Step → L
   refused_holds : (looked : Looked) (m : Machine) (course : List Step) (sent : List Sent) (source : SocketAddrV4) (id code : ℕ) → Holds course sent m.endpoints
       → Holds (course ++ notified_in line (transacted_by looked m source (transaction id None [] (only_answer m.endpoints (plain_code code)))).sent)
       (sent ++ of_line line (transacted_by looked m source (transaction id None [] (only_answer m.endpoints (plain_code code)))).sent)
-      (transacted_by looked m source (transaction id None [] (only_answer m.endpoints (plain_code code)))).machine.endpoints
+      (transacted_by looked m source (transaction id None [] (only_answer m.endpoints (plain_code code)))).value.endpoints
   refused_holds looked m course sent source id code holds =
-      let is : Effect = transacted_by looked m source (transaction id None [] (only_answer m.endpoints (plain_code code))) in
-      subst (λ (x : List Step). Holds (course ++ (x ++ notified_in line is.sent)) (sent ++ of_line line is.sent) is.machine.endpoints) (either_way (is_new looked) [])
+      let is : Effect Machine = transacted_by looked m source (transaction id None [] (only_answer m.endpoints (plain_code code))) in
+      subst (λ (x : List Step). Holds (course ++ (x ++ notified_in line is.sent)) (sent ++ of_line line is.sent) is.value.endpoints) (either_way (is_new looked) [])
       (transacted_holds looked m source id None [] (only_answer m.endpoints (plain_code code)) course [] sent holds
       (λ before h. padded m.endpoints (course ++ []) before (course_padded m.endpoints course before h))) where
         either_way : (b : Bool) (steps : List Step) → (if b then steps else steps) ≡ steps
@@ -452,7 +452,7 @@ module _ (setup : Setup) (H : Response → Type 0) (G : Bool → List Step → L
 
   handled_holds : (m : Machine) (course : List Step) (sent : List Sent) (source : SocketAddrV4) (outcome : Outcome) → KeepOrder m.endpoints → Hears setup H outcome → Holds course sent m.endpoints
       → Holds (course ++ (accepted_at setup m line outcome ++ notified_in line (handled setup m source outcome).sent)) (sent ++ of_line line (handled setup m source outcome).sent)
-      (handled setup m source outcome).machine.endpoints
+      (handled setup m source outcome).value.endpoints
   unfolding handled
   handled_holds m course sent source no_header order hears holds = padded m.endpoints course sent holds
   handled_holds m course sent source (bad_version id) order hears holds = refused_holds (look_of most_firsts m.history id m.now) m course sent source id 528 holds
@@ -485,25 +485,25 @@ module _ (setup : Setup) (H : Response → Type 0) (G : Bool → List Step → L
       (append_assoc sent (of_line line some) (of_line line more) ∙ ap (λ (x : List Sent). sent ++ x) (sym (of_both line some more))) s)
 
   texts_stand : (m : Machine) (course : List Step) (sent : List Sent) (now : ℕ) (source : SocketAddrV4) (texts : List (List ℕ)) → AllHear setup H (map (arrival now source) texts)
-      → Stands course sent m → Stands (course ++ course_in setup m line source texts) (sent ++ of_line line (took_all setup m source texts).sent) (took_all setup m source texts).machine
+      → Stands course sent m → Stands (course ++ course_in setup m line source texts) (sent ++ of_line line (took_all setup m source texts).sent) (took_all setup m source texts).value
   unfolding took_all course_in
   texts_stand m course sent now source [] hears s = record { order = s.order; holds = padded m.endpoints course sent s.holds }
   texts_stand m course sent now source (text ∷ texts) hears s =
-      let one : Effect = handled setup m source (read_text text) in
+      let one : Effect Machine = handled setup m source (read_text text) in
       let here : List Step = accepted_at setup m line (read_text text) ++ notified_in line one.sent in
-      both_stand course here (course_in setup one.machine line source texts) sent one.sent (took_all setup one.machine source texts).sent (took_all setup one.machine source texts).machine
-      (texts_stand one.machine (course ++ here) (sent ++ of_line line one.sent) now source texts hears.1 (record {
+      both_stand course here (course_in setup one.value line source texts) sent one.sent (took_all setup one.value source texts).sent (took_all setup one.value source texts).value
+      (texts_stand one.value (course ++ here) (sent ++ of_line line one.sent) now source texts hears.1 (record {
         order = text_waits setup m source (read_text text) s.order;
         holds = handled_holds m course sent source (read_text text) s.order hears.0 s.holds;
       }))
 
   event_stands : (m : Machine) (course : List Step) (sent : List Sent) (now : ℕ) (event : GatewayEvent) → AllHear setup H (arrivals_at now event) → Stands course sent m
-      → Stands (course ++ course_at setup m line event) (sent ++ of_line line (effect setup m event).sent) (effect setup m event).machine
+      → Stands (course ++ course_at setup m line event) (sent ++ of_line line (effect setup m event).sent) (effect setup m event).value
   unfolding effect
   event_stands m course sent now (datagram source bytes) hears s = texts_stand m course sent now source (texts_of bytes) hears s
   event_stands m course sent now (phone n act) hears s =
       let out : List Sent = (acted setup m.endpoints n m.now act).sent in
-      subst (λ (c : List Step). Stands c (sent ++ of_line line out) (told_in m (acted setup m.endpoints n m.now act)).machine) (append_assoc course (act_steps line n act) (notified_in line out))
+      subst (λ (c : List Step). Stands c (sent ++ of_line line out) (told_in m (acted setup m.endpoints n m.now act)).value) (append_assoc course (act_steps line n act) (notified_in line out))
       (record { order = acts_wait setup m.endpoints n m.now act s.order; holds = act_holds m.endpoints course sent n m.now act s.holds })
   event_stands m course sent now (tick moment) hears s =
       record { order = pass_waits setup m.endpoints moment s.order; holds = pass_holds m.endpoints course sent moment (is_free m s.order) s.holds }
@@ -514,7 +514,7 @@ module _ (setup : Setup) (H : Response → Type 0) (G : Bool → List Step → L
   unfolding machine_after course_from sent_from arrivals_from
   events_stand m course sent now [] hears s = record { order = s.order; holds = padded m.endpoints course sent s.holds }
   events_stand m course sent now (event ∷ events) hears s =
-      let next : Machine = (effect setup m event).machine in
+      let next : Machine = (effect setup m event).value in
       let Q : TextArrival → Type 0 = λ a. Hears setup H a.outcome in
       both_stand course (course_at setup m line event) (course_from setup next line events) sent (effect setup m event).sent (sent_from setup next events) (machine_after setup next events)
       (events_stand next (course ++ course_at setup m line event) (sent ++ of_line line (effect setup m event).sent) (clock_after now event) events

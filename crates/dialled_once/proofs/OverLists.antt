@@ -100,8 +100,8 @@ course_on : (setup : Setup) (m : Machine) (line : ℕ) (es fs : List GatewayEven
 unfolding course_from machine_after
 course_on setup m line [] fs = refl
 course_on setup m line (e ∷ es) fs =
-    ap (λ (x : List Step). course_at setup m line e ++ x) (course_on setup (effect setup m e).machine line es fs)
-    ∙ sym (append_assoc (course_at setup m line e) (course_from setup (effect setup m e).machine line es) _)
+    ap (λ (x : List Step). course_at setup m line e ++ x) (course_on setup (effect setup m e).value line es fs)
+    ∙ sym (append_assoc (course_at setup m line e) (course_from setup (effect setup m e).value line es) _)
 
 -- where nothing was done before, and nothing told of it
 whole_course : (before after : List Step) (line : LineState) → done_in before ≡ [] → happened_in (told_along before) ≡ [] → IsToldOnce after line → IsToldOnce (before ++ after) line

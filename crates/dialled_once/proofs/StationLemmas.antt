@@ -27,10 +27,11 @@ use Rattle.plain_machine.specs.declared.post.Post.{Post}
 use Rattle.plain_machine.specs.declared.response.Response.{Response}
 use Rattle.plain_machine.specs.declared.setup.Setup.{Setup}
 use Rattle.plain_machine.specs.declared.station.Station.{Station}
+use Rattle.plain_machine.specs.Effect.{Effect, silently}
 use Rattle.plain_machine.specs.Message.{Sent}
 use Rattle.plain_machine.specs.Posting.{repeated_as, resent_by, resent_on}
 use Rattle.plain_machine.specs.Announcing.{announcement, announced, announced_by, announced_on, heard_on, replied}
-use Rattle.plain_machine.specs.Notifying.{Turn, silent, posted, notification, with_notice, noted}
+use Rattle.plain_machine.specs.Notifying.{posted, notification, with_notice, noted}
 use Rattle.plain_machine.specs.Acting.{acted_on}
 use Rattle.plain_machine.specs.Requesting.{with_entity, with_connections, asked_if, deed_on}
 use Rattle.plain_machine.specs.Responding.{responded_as, responded_on, redirected_on, opened_on}
@@ -70,19 +71,19 @@ module _ (setup : Setup) (Q : Bool → List Step → LineState → Type 0) where
     pub holds : Q serving course station.line
 
   -- and after a turn
-  abbrev pub TurnGoes : Bool → List Step → Turn → Type 0
-  TurnGoes serving course turn = Goes serving (course ++ steps_in turn.sent) turn.station
+  abbrev pub TurnGoes : Bool → List Step → Effect Station → Type 0
+  TurnGoes serving course turn = Goes serving (course ++ steps_in turn.sent) turn.value
 
   pub same_goes : (serving : Bool) (course : List Step) (station other : Station) → other.line ≡ station.line → Goes serving course station → Goes serving course other
   same_goes serving course station other same goes =
       record { readable = subst IsReadable (sym same) goes.readable; holds = subst (λ (line : LineState). Q serving course line) (sym same) goes.holds }
 
   -- a turn that leaves the line, and notifies nothing
-  pub still_goes : (serving : Bool) (course : List Step) (station : Station) (turn : Turn) → turn.station.line ≡ station.line → steps_in turn.sent ≡ []
+  pub still_goes : (serving : Bool) (course : List Step) (station : Station) (turn : Effect Station) → turn.value.line ≡ station.line → steps_in turn.sent ≡ []
       → Goes serving course station → TurnGoes serving course turn
   still_goes serving course station turn same none goes =
-      subst (λ (c : List Step). Goes serving c turn.station) (sym (ap (λ (x : List Step). course ++ x) none ∙ append-nil course))
-      (same_goes serving course station turn.station same goes)
+      subst (λ (c : List Step). Goes serving c turn.value) (sym (ap (λ (x : List Step). course ++ x) none ∙ append-nil course))
+      (same_goes serving course station turn.value same goes)
 
   notice_steps : (line moment : ℕ) (station : Station) (notice : Option Notice) → IfSome notice (λ (n : Notice). Each CanBeTold n.observed)
       → steps_in (with_notice setup line moment station notice).sent ≡ steps_of notice
@@ -91,7 +92,7 @@ module _ (setup : Setup) (Q : Bool → List Step → LineState → Type 0) where
   notice_steps line moment station (Some notice) told =
       ap (λ (read : Result (List Observed) ℕ). notifies notice.identifier (observed_or_none read) ∷ []) (read_again notice.observed told)
 
-  notice_line : (line moment : ℕ) (station : Station) (notice : Option Notice) → (with_notice setup line moment station notice).station.line ≡ station.line
+  notice_line : (line moment : ℕ) (station : Station) (notice : Option Notice) → (with_notice setup line moment station notice).value.line ≡ station.line
   notice_line line moment station None = refl
   notice_line line moment station (Some notice) = refl
 
@@ -100,10 +101,10 @@ module _ (setup : Setup) (Q : Bool → List Step → LineState → Type 0) where
   unfolding noted
   noted_goes serving course line moment station done tells holds =
       let to : Station = record station { line = done.line } in
-      let same : (with_notice setup line moment to done.notice).station.line ≡ done.line = notice_line line moment to done.notice in
+      let same : (with_notice setup line moment to done.notice).value.line ≡ done.line = notice_line line moment to done.notice in
       record {
         readable = subst IsReadable (sym same) tells.line;
-        holds = subst (λ (x : List Step). Q serving (course ++ x) (with_notice setup line moment to done.notice).station.line)
+        holds = subst (λ (x : List Step). Q serving (course ++ x) (with_notice setup line moment to done.notice).value.line)
             (sym (notice_steps line moment to done.notice tells.told))
             (subst (λ (l : LineState). Q serving (course ++ steps_of done.notice) l) (sym same) holds);
       }
@@ -140,18 +141,18 @@ module _ (setup : Setup) (Q : Bool → List Step → LineState → Type 0) where
     pub redirected_goes : (serving : Bool) (course : List Step) (agent : Entity) (line : ℕ) (station : Station) → Goes serving course station
         → TurnGoes serving course (redirected_on agent line station)
     unfolding redirected_on
-    redirected_goes serving course agent line station goes = still_goes serving course station (silent (with_entity (Some agent) station)) refl refl goes
+    redirected_goes serving course agent line station goes = still_goes serving course station (silently (with_entity (Some agent) station)) refl refl goes
 
     pub response_goes : (serving : Bool) (course : List Step) (line moment : ℕ) (response : Response) (station : Station) → Goes serving course station
         → TurnGoes serving course (responded_on setup line moment response station)
     unfolding responded_on replied announced announcement
     response_goes serving course line moment response station goes = by_heard (heard_on station.post response) where
       by_heard : (heard : Heard) → TurnGoes serving course (responded_as heard setup line moment response station)
-      by_heard Nothing = still_goes serving course station (silent station) refl refl goes
+      by_heard Nothing = still_goes serving course station (silently station) refl refl goes
       by_heard PutOff = still_goes serving course station (posted station (replied PutOff setup line moment response station.post)) refl refl goes
       by_heard (Redirected agent) = still_goes serving course station (posted station (replied (Redirected agent) setup line moment response station.post)) refl refl goes
       by_heard (Answered agent) =
-          noted_goes serving course line moment (posted station (replied (Answered agent) setup line moment response station.post)).station (answered station.line moment)
+          noted_goes serving course line moment (posted station (replied (Answered agent) setup line moment response station.post)).value (answered station.line moment)
           (answered_readable station.line moment goes.readable) (calls.answering serving course station.line moment goes.holds)
 
     resent_steps : (line moment : ℕ) (post : Post) → steps_in (resent_on setup line moment post).sent ≡ []

@@ -113,7 +113,7 @@ unfoldable pub course_in : Setup → Machine → ℕ → SocketAddrV4 → List (
 course_in setup m line source [] = []
 course_in setup m line source (text ∷ texts) =
     (accepted_at setup m line (read_text text) ++ notified_in line (handled setup m source (read_text text)).sent)
-    ++ course_in setup (handled setup m source (read_text text)).machine line source texts
+    ++ course_in setup (handled setup m source (read_text text)).value line source texts
 
 -- an act at this telephone
 abbrev pub acted_on : ℕ → ℕ → Act → List Step
@@ -127,7 +127,7 @@ course_at setup m line (tick moment) = notified_in line (effect setup m (tick mo
 -- what happens on a line at these events, in its order
 unfoldable pub course_from : Setup → Machine → ℕ → List GatewayEvent → List Step
 course_from setup m line [] = []
-course_from setup m line (event ∷ events) = course_at setup m line event ++ course_from setup (effect setup m event).machine line events
+course_from setup m line (event ∷ events) = course_at setup m line event ++ course_from setup (effect setup m event).value line events
 
 -- from the opening on
 abbrev pub course_of : Setup → ℕ → List GatewayEvent → List Step

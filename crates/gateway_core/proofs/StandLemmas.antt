@@ -8,10 +8,11 @@ use Rattle.plain_machine.specs.declared.event.Event.{Event}
 use Rattle.plain_machine.specs.declared.refusal.Refusal.{Refusal}
 use Rattle.transmission.specs.declared.output.OutDatagram.{OutDatagram}
 use Rattle.plain_machine.specs.declared.setup.Setup.{Setup}
+use Rattle.plain_machine.specs.Effect.{Effect}
 use Rattle.plain_machine.specs.Event.{GatewayEvent, datagram, phone, tick, event_of}
 use Rattle.plain_machine.specs.Packing.{put_out}
 use Rattle.plain_machine.specs.Setup.{IsSetUp}
-use Rattle.plain_machine.specs.Machine.{Machine, Effect, opening}
+use Rattle.plain_machine.specs.Machine.{Machine, opening}
 use Rattle.plain_machine.specs.Happening.{effect}
 use Rattle.std.specs.Result.{result_err}
 use Rattle.plain_machine.specs.Refusing.{refusal_of, tick_refusal, Ends}
@@ -42,12 +43,12 @@ pub step_goes : (setup : Setup) (k m : Machine) (is : State) (event : GatewayEve
 step_goes setup k m is event were are (Ok x) e all a = goes_on setup (purged_in k) m is event were are (alike_purged k m a) (refusal_purged k event ∙ ends_fine k event e) all
 step_goes setup k m is event were are (Err refusal) e all a = tt
 
-pub step_stays : (k m : Machine) (is : State) (change : Effect) (were are : List OutDatagram) (result : Result (Unit {0}) Refusal) → AllOr (purged_in k) result change is were are → Alike k m
+pub step_stays : (k m : Machine) (is : State) (change : Effect Machine) (were are : List OutDatagram) (result : Result (Unit {0}) Refusal) → AllOr (purged_in k) result change is were are → Alike k m
     → OnErr result (Alike (machine_in is) m)
 step_stays k m is change were are (Ok x) all a = tt
 step_stays k m is change were are (Err refusal) all a = rw all.machine (alike_purged k m a)
 
-pub step_silent : (k : Machine) (is : State) (change : Effect) (were are : List OutDatagram) (result : Result (Unit {0}) Refusal) → AllOr k result change is were are → OnErr result (are ≡ were)
+pub step_silent : (k : Machine) (is : State) (change : Effect Machine) (were are : List OutDatagram) (result : Result (Unit {0}) Refusal) → AllOr k result change is were are → OnErr result (are ≡ were)
 step_silent k is change were are (Ok x) all = tt
 step_silent k is change were are (Err refusal) all = all.outputs
 
@@ -56,7 +57,7 @@ step_silent k is change were are (Err refusal) all = all.outputs
 ticks_below : (now moment : ℕ) → tick_refusal now moment ≡ None → moment < 2 ^ 62
 ticks_below now moment none = grind (arith, nat_tests)
 
-now_below : (setup : Setup) (m : Machine) (event : GatewayEvent) → m.now < 2 ^ 62 → refusal_of m event ≡ None → (effect setup m event).machine.now < 2 ^ 62
+now_below : (setup : Setup) (m : Machine) (event : GatewayEvent) → m.now < 2 ^ 62 → refusal_of m event ≡ None → (effect setup m event).value.now < 2 ^ 62
 unfolding refusal_of
 now_below setup m (datagram source bytes) lt none = rw (effect_now setup m (datagram source bytes)) lt
 now_below setup m (phone line act) lt none = rw (effect_now setup m (phone line act)) lt

@@ -14,6 +14,7 @@ use Rattle.mgcp_text.specs.declared.message.Message.TheVariants as messages
 use Rattle.mgcp_text.specs.declared.message.Param.{Param}
 use Rattle.mgcp_text.specs.declared.message.Verb.{Verb}
 use Rattle.command_forms.specs.Order.{form_while_in}
+use Rattle.plain_machine.specs.Effect.{Effect}
 use Rattle.plain_machine.specs.Commanding.{done_by, commanded}
 use Rattle.std.proofs.lemmas.Bool.Decides.{nat_tests}
 use Rattle.std.proofs.lemmas.List.{map-append}
@@ -24,7 +25,7 @@ use Rattle.mgcp_text.specs.Reading.{read_text}
 use Rattle.plain_machine.specs.declared.setup.Setup.{Setup}
 use Rattle.transmission.specs.declared.output.OutDatagram.{OutDatagram}
 use Rattle.plain_machine.specs.Message.{datagram_of, datagrams_of}
-use Rattle.plain_machine.specs.Machine.{Machine, Effect, told, serves}
+use Rattle.plain_machine.specs.Machine.{Machine, serves}
 use Rattle.plain_machine.specs.Done.{Done, only_answer}
 use Rattle.piggyback.specs.Parts.{parts_of}
 use Rattle.transmission.specs.Texts.{texts_of, largest_datagram}
@@ -116,15 +117,15 @@ pub went_next : (setup : Setup) (source : SocketAddrV4) (all texts : List (List 
     → Went (took_all setup (machine_in was) source all) was is were are
 unfolding took_all
 went_next setup source all texts text was between is were mid are same first rest =
-    let one : Effect = handled setup (machine_in was) source (read_text text) in
+    let one : Effect Machine = handled setup (machine_in was) source (read_text text) in
     rw same (record {
-      machine = rest.machine ∙ ap (λ (m : Machine). (took_all setup m source texts).machine) first.machine;
+      machine = rest.machine ∙ ap (λ (m : Machine). (took_all setup m source texts).value) first.machine;
       found = rest.found ∙ first.found;
       sent = rest.sent
           ∙ ap (λ (m : Machine). mid ++ datagrams_of (took_all setup m source texts).sent) first.machine
-          ∙ ap (λ (x : List OutDatagram). x ++ datagrams_of (took_all setup one.machine source texts).sent) first.sent
+          ∙ ap (λ (x : List OutDatagram). x ++ datagrams_of (took_all setup one.value source texts).sent) first.sent
           ∙ append_assoc were _ _
-          ∙ ap (λ (x : List OutDatagram). were ++ x) (sym (map-append datagram_of one.sent (took_all setup one.machine source texts).sent));
+          ∙ ap (λ (x : List OutDatagram). were ++ x) (sym (map-append datagram_of one.sent (took_all setup one.value source texts).sent));
     })
 
 pub went_end : (setup : Setup) (source : SocketAddrV4) (all : List (List ℕ)) (was : State) (out : List OutDatagram) → all ≡ [] → Went (took_all setup (machine_in was) source all) was was out out

@@ -15,11 +15,12 @@ use Rattle.plain_machine.specs.declared.station.Station.{Station}
 use Rattle.transmission.specs.declared.output.OutDatagram.{OutDatagram}
 use Rattle.plain_machine.specs.declared.refusal.Refusal.{Refusal}
 use Rattle.plain_machine.specs.declared.refusal.Refusal.TheVariants.{OutOfMemory}
+use Rattle.plain_machine.specs.Effect.{Effect, silently}
 use Rattle.plain_machine.specs.Setup.{setup_of, most_lines}
 use Rattle.plain_machine.specs.Event.{GatewayEvent, datagram, phone, tick}
 use Rattle.plain_machine.specs.Message.{datagrams_of}
 use Rattle.plain_machine.specs.Notifying.{noted}
-use Rattle.plain_machine.specs.Machine.{Endpoints, Machine, Effect, Told, told, told_in, station_at, turned_at, on_line, opening_station}
+use Rattle.plain_machine.specs.Machine.{Endpoints, Machine, told_in, station_at, turned_at, on_line, opening_station}
 use Rattle.plain_machine.specs.Acting.{acted_on}
 use Rattle.transmission.specs.Texts.{texts_of}
 use Rattle.plain_machine.specs.Answering.{took_all}
@@ -46,7 +47,7 @@ back_still [] was is same = tt
 back_still (first ∷ more) was is same = same
 
 -- texts were taken
-pub happened_went : (effect : Effect) (was is : State) (none sent : List OutDatagram) → none ≡ [] → Went effect was is none sent → Happened effect was is sent
+pub happened_went : (effect : Effect Machine) (was is : State) (none sent : List OutDatagram) → none ≡ [] → Went effect was is none sent → Happened effect was is sent
 happened_went effect was is none sent empty went = record {
   machine = went.machine;
   found = back_still sent was is went.found;
@@ -54,10 +55,10 @@ happened_went effect was is none sent empty went = record {
 }
 
 -- this came to the floor
-floor_back : (change : Told) (was is : State) (sent : List OutDatagram) → Goes change was.floor is.floor [] sent → is.history ≡ was.history → CanGoBack sent was is
+floor_back : (change : Effect Endpoints) (was is : State) (sent : List OutDatagram) → Goes change was.floor is.floor [] sent → is.history ≡ was.history → CanGoBack sent was is
 floor_back change was is sent goes history = back_still sent was is (rw (history, goes.found) refl)
 
-pub happened_goes : (change : Told) (was is : State) (none sent : List OutDatagram) → none ≡ [] → Goes change was.floor is.floor none sent → is.clock ≡ was.clock → is.history ≡ was.history
+pub happened_goes : (change : Effect Endpoints) (was is : State) (none sent : List OutDatagram) → none ≡ [] → Goes change was.floor is.floor none sent → is.clock ≡ was.clock → is.history ≡ was.history
     → Happened (told_in (machine_in was) change) was is sent
 happened_goes change was is none sent empty goes clock history = record {
   machine = rw (clock, history, goes.endpoints) refl;
@@ -65,7 +66,7 @@ happened_goes change was is none sent empty goes clock history = record {
   sent = goes.sent ∙ ap (λ (x : List OutDatagram). x ++ datagrams_of change.sent) empty;
 }
 
-pub happened_tick : (change : Told) (was is : State) (moment : ℕ) (none sent : List OutDatagram) → none ≡ [] → Goes change was.floor is.floor none sent → is.clock ≡ moment → is.history ≡ was.history
+pub happened_tick : (change : Effect Endpoints) (was is : State) (moment : ℕ) (none sent : List OutDatagram) → none ≡ [] → Goes change was.floor is.floor none sent → is.clock ≡ moment → is.history ≡ was.history
     → Happened (ticked (machine_in was) moment change) was is sent
 happened_tick change was is moment none sent empty goes clock history = record {
   machine = rw (clock, history, goes.endpoints) refl;
@@ -74,7 +75,7 @@ happened_tick change was is moment none sent empty goes clock history = record {
 }
 
 -- nothing is sent
-pub happened_silently : (effect : Effect) (was is : State) (sent : List OutDatagram) → sent ≡ [] → machine_in is ≡ effect.machine → effect.sent ≡ [] → Happened effect was is sent
+pub happened_silently : (effect : Effect Machine) (was is : State) (sent : List OutDatagram) → sent ≡ [] → machine_in is ≡ effect.value → effect.sent ≡ [] → Happened effect was is sent
 happened_silently effect was is sent none machine silent = rw none (record {
   machine = machine;
   found = tt;
@@ -85,11 +86,11 @@ none_due : (found : Option DueItem) → not (is_some found) ≡ true → found �
 none_due None e = refl
 none_due (Some item) e = absurd cc
 
-pub nothing_passes : (setup : Setup) (endpoints : Endpoints) (moment : ℕ) → not (is_due endpoints moment) ≡ true → pass setup endpoints moment ≡ told endpoints []
+pub nothing_passes : (setup : Setup) (endpoints : Endpoints) (moment : ℕ) → not (is_due endpoints moment) ≡ true → pass setup endpoints moment ≡ silently endpoints
 nothing_passes setup endpoints moment idle = pass_none setup endpoints moment (none_due (due_by endpoints moment) idle)
 
 -- an act that isn't heeded was passed over
-pub happened_passing : (change : Told) (was is : State) (sent : List OutDatagram) → sent ≡ [] → change ≡ told is.floor.endpoints [] → is.clock ≡ was.clock → is.history ≡ was.history
+pub happened_passing : (change : Effect Endpoints) (was is : State) (sent : List OutDatagram) → sent ≡ [] → change ≡ silently is.floor.endpoints → is.clock ≡ was.clock → is.history ≡ was.history
     → Happened (told_in (machine_in was) change) was is sent
 happened_passing change was is sent none goes clock history = happened_silently _ was is sent none (rw (clock, history, goes) refl) (rw goes refl)
 
@@ -121,7 +122,7 @@ free_silent setup m (tick moment) free = rw (nothing_passes setup m.endpoints mo
 -- What goes out
 
 -- nothing is to go out
-pub puts_nothing : (effect : Effect) (was is : State) (sent outputs : List OutDatagram) → sent ≡ [] → Happened effect was is sent → PutsOut effect is outputs outputs
+pub puts_nothing : (effect : Effect Machine) (was is : State) (sent outputs : List OutDatagram) → sent ≡ [] → Happened effect was is sent → PutsOut effect is outputs outputs
 puts_nothing effect was is sent outputs none happened =
     let empty : datagrams_of effect.sent ≡ [] = sym happened.sent ∙ none in
     record { machine = happened.machine; outputs = sym (append-nil outputs) ∙ ap (λ (x : List OutDatagram). outputs ++ packed x) (sym empty) }
@@ -163,7 +164,7 @@ names_end f report place stations past whole =
     sym (append-nil report) ∙ ap (λ (rest : List Station). report ++ map f (enumerate_from (place + 1) rest)) (sym (drop_all place stations past)) ∙ whole
 
 -- what an event did, with nothing saved any more
-pub puts_settled : (effect : Effect) (mid is : State) (were are : List OutDatagram) → is.clock ≡ mid.clock → is.history ≡ mid.history → is.floor ≡ settled_at mid.floor.endpoints
+pub puts_settled : (effect : Effect Machine) (mid is : State) (were are : List OutDatagram) → is.clock ≡ mid.clock → is.history ≡ mid.history → is.floor ≡ settled_at mid.floor.endpoints
     → PutsOut effect mid were are → PutsOut effect is were are
 puts_settled effect mid is were are clock history floor p = record { machine = rw (clock, history, floor) p.machine; outputs = p.outputs }
 

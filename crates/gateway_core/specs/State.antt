@@ -6,9 +6,10 @@ use Rattle.history.specs.declared.entry.Entry.{Entry}
 use Rattle.history.specs.Kept.{from_young}
 use Rattle.transmission.specs.declared.output.OutDatagram.{OutDatagram}
 use Rattle.plain_machine.specs.declared.refusal.Refusal.{Refusal}
+use Rattle.plain_machine.specs.Effect.{Effect}
 use Rattle.plain_machine.specs.Message.{datagrams_of}
 use Rattle.plain_machine.specs.Packing.{put_out}
-use Rattle.plain_machine.specs.Machine.{Endpoints, Machine, Effect}
+use Rattle.plain_machine.specs.Machine.{Endpoints, Machine}
 use Rattle.gateway_core.specs.declared.state.State.{State}
 
 -- the machine that is kept
@@ -24,13 +25,13 @@ abbrev pub found_in : State → Found
 found_in state = record { endpoints = state.floor.found; history = state.history.settled }
 
 -- the machine goes on as the effect says, the messages grow by what it sends, and what the event found can still be had
-pub record Went (effect : Effect) (was is : State) (were are : List OutDatagram) : Type 0 where
-  pub machine : machine_in is ≡ effect.machine
+pub record Went (effect : Effect Machine) (was is : State) (were are : List OutDatagram) : Type 0 where
+  pub machine : machine_in is ≡ effect.value
   pub found : found_in is ≡ found_in was
   pub sent : are ≡ were ++ datagrams_of effect.sent
 
 -- so it goes; or memory is refused, and what the event found can still be had
-abbrev pub Does : {A : Type 0} → Result A AllocError → Effect → State → State → List OutDatagram → List OutDatagram → Type 0
+abbrev pub Does : {A : Type 0} → Result A AllocError → Effect Machine → State → State → List OutDatagram → List OutDatagram → Type 0
 Does (Ok x) effect was is were are = Went effect was is were are
 Does (Err fault) effect was is were are = found_in is ≡ found_in was
 
@@ -40,13 +41,13 @@ CanGoBack [] was is = ⊤
 CanGoBack (first ∷ more) was is = found_in is ≡ found_in was
 
 -- the machine went on as the effect says, and this is what is to be sent
-pub record Happened (effect : Effect) (was is : State) (out : List OutDatagram) : Type 0 where
-  pub machine : machine_in is ≡ effect.machine
+pub record Happened (effect : Effect Machine) (was is : State) (out : List OutDatagram) : Type 0 where
+  pub machine : machine_in is ≡ effect.value
   pub found : CanGoBack out was is
   pub sent : out ≡ datagrams_of effect.sent
 
 -- an event happened so; or it is refused, and what it found can still be had
-abbrev pub Happens : Result (Vec OutDatagram) Refusal → Effect → State → State → Type 0
+abbrev pub Happens : Result (Vec OutDatagram) Refusal → Effect Machine → State → State → Type 0
 Happens (Ok out) effect was is = Happened effect was is out.items
 Happens (Err refusal) effect was is = found_in is ≡ found_in was
 
@@ -55,8 +56,8 @@ abbrev pub purged_in : Machine → Machine
 purged_in m = record m { history = from_young m.now m.history }
 
 -- the machine goes on as the effect says, and the outputs gain what it sends
-pub record PutsOut (effect : Effect) (is : State) (were are : List OutDatagram) : Type 0 where
-  pub machine : machine_in is ≡ effect.machine
+pub record PutsOut (effect : Effect Machine) (is : State) (were are : List OutDatagram) : Type 0 where
+  pub machine : machine_in is ≡ effect.value
   pub outputs : are ≡ were ++ put_out effect.sent
 
 -- nothing goes out, and this is the machine
@@ -65,6 +66,6 @@ pub record Remains (m : Machine) (is : State) (were are : List OutDatagram) : Ty
   pub outputs : are ≡ were
 
 -- all of it, or nothing but that the machine is this
-abbrev pub AllOr : {A : Type 0} → Machine → Result A Refusal → Effect → State → List OutDatagram → List OutDatagram → Type 0
+abbrev pub AllOr : {A : Type 0} → Machine → Result A Refusal → Effect Machine → State → List OutDatagram → List OutDatagram → Type 0
 AllOr m (Ok x) effect is were are = PutsOut effect is were are
 AllOr m (Err refusal) effect is were are = Remains m is were are

@@ -7,9 +7,9 @@ use Rattle.std.specs.Global.{Vec}
 use Rattle.transmission.specs.declared.output.OutDatagram.{OutDatagram}
 use Rattle.plain_machine.specs.declared.own.Own.{Own}
 use Rattle.plain_machine.specs.declared.station.Station.{Station}
-use Rattle.plain_machine.specs.Notifying.{Turn, silent}
-use Rattle.plain_machine.specs.Machine.{Endpoints, OwnTurn, with_station, with_own, on_line, on_own}
-use Rattle.gateway_stations.specs.Turns.{HasTurn, OwnHasTurn}
+use Rattle.plain_machine.specs.Effect.{Effect, silently}
+use Rattle.plain_machine.specs.Machine.{Endpoints, with_station, with_own, on_line, on_own}
+use Rattle.gateway_stations.specs.Effects.{HasEffect}
 use Rattle.gateway_floor.specs.declared.floor.Saved.{Saved}
 use Rattle.gateway_floor.specs.FloorState.{FloorState, settled_at}
 use Rattle.gateway_floor.specs.Saving.{manned, restored, found_in, IsSavedToo}
@@ -46,36 +46,36 @@ own_changed log saved own endpoints is becomes floor view kept set_is =
     ∙ ap (λ (f : FloorState). let g : FloorState = record f { endpoints = with_own f.endpoints becomes } in g) (sym view)
 
 -- a change by a rule of one station
-pub goes_changed : {F T : Type 0} (g : Call F Station (Vec OutDatagram) T) (f : F) (line : ℕ) (was : FloorState) (with : Vec OutDatagram) (r : T) (is : FloorState) (left : Vec OutDatagram) (turn : Station → Turn)
+pub goes_changed : {F T : Type 0} (g : Call F Station (Vec OutDatagram) T) (f : F) (line : ℕ) (was : FloorState) (with : Vec OutDatagram) (r : T) (is : FloorState) (left : Vec OutDatagram) (turn : Station → Effect Station)
     → (changes : LineChanges g f line was with r is left)
-    → HasTurn (turn changes.leaves.shown.now) changes.leaves.leaves.now changes.leaves.lent.now.items changes.leaves.back.now.items
+    → HasEffect (turn changes.leaves.shown.now) changes.leaves.leaves.now changes.leaves.lent.now.items changes.leaves.back.now.items
     → Goes (on_line was.endpoints line turn) was is with.items left.items
 goes_changed g f line was with r is left turn changes has =
     let leaves = changes.leaves in
-    let turned : HasTurn (turn changes.station) changes.becomes with.items left.items =
+    let turned : HasEffect (turn changes.station) changes.becomes with.items left.items =
     rw (sym leaves.shows, leaves.becomes, sym leaves.lends, leaves.gives) has in
     goes_on_line was.endpoints line changes.station changes.becomes turn was is with.items left.items refl (sym changes.here) turned changes.floor
 
 -- and of the gateway itself
-pub own_goes_changed : {F T : Type 0} (g : Call F Own (Vec OutDatagram) T) (f : F) (was : FloorState) (with : Vec OutDatagram) (r : T) (is : FloorState) (left : Vec OutDatagram) (turn : Own → OwnTurn)
+pub own_goes_changed : {F T : Type 0} (g : Call F Own (Vec OutDatagram) T) (f : F) (was : FloorState) (with : Vec OutDatagram) (r : T) (is : FloorState) (left : Vec OutDatagram) (turn : Own → Effect Own)
     → (changes : GatewayChanges g f was with r is left)
-    → OwnHasTurn (turn changes.leaves.shown.now) changes.leaves.leaves.now changes.leaves.lent.now.items changes.leaves.back.now.items
+    → HasEffect (turn changes.leaves.shown.now) changes.leaves.leaves.now changes.leaves.lent.now.items changes.leaves.back.now.items
     → Goes (on_own was.endpoints turn) was is with.items left.items
 own_goes_changed g f was with r is left turn changes has =
     let leaves = changes.leaves in
-    let turned : OwnHasTurn (turn was.endpoints.own) changes.becomes with.items left.items =
+    let turned : HasEffect (turn was.endpoints.own) changes.becomes with.items left.items =
     rw (sym leaves.shows, leaves.becomes, sym leaves.lends, leaves.gives) has in
     goes_on_own was.endpoints.own changes.becomes turn was is with.items left.items refl turned changes.floor
 
 -- a change that sends nothing
-pub goes_silent : {F C T : Type 0} (g : Call F Station C T) (f : F) (line : ℕ) (was : FloorState) (with : C) (r : T) (is : FloorState) (left : C) (turn : Station → Turn)
-    → (changes : LineChanges g f line was with r is left) → silent changes.leaves.leaves.now ≡ turn changes.leaves.shown.now
+pub goes_silent : {F C T : Type 0} (g : Call F Station C T) (f : F) (line : ℕ) (was : FloorState) (with : C) (r : T) (is : FloorState) (left : C) (turn : Station → Effect Station)
+    → (changes : LineChanges g f line was with r is left) → silently changes.leaves.leaves.now ≡ turn changes.leaves.shown.now
     → Goes (on_line was.endpoints line turn) was is [] []
 goes_silent g f line was with r is left turn changes same =
     let leaves = changes.leaves in
-    let turned : silent changes.becomes ≡ turn changes.station = ap silent leaves.becomes ∙ same ∙ ap turn leaves.shows in
+    let turned : silently changes.becomes ≡ turn changes.station = ap silently leaves.becomes ∙ same ∙ ap turn leaves.shows in
     goes_on_line was.endpoints line changes.station changes.becomes turn was is [] [] refl (sym changes.here)
-    (record { station = ap (λ (t : Turn). t.station) turned; sent = rw (sym turned) refl }) changes.floor
+    (record { value = ap (λ (t : Effect Station). t.value) turned; sent = rw (sym turned) refl }) changes.floor
 
 -- what was saved last is put back
 pub back_found : (log log' : List Saved) (saved : Saved) (own : Option Own) (was is found : Endpoints) → log ≡ log' ++ saved ∷ []

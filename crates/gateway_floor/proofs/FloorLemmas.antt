@@ -3,6 +3,7 @@ use Rattle.std.proofs.Common.{◌≡◌, ℕ, zero, suc, ◌+◌, ◌-◌, ◌<�
 use Rattle.std.specs.Prelude.{slice_set, ◌==◌, if◌then◌else◌}
 use Rattle.std.proofs.lemmas.Option.{slice_get-get_or}
 use Rattle.mg_line.specs.declared.phone.Act.{Act}
+use Rattle.plain_machine.specs.Effect.{Effect, silently, afterwards}
 use Rattle.plain_machine.specs.Acting.{acted_on, acted}
 use Rattle.std.specs.List.{enumerate_from}
 use Rattle.std.proofs.lemmas.Bool.Decides.{nat_tests}
@@ -18,10 +19,9 @@ use Rattle.plain_machine.specs.declared.own.Own.{Own}
 use Rattle.plain_machine.specs.declared.station.Station.{Station}
 use Rattle.transmission.specs.declared.output.OutDatagram.{OutDatagram}
 use Rattle.plain_machine.specs.Message.{datagram_of, datagrams_of}
-use Rattle.plain_machine.specs.Notifying.{Turn, silent}
 use Rattle.plain_machine.specs.declared.setup.Setup.{Setup}
 use Rattle.plain_machine.specs.declared.due_item.DueItem.{DueItem}
-use Rattle.plain_machine.specs.Machine.{Endpoints, OwnTurn, Told, told, afterwards, station_at, with_station, with_own, with_turn, on_line, on_own, on_lines}
+use Rattle.plain_machine.specs.Machine.{Endpoints, station_at, with_station, with_own, with_turn, on_line, on_own, on_lines}
 use Rattle.plain_machine.specs.Falling.{due_by, happened, pass}
 use Rattle.plain_machine.proofs.EffectLaws.{on_this, same_station}
 use Rattle.plain_machine.proofs.FirstLemmas.{by_moment}
@@ -30,53 +30,53 @@ use Rattle.gateway_stations.specs.Telling.{MayTell, IsLine}
 use Rattle.gateway_floor.specs.FloorState.{FloorState}
 use Rattle.gateway_floor.specs.Saving.{manned}
 use Rattle.gateway_floor.specs.Tells.{Goes}
-use Rattle.gateway_stations.specs.Turns.{HasTurn, OwnHasTurn}
+use Rattle.gateway_stations.specs.Effects.{HasEffect}
 
 -- ---- what comes to the floor
 
-pub goes_nowhere : (floor : FloorState) (change : Told) (out : List OutDatagram) → change ≡ told floor.endpoints [] → Goes change floor floor out out
+pub goes_nowhere : (floor : FloorState) (change : Effect Endpoints) (out : List OutDatagram) → change ≡ silently floor.endpoints → Goes change floor floor out out
 goes_nowhere floor change out none = rw none (record { endpoints = refl; found = refl; sent = sym (append-nil out) })
 
 -- one thing, and then the others
-pub goes_then : (first : Told) (next : Endpoints → Told) (was between is : FloorState) (were mid are : List OutDatagram)
+pub goes_then : (first : Effect Endpoints) (next : Endpoints → Effect Endpoints) (was between is : FloorState) (were mid are : List OutDatagram)
     → Goes first was between were mid → Goes (next between.endpoints) between is mid are → Goes (afterwards first next) was is were are
 goes_then first next was between is were mid are one rest = record {
-  endpoints = rest.endpoints ∙ ap (λ (e : Endpoints). (next e).endpoints) one.endpoints;
+  endpoints = rest.endpoints ∙ ap (λ (e : Endpoints). (next e).value) one.endpoints;
   found = rest.found ∙ one.found;
   sent = rest.sent
       ∙ ap (λ (e : Endpoints). mid ++ datagrams_of (next e).sent) one.endpoints
-      ∙ ap (λ (x : List OutDatagram). x ++ datagrams_of (next first.endpoints).sent) one.sent
-      ∙ append_assoc were (datagrams_of first.sent) (datagrams_of (next first.endpoints).sent)
-      ∙ ap (λ (x : List OutDatagram). were ++ x) (sym (map-append datagram_of first.sent (next first.endpoints).sent));
+      ∙ ap (λ (x : List OutDatagram). x ++ datagrams_of (next first.value).sent) one.sent
+      ∙ append_assoc were (datagrams_of first.sent) (datagrams_of (next first.value).sent)
+      ∙ ap (λ (x : List OutDatagram). were ++ x) (sym (map-append datagram_of first.sent (next first.value).sent));
 }
 
 -- the same under another name
-pub goes_so : (change other : Told) (was is : FloorState) (were are : List OutDatagram) → other ≡ change → Goes change was is were are → Goes other was is were are
+pub goes_so : (change other : Effect Endpoints) (was is : FloorState) (were are : List OutDatagram) → other ≡ change → Goes change was is were are → Goes other was is were are
 goes_so change other was is were are same goes = rw same goes
 
 -- one line has its turn
-pub goes_on_line : (endpoints : Endpoints) (line : ℕ) (station becomes : Station) (turn : Station → Turn) (was is : FloorState) (were are : List OutDatagram)
-    → was.endpoints ≡ endpoints → Some station ≡ station_at endpoints line → HasTurn (turn station) becomes were are
+pub goes_on_line : (endpoints : Endpoints) (line : ℕ) (station becomes : Station) (turn : Station → Effect Station) (was is : FloorState) (were are : List OutDatagram)
+    → was.endpoints ≡ endpoints → Some station ≡ station_at endpoints line → HasEffect (turn station) becomes were are
     → is ≡ record was { endpoints = with_station endpoints line becomes } → Goes (on_line endpoints line turn) was is were are
 goes_on_line endpoints line station becomes turn was is were are here at has put = rw (on_this endpoints line station turn (sym at)) (record {
-  endpoints = ap (λ (f : FloorState). f.endpoints) put ∙ ap (with_station endpoints line) has.station;
+  endpoints = ap (λ (f : FloorState). f.endpoints) put ∙ ap (with_station endpoints line) has.value;
   found = ap (λ (f : FloorState). f.found) put;
   sent = has.sent;
 })
 
 -- the gateway itself has its turn
-pub goes_on_own : (own becomes : Own) (turn : Own → OwnTurn) (was is : FloorState) (were are : List OutDatagram) → own ≡ was.endpoints.own → OwnHasTurn (turn own) becomes were are
+pub goes_on_own : (own becomes : Own) (turn : Own → Effect Own) (was is : FloorState) (were are : List OutDatagram) → own ≡ was.endpoints.own → HasEffect (turn own) becomes were are
     → is ≡ record was { endpoints = with_own was.endpoints becomes } → Goes (on_own was.endpoints turn) was is were are
 goes_on_own own becomes turn was is were are here has put =
-    let turned : OwnHasTurn (turn was.endpoints.own) becomes were are = subst (λ (o : Own). OwnHasTurn (turn o) becomes were are) here has in
+    let turned : HasEffect (turn was.endpoints.own) becomes were are = subst (λ (o : Own). HasEffect (turn o) becomes were are) here has in
     record {
-      endpoints = ap (λ (f : FloorState). f.endpoints) put ∙ ap (with_own was.endpoints) turned.own;
+      endpoints = ap (λ (f : FloorState). f.endpoints) put ∙ ap (with_own was.endpoints) turned.value;
       found = ap (λ (f : FloorState). f.found) put;
       sent = turned.sent;
     }
 
 -- what sends nothing, behind what there is
-pub goes_silently : (change : Told) (was is : FloorState) (out : List OutDatagram) → Goes change was is [] [] → Goes change was is out out
+pub goes_silently : (change : Effect Endpoints) (was is : FloorState) (out : List OutDatagram) → Goes change was is [] [] → Goes change was is out out
 goes_silently change was is out goes = record {
   endpoints = goes.endpoints;
   found = goes.found;
@@ -124,7 +124,7 @@ pub left_less : (setup : Setup) (moment : ℕ) (item : DueItem) (was between : F
     → Goes (happened setup was.endpoints item) was between were mid → left between.endpoints moment < left was.endpoints moment
 left_less setup moment item was between were mid due one =
     let less = left_falls setup was.endpoints moment item due in
-    let same : left between.endpoints moment ≡ left (happened setup was.endpoints item).endpoints moment = ap (λ (e : Endpoints). left e moment) one.endpoints in
+    let same : left between.endpoints moment ≡ left (happened setup was.endpoints item).value moment = ap (λ (e : Endpoints). left e moment) one.endpoints in
     omega (arith, less, same)
 
 -- what is due up to a moment is early where that is
@@ -133,7 +133,7 @@ due_early setup endpoints moment item due may = record { domain = may.domain; ea
 
 -- ---- what comes to several lines
 
-pub several_next : (lines : Target) (place : ℕ) (stations : List Station) (turn : ℕ → Station → Turn) (was between is : FloorState) (were mid are : List OutDatagram) → place < length stations
+pub several_next : (lines : Target) (place : ℕ) (stations : List Station) (turn : ℕ → Station → Effect Station) (was between is : FloorState) (were mid are : List OutDatagram) → place < length stations
     → true ≡ is_for lines (place + 1) → Goes (on_line was.endpoints (place + 1) (turn (place + 1))) was between were mid
     → Goes (on_lines (meant_from lines (place + 1) stations) between.endpoints turn) between is mid are
     → Goes (on_lines (meant_from lines place stations) was.endpoints turn) was is were are
@@ -144,7 +144,7 @@ several_next lines place stations turn was between is were mid are inside meant 
     ∙ ap (λ (b : Bool). if b then (place + 1) ∷ meant_from lines (place + 1) stations else meant_from lines (place + 1) stations) (sym meant) in
     rw same (goes_then (on_line was.endpoints (place + 1) (turn (place + 1))) (λ next. on_lines (meant_from lines (place + 1) stations) next turn) was between is were mid are one rest)
 
-pub several_skip : (lines : Target) (place : ℕ) (stations : List Station) (turn : ℕ → Station → Turn) (was is : FloorState) (were are : List OutDatagram) → place < length stations
+pub several_skip : (lines : Target) (place : ℕ) (stations : List Station) (turn : ℕ → Station → Effect Station) (was is : FloorState) (were are : List OutDatagram) → place < length stations
     → false ≡ is_for lines (place + 1) → Goes (on_lines (meant_from lines (place + 1) stations) was.endpoints turn) was is were are
     → Goes (on_lines (meant_from lines place stations) was.endpoints turn) was is were are
 several_skip lines place stations turn was is were are inside other rest =
@@ -153,10 +153,10 @@ several_skip lines place stations turn was is were are inside other rest =
     ∙ ap (λ (b : Bool). if b then (place + 1) ∷ meant_from lines (place + 1) stations else meant_from lines (place + 1) stations) (sym other) in
     rw same rest
 
-pub several_end : (lines : Target) (place : ℕ) (stations : List Station) (turn : ℕ → Station → Turn) (floor : FloorState) (out : List OutDatagram) → length stations ≤ place
+pub several_end : (lines : Target) (place : ℕ) (stations : List Station) (turn : ℕ → Station → Effect Station) (floor : FloorState) (out : List OutDatagram) → length stations ≤ place
     → Goes (on_lines (meant_from lines place stations) floor.endpoints turn) floor floor out out
 unfolding on_lines
-several_end lines place stations turn floor out past = rw (meant_end lines place stations past) (goes_nowhere floor (told floor.endpoints []) out refl)
+several_end lines place stations turn floor out past = rw (meant_end lines place stations past) (goes_nowhere floor (silently floor.endpoints) out refl)
 
 -- ---- a response that says nothing to a line
 
@@ -164,13 +164,13 @@ pub goes_unheard : (setup : Setup) (line moment : ℕ) (response : Response) (st
     → Nothing ≡ heard_on station.post response → Goes (on_line floor.endpoints line (responded_on setup line moment response)) floor floor out out
 unfolding responded_on
 goes_unheard setup line moment response station floor out at unheard =
-    let quiet : responded_as (heard_on station.post response) setup line moment response station ≡ silent station =
+    let quiet : responded_as (heard_on station.post response) setup line moment response station ≡ silently station =
     ap (λ (heard : Heard). responded_as heard setup line moment response station) (sym unheard) in
     rw (on_this floor.endpoints line station (responded_on setup line moment response) (sym at)) (record {
       endpoints = ap (λ (x : List Station). let e : Endpoints = record floor.endpoints { stations = x } in e) (sym (same_station (line == 0) floor.endpoints.stations (line - 1) station (sym at)))
-          ∙ ap (λ (t : Turn). with_station floor.endpoints line t.station) (sym quiet);
+          ∙ ap (λ (t : Effect Station). with_station floor.endpoints line t.value) (sym quiet);
       found = refl;
-      sent = sym (append-nil out) ∙ ap (λ (t : Turn). out ++ datagrams_of t.sent) (sym quiet);
+      sent = sym (append-nil out) ∙ ap (λ (t : Effect Station). out ++ datagrams_of t.sent) (sym quiet);
     })
 
 -- ---- an act that a line does not heed
@@ -190,12 +190,12 @@ is_there stations own number place station line within same is =
     station_there stations own number station line.some within (is ∙ ap (λ n. get_or stations (n - 1) station) same)
 
 pub passes_over : (setup : Setup) (stations : List Station) (own : Own) (number place moment : ℕ) (act : Act) (station becomes : Station) → place ≡ number
-    → station_at (manned stations own) number ≡ Some station → silent becomes ≡ acted_on setup number moment act station
-    → acted setup (manned stations own) number moment act ≡ told (manned (slice_set stations (place - 1) becomes) own) []
+    → station_at (manned stations own) number ≡ Some station → silently becomes ≡ acted_on setup number moment act station
+    → acted setup (manned stations own) number moment act ≡ silently (manned (slice_set stations (place - 1) becomes) own)
 passes_over setup stations own number place moment act station becomes same at passed =
     on_this (manned stations own) number station (acted_on setup number moment act) at
-    ∙ ap (λ (t : Turn). with_turn (manned stations own) number t) (sym passed)
-    ∙ ap (λ n. told (manned (slice_set stations (n - 1) becomes) own) []) (sym same)
+    ∙ ap (λ (t : Effect Station). with_turn (manned stations own) number t) (sym passed)
+    ∙ ap (λ n. silently (manned (slice_set stations (n - 1) becomes) own)) (sym same)
 
 -- the station at the place of a line
 pub stands_there : (endpoints : Endpoints) (line number place : ℕ) (station : Station) → IsLine line → line - 1 < length endpoints.stations → number ≡ line → place ≡ number - 1

@@ -8,9 +8,9 @@ use Rattle.command_forms.specs.declared.forms.Target.TheVariants.{One}
 use Rattle.command_forms.specs.Meaning.{is_for}
 use Rattle.plain_machine.specs.declared.line_deed.LineDeed.{LineDeed}
 use Rattle.plain_machine.specs.declared.station.Station.{Station}
+use Rattle.plain_machine.specs.Effect.{Effect, silently, afterwards}
 use Rattle.plain_machine.specs.Message.{Sent}
-use Rattle.plain_machine.specs.Notifying.{Turn}
-use Rattle.plain_machine.specs.Machine.{Endpoints, Told, told, turned_at, station_at, on_line, on_lines}
+use Rattle.plain_machine.specs.Machine.{Endpoints, turned_at, station_at, on_line, on_lines}
 use Rattle.plain_machine.specs.Requesting.{refusal_by, refusal_on, refused_by, lines_meant}
 
 no_other : (line n : ℕ) → line < n → (line == n) ≡ false
@@ -95,16 +95,16 @@ refused_one endpoints line deed = by_zero (line == 0) refl where
       none_refused line deed 1 endpoints.stations (omega (arith, same))
   by_zero false other = one_refused line deed 1 endpoints.stations (let some : 1 ≤ line = grind (arith, nat_tests, other) in some)
 
-told_whole : (all : Told) → told all.endpoints (all.sent ++ []) ≡ all
-told_whole all = ap (λ (sent : List Sent). told all.endpoints sent) (append-nil all.sent)
+nothing_after : (all : Effect Endpoints) → afterwards all silently ≡ all
+nothing_after all = ap (λ (sent : List Sent). let e : Effect Endpoints = record { value = all.value; sent = sent } in e) (append-nil all.sent)
 
-pub lines_one : (endpoints : Endpoints) (line : ℕ) (turn : ℕ → Station → Turn) → on_lines (lines_meant endpoints (One line)) endpoints turn ≡ on_line endpoints line (turn line)
+pub lines_one : (endpoints : Endpoints) (line : ℕ) (turn : ℕ → Station → Effect Station) → on_lines (lines_meant endpoints (One line)) endpoints turn ≡ on_line endpoints line (turn line)
 unfolding on_lines on_line
 lines_one endpoints line turn = by_zero (line == 0) refl where
   by_station : (found : Option Station) → station_at endpoints line ≡ found → on_lines (only line found) endpoints turn ≡ turned_at found endpoints line (turn line)
   by_station None at = refl
   by_station (Some station) at =
-      told_whole (on_line endpoints line (turn line))
+      nothing_after (on_line endpoints line (turn line))
       ∙ ap (λ (found : Option Station). turned_at found endpoints line (turn line)) at
 
   by_zero : (b : Bool) → (line == 0) ≡ b

@@ -5,6 +5,7 @@ ghost use Rattle.std.specs.Borrow.{MutBor};
 ghost use Rattle.plain_machine.specs.declared.own.Own.{Own};
 ghost use Rattle.plain_machine.specs.declared.setup.Setup.{Setup};
 ghost use Rattle.plain_machine.specs.declared.station.Station.{Station};
+ghost use Rattle.plain_machine.specs.Effect.{silently};
 ghost use Rattle.plain_machine.specs.Falling.{first_due};
 ghost use Rattle.gateway_stations.specs.Telling.{HasId};
 ghost use Rattle.gateway_floor.specs.Saving.{manned, IsMarked, IsSavedToo, HasRoom};
@@ -109,7 +110,7 @@ fn forget(touched: &mut Vec<bool>, saved: Saved)
 
 impl Floor {
     ghost use Rattle.std.specs.Prelude.{[], true, OnSome, option_copied};
-    ghost use Rattle.plain_machine.specs.Machine.{told, serves, station_at};
+    ghost use Rattle.plain_machine.specs.Machine.{serves, station_at};
     ghost use Rattle.plain_machine.specs.Acting.{acted};
     ghost use Rattle.plain_machine.specs.Refusing.{is_unheeded};
     ghost use Rattle.gateway_floor.specs.FloorState.{settled_at};
@@ -248,7 +249,7 @@ impl Floor {
         requires within { line - 1 < length self.old.endpoints.stations }
         requires unheeded { is_unheeded (station_at self.old.endpoints line) act ≡ true }
         ensures { (setup : Setup) (moment : ℕ) →
-            acted setup self.old.endpoints line moment act ≡ told self.new.endpoints [] }
+            acted setup self.old.endpoints line moment act ≡ silently self.new.endpoints }
     {
         self.endpoints.pass_over(line, act);
     }

@@ -5,7 +5,7 @@ ghost use Rattle.plain_machine.specs.declared.own.Own.{Own};
 ghost use Rattle.plain_machine.specs.declared.station.Station.{Station};
 ghost use Rattle.plain_machine.specs.declared.setup.Setup.{Setup};
 ghost use Rattle.mg_line.specs.Acting.{is_heeded};
-ghost use Rattle.plain_machine.specs.Notifying.{silent};
+ghost use Rattle.plain_machine.specs.Effect.{silently};
 ghost use Rattle.plain_machine.specs.Acting.{acted_on};
 ghost use Rattle.plain_machine.specs.Falling.{first_due};
 ghost use Rattle.plain_machine.specs.Setup.{most_lines};
@@ -54,7 +54,7 @@ impl Model for Timed {
 
 impl Timed {
     ghost use Rattle.std.specs.Prelude.{[], true};
-    ghost use Rattle.plain_machine.specs.Machine.{told, station_at, with_own};
+    ghost use Rattle.plain_machine.specs.Machine.{station_at, with_own};
     ghost use Rattle.plain_machine.specs.Acting.{acted};
     ghost use Rattle.plain_machine.specs.Refusing.{is_unheeded};
     ghost use Rattle.gateway_stations.specs.Telling.{IsLine};
@@ -164,7 +164,7 @@ impl Timed {
         requires line { IsLine line }
         requires within { line - 1 < length self.old.stations }
         requires unheeded { is_unheeded (station_at self.old line) act ≡ true }
-        ensures acted { (setup : Setup) (moment : ℕ) → acted setup self.old line moment act ≡ told self.new [] }
+        ensures acted { (setup : Setup) (moment : ℕ) → acted setup self.old line moment act ≡ silently self.new }
         ensures lines { length self.new.stations ≡ length self.old.stations }
     {
         let place = usize::from(line) - 1;
@@ -196,7 +196,7 @@ fn filled(alloc: Global, stations: &[Station], own: &Own) -> Result<Due, OutOfMe
 #[tactic(auto, unfolding(plain_machine::specs::Notifying::noted))]
 fn pass_over_on(station: &mut Station, act: Act)
     requires { is_heeded station.old.line act ≡ false }
-    ensures { (setup : Setup) (line moment : ℕ) → silent station.new ≡ acted_on setup line moment act station.old }
+    ensures { (setup : Setup) (line moment : ℕ) → silently station.new ≡ acted_on setup line moment act station.old }
 {
     station.line.pass_over(act);
 }

@@ -8,9 +8,9 @@ use Rattle.std.proofs.lemmas.List.Elements.{All-nil, All-append}
 use Rattle.command_forms.specs.declared.forms.Target.TheVariants.{All}
 use Rattle.command_forms.specs.Meaning.{is_for}
 use Rattle.plain_machine.specs.declared.station.Station.{Station}
+use Rattle.plain_machine.specs.Effect.{Effect, effect_map, afterwards}
 use Rattle.plain_machine.specs.Message.{Sent}
-use Rattle.plain_machine.specs.Notifying.{Turn}
-use Rattle.plain_machine.specs.Machine.{Endpoints, Told, told, station_at, on_line, on_lines, afterwards}
+use Rattle.plain_machine.specs.Machine.{Endpoints, station_at, on_line, on_lines}
 use Rattle.plain_machine.proofs.EffectLaws.{on_this}
 
 -- Of all stations, whose lines are numbered from here
@@ -48,24 +48,24 @@ stands_behind endpoints n front more station is here = by_zero (n == 0) refl whe
       let place : n - 1 ≡ length front = omega (arith, here) in
       ap (λ (stations : List Station). slice_get stations (n - 1)) is ∙ ap (slice_get (front ++ station ∷ more)) place ∙ get_behind front more station
 
-next_turn : (endpoints : Endpoints) (n : ℕ) (front more : List Station) (station : Station) (turn : Station → Turn) → endpoints.stations ≡ front ++ station ∷ more → n ≡ 1 + length front
-    → on_line endpoints n turn ≡ told (with_stations endpoints ((front ++ (turn station).station ∷ []) ++ more)) (turn station).sent
+next_turn : (endpoints : Endpoints) (n : ℕ) (front more : List Station) (station : Station) (turn : Station → Effect Station) → endpoints.stations ≡ front ++ station ∷ more → n ≡ 1 + length front
+    → on_line endpoints n turn ≡ effect_map (λ (s : Station). with_stations endpoints ((front ++ s ∷ []) ++ more)) (turn station)
 next_turn endpoints n front more station turn is here =
     let place : n - 1 ≡ length front = omega (arith, here) in
-    let set : slice_set endpoints.stations (n - 1) (turn station).station ≡ (front ++ (turn station).station ∷ []) ++ more =
-    ap (λ (stations : List Station). slice_set stations (n - 1) (turn station).station) is
-    ∙ ap (λ (i : ℕ). slice_set (front ++ station ∷ more) i (turn station).station) place ∙ set_behind front more station (turn station).station in
+    let set : slice_set endpoints.stations (n - 1) (turn station).value ≡ (front ++ (turn station).value ∷ []) ++ more =
+    ap (λ (stations : List Station). slice_set stations (n - 1) (turn station).value) is
+    ∙ ap (λ (i : ℕ). slice_set (front ++ station ∷ more) i (turn station).value) place ∙ set_behind front more station (turn station).value in
     on_this endpoints n station turn (stands_behind endpoints n front more station is here)
-    ∙ ap (λ (stations : List Station). told (with_stations endpoints stations) (turn station).sent) set
+    ∙ ap (λ (stations : List Station). effect_map (λ (s : Station). with_stations endpoints stations) (turn station)) set
 
 -- what holds of each, of the gateway itself, and of what is sent
-pub record AllGone (P : ℕ → Station → Type 0) (Q : Sent → Type 0) (endpoints : Endpoints) (is : Told) : Type 0 where
-  pub stations : OnAll P 1 is.endpoints.stations
-  pub own : is.endpoints.own ≡ endpoints.own
+pub record AllGone (P : ℕ → Station → Type 0) (Q : Sent → Type 0) (endpoints : Endpoints) (is : Effect Endpoints) : Type 0 where
+  pub stations : OnAll P 1 is.value.stations
+  pub own : is.value.own ≡ endpoints.own
   pub sent : AllOf Q is.sent
 
-module _ (P P' : ℕ → Station → Type 0) (Q : Sent → Type 0) (turn : ℕ → Station → Turn)
-    (good : (line : ℕ) (station : Station) → P line station → P' line (turn line station).station × AllOf Q (turn line station).sent) where
+module _ (P P' : ℕ → Station → Type 0) (Q : Sent → Type 0) (turn : ℕ → Station → Effect Station)
+    (good : (line : ℕ) (station : Station) → P line station → P' line (turn line station).value × AllOf Q (turn line station).sent) where
   rest_goes : (n : ℕ) (front more : List Station) (endpoints : Endpoints) → endpoints.stations ≡ front ++ more → n ≡ 1 + length front → OnAll P' 1 front → OnAll P n more
       → AllGone P' Q endpoints (on_lines (NumbersFrom n more) endpoints turn)
   unfolding on_lines
@@ -74,11 +74,11 @@ module _ (P P' : ℕ → Station → Type 0) (Q : Sent → Type 0) (turn : ℕ �
       record { stations = subst (OnAll P' 1) same before; own = refl; sent = All-nil Q }
   rest_goes n front (station ∷ more) endpoints is here before after =
       let goes = good n station after.0 in
-      let becomes = (turn n station).station in
+      let becomes = (turn n station).value in
       let nearer : n + 1 ≡ 1 + length (front ++ becomes ∷ []) = omega (arith, here, length-append front (becomes ∷ [])) in
       let front_goes : OnAll P' 1 (front ++ becomes ∷ []) = on_last P' 1 n front becomes here before goes.0 in
       let rest = rest_goes (n + 1) (front ++ becomes ∷ []) more (with_stations endpoints ((front ++ becomes ∷ []) ++ more)) refl nearer front_goes after.1 in
-      subst (λ (first : Told). AllGone P' Q endpoints (afterwards first (λ next. on_lines (NumbersFrom (n + 1) more) next turn)))
+      subst (λ (first : Effect Endpoints). AllGone P' Q endpoints (afterwards first (λ next. on_lines (NumbersFrom (n + 1) more) next turn)))
       (sym (next_turn endpoints n front more station (turn n) is here))
       (record { stations = rest.stations; own = rest.own; sent = All-append Q (turn n station).sent _ goes.1 rest.sent })
 

@@ -50,12 +50,13 @@ use Rattle.plain_machine.specs.declared.post.Post.{Post}
 use Rattle.plain_machine.specs.declared.response.Response.{Response}
 use Rattle.plain_machine.specs.declared.setup.Setup.{Setup}
 use Rattle.plain_machine.specs.declared.station.Station.{Station}
+use Rattle.plain_machine.specs.Effect.{Effect, silently, effect_map, afterwards}
 use Rattle.plain_machine.specs.Event.{GatewayEvent, datagram, phone, tick}
 use Rattle.plain_machine.specs.Message.{Sent}
-use Rattle.plain_machine.specs.Posting.{id_on, line_of_id, wait_of, unsent, with_command, repeated_as, resent_by, resent_on}
+use Rattle.plain_machine.specs.Posting.{id_on, line_of_id, wait_of, with_command, repeated_as, resent_by, resent_on}
 use Rattle.plain_machine.specs.Announcing.{announcement, announced, announced_by, announced_on, heard_by, heard_on, replied}
-use Rattle.plain_machine.specs.Notifying.{Turn, with_notice, noted}
-use Rattle.plain_machine.specs.Machine.{Endpoints, Machine, Told, told, serves, opening, on_line, on_own, on_lines, own_posted, with_own, afterwards}
+use Rattle.plain_machine.specs.Notifying.{with_notice, noted}
+use Rattle.plain_machine.specs.Machine.{Endpoints, Machine, serves, opening, on_line, on_own, on_lines, own_posted, with_own}
 use Rattle.transmission.specs.Texts.{texts_of}
 use Rattle.plain_machine.specs.Acting.{acted_on, acted}
 use Rattle.plain_machine.specs.Done.{Done}
@@ -74,56 +75,56 @@ use Rattle.gateway_laws.proofs.FlightLaws.{Orders, OwnOrders, own_free, orders_o
 -- The gateway's own stays, but at what comes to it
 
 -- what lines do leaves it
-several_own : (lines : List ℕ) (endpoints : Endpoints) (turn : ℕ → Station → Turn) → (on_lines lines endpoints turn).endpoints.own ≡ endpoints.own
+several_own : (lines : List ℕ) (endpoints : Endpoints) (turn : ℕ → Station → Effect Station) → (on_lines lines endpoints turn).value.own ≡ endpoints.own
 unfolding on_lines
 several_own [] endpoints turn = refl
-several_own (line ∷ lines) endpoints turn = several_own lines (on_line endpoints line (turn line)).endpoints turn ∙ own_stays_at endpoints line (turn line)
+several_own (line ∷ lines) endpoints turn = several_own lines (on_line endpoints line (turn line)).value turn ∙ own_stays_at endpoints line (turn line)
 
 same_own : (endpoints others : Endpoints) → others.own ≡ endpoints.own → serves others ≡ serves endpoints
 same_own endpoints others same = ap (λ (own : Own). is_serving own.post.restart) same
 
-pub act_serves : (setup : Setup) (endpoints : Endpoints) (line moment : ℕ) (act : Act) → serves (acted setup endpoints line moment act).endpoints ≡ serves endpoints
-act_serves setup endpoints line moment act = same_own endpoints (acted setup endpoints line moment act).endpoints (own_stays_at endpoints line (acted_on setup line moment act))
+pub act_serves : (setup : Setup) (endpoints : Endpoints) (line moment : ℕ) (act : Act) → serves (acted setup endpoints line moment act).value ≡ serves endpoints
+act_serves setup endpoints line moment act = same_own endpoints (acted setup endpoints line moment act).value (own_stays_at endpoints line (acted_on setup line moment act))
 
-unless_own : (refusal : Option ℕ) (endpoints : Endpoints) (done : Done) → done.told.endpoints.own ≡ endpoints.own → (unless_refused refusal endpoints done).told.endpoints.own ≡ endpoints.own
+unless_own : (refusal : Option ℕ) (endpoints : Endpoints) (done : Done) → done.told.value.own ≡ endpoints.own → (unless_refused refusal endpoints done).told.value.own ≡ endpoints.own
 unless_own None endpoints done same = same
 unless_own (Some code) endpoints done same = refl
 
 deed_own : (setup : Setup) (endpoints : Endpoints) (lines : Target) (more : List Param) (deed : LineDeed) (moment : ℕ)
-    → (deed_done setup endpoints lines more deed moment).told.endpoints.own ≡ endpoints.own
+    → (deed_done setup endpoints lines more deed moment).told.value.own ≡ endpoints.own
 deed_own setup endpoints lines more deed moment =
     unless_own (refused_by endpoints lines deed) endpoints _ (several_own (lines_meant endpoints lines) endpoints (deed_on setup deed moment))
 
-target_own : (setup : Setup) (endpoints : Endpoints) (target : Target) (deed : LineDeed) (moment : ℕ) → (done_for setup endpoints target deed moment).told.endpoints.own ≡ endpoints.own
+target_own : (setup : Setup) (endpoints : Endpoints) (target : Target) (deed : LineDeed) (moment : ℕ) → (done_for setup endpoints target deed moment).told.value.own ≡ endpoints.own
 target_own setup endpoints (One line) deed moment = deed_own setup endpoints (One line) [] deed moment
 target_own setup endpoints AllLines deed moment = deed_own setup endpoints AllLines [] deed moment
 target_own setup endpoints Any deed moment = by_line (line_with_place endpoints) where
-  by_line : (found : Option ℕ) → (done_there found setup endpoints deed moment).told.endpoints.own ≡ endpoints.own
+  by_line : (found : Option ℕ) → (done_there found setup endpoints deed moment).told.value.own ≡ endpoints.own
   by_line None = refl
   by_line (Some line) = deed_own setup endpoints (One line) _ deed moment
 
-asks_own : (asks : Result Asks ℕ) (setup : Setup) (endpoints : Endpoints) (moment id : ℕ) → (done_by asks setup endpoints moment id).told.endpoints.own ≡ endpoints.own
+asks_own : (asks : Result Asks ℕ) (setup : Setup) (endpoints : Endpoints) (moment id : ℕ) → (done_by asks setup endpoints moment id).told.value.own ≡ endpoints.own
 asks_own (Err code) setup endpoints moment id = refl
 asks_own (Ok (Reports target audit)) setup endpoints moment id = refl
 asks_own (Ok (Does target deed)) setup endpoints moment id = target_own setup endpoints target (line_deed deed) moment
 
 pub deed_serves : (setup : Setup) (endpoints : Endpoints) (moment id : ℕ) (command : Command) (confirms : KValue)
-    → serves (commanded setup endpoints moment id command confirms).told.endpoints ≡ serves endpoints
+    → serves (commanded setup endpoints moment id command confirms).told.value ≡ serves endpoints
 deed_serves setup endpoints moment id command confirms =
-    same_own endpoints (commanded setup endpoints moment id command confirms).told.endpoints (asks_own (form_while (serves endpoints) command confirms setup.names) setup endpoints moment id)
+    same_own endpoints (commanded setup endpoints moment id command confirms).told.value (asks_own (form_while (serves endpoints) command confirms setup.names) setup endpoints moment id)
 
-pub due_serves : (setup : Setup) (endpoints : Endpoints) (item : DueItem) → OwnIsInOrder endpoints.own → serves (happened setup endpoints item).endpoints ≡ serves endpoints
+pub due_serves : (setup : Setup) (endpoints : Endpoints) (item : DueItem) → OwnIsInOrder endpoints.own → serves (happened setup endpoints item).value ≡ serves endpoints
 due_serves setup endpoints item order = by_test (item.line == 0) where
-  by_test : (b : Bool) → serves (if b then on_own endpoints (own_happened item.due setup item.moment) else on_line endpoints item.line (happened_on item.due setup item.line item.moment)).endpoints ≡ serves endpoints
+  by_test : (b : Bool) → serves (if b then on_own endpoints (own_happened item.due setup item.moment) else on_line endpoints item.line (happened_on item.due setup item.line item.moment)).value ≡ serves endpoints
   by_test true = happening_serves setup item.due item.moment endpoints.own (own_free endpoints.own order)
   by_test false =
-      same_own endpoints (on_line endpoints item.line (happened_on item.due setup item.line item.moment)).endpoints
+      same_own endpoints (on_line endpoints item.line (happened_on item.due setup item.line item.moment)).value
       (own_stays_at endpoints item.line (happened_on item.due setup item.line item.moment))
 
 -- The answer
 
 -- the gateway itself after a response, by what that is
-told_own : (heard : Heard) (setup : Setup) (moment : ℕ) (endpoints : Endpoints) → (lines_told heard setup moment endpoints).endpoints.own ≡ endpoints.own
+told_own : (heard : Heard) (setup : Setup) (moment : ℕ) (endpoints : Endpoints) → (lines_told heard setup moment endpoints).value.own ≡ endpoints.own
 told_own Nothing setup moment endpoints = refl
 told_own PutOff setup moment endpoints = refl
 told_own (Redirected agent) setup moment endpoints = several_own (lines_meant endpoints AllLines) endpoints (redirected_on agent)
@@ -137,25 +138,24 @@ ServesAfter (Redirected agent) was = false
 ServesAfter (Answered agent) was = true
 
 heard_serves : (setup : Setup) (endpoints : Endpoints) (moment : ℕ) (response : Response)
-    → serves (own_heard setup endpoints moment response).endpoints ≡ ServesAfter (heard_on endpoints.own.post response) (serves endpoints)
+    → serves (own_heard setup endpoints moment response).value ≡ ServesAfter (heard_on endpoints.own.post response) (serves endpoints)
 unfolding own_responded replied announced
 heard_serves setup endpoints moment response = by_heard (heard_on endpoints.own.post response) where
-  by_heard : (heard : Heard) → is_serving (afterwards (told (with_own endpoints (own_posted endpoints.own (replied heard setup 0 moment response endpoints.own.post)).own)
-      (own_posted endpoints.own (replied heard setup 0 moment response endpoints.own.post)).sent) (λ next. lines_told heard setup moment next)).endpoints.own.post.restart
+  by_heard : (heard : Heard) → is_serving (afterwards (effect_map (with_own endpoints) (own_posted endpoints.own (replied heard setup 0 moment response endpoints.own.post))) (λ next. lines_told heard setup moment next)).value.own.post.restart
       ≡ ServesAfter heard (serves endpoints)
   by_heard Nothing = refl
   by_heard PutOff = refl
-  by_heard (Redirected agent) = ap (λ (own : Own). is_serving own.post.restart) (told_own (Redirected agent) setup moment (with_own endpoints (own_posted endpoints.own (replied (Redirected agent) setup 0 moment response endpoints.own.post)).own))
-  by_heard (Answered agent) = ap (λ (own : Own). is_serving own.post.restart) (told_own (Answered agent) setup moment (with_own endpoints (own_posted endpoints.own (replied (Answered agent) setup 0 moment response endpoints.own.post)).own))
+  by_heard (Redirected agent) = ap (λ (own : Own). is_serving own.post.restart) (told_own (Redirected agent) setup moment (with_own endpoints (own_posted endpoints.own (replied (Redirected agent) setup 0 moment response endpoints.own.post)).value))
+  by_heard (Answered agent) = ap (λ (own : Own). is_serving own.post.restart) (told_own (Answered agent) setup moment (with_own endpoints (own_posted endpoints.own (replied (Answered agent) setup 0 moment response endpoints.own.post)).value))
 
 pub answer_serves : (setup : Setup) (endpoints : Endpoints) (moment : ℕ) (response : Response) (agent : Option Entity) → line_of_id response.id ≡ 0
-    → heard_on endpoints.own.post response ≡ Answered agent → serves (responded setup endpoints moment response).endpoints ≡ true
+    → heard_on endpoints.own.post response ≡ Answered agent → serves (responded setup endpoints moment response).value ≡ true
 answer_serves setup endpoints moment response agent none is =
-    ap (λ (told : Told). serves told.endpoints) (is_own setup endpoints moment response none)
+    ap (λ (told : Effect Endpoints). serves told.value) (is_own setup endpoints moment response none)
     ∙ heard_serves setup endpoints moment response ∙ ap (λ (heard : Heard). ServesAfter heard (serves endpoints)) is
 
 pub other_serves_not : (setup : Setup) (endpoints : Endpoints) (moment : ℕ) (response : Response) → serves endpoints ≡ false
-    → ((agent : Option Entity) → heard_on endpoints.own.post response ≢ Answered agent) → serves (responded setup endpoints moment response).endpoints ≡ false
+    → ((agent : Option Entity) → heard_on endpoints.own.post response ≢ Answered agent) → serves (responded setup endpoints moment response).value ≡ false
 other_serves_not setup endpoints moment response closed other = by_test (line_of_id response.id == 0) where
   by_heard : (heard : Heard) → heard_on endpoints.own.post response ≡ heard → ServesAfter heard (serves endpoints) ≡ false
   by_heard Nothing e = closed
@@ -164,24 +164,24 @@ other_serves_not setup endpoints moment response closed other = by_test (line_of
   by_heard (Answered agent) e = absurd (other agent e)
 
   by_test : (b : Bool) → serves (if b then own_heard setup endpoints moment response
-      else on_line endpoints (line_of_id response.id) (responded_on setup (line_of_id response.id) moment response)).endpoints ≡ false
+      else on_line endpoints (line_of_id response.id) (responded_on setup (line_of_id response.id) moment response)).value ≡ false
   by_test true = heard_serves setup endpoints moment response ∙ by_heard (heard_on endpoints.own.post response) refl
   by_test false =
-      same_own endpoints (on_line endpoints (line_of_id response.id) (responded_on setup (line_of_id response.id) moment response)).endpoints
+      same_own endpoints (on_line endpoints (line_of_id response.id) (responded_on setup (line_of_id response.id) moment response)).value
       (own_stays_at endpoints (line_of_id response.id) (responded_on setup (line_of_id response.id) moment response)) ∙ closed
 
 -- a response to a gateway that serves, in order
 response_lasts : (setup : Setup) (endpoints : Endpoints) (moment : ℕ) (response : Response) → OwnIsInOrder endpoints.own → serves endpoints ≡ true
-    → serves (responded setup endpoints moment response).endpoints ≡ true
+    → serves (responded setup endpoints moment response).value ≡ true
 response_lasts setup endpoints moment response order served = by_test (line_of_id response.id == 0) where
   nothing : heard_on endpoints.own.post response ≡ Nothing
   nothing = ap (λ (p : Option InFlight). heard_by p endpoints.own.post.restart response) (own_free endpoints.own order served)
 
   by_test : (b : Bool) → serves (if b then own_heard setup endpoints moment response
-      else on_line endpoints (line_of_id response.id) (responded_on setup (line_of_id response.id) moment response)).endpoints ≡ true
+      else on_line endpoints (line_of_id response.id) (responded_on setup (line_of_id response.id) moment response)).value ≡ true
   by_test true = heard_serves setup endpoints moment response ∙ ap (λ (heard : Heard). ServesAfter heard (serves endpoints)) nothing ∙ served
   by_test false =
-      same_own endpoints (on_line endpoints (line_of_id response.id) (responded_on setup (line_of_id response.id) moment response)).endpoints
+      same_own endpoints (on_line endpoints (line_of_id response.id) (responded_on setup (line_of_id response.id) moment response)).value
       (own_stays_at endpoints (line_of_id response.id) (responded_on setup (line_of_id response.id) moment response)) ∙ served
 
 -- Whatever happens
@@ -191,28 +191,28 @@ record Lasts (endpoints : Endpoints) : Type 0 where
   order : Holds Orders OwnOrders endpoints
   served : serves endpoints ≡ true
 
-passed_serves : (n : ℕ) (setup : Setup) (endpoints : Endpoints) (moment : ℕ) → Lasts endpoints → serves (passed n setup endpoints moment).endpoints ≡ true
+passed_serves : (n : ℕ) (setup : Setup) (endpoints : Endpoints) (moment : ℕ) → Lasts endpoints → serves (passed n setup endpoints moment).value ≡ true
 unfolding passed
 passed_serves zero setup endpoints moment lasts = lasts.served
 passed_serves (suc n) setup endpoints moment lasts = by_due (due_by endpoints moment)
-    (λ item. passed_serves n setup (happened setup endpoints item).endpoints moment (record {
+    (λ item. passed_serves n setup (happened setup endpoints item).value moment (record {
       order = orders_happened setup endpoints item lasts.order;
       served = due_serves setup endpoints item lasts.order.own.order ∙ lasts.served;
     })) where
-      by_due : (found : Option DueItem) → ((item : DueItem) → serves (passed n setup (happened setup endpoints item).endpoints moment).endpoints ≡ true)
-          → serves (go_on found setup endpoints (λ next. passed n setup next moment)).endpoints ≡ true
+      by_due : (found : Option DueItem) → ((item : DueItem) → serves (passed n setup (happened setup endpoints item).value moment).value ≡ true)
+          → serves (go_on found setup endpoints (λ next. passed n setup next moment)).value ≡ true
       by_due None rest = lasts.served
       by_due (Some item) rest = rest item
 
-transacted_serves : (looked : Looked) (m : Machine) (source : SocketAddrV4) (t : Transaction) → serves m.endpoints ≡ true → serves t.done.told.endpoints ≡ true
-    → serves (transacted_by looked m source t).machine.endpoints ≡ true
+transacted_serves : (looked : Looked) (m : Machine) (source : SocketAddrV4) (t : Transaction) → serves m.endpoints ≡ true → serves t.done.told.value ≡ true
+    → serves (transacted_by looked m source t).value.endpoints ≡ true
 unfolding executed
 transacted_serves new m source t was is = is
 transacted_serves (repeat text) m source t was is = was
 transacted_serves confirmed m source t was is = was
 transacted_serves full m source t was is = was
 
-handled_serves : (setup : Setup) (m : Machine) (source : SocketAddrV4) (outcome : Outcome) → Lasts m.endpoints → serves (handled setup m source outcome).machine.endpoints ≡ true
+handled_serves : (setup : Setup) (m : Machine) (source : SocketAddrV4) (outcome : Outcome) → Lasts m.endpoints → serves (handled setup m source outcome).value.endpoints ≡ true
 unfolding handled
 handled_serves setup m source no_header lasts = lasts.served
 handled_serves setup m source (bad_version id) lasts = transacted_serves (look_of most_firsts m.history id m.now) m source _ lasts.served lasts.served
@@ -223,14 +223,14 @@ handled_serves setup m source (message (messages.Command verb id name params bod
 handled_serves setup m source (message (messages.Response code id params body)) lasts =
     response_lasts setup m.endpoints m.now (response_with setup id code params) lasts.order.own.order lasts.served
 
-took_serves : (setup : Setup) (m : Machine) (source : SocketAddrV4) (texts : List (List ℕ)) → Lasts m.endpoints → serves (took_all setup m source texts).machine.endpoints ≡ true
+took_serves : (setup : Setup) (m : Machine) (source : SocketAddrV4) (texts : List (List ℕ)) → Lasts m.endpoints → serves (took_all setup m source texts).value.endpoints ≡ true
 unfolding took_all
 took_serves setup m source [] lasts = lasts.served
 took_serves setup m source (text ∷ texts) lasts =
-    took_serves setup (handled setup m source (read_text text)).machine source texts
+    took_serves setup (handled setup m source (read_text text)).value source texts
     (record { order = orders_handled setup m source (read_text text) lasts.order; served = handled_serves setup m source (read_text text) lasts })
 
-event_serves : (setup : Setup) (m : Machine) (event : GatewayEvent) → Lasts m.endpoints → serves (effect setup m event).machine.endpoints ≡ true
+event_serves : (setup : Setup) (m : Machine) (event : GatewayEvent) → Lasts m.endpoints → serves (effect setup m event).value.endpoints ≡ true
 unfolding effect pass
 event_serves setup m (datagram source bytes) lasts = took_serves setup m source (texts_of bytes) lasts
 event_serves setup m (phone line act) lasts = act_serves setup m.endpoints line m.now act ∙ lasts.served
@@ -240,7 +240,7 @@ events_serve : (setup : Setup) (m : Machine) (events : List GatewayEvent) → La
 unfolding machine_after
 events_serve setup m [] lasts = lasts.served
 events_serve setup m (event ∷ events) lasts =
-    events_serve setup (effect setup m event).machine events (record { order = orders_on setup m event lasts.order; served = event_serves setup m event lasts })
+    events_serve setup (effect setup m event).value events (record { order = orders_on setup m event lasts.order; served = event_serves setup m event lasts })
 
 pub serving_lasts : (setup : Setup) (before events : List GatewayEvent) → serves (plain setup before).endpoints ≡ true → serves (plain setup (before ++ events)).endpoints ≡ true
 serving_lasts setup before events served =
@@ -260,10 +260,10 @@ is_redirected post flight response agent announced pending answered code named =
 -- Commands while it doesn't serve
 
 pub nothing_done : (setup : Setup) (endpoints : Endpoints) (moment id : ℕ) (command : Command) (confirms : KValue) → serves endpoints ≡ false
-    → (commanded setup endpoints moment id command confirms).told ≡ told endpoints []
+    → (commanded setup endpoints moment id command confirms).told ≡ silently endpoints
 nothing_done setup endpoints moment id command confirms closed =
     by_asks (form_while (serves endpoints) command confirms setup.names) (ap (λ (b : Bool). form_while b command confirms setup.names) (sym closed)) where
-      by_asks : (asks : Result Asks ℕ) → form_while false command confirms setup.names ≡ asks → (done_by asks setup endpoints moment id).told ≡ told endpoints []
+      by_asks : (asks : Result Asks ℕ) → form_while false command confirms setup.names ≡ asks → (done_by asks setup endpoints moment id).told ≡ silently endpoints
       by_asks (Err code) is = refl
       by_asks (Ok (Reports target audit)) is = refl
       by_asks (Ok (Does target deed)) is = absurd (while_none command confirms setup.names target deed is)
@@ -319,7 +319,7 @@ unfolding announced
 waits_sent setup line moment until post waits = ap (λ (r : Restart). announced_by r setup line moment post) waits
 
 pub waits_anew : (setup : Setup) (line moment : ℕ) (post : Post) (flight : InFlight) → post.pending ≡ Some flight → repeat_of flight moment ≡ GivenUp
-    → resent_on setup line moment post ≡ unsent (record post { pending = None; restart = Waiting (moment + wait_of setup line) })
+    → resent_on setup line moment post ≡ silently (record post { pending = None; restart = Waiting (moment + wait_of setup line) })
 waits_anew setup line moment post flight pending gives =
     ap (λ (p : Option InFlight). resent_by p setup line moment post) pending ∙ ap (λ (r : Repeat). repeated_as r setup line moment post flight) gives
 
@@ -354,32 +354,32 @@ response_begins_nothing setup line moment until response station order waits =
     let nothing : heard_on station.post response ≡ Nothing = ap (λ (p : Option InFlight). heard_by p station.post.restart response) (it_is_quiet line until station order waits).0 in
     subst (λ (heard : Heard). BeginsNothing station (responded_as heard setup line moment response station)) (sym nothing) (record { pending = refl; sent = refl })
 
-pub resend_keeps : (setup : Setup) (line moment : ℕ) (station : Station) → (happened_on Resend setup line moment station).station.line ≡ station.line
+pub resend_keeps : (setup : Setup) (line moment : ℕ) (station : Station) → (happened_on Resend setup line moment station).value.line ≡ station.line
 unfolding happened_on
 resend_keeps setup line moment station = refl
 
-pub announce_keeps : (setup : Setup) (line moment : ℕ) (station : Station) → (happened_on Announce setup line moment station).station.line ≡ station.line
+pub announce_keeps : (setup : Setup) (line moment : ℕ) (station : Station) → (happened_on Announce setup line moment station).value.line ≡ station.line
 unfolding happened_on
 announce_keeps setup line moment station = refl
 
 -- what is told goes to the entity that is to be notified
 noted_to : (setup : Setup) (line moment : ℕ) (station : Station) (done : LineDone)
-    → ((noted setup line moment station done).station.post.entity ≡ station.post.entity) × All (λ (sent : Sent). sent.to ≡ station.post.entity.address) (noted setup line moment station done).sent
+    → ((noted setup line moment station done).value.post.entity ≡ station.post.entity) × All (λ (sent : Sent). sent.to ≡ station.post.entity.address) (noted setup line moment station done).sent
 unfolding noted
 noted_to setup line moment station done = by_notice done.notice where
   To : Sent → Type 0
   To sent = sent.to ≡ station.post.entity.address
 
-  by_notice : (notice : Option Notice) → ((with_notice setup line moment (record station { line = done.line }) notice).station.post.entity ≡ station.post.entity)
+  by_notice : (notice : Option Notice) → ((with_notice setup line moment (record station { line = done.line }) notice).value.post.entity ≡ station.post.entity)
       × All To (with_notice setup line moment (record station { line = done.line }) notice).sent
   by_notice None = (refl, All-nil To)
   by_notice (Some notice) = (refl, All-cons To _ [] refl (All-nil To))
 
 pub named_is_notified : (setup : Setup) (line moment : ℕ) (response : Response) (agent : Entity) (station : Station) → heard_on station.post response ≡ Answered (Some agent)
-    → ((responded_on setup line moment response station).station.post.entity ≡ agent) × All (λ (sent : Sent). sent.to ≡ agent.address) (responded_on setup line moment response station).sent
+    → ((responded_on setup line moment response station).value.post.entity ≡ agent) × All (λ (sent : Sent). sent.to ≡ agent.address) (responded_on setup line moment response station).sent
 unfolding responded_on replied
 named_is_notified setup line moment response agent station is =
     let becomes : Station = record station { post = record station.post { entity = agent; pending = None; restart = Serving } } in
-    subst (λ (heard : Heard). ((responded_as heard setup line moment response station).station.post.entity ≡ agent)
+    subst (λ (heard : Heard). ((responded_as heard setup line moment response station).value.post.entity ≡ agent)
     × All (λ (sent : Sent). sent.to ≡ agent.address) (responded_as heard setup line moment response station).sent) (sym is)
     (noted_to setup line moment becomes (answered station.line moment))

@@ -84,7 +84,7 @@ texts_answered setup m source [] earlier askers commands keeps =
 texts_answered setup m source (text ∷ texts) earlier askers commands keeps =
     let found = transaction_of setup m (read_text text) in
     let done = handled setup m source (read_text text) in
-    let next = done.machine in
+    let next = done.value in
     let here = arriving m found in
     let rest = commands_in setup next source texts in
     let more = flat_map asked (map (arrival m.now source) texts) in
@@ -126,14 +126,14 @@ events_answered setup m [] earlier keeps = refl
 events_answered setup m (event ∷ events) earlier keeps =
     let done = effect setup m event in
     let here = commands_with setup m event in
-    let rest = commands_from setup done.machine events in
+    let rest = commands_from setup done.value events in
     let later = arrivals_from (clock_after m.now event) events in
-    let others = events_answered setup done.machine events (earlier ++ here) (event_on setup m event earlier keeps) in
+    let others = events_answered setup done.value events (earlier ++ here) (event_on setup m event earlier keeps) in
     ap (λ (x : List Asked). replies x (answers_from most_firsts (firsts_of most_firsts earlier) (here ++ rest))) (flat_map-append asked (arrivals_at m.now event) later)
     ∙ event_answered setup m event earlier (flat_map asked later) rest keeps
     ∙ ap (λ (now : ℕ). answers done.sent ++ replies (flat_map asked (arrivals_from now events)) (answers_from most_firsts (firsts_of most_firsts (earlier ++ here)) rest)) (sym (effect_now setup m event))
     ∙ ap (λ (x : List OutDatagram). answers done.sent ++ x) others
-    ∙ sym (answers-append done.sent (sent_from setup done.machine events))
+    ∙ sym (answers-append done.sent (sent_from setup done.value events))
 
 pub sent_answers : (setup : Setup) (events : List GatewayEvent)
     → answers (sent_from setup (opening setup) events) ≡ replies (flat_map asked (arrivals_from 0 events)) (answers_from most_firsts [] (commands_from setup (opening setup) events))
@@ -155,7 +155,7 @@ unfolding commands_in
 texts_match F G same setup m source [] = refl
 texts_match F G same setup m source (text ∷ texts) =
     let found = transaction_of setup m (read_text text) in
-    let next = (handled setup m source (read_text text)).machine in
+    let next = (handled setup m source (read_text text)).value in
     map-append F (arriving m found) (commands_in setup next source texts)
     ∙ ap (λ x. x ++ map F (commands_in setup next source texts)) (found_matches F G same m source found ∙ ap (map G) (sym (asked_is setup m source (read_text text))))
     ∙ ap (λ x. map G (asked (arrival m.now source text)) ++ x) (texts_match F G same setup next source texts)
@@ -173,7 +173,7 @@ pub events_match : {X : Type 0} (F : Arrival → X) (G : Asked → X) → Matche
 unfolding commands_from arrivals_from
 events_match F G same setup m [] = refl
 events_match F G same setup m (event ∷ events) =
-    let next = (effect setup m event).machine in
+    let next = (effect setup m event).value in
     let later = arrivals_from (clock_after m.now event) events in
     map-append F (commands_with setup m event) (commands_from setup next events)
     ∙ ap (λ x. x ++ map F (commands_from setup next events)) (event_matches F G same setup m event)

@@ -30,9 +30,10 @@ use Rattle.plain_machine.specs.declared.post.Post.{Post}
 use Rattle.plain_machine.specs.declared.response.Response.{Response}
 use Rattle.plain_machine.specs.declared.setup.Setup.{Setup}
 use Rattle.plain_machine.specs.declared.station.Station.{Station}
+use Rattle.plain_machine.specs.Effect.{Effect, silently}
 use Rattle.plain_machine.specs.Setup.{IsSetUp, most_lines}
 use Rattle.plain_machine.specs.Message.{Sent, datagram_of}
-use Rattle.plain_machine.specs.Posting.{numbers, id_on, PostTurn, unsent, repeated_as, resent_by, resent_on}
+use Rattle.plain_machine.specs.Posting.{numbers, id_on, repeated_as, resent_by, resent_on}
 use Rattle.plain_machine.specs.Announcing.{announced, announced_by, announced_on, heard_on, put_off, replied}
 use Rattle.plain_machine.specs.Notifying.{posted, with_notice, noted}
 use Rattle.plain_machine.specs.Machine.{own_posted, opening_station, opening}
@@ -89,11 +90,11 @@ pub record CanGo (line : ℕ) (post : Post) : Type 0 where
   pub flight : IfSome post.pending (λ message. Goes message.text)
 
 -- a post that can go on, and what it sends goes out
-record PostGoes (line : ℕ) (turn : PostTurn) : Type 0 where
-  can : CanGo line turn.post
+record PostGoes (line : ℕ) (turn : Effect Post) : Type 0 where
+  can : CanGo line turn.value
   sent : All IsOut turn.sent
 
-unsent_goes : (line : ℕ) (post : Post) → CanGo line post → PostGoes line (unsent post)
+unsent_goes : (line : ℕ) (post : Post) → CanGo line post → PostGoes line (silently post)
 unsent_goes line post can = record { can = can; sent = All-nil IsOut }
 
 resent_goes : (setup : Setup) (line moment : ℕ) (post : Post) → CanGo line post → PostGoes line (resent_on setup line moment post)
@@ -140,7 +141,7 @@ replied_goes (Redirected agent) setup line moment response post set_up few can =
 replied_goes (Answered agent) setup line moment response post set_up few can = record { can = record { below = can.below; some = can.some; flight = tt }; sent = All-nil IsOut }
 
 -- a station with a post that can go on
-posted_sound : (line : ℕ) (station : Station) (turn : PostTurn) → Sound line station → PostGoes line turn → Good Sound IsOut line (posted station turn)
+posted_sound : (line : ℕ) (station : Station) (turn : Effect Post) → Sound line station → PostGoes line turn → Good Sound IsOut line (posted station turn)
 posted_sound line station turn s goes =
     (record { some = s.some; few = s.few; below = goes.can.below; fine = s.fine; flight = goes.can.flight }, goes.sent)
 
@@ -171,7 +172,7 @@ responded_sound setup set_up line moment response station s = by_heard (heard_on
   by_heard PutOff = by_post PutOff
   by_heard (Redirected agent) = by_post (Redirected agent)
   by_heard (Answered agent) =
-      let becomes : Station = (posted station (replied (Answered agent) setup line moment response station.post)).station in
+      let becomes : Station = (posted station (replied (Answered agent) setup line moment response station.post)).value in
       let is = (by_post (Answered agent)).0 in
       noted_sound setup line moment becomes (answered becomes.line moment) set_up is.some is.few is.below (answered_done becomes.line moment is.fine) is.flight
 
@@ -215,11 +216,11 @@ sound_turns setup set_up = record {
 abbrev pub OwnSound : Own → Type 0
 OwnSound own = CanGo 0 own.post
 
-own_posted_sound : (own : Own) (turn : PostTurn) → PostGoes 0 turn → OwnSound (own_posted own turn).own × All IsOut (own_posted own turn).sent
+own_posted_sound : (own : Own) (turn : Effect Post) → PostGoes 0 turn → OwnSound (own_posted own turn).value × All IsOut (own_posted own turn).sent
 own_posted_sound own turn goes = (goes.can, goes.sent)
 
 own_happened_sound : (setup : Setup) → IsSetUp setup → (due : StationDue) (moment : ℕ) (own : Own) → OwnSound own
-    → OwnSound (own_happened due setup moment own).own × All IsOut (own_happened due setup moment own).sent
+    → OwnSound (own_happened due setup moment own).value × All IsOut (own_happened due setup moment own).sent
 unfolding own_happened
 own_happened_sound setup set_up (OfLine due) moment own can = (can, All-nil IsOut)
 own_happened_sound setup set_up Resend moment own can = own_posted_sound own (resent_on setup 0 moment own.post) (resent_goes setup 0 moment own.post can)
@@ -227,7 +228,7 @@ own_happened_sound setup set_up Announce moment own can =
     own_posted_sound own (announced_on setup 0 moment own.post) (announced_on_goes setup 0 moment own.post set_up (omega arith) can)
 
 pub own_responded_sound : (setup : Setup) → IsSetUp setup → (moment : ℕ) (response : Response) (own : Own) → OwnSound own
-    → OwnSound (own_responded setup moment response own).own × All IsOut (own_responded setup moment response own).sent
+    → OwnSound (own_responded setup moment response own).value × All IsOut (own_responded setup moment response own).sent
 unfolding own_responded
 own_responded_sound setup set_up moment response own can =
     own_posted_sound own (replied (heard_on own.post response) setup 0 moment response own.post)

@@ -34,8 +34,8 @@ use Rattle.mg_line.specs.Requesting.{refusal_of}
 use Rattle.plain_machine.specs.declared.line_deed.LineDeed.{LineDeed}
 use Rattle.plain_machine.specs.declared.setup.Setup.{Setup}
 use Rattle.plain_machine.specs.declared.station.Station.{Station}
-use Rattle.plain_machine.specs.Notifying.{Turn}
-use Rattle.plain_machine.specs.Machine.{Endpoints, Machine, Told, told, serves, station_at, with_turn, on_line, on_lines}
+use Rattle.plain_machine.specs.Effect.{Effect, silently}
+use Rattle.plain_machine.specs.Machine.{Endpoints, Machine, serves, station_at, with_turn, on_line, on_lines}
 use Rattle.plain_machine.specs.Answering.{Transaction, executed, refusing, command_with, transaction_of, transacted_by, handled_as, handled}
 use Rattle.plain_machine.specs.Done.{Done, only_answer}
 use Rattle.plain_machine.specs.Connecting.{deleted_shown, showing_what, done_code, connected}
@@ -54,7 +54,7 @@ done_is (Modify call id change) = inl refl
 done_is (Delete deletion) = inr refl
 
 abbrev Stays : Endpoints → Done → Type 0
-Stays endpoints done = done.answer.code ≢ 200 → done.answer.code ≢ 250 → done.told ≡ told endpoints []
+Stays endpoints done = done.answer.code ≢ 200 → done.answer.code ≢ 250 → done.told ≡ silently endpoints
 
 deed_stays : (setup : Setup) (endpoints : Endpoints) (lines : Target) (more : List Param) (deed : LineDeed) (moment : ℕ) → Stays endpoints (deed_done setup endpoints lines more deed moment)
 deed_stays setup endpoints lines more deed moment = by_refusal (refused_by endpoints lines deed) where
@@ -65,7 +65,7 @@ deed_stays setup endpoints lines more deed moment = by_refusal (refused_by endpo
   by_refusal (Some code) = λ one two. refl
   by_refusal None = λ one two. by_code one two (done_is deed.connections) where
     by_code : done_code deed.connections ≢ 200 → done_code deed.connections ≢ 250 → ((done_code deed.connections ≡ 200) ⊎ (done_code deed.connections ≡ 250))
-        → deed_on_all setup endpoints lines deed moment ≡ told endpoints []
+        → deed_on_all setup endpoints lines deed moment ≡ silently endpoints
     by_code one two (inl is) = absurd (one is)
     by_code one two (inr is) = absurd (two is)
 
@@ -84,7 +84,7 @@ asks_stays (Ok (Does target deed)) setup endpoints moment id = target_stays setu
 
 pub refused_stays : (setup : Setup) (endpoints : Endpoints) (moment id : ℕ) (command : Command) (confirms : KValue)
     → (commanded setup endpoints moment id command confirms).answer.code ≢ 200 → (commanded setup endpoints moment id command confirms).answer.code ≢ 250
-    → (commanded setup endpoints moment id command confirms).told ≡ told endpoints []
+    → (commanded setup endpoints moment id command confirms).told ≡ silently endpoints
 refused_stays setup endpoints moment id command confirms = asks_stays (form_while (serves endpoints) command confirms setup.names) setup endpoints moment id
 
 -- of a text that is a command, whatever was read of it
@@ -102,21 +102,21 @@ text_stays setup m (message (messages.Command verb id name params body)) t is =
 text_stays setup m (message (messages.Response code id params body)) t is = absurd cc
 
 pub refused_text : (setup : Setup) (m : Machine) (outcome : Outcome) (t : Transaction) → transaction_of setup m outcome ≡ Some t → t.done.answer.code ≢ 200 → t.done.answer.code ≢ 250
-    → t.done.told ≡ told m.endpoints []
+    → t.done.told ≡ silently m.endpoints
 refused_text setup m outcome t is = text_stays setup m outcome t is
 
-transacted_stays : (looked : Looked) (m : Machine) (source : SocketAddrV4) (t : Transaction) → t.done.told ≡ told m.endpoints [] → (transacted_by looked m source t).machine.endpoints ≡ m.endpoints
+transacted_stays : (looked : Looked) (m : Machine) (source : SocketAddrV4) (t : Transaction) → t.done.told ≡ silently m.endpoints → (transacted_by looked m source t).value.endpoints ≡ m.endpoints
 unfolding executed
-transacted_stays new m source t same = ap (λ (x : Told). x.endpoints) same
+transacted_stays new m source t same = ap (λ (x : Effect Endpoints). x.value) same
 transacted_stays (repeat text) m source t same = refl
 transacted_stays confirmed m source t same = refl
 transacted_stays full m source t same = refl
 
 pub refused_after : (setup : Setup) (m : Machine) (source : SocketAddrV4) (outcome : Outcome) (t : Transaction) → transaction_of setup m outcome ≡ Some t
-    → t.done.answer.code ≢ 200 → t.done.answer.code ≢ 250 → (handled setup m source outcome).machine.endpoints ≡ m.endpoints
+    → t.done.answer.code ≢ 200 → t.done.answer.code ≢ 250 → (handled setup m source outcome).value.endpoints ≡ m.endpoints
 unfolding handled
 refused_after setup m source outcome t is one two =
-    ap (λ (found : Option Transaction). (handled_as found setup m source outcome).machine.endpoints) is
+    ap (λ (found : Option Transaction). (handled_as found setup m source outcome).value.endpoints) is
     ∙ transacted_stays (look_of most_firsts m.history t.id m.now) m source t (refused_text setup m outcome t is one two)
 
 -- A deletion
@@ -160,7 +160,7 @@ unfolding after
 one_deletion deletion encoding standing = refl
 
 deleted_on : (setup : Setup) (deed : LineDeed) (deletion : Deletion) (moment line : ℕ) (station : Station) → deed.connections ≡ Delete deletion
-    → (deed_on setup deed moment line station).station.connections ≡ left_of station.connections (deleted deletion station.connections)
+    → (deed_on setup deed moment line station).value.connections ≡ left_of station.connections (deleted deletion station.connections)
 deleted_on setup deed deletion moment line station is =
     deed_connections setup deed moment line station
     ∙ ap (λ (d : ConnectionDeed). after station.connections (happenings d (encoding_with deed station))) is
@@ -171,7 +171,7 @@ at_place a b place same = ap (λ (s : Standing). get_or s.places place None) sam
 
 pub meant_is_emptied : (setup : Setup) (deed : LineDeed) (deletion : Deletion) (moment line place : ℕ) (station : Station) (connection : Connection) → deed.connections ≡ Delete deletion
     → refusal_by deed station ≡ None → get_or station.connections.places place None ≡ Some connection → is_meant deletion connection ≡ true
-    → get_or (deed_on setup deed moment line station).station.connections.places place None ≡ None
+    → get_or (deed_on setup deed moment line station).value.connections.places place None ≡ None
 meant_is_emptied setup deed deletion moment line place station connection is fine here meant =
     let request : Option ℕ = option_and_then (refusal_of station.line) deed.request in
     let none : refused deletion station.connections.places ≡ None = not_refused deletion (encoding_with deed station) station.connections request
@@ -181,7 +181,7 @@ meant_is_emptied setup deed deletion moment line place station connection is fin
 
 pub others_are_kept : (setup : Setup) (deed : LineDeed) (deletion : Deletion) (moment line place : ℕ) (station : Station) (connection : Connection) → deed.connections ≡ Delete deletion
     → get_or station.connections.places place None ≡ Some connection → is_meant deletion connection ≡ false
-    → get_or (deed_on setup deed moment line station).station.connections.places place None ≡ Some connection
+    → get_or (deed_on setup deed moment line station).value.connections.places place None ≡ Some connection
 others_are_kept setup deed deletion moment line place station connection is here other =
     at_place _ _ place (deleted_on setup deed deletion moment line station is) ∙ by_left (kept_or_emptied deletion station.connections place) where
       by_left : ((LeftAt deletion station.connections place ≡ get_or station.connections.places place None) ⊎ (LeftAt deletion station.connections place ≡ without deletion (get_or station.connections.places place None)))
@@ -190,7 +190,7 @@ others_are_kept setup deed deletion moment line place station connection is here
       by_left (inr empty) = empty ∙ ap (without deletion) here ∙ (rw other refl)
 
 pub free_stays : (setup : Setup) (deed : LineDeed) (deletion : Deletion) (moment line place : ℕ) (station : Station) → deed.connections ≡ Delete deletion
-    → get_or station.connections.places place None ≡ None → get_or (deed_on setup deed moment line station).station.connections.places place None ≡ None
+    → get_or station.connections.places place None ≡ None → get_or (deed_on setup deed moment line station).value.connections.places place None ≡ None
 free_stays setup deed deletion moment line place station is here =
     at_place _ _ place (deleted_on setup deed deletion moment line station is) ∙ by_left (kept_or_emptied deletion station.connections place) where
       by_left : ((LeftAt deletion station.connections place ≡ get_or station.connections.places place None) ⊎ (LeftAt deletion station.connections place ≡ without deletion (get_or station.connections.places place None)))
@@ -279,11 +279,11 @@ abbrev Apart : ℕ → List ℕ → Type 0
 Apart line [] = Unit {0}
 Apart line (one ∷ more) = (line ≢ one) × Apart line more
 
-others_on : (lines : List ℕ) (endpoints : Endpoints) (turn : ℕ → Station → Turn) (line : ℕ) → Apart line lines → station_at (on_lines lines endpoints turn).endpoints line ≡ station_at endpoints line
+others_on : (lines : List ℕ) (endpoints : Endpoints) (turn : ℕ → Station → Effect Station) (line : ℕ) → Apart line lines → station_at (on_lines lines endpoints turn).value line ≡ station_at endpoints line
 unfolding on_lines
 others_on [] endpoints turn line apart = refl
 others_on (one ∷ more) endpoints turn line apart =
-    others_on more (on_line endpoints one (turn one)).endpoints turn line apart.1 ∙ line_stays endpoints one line (turn one) apart.0
+    others_on more (on_line endpoints one (turn one)).value turn line apart.1 ∙ line_stays endpoints one line (turn one) apart.0
 
 -- the lines that pass a test
 abbrev Passing : (ℕ → Bool) → ℕ → List Station → List ℕ
@@ -308,14 +308,14 @@ put_here [] place was is at = absurd (none-some was at)
 put_here (first ∷ stations) zero was is at = refl
 put_here (first ∷ stations) (suc place) was is at = put_here stations place was is at
 
-pub turned_here : (endpoints : Endpoints) (line : ℕ) (station : Station) (turn : Station → Turn) → station_at endpoints line ≡ Some station
-    → station_at (on_line endpoints line turn).endpoints line ≡ Some (turn station).station
+pub turned_here : (endpoints : Endpoints) (line : ℕ) (station : Station) (turn : Station → Effect Station) → station_at endpoints line ≡ Some station
+    → station_at (on_line endpoints line turn).value line ≡ Some (turn station).value
 turned_here endpoints line station turn at =
     let is = is_at endpoints line station at in
     let some : 1 ≤ line = is.some in
-    ap (λ told. station_at told.endpoints line) (on_this endpoints line station turn at)
-    ∙ stands_at (with_turn endpoints line (turn station)).endpoints line (line - 1) (turn station).station (omega arith)
-    (put_here endpoints.stations (line - 1) station (turn station).station is.here)
+    ap (λ told. station_at told.value line) (on_this endpoints line station turn at)
+    ∙ stands_at (with_turn endpoints line (turn station)).value line (line - 1) (turn station).value (omega arith)
+    (put_here endpoints.stations (line - 1) station (turn station).value is.here)
 
 same_line : (m n : ℕ) → (m == n) ≡ true → m ≡ n
 same_line m n h = grind (arith, nat_tests)
@@ -323,29 +323,29 @@ same_line m n h = grind (arith, nat_tests)
 other_line : (m n : ℕ) → (m == n) ≡ false → m ≢ n
 other_line m n h = grind (arith, nat_tests)
 
-each_on : (test : ℕ → Bool) (n : ℕ) (stations : List Station) (endpoints : Endpoints) (turn : ℕ → Station → Turn) (line : ℕ) (station : Station) → test line ≡ true → n ≤ line
-    → line < n + length stations → station_at endpoints line ≡ Some station → station_at (on_lines (Passing test n stations) endpoints turn).endpoints line ≡ Some (turn line station).station
+each_on : (test : ℕ → Bool) (n : ℕ) (stations : List Station) (endpoints : Endpoints) (turn : ℕ → Station → Effect Station) (line : ℕ) (station : Station) → test line ≡ true → n ≤ line
+    → line < n + length stations → station_at endpoints line ≡ Some station → station_at (on_lines (Passing test n stations) endpoints turn).value line ≡ Some (turn line station).value
 unfolding on_lines
 each_on test n [] endpoints turn line station passes low high at = absurd (omega arith)
 each_on test n (first ∷ more) endpoints turn line station passes low high at =
     by_first (λ (becomes : Endpoints) (apart : line ≢ n) (there : station_at becomes line ≡ Some station).
     each_on test (n + 1) more becomes turn line station passes (omega (arith, low, apart)) (omega (arith, high)) there) (test n) refl where
       by_line : ((becomes : Endpoints) → line ≢ n → station_at becomes line ≡ Some station
-          → station_at (on_lines (Passing test (n + 1) more) becomes turn).endpoints line ≡ Some (turn line station).station)
-          → (b : Bool) → (line == n) ≡ b → station_at (on_lines (Passing test (n + 1) more) (on_line endpoints n (turn n)).endpoints turn).endpoints line ≡ Some (turn line station).station
+          → station_at (on_lines (Passing test (n + 1) more) becomes turn).value line ≡ Some (turn line station).value)
+          → (b : Bool) → (line == n) ≡ b → station_at (on_lines (Passing test (n + 1) more) (on_line endpoints n (turn n)).value turn).value line ≡ Some (turn line station).value
       by_line later true e =
           let same : line ≡ n = same_line line n e in
           let here : station_at endpoints n ≡ Some station = ap (station_at endpoints) (sym same) ∙ at in
-          others_on (Passing test (n + 1) more) (on_line endpoints n (turn n)).endpoints turn line (later_apart test line (n + 1) more (omega (arith, same)))
-          ∙ ap (station_at (on_line endpoints n (turn n)).endpoints) same ∙ turned_here endpoints n station (turn n) here
-          ∙ ap (λ (i : ℕ). Some (turn i station).station) (sym same)
+          others_on (Passing test (n + 1) more) (on_line endpoints n (turn n)).value turn line (later_apart test line (n + 1) more (omega (arith, same)))
+          ∙ ap (station_at (on_line endpoints n (turn n)).value) same ∙ turned_here endpoints n station (turn n) here
+          ∙ ap (λ (i : ℕ). Some (turn i station).value) (sym same)
       by_line later false e =
           let apart : line ≢ n = other_line line n e in
-          later (on_line endpoints n (turn n)).endpoints apart (line_stays endpoints n line (turn n) apart ∙ at)
+          later (on_line endpoints n (turn n)).value apart (line_stays endpoints n line (turn n) apart ∙ at)
 
       by_first : ((becomes : Endpoints) → line ≢ n → station_at becomes line ≡ Some station
-          → station_at (on_lines (Passing test (n + 1) more) becomes turn).endpoints line ≡ Some (turn line station).station)
-          → (b : Bool) → test n ≡ b → station_at (on_lines (Passing test n (first ∷ more)) endpoints turn).endpoints line ≡ Some (turn line station).station
+          → station_at (on_lines (Passing test (n + 1) more) becomes turn).value line ≡ Some (turn line station).value)
+          → (b : Bool) → test n ≡ b → station_at (on_lines (Passing test n (first ∷ more)) endpoints turn).value line ≡ Some (turn line station).value
       by_first later true h = rw h (by_line later (line == n) refl)
       by_first later false h =
           let apart : line ≢ n = λ same. absurd (let no : test n ≡ true = ap test (sym same) ∙ passes in cc) in
@@ -357,7 +357,7 @@ inside (first ∷ more) zero station at = omega arith
 inside (first ∷ more) (suc place) station at = omega (arith, inside more place station at)
 
 pub done_on_each : (setup : Setup) (endpoints : Endpoints) (target : Target) (deed : LineDeed) (moment line : ℕ) (station : Station) → is_for target line ≡ true
-    → station_at endpoints line ≡ Some station → station_at (deed_on_all setup endpoints target deed moment).endpoints line ≡ Some (deed_on setup deed moment line station).station
+    → station_at endpoints line ≡ Some station → station_at (deed_on_all setup endpoints target deed moment).value line ≡ Some (deed_on setup deed moment line station).value
 done_on_each setup endpoints target deed moment line station for at =
     let is = is_at endpoints line station at in
     let some : 1 ≤ line = is.some in
@@ -365,7 +365,7 @@ done_on_each setup endpoints target deed moment line station for at =
     (omega (arith, some, inside endpoints.stations (line - 1) station is.here)) at
 
 pub others_are_left : (setup : Setup) (endpoints : Endpoints) (target : Target) (deed : LineDeed) (moment line : ℕ) → is_for target line ≡ false
-    → station_at (deed_on_all setup endpoints target deed moment).endpoints line ≡ station_at endpoints line
+    → station_at (deed_on_all setup endpoints target deed moment).value line ≡ station_at endpoints line
 others_are_left setup endpoints target deed moment line for =
     others_on (lines_meant endpoints target) endpoints (deed_on setup deed moment) line (passing_apart (is_for target) line 1 endpoints.stations for)
 

@@ -44,7 +44,8 @@ use Rattle.command_forms.proofs.FormLemmas.{name_first, asked_behind, row_is, de
 use Rattle.plain_machine.specs.declared.line_deed.LineDeed.{LineDeed}
 use Rattle.plain_machine.specs.declared.setup.Setup.{Setup}
 use Rattle.plain_machine.specs.declared.station.Station.{Station}
-use Rattle.plain_machine.specs.Notifying.{silent, noted}
+use Rattle.plain_machine.specs.Effect.{silently}
+use Rattle.plain_machine.specs.Notifying.{noted}
 use Rattle.plain_machine.specs.Connecting.{connected}
 use Rattle.plain_machine.specs.Requesting.{refusal_by, deed_on}
 use Rattle.plain_machine.specs.Commanding.{line_request, line_deed}
@@ -203,7 +204,7 @@ only_is deed is = by_parts deed.entity deed.connections deed.request is.entity i
   by_parts entity connections request one two three = rw (one, two, three) refl
 
 only_on : (setup : Setup) (encoding : Option Encoding) (moment line : ℕ) (station : Station)
-    → deed_on setup (only encoding) moment line station ≡ silent (record station { encoding = unwrap_or encoding station.encoding })
+    → deed_on setup (only encoding) moment line station ≡ silently (record station { encoding = unwrap_or encoding station.encoding })
 unfolding deed_on noted connected
 only_on setup encoding moment line station = refl
 
@@ -213,7 +214,7 @@ only_refused encoding station = refl
 
 pub encoding_alone : (setup : Setup) (command : Command) (confirms : KValue) (target : Target) (deed : Deed) (moment line : ℕ) (station : Station) → command.verb ≡ Epcf
     → form_of command confirms setup.names ≡ Ok (Does target deed)
-    → deed_on setup (line_deed deed) moment line station ≡ silent (record station { encoding = unwrap_or deed.encoding station.encoding })
+    → deed_on setup (line_deed deed) moment line station ≡ silently (record station { encoding = unwrap_or deed.encoding station.encoding })
 encoding_alone setup command confirms target deed moment line station verb e =
     ap (λ (d : LineDeed). deed_on setup d moment line station) (only_is deed (encodes command confirms setup.names target deed verb e))
     ∙ only_on setup deed.encoding moment line station

@@ -54,12 +54,13 @@ use Rattle.plain_machine.specs.declared.post.Post.{Post}
 use Rattle.plain_machine.specs.declared.response.Response.{Response}
 use Rattle.plain_machine.specs.declared.setup.Setup.{Setup}
 use Rattle.plain_machine.specs.declared.station.Station.{Station}
+use Rattle.plain_machine.specs.Effect.{Effect, silently, effect_map, afterwards}
 use Rattle.plain_machine.specs.Event.{GatewayEvent}
 use Rattle.plain_machine.specs.Message.{Sent}
-use Rattle.plain_machine.specs.Posting.{numbers, first_number, number_after, id_on, line_of_id, PostTurn, repeated_as, resent_by, resent_on}
+use Rattle.plain_machine.specs.Posting.{numbers, first_number, number_after, id_on, line_of_id, repeated_as, resent_by, resent_on}
 use Rattle.plain_machine.specs.Announcing.{announced, announced_by, heard_by, heard_on, put_off, replied}
-use Rattle.plain_machine.specs.Notifying.{Turn, silent, posted, notification, with_notice, noted}
-use Rattle.plain_machine.specs.Machine.{Endpoints, Machine, Told, told, serves, opening_station, opening, station_at, turned_at, on_line, own_posted, with_own, afterwards}
+use Rattle.plain_machine.specs.Notifying.{posted, notification, with_notice, noted}
+use Rattle.plain_machine.specs.Machine.{Endpoints, Machine, serves, opening_station, opening, station_at, turned_at, on_line, own_posted, with_own}
 use Rattle.plain_machine.specs.Acting.{acted_on, acted}
 use Rattle.plain_machine.specs.Requesting.{with_entity, with_connections, asked_if, deed_on}
 use Rattle.plain_machine.specs.Commanding.{line_deed}
@@ -220,16 +221,16 @@ all_any [] = All-nil Any
 all_any (one ∷ sent) = All-cons Any one sent tt (all_any sent)
 
 -- it tells nothing, or waits from then on for the answer to what it tells
-noted_silent : (setup : Setup) (line moment : ℕ) (station : Station) (done : LineDone) → done.notice ≡ None → noted setup line moment station done ≡ silent (record station { line = done.line })
+noted_silent : (setup : Setup) (line moment : ℕ) (station : Station) (done : LineDone) → done.notice ≡ None → noted setup line moment station done ≡ silently (record station { line = done.line })
 unfolding noted
 noted_silent setup line moment station done none = ap (with_notice setup line moment (record station { line = done.line })) none
 
 noted_free : (setup : Setup) (line moment : ℕ) (station : Station) (done : LineDone) → station.post.number < numbers → station.post.restart ≡ Serving → station.post.pending ≡ None
-    → AwaitsIfNotified done → Orders true line (noted setup line moment station done).station
+    → AwaitsIfNotified done → Orders true line (noted setup line moment station done).value
 unfolding noted
 noted_free setup line moment station done below serving none awaits = by_notice done.notice awaits where
   by_notice : (notice : Option Notice) → AwaitsIfNotified (record { line = done.line; notice = notice })
-      → Orders true line (with_notice setup line moment (record station { line = done.line }) notice).station
+      → Orders true line (with_notice setup line moment (record station { line = done.line }) notice).value
   by_notice None awaits = record {
     order = subst (λ (r : Restart). InOrderBy r line station.post.pending done.line.state) (sym serving)
         (subst (λ (p : Option InFlight). InOrderBy Serving line p done.line.state) (sym none) tt);
@@ -242,29 +243,29 @@ noted_free setup line moment station done below serving none awaits = by_notice 
   }
 
 noted_orders : (setup : Setup) (line moment : ℕ) (station : Station) (done : LineDone) → Orders true line station → AwaitsIfNotified done
-    → (station.line.state ≡ Notification → WaitsOn done) → Orders true line (noted setup line moment station done).station
+    → (station.line.state ≡ Notification → WaitsOn done) → Orders true line (noted setup line moment station done).value
 noted_orders setup line moment station done orders awaits waits =
     by_order (order_is station.post.restart line station.post.pending station.line.state orders.order) where
       by_order : ((station.line.state ≡ Notification) ⊎ ((station.post.restart ≡ Serving) × (station.post.pending ≡ None)))
-          → Orders true line (noted setup line moment station done).station
+          → Orders true line (noted setup line moment station done).value
       by_order (inl is) =
           let on = waits is in
           let still : Orders true line (record station { line = done.line }) = record {
             order = waits_in_order station.post.restart line station.post.pending station.line.state done.line.state orders.order (λ was. on.state);
             below = orders.below;
           } in
-          subst (λ (t : Turn). Orders true line t.station) (sym (noted_silent setup line moment station done on.silent)) still
+          subst (λ (t : Effect Station). Orders true line t.value) (sym (noted_silent setup line moment station done on.silent)) still
       by_order (inr free) = noted_free setup line moment station done orders.below free.0 free.1 awaits
 
-noted_closed : (setup : Setup) (line moment : ℕ) (station : Station) (done : LineDone) → Orders false line station → WaitsOn done → Orders false line (noted setup line moment station done).station
+noted_closed : (setup : Setup) (line moment : ℕ) (station : Station) (done : LineDone) → Orders false line station → WaitsOn done → Orders false line (noted setup line moment station done).value
 noted_closed setup line moment station done orders on =
     let still : Orders false line (record station { line = done.line }) = record {
       order = record { restart = orders.order.restart; pending = orders.order.pending; state = on.state };
       below = orders.below;
     } in
-    subst (λ (t : Turn). Orders false line t.station) (sym (noted_silent setup line moment station done on.silent)) still
+    subst (λ (t : Effect Station). Orders false line t.value) (sym (noted_silent setup line moment station done on.silent)) still
 
-acted_orders : (setup : Setup) (serving : Bool) (line moment : ℕ) (act : Act) (station : Station) → Orders serving line station → Orders serving line (acted_on setup line moment act station).station
+acted_orders : (setup : Setup) (serving : Bool) (line moment : ℕ) (act : Act) (station : Station) → Orders serving line station → Orders serving line (acted_on setup line moment act station).value
 acted_orders setup false line moment act station orders =
     noted_closed setup line moment station (phoned station.line act moment) orders (phoned_waits station.line act moment orders.order.state)
 acted_orders setup true line moment act station orders =
@@ -274,7 +275,7 @@ asked_awaits : (request : Option Request) (line : LineState) (moment : ℕ) → 
 asked_awaits None line moment = tt
 asked_awaits (Some request) line moment = notifies_once.request line request moment
 
-deed_orders : (setup : Setup) (deed : LineDeed) (line moment : ℕ) (station : Station) → Orders true line station → Orders true line (deed_on setup deed moment line station).station
+deed_orders : (setup : Setup) (deed : LineDeed) (line moment : ℕ) (station : Station) → Orders true line station → Orders true line (deed_on setup deed moment line station).value
 unfolding deed_on
 deed_orders setup deed line moment station orders =
     noted_orders setup line moment (with_connections deed (with_entity deed.entity station)) (asked_if deed.request station.line moment)
@@ -283,40 +284,40 @@ deed_orders setup deed line moment station orders =
 -- what falls due of a post
 
 -- nothing is in flight of a line that is closed
-happened_closed : (setup : Setup) (due : StationDue) (line moment : ℕ) (station : Station) → Orders false line station → Orders false line (happened_on due setup line moment station).station
+happened_closed : (setup : Setup) (due : StationDue) (line moment : ℕ) (station : Station) → Orders false line station → Orders false line (happened_on due setup line moment station).value
 unfolding happened_on
 happened_closed setup (OfLine due) line moment station orders =
     noted_closed setup line moment station (fired station.line due moment) orders (fired_waits station.line due moment orders.order.state)
 happened_closed setup Resend line moment station orders =
-    subst (λ (p : Option InFlight). Orders false line (posted station (resent_by p setup line moment station.post)).station) (sym orders.order.pending) orders
+    subst (λ (p : Option InFlight). Orders false line (posted station (resent_by p setup line moment station.post)).value) (sym orders.order.pending) orders
 happened_closed setup Announce line moment station orders =
-    subst (λ (r : Restart). Orders false line (posted station (announced_by r setup line moment station.post)).station) (sym orders.order.restart) orders
+    subst (λ (r : Restart). Orders false line (posted station (announced_by r setup line moment station.post)).value) (sym orders.order.restart) orders
 
-happened_open : (setup : Setup) (due : StationDue) (line moment : ℕ) (station : Station) → Orders true line station → Orders true line (happened_on due setup line moment station).station
+happened_open : (setup : Setup) (due : StationDue) (line moment : ℕ) (station : Station) → Orders true line station → Orders true line (happened_on due setup line moment station).value
 unfolding happened_on announced
 happened_open setup (OfLine due) line moment station orders =
     noted_orders setup line moment station (fired station.line due moment) orders (notifies_once.firing station.line due moment) (fired_waits station.line due moment)
 happened_open setup Resend line moment station orders = by_pending station.post.pending orders.order where
   by_repeat : (message : InFlight) (repeat : Repeat) → InOrderBy station.post.restart line (Some message) station.line.state
-      → Orders true line (posted station (repeated_as repeat setup line moment station.post message)).station
+      → Orders true line (posted station (repeated_as repeat setup line moment station.post message)).value
   by_repeat message SentAgain order =
       record { order = sent_in_order station.post.restart line message (repeated message moment) station.line.state (repeated_same message moment).id order; below = orders.below }
   by_repeat message GivenUp order =
       record { order = (refl, (flying_waits station.post.restart line message station.line.state order).0); below = orders.below }
 
   by_pending : (pending : Option InFlight) → InOrderBy station.post.restart line pending station.line.state
-      → Orders true line (posted station (resent_by pending setup line moment station.post)).station
+      → Orders true line (posted station (resent_by pending setup line moment station.post)).value
   by_pending None order = orders
   by_pending (Some message) order = by_repeat message (repeat_of message moment) order
 happened_open setup Announce line moment station orders = by_restart station.post.restart orders.order where
   by_restart : (restart : Restart) → InOrderBy restart line station.post.pending station.line.state
-      → Orders true line (posted station (announced_by restart setup line moment station.post)).station
+      → Orders true line (posted station (announced_by restart setup line moment station.post)).value
   by_restart (Waiting until) order =
       record { order = (begins_with line station.post.number _ _ moment orders.below, order.1); below = next_below line station.post.number orders.below }
   by_restart Announced order = orders
   by_restart Serving order = orders
 
-happened_orders : (setup : Setup) (serving : Bool) (due : StationDue) (line moment : ℕ) (station : Station) → Orders serving line station → Orders serving line (happened_on due setup line moment station).station
+happened_orders : (setup : Setup) (serving : Bool) (due : StationDue) (line moment : ℕ) (station : Station) → Orders serving line station → Orders serving line (happened_on due setup line moment station).value
 happened_orders setup false due line moment station orders = happened_closed setup due line moment station orders
 happened_orders setup true due line moment station orders = happened_open setup due line moment station orders
 
@@ -348,10 +349,10 @@ put_off_in_order (Waiting until) line response moment None state order = order
 put_off_in_order Announced line response moment None state order = absurd (none-some order.0.message order.0.flies)
 put_off_in_order Serving line response moment None state order = order
 
-responded_open : (setup : Setup) (line moment : ℕ) (response : Response) (station : Station) → Orders true line station → Orders true line (responded_on setup line moment response station).station
+responded_open : (setup : Setup) (line moment : ℕ) (response : Response) (station : Station) → Orders true line station → Orders true line (responded_on setup line moment response station).value
 unfolding responded_on replied announced
 responded_open setup line moment response station orders = by_heard (heard_on station.post response) refl where
-  by_heard : (heard : Heard) → heard_on station.post response ≡ heard → Orders true line (responded_as heard setup line moment response station).station
+  by_heard : (heard : Heard) → heard_on station.post response ≡ heard → Orders true line (responded_as heard setup line moment response station).value
   by_heard Nothing e = orders
   by_heard PutOff e =
       record { order = put_off_in_order station.post.restart line response moment station.post.pending station.line.state orders.order; below = orders.below }
@@ -363,23 +364,23 @@ responded_open setup line moment response station orders = by_heard (heard_on st
       noted_free setup line moment (record station { post = record station.post { entity = unwrap_or agent station.post.entity; pending = None; restart = Serving } })
       (answered station.line moment) orders.below refl refl (notifies_once.answering station.line moment)
 
-responded_closed : (setup : Setup) (line moment : ℕ) (response : Response) (station : Station) → Orders false line station → Orders false line (responded_on setup line moment response station).station
+responded_closed : (setup : Setup) (line moment : ℕ) (response : Response) (station : Station) → Orders false line station → Orders false line (responded_on setup line moment response station).value
 unfolding responded_on
 responded_closed setup line moment response station orders =
     let nothing : heard_on station.post response ≡ Nothing = ap (λ (p : Option InFlight). heard_by p station.post.restart response) orders.order.pending in
-    subst (λ (heard : Heard). Orders false line (responded_as heard setup line moment response station).station) (sym nothing) orders
+    subst (λ (heard : Heard). Orders false line (responded_as heard setup line moment response station).value) (sym nothing) orders
 
 responded_orders : (setup : Setup) (serving : Bool) (line moment : ℕ) (response : Response) (station : Station) → Orders serving line station
-    → Orders serving line (responded_on setup line moment response station).station
+    → Orders serving line (responded_on setup line moment response station).value
 responded_orders setup false line moment response station orders = responded_closed setup line moment response station orders
 responded_orders setup true line moment response station orders = responded_open setup line moment response station orders
 
-redirected_orders : (agent : Entity) (line : ℕ) (station : Station) → Orders false line station → Orders false line (redirected_on agent line station).station
+redirected_orders : (agent : Entity) (line : ℕ) (station : Station) → Orders false line station → Orders false line (redirected_on agent line station).value
 unfolding redirected_on
 redirected_orders agent line station orders =
     record { order = record { restart = orders.order.restart; pending = orders.order.pending; state = orders.order.state }; below = orders.below }
 
-opened_orders : (setup : Setup) (agent : Option Entity) (line moment : ℕ) (station : Station) → Orders false line station → Orders true line (opened_on agent setup moment line station).station
+opened_orders : (setup : Setup) (agent : Option Entity) (line moment : ℕ) (station : Station) → Orders false line station → Orders true line (opened_on agent setup moment line station).value
 unfolding opened_on
 opened_orders setup agent line moment station orders =
     noted_free setup line moment (with_entity agent station) (opened station.line moment) orders.below orders.order.restart orders.order.pending (notifies_once.serving station.line moment)
@@ -421,29 +422,29 @@ own_put_off (Waiting until) response moment None order = order
 own_put_off Announced response moment None order = absurd (none-some order.message order.flies)
 own_put_off Serving response moment None order = order
 
-own_happened_orders : (setup : Setup) (due : StationDue) (moment : ℕ) (own : Own) → OwnOrders own → OwnOrders (own_happened due setup moment own).own
+own_happened_orders : (setup : Setup) (due : StationDue) (moment : ℕ) (own : Own) → OwnOrders own → OwnOrders (own_happened due setup moment own).value
 unfolding own_happened announced
 own_happened_orders setup (OfLine due) moment own orders = orders
 own_happened_orders setup Resend moment own orders = by_pending own.post.pending orders.order where
   by_repeat : (message : InFlight) (repeat : Repeat) → OwnInOrderBy own.post.restart (Some message)
-      → OwnOrders (own_posted own (repeated_as repeat setup 0 moment own.post message)).own
+      → OwnOrders (own_posted own (repeated_as repeat setup 0 moment own.post message)).value
   by_repeat message SentAgain order =
       record { order = own_sent_in_order own.post.restart message (repeated message moment) (repeated_same message moment).id order; below = orders.below }
   by_repeat message GivenUp order = record { order = refl; below = orders.below }
 
-  by_pending : (pending : Option InFlight) → OwnInOrderBy own.post.restart pending → OwnOrders (own_posted own (resent_by pending setup 0 moment own.post)).own
+  by_pending : (pending : Option InFlight) → OwnInOrderBy own.post.restart pending → OwnOrders (own_posted own (resent_by pending setup 0 moment own.post)).value
   by_pending None order = orders
   by_pending (Some message) order = by_repeat message (repeat_of message moment) order
 own_happened_orders setup Announce moment own orders = by_restart own.post.restart where
-  by_restart : (restart : Restart) → OwnOrders (own_posted own (announced_by restart setup 0 moment own.post)).own
+  by_restart : (restart : Restart) → OwnOrders (own_posted own (announced_by restart setup 0 moment own.post)).value
   by_restart (Waiting until) = record { order = begins_with 0 own.post.number _ _ moment orders.below; below = next_below 0 own.post.number orders.below }
   by_restart Announced = orders
   by_restart Serving = orders
 
-own_responded_orders : (setup : Setup) (moment : ℕ) (response : Response) (own : Own) → OwnOrders own → OwnOrders (own_responded setup moment response own).own
+own_responded_orders : (setup : Setup) (moment : ℕ) (response : Response) (own : Own) → OwnOrders own → OwnOrders (own_responded setup moment response own).value
 unfolding own_responded replied announced
 own_responded_orders setup moment response own orders = by_heard (heard_on own.post response) where
-  by_heard : (heard : Heard) → OwnOrders (own_posted own (replied heard setup 0 moment response own.post)).own
+  by_heard : (heard : Heard) → OwnOrders (own_posted own (replied heard setup 0 moment response own.post)).value
   by_heard Nothing = orders
   by_heard PutOff = record { order = own_put_off own.post.restart response moment own.post.pending orders.order; below = orders.below }
   by_heard (Redirected agent) = record { order = begins_with 0 own.post.number _ _ moment orders.below; below = next_below 0 own.post.number orders.below }
@@ -468,20 +469,20 @@ opening_orders setup = record {
 pub all_order : (setup : Setup) (events : List GatewayEvent) → Holds Orders OwnOrders (machine_after setup (opening setup) events).endpoints
 all_order setup events = events_on_all setup Orders OwnOrders Any (ordering setup) (own_ordering setup) (opening setup) events (opening_orders setup)
 
-pub orders_on : (setup : Setup) (m : Machine) (event : GatewayEvent) → Holds Orders OwnOrders m.endpoints → Holds Orders OwnOrders (effect setup m event).machine.endpoints
+pub orders_on : (setup : Setup) (m : Machine) (event : GatewayEvent) → Holds Orders OwnOrders m.endpoints → Holds Orders OwnOrders (effect setup m event).value.endpoints
 orders_on setup m event all = event_on_all setup Orders OwnOrders Any (ordering setup) (own_ordering setup) m event all
 
-pub orders_happened : (setup : Setup) (endpoints : Endpoints) (item : DueItem) → Holds Orders OwnOrders endpoints → Holds Orders OwnOrders (happened setup endpoints item).endpoints
+pub orders_happened : (setup : Setup) (endpoints : Endpoints) (item : DueItem) → Holds Orders OwnOrders endpoints → Holds Orders OwnOrders (happened setup endpoints item).value
 orders_happened setup endpoints item all = (happened_goes setup Orders OwnOrders Any (ordering setup) (own_ordering setup) endpoints item all).holds
 
-pub orders_acted : (setup : Setup) (endpoints : Endpoints) (line moment : ℕ) (act : Act) → Holds Orders OwnOrders endpoints → Holds Orders OwnOrders (acted setup endpoints line moment act).endpoints
+pub orders_acted : (setup : Setup) (endpoints : Endpoints) (line moment : ℕ) (act : Act) → Holds Orders OwnOrders endpoints → Holds Orders OwnOrders (acted setup endpoints line moment act).value
 orders_acted setup endpoints line moment act all = (acted_goes setup Orders OwnOrders Any (ordering setup) (own_ordering setup) endpoints line moment act all).holds
 
-pub orders_passed : (setup : Setup) (endpoints : Endpoints) (moment : ℕ) → Holds Orders OwnOrders endpoints → Holds Orders OwnOrders (pass setup endpoints moment).endpoints
+pub orders_passed : (setup : Setup) (endpoints : Endpoints) (moment : ℕ) → Holds Orders OwnOrders endpoints → Holds Orders OwnOrders (pass setup endpoints moment).value
 orders_passed setup endpoints moment all = (pass_goes setup Orders OwnOrders Any (ordering setup) (own_ordering setup) endpoints moment all).holds
 
 pub orders_handled : (setup : Setup) (m : Machine) (source : SocketAddrV4) (outcome : Outcome) → Holds Orders OwnOrders m.endpoints
-    → Holds Orders OwnOrders (handled setup m source outcome).machine.endpoints
+    → Holds Orders OwnOrders (handled setup m source outcome).value.endpoints
 orders_handled setup m source outcome all = handled_on_all setup Orders OwnOrders Any (ordering setup) (own_ordering setup) m source outcome all
 
 pub in_order : (endpoints : Endpoints) → Holds Orders OwnOrders endpoints → AreInOrder endpoints
@@ -557,8 +558,8 @@ no_command_when_due setup due line moment station message waits pending =
     (fired_waits station.line due moment (it_waits line station message waits pending)).silent
 
 -- a response that isn't the answer leaves the message in flight
-abbrev LeavesIt : InFlight → PostTurn → Type 0
-LeavesIt message turn = (turn.sent ≡ []) × IfSome turn.post.pending (IsSame message)
+abbrev LeavesIt : InFlight → Effect Post → Type 0
+LeavesIt message turn = (turn.sent ≡ []) × IfSome turn.value.pending (IsSame message)
 
 abbrev IsPutOff : Heard → Type 0
 IsPutOff Nothing = Unit {0}
@@ -585,12 +586,12 @@ it_is_put_off response moment post message pending =
 
 pub no_command_at_another_response : (setup : Setup) (line moment : ℕ) (response : Response) (station : Station) (message : InFlight) → station.post.pending ≡ Some message
     → reply_of message response.id response.code ≢ replies.Answered
-    → ((responded_on setup line moment response station).sent ≡ []) × IfSome (responded_on setup line moment response station).station.post.pending (IsSame message)
+    → ((responded_on setup line moment response station).sent ≡ []) × IfSome (responded_on setup line moment response station).value.post.pending (IsSame message)
 unfolding responded_on replied
 no_command_at_another_response setup line moment response station message pending other =
     by_heard (heard_on station.post response) (other_is_no_answer station.post response message pending other) where
       by_heard : (heard : Heard) → IsPutOff heard
-          → ((responded_as heard setup line moment response station).sent ≡ []) × IfSome (responded_as heard setup line moment response station).station.post.pending (IsSame message)
+          → ((responded_as heard setup line moment response station).sent ≡ []) × IfSome (responded_as heard setup line moment response station).value.post.pending (IsSame message)
       by_heard Nothing is = (refl, it_stays station.post message pending)
       by_heard PutOff is = (refl, it_is_put_off response moment station.post message pending)
       by_heard (Redirected agent) is = absurd is
@@ -598,12 +599,12 @@ no_command_at_another_response setup line moment response station message pendin
 
 pub no_own_command_at_another_response : (setup : Setup) (moment : ℕ) (response : Response) (own : Own) (message : InFlight) → own.post.pending ≡ Some message
     → reply_of message response.id response.code ≢ replies.Answered
-    → ((own_responded setup moment response own).sent ≡ []) × IfSome (own_responded setup moment response own).own.post.pending (IsSame message)
+    → ((own_responded setup moment response own).sent ≡ []) × IfSome (own_responded setup moment response own).value.post.pending (IsSame message)
 unfolding own_responded replied
 no_own_command_at_another_response setup moment response own message pending other =
     by_heard (heard_on own.post response) (other_is_no_answer own.post response message pending other) where
       by_heard : (heard : Heard) → IsPutOff heard
-          → ((own_posted own (replied heard setup 0 moment response own.post)).sent ≡ []) × IfSome (own_posted own (replied heard setup 0 moment response own.post)).own.post.pending (IsSame message)
+          → ((own_posted own (replied heard setup 0 moment response own.post)).sent ≡ []) × IfSome (own_posted own (replied heard setup 0 moment response own.post)).value.post.pending (IsSame message)
       by_heard Nothing is = (refl, it_stays own.post message pending)
       by_heard PutOff is = (refl, it_is_put_off response moment own.post message pending)
       by_heard (Redirected agent) is = absurd is
@@ -618,10 +619,10 @@ post_carries setup line moment post message pending =
       by_repeat SentAgain = All-cons (Carries line message) _ [] (record { to = refl; text = refl; owner = refl }) (All-nil (Carries line message))
       by_repeat GivenUp = All-nil (Carries line message)
 
-post_keeps : (setup : Setup) (line moment : ℕ) (post : Post) (message : InFlight) → post.pending ≡ Some message → IfSome (resent_on setup line moment post).post.pending (IsSame message)
+post_keeps : (setup : Setup) (line moment : ℕ) (post : Post) (message : InFlight) → post.pending ≡ Some message → IfSome (resent_on setup line moment post).value.pending (IsSame message)
 post_keeps setup line moment post message pending =
-    subst (λ (p : Option InFlight). IfSome (resent_by p setup line moment post).post.pending (IsSame message)) (sym pending) (by_repeat (repeat_of message moment)) where
-      by_repeat : (repeat : Repeat) → IfSome (repeated_as repeat setup line moment post message).post.pending (IsSame message)
+    subst (λ (p : Option InFlight). IfSome (resent_by p setup line moment post).value.pending (IsSame message)) (sym pending) (by_repeat (repeat_of message moment)) where
+      by_repeat : (repeat : Repeat) → IfSome (repeated_as repeat setup line moment post message).value.pending (IsSame message)
       by_repeat SentAgain = repeated_same message moment
       by_repeat GivenUp = tt
 
@@ -631,7 +632,7 @@ unfolding happened_on
 repeat_carries setup line moment station message pending = post_carries setup line moment station.post message pending
 
 pub repeat_keeps : (setup : Setup) (line moment : ℕ) (station : Station) (message : InFlight) → station.post.pending ≡ Some message
-    → IfSome (happened_on Resend setup line moment station).station.post.pending (IsSame message)
+    → IfSome (happened_on Resend setup line moment station).value.post.pending (IsSame message)
 unfolding happened_on
 repeat_keeps setup line moment station message pending = post_keeps setup line moment station.post message pending
 
@@ -641,7 +642,7 @@ unfolding own_happened
 own_carries setup moment own message pending = post_carries setup 0 moment own.post message pending
 
 pub own_keeps : (setup : Setup) (moment : ℕ) (own : Own) (message : InFlight) → own.post.pending ≡ Some message
-    → IfSome (own_happened Resend setup moment own).own.post.pending (IsSame message)
+    → IfSome (own_happened Resend setup moment own).value.post.pending (IsSame message)
 unfolding own_happened
 own_keeps setup moment own message pending = post_keeps setup 0 moment own.post message pending
 
@@ -663,7 +664,7 @@ is_own setup endpoints moment response none =
     ap (λ (b : Bool). if b then own_heard setup endpoints moment response else on_line endpoints (line_of_id response.id) (responded_on setup (line_of_id response.id) moment response))
     ((Decides-eqb (line_of_id response.id) 0).1 none)
 
-pub line_stays : (endpoints : Endpoints) (line other : ℕ) (turn : Station → Turn) → other ≢ line → station_at (on_line endpoints line turn).endpoints other ≡ station_at endpoints other
+pub line_stays : (endpoints : Endpoints) (line other : ℕ) (turn : Station → Effect Station) → other ≢ line → station_at (on_line endpoints line turn).value other ≡ station_at endpoints other
 unfolding on_line
 line_stays endpoints line other turn apart = by_station (station_at endpoints line) refl where
   by_zero : (station : Station) (b c : Bool) → (line == 0) ≡ b → (other == 0) ≡ c → (if b then None else slice_get endpoints.stations (line - 1)) ≡ Some station
@@ -675,27 +676,27 @@ line_stays endpoints line other turn apart = by_station (station_at endpoints li
       let two : other ≢ 0 = λ same. absurd (let b : (other == 0) ≡ true = (Decides-eqb other 0).1 same in cc) in
       other_station endpoints.stations (line - 1) (other - 1) now (λ same. apart (omega (arith, same, one, two)))
 
-  by_station : (found : Option Station) → station_at endpoints line ≡ found → station_at (turned_at found endpoints line turn).endpoints other ≡ station_at endpoints other
+  by_station : (found : Option Station) → station_at endpoints line ≡ found → station_at (turned_at found endpoints line turn).value other ≡ station_at endpoints other
   by_station None e = refl
   by_station (Some station) e = by_zero station (line == 0) (other == 0) refl refl e _
 
 pub others_stay : (setup : Setup) (endpoints : Endpoints) (moment : ℕ) (response : Response) (other : ℕ) → line_of_id response.id ≢ 0 → other ≢ line_of_id response.id
-    → station_at (responded setup endpoints moment response).endpoints other ≡ station_at endpoints other
+    → station_at (responded setup endpoints moment response).value other ≡ station_at endpoints other
 others_stay setup endpoints moment response other some apart =
-    subst (λ (told : Told). station_at told.endpoints other ≡ station_at endpoints other) (sym (is_of_line setup endpoints moment response some))
+    subst (λ (told : Effect Endpoints). station_at told.value other ≡ station_at endpoints other) (sym (is_of_line setup endpoints moment response some))
     (line_stays endpoints (line_of_id response.id) other (responded_on setup (line_of_id response.id) moment response) apart)
 
-pub own_stays_at : (endpoints : Endpoints) (line : ℕ) (turn : Station → Turn) → (on_line endpoints line turn).endpoints.own ≡ endpoints.own
+pub own_stays_at : (endpoints : Endpoints) (line : ℕ) (turn : Station → Effect Station) → (on_line endpoints line turn).value.own ≡ endpoints.own
 unfolding on_line
 own_stays_at endpoints line turn = by_station (station_at endpoints line) where
-  by_station : (found : Option Station) → (turned_at found endpoints line turn).endpoints.own ≡ endpoints.own
+  by_station : (found : Option Station) → (turned_at found endpoints line turn).value.own ≡ endpoints.own
   by_station None = refl
   by_station (Some station) = refl
 
 pub own_stays : (setup : Setup) (endpoints : Endpoints) (moment : ℕ) (response : Response) → line_of_id response.id ≢ 0
-    → (responded setup endpoints moment response).endpoints.own ≡ endpoints.own
+    → (responded setup endpoints moment response).value.own ≡ endpoints.own
 own_stays setup endpoints moment response some =
-    subst (λ (told : Told). told.endpoints.own ≡ endpoints.own) (sym (is_of_line setup endpoints moment response some))
+    subst (λ (told : Effect Endpoints). told.value.own ≡ endpoints.own) (sym (is_of_line setup endpoints moment response some))
     (own_stays_at endpoints (line_of_id response.id) (responded_on setup (line_of_id response.id) moment response))
 
 -- a response under another id is to nothing that is in flight
@@ -714,7 +715,7 @@ no_reply post response stranger = by_pending post.pending stranger where
   by_pending (Some flight) apart = ap (λ (reply : Reply). heard_of post.restart reply response.code response.entity) (strange flight apart)
 
 pub a_stranger_does_nothing : (setup : Setup) (endpoints : Endpoints) (moment : ℕ) (response : Response) (station : Station) → station_at endpoints (line_of_id response.id) ≡ Some station
-    → IfSome station.post.pending (λ message. message.id ≢ response.id) → responded setup endpoints moment response ≡ told endpoints []
+    → IfSome station.post.pending (λ message. message.id ≢ response.id) → responded setup endpoints moment response ≡ silently endpoints
 unfolding responded_on
 a_stranger_does_nothing setup endpoints moment response station at stranger =
     let some : line_of_id response.id ≢ 0 = λ none. absurd (let yes : (line_of_id response.id == 0) ≡ true = (Decides-eqb (line_of_id response.id) 0).1 none in
@@ -725,29 +726,27 @@ a_stranger_does_nothing setup endpoints moment response station at stranger =
 
 -- what is heard by the gateway itself
 pub nothing_heard : (setup : Setup) (endpoints : Endpoints) (moment : ℕ) (response : Response) → line_of_id response.id ≡ 0 → heard_on endpoints.own.post response ≡ Nothing
-    → responded setup endpoints moment response ≡ told endpoints []
+    → responded setup endpoints moment response ≡ silently endpoints
 unfolding own_responded replied
 nothing_heard setup endpoints moment response none nothing =
     is_own setup endpoints moment response none
-    ∙ ap (λ (heard : Heard). afterwards (told (with_own endpoints (own_posted endpoints.own (replied heard setup 0 moment response endpoints.own.post)).own)
-    (own_posted endpoints.own (replied heard setup 0 moment response endpoints.own.post)).sent) (λ next. lines_told heard setup moment next)) nothing
+    ∙ ap (λ (heard : Heard). afterwards (effect_map (with_own endpoints) (own_posted endpoints.own (replied heard setup 0 moment response endpoints.own.post))) (λ next. lines_told heard setup moment next)) nothing
 
 pub a_stranger_to_itself : (setup : Setup) (endpoints : Endpoints) (moment : ℕ) (response : Response) → line_of_id response.id ≡ 0
-    → IfSome endpoints.own.post.pending (λ message. message.id ≢ response.id) → responded setup endpoints moment response ≡ told endpoints []
+    → IfSome endpoints.own.post.pending (λ message. message.id ≢ response.id) → responded setup endpoints moment response ≡ silently endpoints
 a_stranger_to_itself setup endpoints moment response none stranger =
     nothing_heard setup endpoints moment response none (no_reply endpoints.own.post response stranger)
 
 pub lines_keep : (setup : Setup) (endpoints : Endpoints) (moment : ℕ) (response : Response) → line_of_id response.id ≡ 0 → heard_on endpoints.own.post response ≡ PutOff
-    → (responded setup endpoints moment response).endpoints.stations ≡ endpoints.stations
+    → (responded setup endpoints moment response).value.stations ≡ endpoints.stations
 unfolding own_responded replied
 lines_keep setup endpoints moment response none is =
-    ap (λ (t : Told). t.endpoints.stations) (is_own setup endpoints moment response none
-    ∙ ap (λ (heard : Heard). afterwards (told (with_own endpoints (own_posted endpoints.own (replied heard setup 0 moment response endpoints.own.post)).own)
-    (own_posted endpoints.own (replied heard setup 0 moment response endpoints.own.post)).sent) (λ next. lines_told heard setup moment next)) is)
+    ap (λ (t : Effect Endpoints). t.value.stations) (is_own setup endpoints moment response none
+    ∙ ap (λ (heard : Heard). afterwards (effect_map (with_own endpoints) (own_posted endpoints.own (replied heard setup 0 moment response endpoints.own.post))) (λ next. lines_told heard setup moment next)) is)
 
 -- once it serves nothing is heard any more
 pub a_served_gateway_hears_nothing : (setup : Setup) (endpoints : Endpoints) (moment : ℕ) (response : Response) → line_of_id response.id ≡ 0 → AreInOrder endpoints → serves endpoints ≡ true
-    → responded setup endpoints moment response ≡ told endpoints []
+    → responded setup endpoints moment response ≡ silently endpoints
 a_served_gateway_hears_nothing setup endpoints moment response none order served =
     nothing_heard setup endpoints moment response none
     (ap (λ (p : Option InFlight). heard_by p endpoints.own.post.restart response) (own_free endpoints.own order.own served))

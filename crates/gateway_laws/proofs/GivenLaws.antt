@@ -29,6 +29,7 @@ use Rattle.plain_machine.specs.declared.own.Own.{Own}
 use Rattle.plain_machine.specs.declared.response.Response.{Response}
 use Rattle.plain_machine.specs.declared.setup.Setup.{Setup}
 use Rattle.plain_machine.specs.declared.station.Station.{Station}
+use Rattle.plain_machine.specs.Effect.{Effect}
 use Rattle.plain_machine.specs.Acting.{acted_on, acted}
 use Rattle.plain_machine.specs.Answering.{handled, took_all}
 use Rattle.plain_machine.specs.Calls.{standing_at, NumbersGoOn}
@@ -37,8 +38,7 @@ use Rattle.plain_machine.specs.Done.{Done}
 use Rattle.plain_machine.specs.Event.{GatewayEvent}
 use Rattle.plain_machine.specs.Falling.{due_by, happened_on, own_happened, happened, go_on, passed, room, pass}
 use Rattle.plain_machine.specs.Happening.{effect}
-use Rattle.plain_machine.specs.Machine.{Endpoints, Machine, OwnTurn, Told, station_at, on_line, on_lines, on_own, on_either}
-use Rattle.plain_machine.specs.Notifying.{Turn}
+use Rattle.plain_machine.specs.Machine.{Endpoints, Machine, station_at, on_line, on_lines, on_own, on_either}
 use Rattle.plain_machine.specs.Announcing.{heard_on}
 use Rattle.plain_machine.specs.Posting.{line_of_id}
 use Rattle.plain_machine.specs.Requesting.{encoding_with, connected_on, refusal_by, refused_by, lines_meant, deed_on, shown_by, unless_refused, deed_done, line_with_place, done_there, done_for}
@@ -55,37 +55,37 @@ connections_in found = option_map (λ (station : Station). station.connections) 
 
 -- What leaves connections as they are
 
-on_line_same : (endpoints : Endpoints) (line other : ℕ) (turn : Station → Turn) → ((station : Station) → (turn station).station.connections ≡ station.connections)
-    → standing_at (on_line endpoints line turn).endpoints other ≡ standing_at endpoints other
+on_line_same : (endpoints : Endpoints) (line other : ℕ) (turn : Station → Effect Station) → ((station : Station) → (turn station).value.connections ≡ station.connections)
+    → standing_at (on_line endpoints line turn).value other ≡ standing_at endpoints other
 on_line_same endpoints line other turn same = by_test (other == line) refl where
-  by_station : (found : Option Station) → station_at endpoints line ≡ found → standing_at (on_line endpoints line turn).endpoints line ≡ standing_at endpoints line
-  by_station None at = ap (λ (t : Told). standing_at t.endpoints line) (on_nothing endpoints line turn at)
+  by_station : (found : Option Station) → station_at endpoints line ≡ found → standing_at (on_line endpoints line turn).value line ≡ standing_at endpoints line
+  by_station None at = ap (λ (t : Effect Endpoints). standing_at t.value line) (on_nothing endpoints line turn at)
   by_station (Some station) at = ap connections_in (turned_here endpoints line station turn at) ∙ ap Some (same station) ∙ sym (ap connections_in at)
 
-  by_test : (b : Bool) → (other == line) ≡ b → standing_at (on_line endpoints line turn).endpoints other ≡ standing_at endpoints other
+  by_test : (b : Bool) → (other == line) ≡ b → standing_at (on_line endpoints line turn).value other ≡ standing_at endpoints other
   by_test true e =
-      subst (λ (x : ℕ). standing_at (on_line endpoints line turn).endpoints x ≡ standing_at endpoints x) (sym ((Decides-eqb other line).0 e)) (by_station (station_at endpoints line) refl)
+      subst (λ (x : ℕ). standing_at (on_line endpoints line turn).value x ≡ standing_at endpoints x) (sym ((Decides-eqb other line).0 e)) (by_station (station_at endpoints line) refl)
   by_test false e = ap connections_in (line_stays endpoints line other turn (λ same. (let t : (other == line) ≡ true = (Decides-eqb other line).1 same in absurd cc)))
 
-either_same : (endpoints : Endpoints) (line other : ℕ) (own_turn : Own → OwnTurn) (turn : Station → Turn) → ((station : Station) → (turn station).station.connections ≡ station.connections)
-    → standing_at (on_either endpoints line own_turn turn).endpoints other ≡ standing_at endpoints other
+either_same : (endpoints : Endpoints) (line other : ℕ) (own_turn : Own → Effect Own) (turn : Station → Effect Station) → ((station : Station) → (turn station).value.connections ≡ station.connections)
+    → standing_at (on_either endpoints line own_turn turn).value other ≡ standing_at endpoints other
 either_same endpoints line other own_turn turn same = by_test (line == 0) where
-  by_test : (b : Bool) → standing_at (if b then on_own endpoints own_turn else on_line endpoints line turn).endpoints other ≡ standing_at endpoints other
+  by_test : (b : Bool) → standing_at (if b then on_own endpoints own_turn else on_line endpoints line turn).value other ≡ standing_at endpoints other
   by_test true = refl
   by_test false = on_line_same endpoints line other turn same
 
-several_same : (lines : List ℕ) (endpoints : Endpoints) (other : ℕ) (turn : ℕ → Station → Turn) → ((line : ℕ) (station : Station) → (turn line station).station.connections ≡ station.connections)
-    → standing_at (on_lines lines endpoints turn).endpoints other ≡ standing_at endpoints other
+several_same : (lines : List ℕ) (endpoints : Endpoints) (other : ℕ) (turn : ℕ → Station → Effect Station) → ((line : ℕ) (station : Station) → (turn line station).value.connections ≡ station.connections)
+    → standing_at (on_lines lines endpoints turn).value other ≡ standing_at endpoints other
 unfolding on_lines
 several_same [] endpoints other turn same = refl
 several_same (line ∷ lines) endpoints other turn same =
-    several_same lines (on_line endpoints line (turn line)).endpoints other turn same ∙ on_line_same endpoints line other (turn line) (same line)
+    several_same lines (on_line endpoints line (turn line)).value other turn same ∙ on_line_same endpoints line other (turn line) (same line)
 
-pub act_leaves : (setup : Setup) (endpoints : Endpoints) (line moment other : ℕ) (act : Act) → standing_at (acted setup endpoints line moment act).endpoints other ≡ standing_at endpoints other
+pub act_leaves : (setup : Setup) (endpoints : Endpoints) (line moment other : ℕ) (act : Act) → standing_at (acted setup endpoints line moment act).value other ≡ standing_at endpoints other
 act_leaves setup endpoints line moment other act =
     on_line_same endpoints line other (acted_on setup line moment act) (λ station. noted_same setup line moment station (phoned station.line act moment))
 
-told_leaves : (heard : Heard) (setup : Setup) (moment : ℕ) (endpoints : Endpoints) (other : ℕ) → standing_at (lines_told heard setup moment endpoints).endpoints other ≡ standing_at endpoints other
+told_leaves : (heard : Heard) (setup : Setup) (moment : ℕ) (endpoints : Endpoints) (other : ℕ) → standing_at (lines_told heard setup moment endpoints).value other ≡ standing_at endpoints other
 told_leaves Nothing setup moment endpoints other = refl
 told_leaves PutOff setup moment endpoints other = refl
 told_leaves (Redirected agent) setup moment endpoints other =
@@ -94,42 +94,42 @@ told_leaves (Answered agent) setup moment endpoints other =
     several_same (lines_meant endpoints All) endpoints other (opened_on agent setup moment) (λ line station. opened_same setup agent line moment station)
 
 pub response_leaves : (setup : Setup) (endpoints : Endpoints) (moment : ℕ) (response : Response) (other : ℕ)
-    → standing_at (responded setup endpoints moment response).endpoints other ≡ standing_at endpoints other
+    → standing_at (responded setup endpoints moment response).value other ≡ standing_at endpoints other
 response_leaves setup endpoints moment response other = by_test (line_of_id response.id == 0) where
   by_test : (b : Bool) → standing_at (if b then own_heard setup endpoints moment response
-      else on_line endpoints (line_of_id response.id) (responded_on setup (line_of_id response.id) moment response)).endpoints other ≡ standing_at endpoints other
-  by_test true = told_leaves (heard_on endpoints.own.post response) setup moment (on_own endpoints (own_responded setup moment response)).endpoints other
+      else on_line endpoints (line_of_id response.id) (responded_on setup (line_of_id response.id) moment response)).value other ≡ standing_at endpoints other
+  by_test true = told_leaves (heard_on endpoints.own.post response) setup moment (on_own endpoints (own_responded setup moment response)).value other
   by_test false = on_line_same endpoints (line_of_id response.id) other (responded_on setup (line_of_id response.id) moment response)
       (λ station. responded_same setup (line_of_id response.id) moment response station)
 
-pub due_leaves : (setup : Setup) (endpoints : Endpoints) (item : DueItem) (other : ℕ) → standing_at (happened setup endpoints item).endpoints other ≡ standing_at endpoints other
+pub due_leaves : (setup : Setup) (endpoints : Endpoints) (item : DueItem) (other : ℕ) → standing_at (happened setup endpoints item).value other ≡ standing_at endpoints other
 due_leaves setup endpoints item other =
     either_same endpoints item.line other (own_happened item.due setup item.moment) (happened_on item.due setup item.line item.moment)
     (λ station. happened_same setup item.due item.line item.moment station)
 
-passed_leaves : (n : ℕ) (setup : Setup) (endpoints : Endpoints) (moment other : ℕ) → standing_at (passed n setup endpoints moment).endpoints other ≡ standing_at endpoints other
+passed_leaves : (n : ℕ) (setup : Setup) (endpoints : Endpoints) (moment other : ℕ) → standing_at (passed n setup endpoints moment).value other ≡ standing_at endpoints other
 unfolding passed
 passed_leaves zero setup endpoints moment other = refl
 passed_leaves (suc n) setup endpoints moment other =
-    by_due (due_by endpoints moment) (λ item. passed_leaves n setup (happened setup endpoints item).endpoints moment other) where
+    by_due (due_by endpoints moment) (λ item. passed_leaves n setup (happened setup endpoints item).value moment other) where
       by_due : (found : Option DueItem)
-          → ((item : DueItem) → standing_at (passed n setup (happened setup endpoints item).endpoints moment).endpoints other ≡ standing_at (happened setup endpoints item).endpoints other)
-          → standing_at (go_on found setup endpoints (λ next. passed n setup next moment)).endpoints other ≡ standing_at endpoints other
+          → ((item : DueItem) → standing_at (passed n setup (happened setup endpoints item).value moment).value other ≡ standing_at (happened setup endpoints item).value other)
+          → standing_at (go_on found setup endpoints (λ next. passed n setup next moment)).value other ≡ standing_at endpoints other
       by_due None rest = refl
       by_due (Some item) rest = rest item ∙ due_leaves setup endpoints item other
 
-pub pass_leaves : (setup : Setup) (endpoints : Endpoints) (moment other : ℕ) → standing_at (pass setup endpoints moment).endpoints other ≡ standing_at endpoints other
+pub pass_leaves : (setup : Setup) (endpoints : Endpoints) (moment other : ℕ) → standing_at (pass setup endpoints moment).value other ≡ standing_at endpoints other
 unfolding pass
 pass_leaves setup endpoints moment other = passed_leaves (room endpoints moment) setup endpoints moment other
 
-kept_by : (setup : Setup) (deed : LineDeed) (moment line : ℕ) (station : Station) → deed.connections ≡ Keep → (deed_on setup deed moment line station).station.connections ≡ station.connections
+kept_by : (setup : Setup) (deed : LineDeed) (moment line : ℕ) (station : Station) → deed.connections ≡ Keep → (deed_on setup deed moment line station).value.connections ≡ station.connections
 unfolding after
 kept_by setup deed moment line station is =
     deed_connections setup deed moment line station ∙ ap (λ (d : ConnectionDeed). after station.connections (happenings d (encoding_with deed station))) is
 
 -- what a deed leaves that isn't one with connections
 abbrev Leaves : Endpoints → ℕ → Done → Type 0
-Leaves endpoints other done = standing_at done.told.endpoints other ≡ standing_at endpoints other
+Leaves endpoints other done = standing_at done.told.value other ≡ standing_at endpoints other
 
 deed_leaves_on : (setup : Setup) (endpoints : Endpoints) (lines : Target) (more : List Param) (deed : LineDeed) (moment other : ℕ) → deed.connections ≡ Keep
     → Leaves endpoints other (deed_done setup endpoints lines more deed moment)
@@ -140,7 +140,7 @@ deed_leaves_on setup endpoints lines more deed moment other is =
       by_refusal None done leaves = leaves
 
 pub deed_leaves : (setup : Setup) (endpoints : Endpoints) (target : Target) (deed : LineDeed) (moment other : ℕ) → deed.connections ≡ Keep
-    → standing_at (done_for setup endpoints target deed moment).told.endpoints other ≡ standing_at endpoints other
+    → standing_at (done_for setup endpoints target deed moment).told.value other ≡ standing_at endpoints other
 deed_leaves setup endpoints (One line) deed moment other is = deed_leaves_on setup endpoints (One line) [] deed moment other is
 deed_leaves setup endpoints All deed moment other is = deed_leaves_on setup endpoints All [] deed moment other is
 deed_leaves setup endpoints Any deed moment other is = by_line (line_with_place endpoints) where
@@ -165,7 +165,7 @@ created_given encoding creation standing request fine = by_made (created encodin
 
 pub number_given : (setup : Setup) (deed : LineDeed) (creation : Creation) (moment line : ℕ) (station : Station) → deed.connections ≡ Create creation → refusal_by deed station ≡ None
     → ((shown_by (connected_on deed station)).params ≡ id_param (station.connections.last + 1) ∷ [])
-    × ((deed_on setup deed moment line station).station.connections.last ≡ station.connections.last + 1)
+    × ((deed_on setup deed moment line station).value.connections.last ≡ station.connections.last + 1)
 number_given setup deed creation moment line station is fine =
     let encoding : Encoding = encoding_with deed station in
     let was : Standing = station.connections in
@@ -233,34 +233,34 @@ numbers_go_on were are as_many holds line was at = by_station (station_at were l
         subst (λ (s : Standing). s.last ≤ here.0.connections.last) same (of_line (OfConnections (NoLess were) false) are line here.0 holds.stations here.1 station before),
       )
 
-pub act_goes_on : (setup : Setup) (endpoints : Endpoints) (line moment : ℕ) (act : Act) → NumbersGoOn endpoints (acted setup endpoints line moment act).endpoints
+pub act_goes_on : (setup : Setup) (endpoints : Endpoints) (line moment : ℕ) (act : Act) → NumbersGoOn endpoints (acted setup endpoints line moment act).value
 act_goes_on setup endpoints line moment act =
-    numbers_go_on endpoints (acted setup endpoints line moment act).endpoints (turned_lines endpoints line (acted_on setup line moment act))
+    numbers_go_on endpoints (acted setup endpoints line moment act).value (turned_lines endpoints line (acted_on setup line moment act))
     (acted_goes setup _ AnyOwn AnySent (last_turns setup endpoints) (any_own_turns setup _) endpoints line moment act (begins_last endpoints)).holds
 
-pub due_goes_on : (setup : Setup) (endpoints : Endpoints) (item : DueItem) → NumbersGoOn endpoints (happened setup endpoints item).endpoints
+pub due_goes_on : (setup : Setup) (endpoints : Endpoints) (item : DueItem) → NumbersGoOn endpoints (happened setup endpoints item).value
 due_goes_on setup endpoints item =
-    numbers_go_on endpoints (happened setup endpoints item).endpoints (happened_lines setup endpoints item)
+    numbers_go_on endpoints (happened setup endpoints item).value (happened_lines setup endpoints item)
     (happened_goes setup _ AnyOwn AnySent (last_turns setup endpoints) (any_own_turns setup _) endpoints item (begins_last endpoints)).holds
 
-pub pass_goes_on : (setup : Setup) (endpoints : Endpoints) (moment : ℕ) → NumbersGoOn endpoints (pass setup endpoints moment).endpoints
+pub pass_goes_on : (setup : Setup) (endpoints : Endpoints) (moment : ℕ) → NumbersGoOn endpoints (pass setup endpoints moment).value
 pass_goes_on setup endpoints moment =
-    numbers_go_on endpoints (pass setup endpoints moment).endpoints (pass_lines setup endpoints moment)
+    numbers_go_on endpoints (pass setup endpoints moment).value (pass_lines setup endpoints moment)
     (pass_goes setup _ AnyOwn AnySent (last_turns setup endpoints) (any_own_turns setup _) endpoints moment (begins_last endpoints)).holds
 
-pub text_goes_on : (setup : Setup) (m : Machine) (source : SocketAddrV4) (outcome : Outcome) → NumbersGoOn m.endpoints (handled setup m source outcome).machine.endpoints
+pub text_goes_on : (setup : Setup) (m : Machine) (source : SocketAddrV4) (outcome : Outcome) → NumbersGoOn m.endpoints (handled setup m source outcome).value.endpoints
 text_goes_on setup m source outcome =
-    numbers_go_on m.endpoints (handled setup m source outcome).machine.endpoints (handled_lines setup m source outcome)
+    numbers_go_on m.endpoints (handled setup m source outcome).value.endpoints (handled_lines setup m source outcome)
     (handled_on_all setup _ AnyOwn AnySent (last_turns setup m.endpoints) (any_own_turns setup _) m source outcome (begins_last m.endpoints))
 
-pub texts_go_on : (setup : Setup) (m : Machine) (source : SocketAddrV4) (texts : List (List ℕ)) → NumbersGoOn m.endpoints (took_all setup m source texts).machine.endpoints
+pub texts_go_on : (setup : Setup) (m : Machine) (source : SocketAddrV4) (texts : List (List ℕ)) → NumbersGoOn m.endpoints (took_all setup m source texts).value.endpoints
 texts_go_on setup m source texts =
-    numbers_go_on m.endpoints (took_all setup m source texts).machine.endpoints (took_lines setup m source texts)
+    numbers_go_on m.endpoints (took_all setup m source texts).value.endpoints (took_lines setup m source texts)
     (took_on_all setup _ AnyOwn AnySent (last_turns setup m.endpoints) (any_own_turns setup _) m source texts (begins_last m.endpoints))
 
-pub event_goes_on : (setup : Setup) (m : Machine) (event : GatewayEvent) → NumbersGoOn m.endpoints (effect setup m event).machine.endpoints
+pub event_goes_on : (setup : Setup) (m : Machine) (event : GatewayEvent) → NumbersGoOn m.endpoints (effect setup m event).value.endpoints
 event_goes_on setup m event =
-    numbers_go_on m.endpoints (effect setup m event).machine.endpoints (effect_lines setup m event)
+    numbers_go_on m.endpoints (effect setup m event).value.endpoints (effect_lines setup m event)
     (event_on_all setup _ AnyOwn AnySent (last_turns setup m.endpoints) (any_own_turns setup _) m event (begins_last m.endpoints))
 
 -- and what doesn't go on so

@@ -39,9 +39,10 @@ use Rattle.command_forms.specs.declared.forms.Target.TheVariants.{One, All as Al
 use Rattle.plain_machine.specs.declared.setup.Setup.{Setup}
 use Rattle.plain_machine.specs.declared.station.Station.{Station}
 use Rattle.transmission.specs.declared.output.OutDatagram.{OutDatagram}
+use Rattle.plain_machine.specs.Effect.{Effect}
 use Rattle.plain_machine.specs.Event.{GatewayEvent, datagram, phone, tick}
 use Rattle.plain_machine.specs.Message.{Sent, of_none, answer as answers, again, acknowledgement, datagram_of, datagrams_of}
-use Rattle.plain_machine.specs.Machine.{serves, Endpoints, Machine, Effect, opening, station_at, numbered}
+use Rattle.plain_machine.specs.Machine.{serves, Endpoints, Machine, opening, station_at, numbered}
 use Rattle.transmission.specs.Texts.{largest_datagram, texts_of}
 use Rattle.transmission.specs.Packing.{messages_in}
 use Rattle.plain_machine.specs.Packing.{put_out}
@@ -341,8 +342,8 @@ again_goes text entries all kept =
     let goes : Goes (slice_index_or (firsts_in entries) kept.0 kept.1).answer = all kept.0 kept.1 kept.2 in
     rw (← kept.4) (rw (← kept.3) goes)
 
-pub record GoesOut (done : Effect) : Type 0 where
-  pub kept : AreKept done.machine.history
+pub record GoesOut (done : Effect Machine) : Type 0 where
+  pub kept : AreKept done.value.history
   pub sent : All IsOut done.sent
 
 one_sent : (one : Sent) → Goes (datagram_of one).bytes → All IsOut (one ∷ [])
@@ -379,7 +380,7 @@ handled_goes setup m source (message (messages.Response code id params body)) fi
       (response_read setup id code params) fits.holds).sent;
 }
 
-pub handled_fits : (setup : Setup) (m : Machine) (source : SocketAddrV4) (outcome : Outcome) → Fits setup m → Fits setup (handled setup m source outcome).machine
+pub handled_fits : (setup : Setup) (m : Machine) (source : SocketAddrV4) (outcome : Outcome) → Fits setup m → Fits setup (handled setup m source outcome).value
 handled_fits setup m source outcome fits = record {
   set_up = fits.set_up;
   lines = handled_lines setup m source outcome ∙ fits.lines;
@@ -393,7 +394,7 @@ unfolding took_all
 texts_go setup m source [] fits all = record { kept = all; sent = All-nil IsOut }
 texts_go setup m source (text ∷ texts) fits all =
     let first = handled_goes setup m source (read_text text) fits all (read_id text) in
-    let rest = texts_go setup (handled setup m source (read_text text)).machine source texts (handled_fits setup m source (read_text text) fits) first.kept in
+    let rest = texts_go setup (handled setup m source (read_text text)).value source texts (handled_fits setup m source (read_text text) fits) first.kept in
     record { kept = rest.kept; sent = All-append IsOut (handled setup m source (read_text text)).sent _ first.sent rest.sent }
 
 pub event_goes : (setup : Setup) (m : Machine) (event : GatewayEvent) → Fits setup m → AreKept m.history → GoesOut (effect setup m event)
@@ -404,7 +405,7 @@ event_goes setup m (phone line act) fits all =
 event_goes setup m (tick moment) fits all =
     record { kept = all; sent = (pass_goes setup (Always Sound) OwnSound IsOut (sound_turns setup fits.set_up) (sound_own_turns setup fits.set_up) m.endpoints moment fits.holds).sent }
 
-pub event_fits : (setup : Setup) (m : Machine) (event : GatewayEvent) → Fits setup m → Fits setup (effect setup m event).machine
+pub event_fits : (setup : Setup) (m : Machine) (event : GatewayEvent) → Fits setup m → Fits setup (effect setup m event).value
 event_fits setup m event fits = record {
   set_up = fits.set_up;
   lines = effect_lines setup m event ∙ fits.lines;
@@ -426,10 +427,10 @@ outputs_hold setup m [] fits all = refl
 outputs_hold setup m (event ∷ events) fits all =
     let done = effect setup m event in
     let goes = event_goes setup m event fits all in
-    flat_map-append messages_in (put_out done.sent) (outputs_from setup done.machine events)
-    ∙ ap (λ (front : List OutDatagram). front ++ flat_map messages_in (outputs_from setup done.machine events)) (packed_messages (datagrams_of done.sent) (all_messages done.sent goes.sent))
-    ∙ ap (λ (rest : List OutDatagram). datagrams_of done.sent ++ rest) (outputs_hold setup done.machine events (event_fits setup m event fits) goes.kept)
-    ∙ sym (map-append datagram_of done.sent (sent_from setup done.machine events))
+    flat_map-append messages_in (put_out done.sent) (outputs_from setup done.value events)
+    ∙ ap (λ (front : List OutDatagram). front ++ flat_map messages_in (outputs_from setup done.value events)) (packed_messages (datagrams_of done.sent) (all_messages done.sent goes.sent))
+    ∙ ap (λ (rest : List OutDatagram). datagrams_of done.sent ++ rest) (outputs_hold setup done.value events (event_fits setup m event fits) goes.kept)
+    ∙ sym (map-append datagram_of done.sent (sent_from setup done.value events))
 
 outputs_fit : (setup : Setup) (m : Machine) (events : List GatewayEvent) → Fits setup m → AreKept m.history → All IsWithin (outputs_from setup m events)
 unfolding outputs_from
@@ -437,8 +438,8 @@ outputs_fit setup m [] fits all = All-nil IsWithin
 outputs_fit setup m (event ∷ events) fits all =
     let done = effect setup m event in
     let goes = event_goes setup m event fits all in
-    All-append IsWithin (put_out done.sent) (outputs_from setup done.machine events) (packed_within (datagrams_of done.sent) (all_messages done.sent goes.sent))
-    (outputs_fit setup done.machine events (event_fits setup m event fits) goes.kept)
+    All-append IsWithin (put_out done.sent) (outputs_from setup done.value events) (packed_within (datagrams_of done.sent) (all_messages done.sent goes.sent))
+    (outputs_fit setup done.value events (event_fits setup m event fits) goes.kept)
 
 pub nothing_kept : (setup : Setup) → AreKept (opening setup).history
 nothing_kept setup = All-nil (λ (first : KeptFirst). Goes first.answer)
@@ -459,7 +460,7 @@ sent_out setup m [] fits all = All-nil IsOut
 sent_out setup m (event ∷ events) fits all =
     let done = effect setup m event in
     let goes = event_goes setup m event fits all in
-    All-append IsOut done.sent (sent_from setup done.machine events) goes.sent (sent_out setup done.machine events (event_fits setup m event fits) goes.kept)
+    All-append IsOut done.sent (sent_from setup done.value events) goes.sent (sent_out setup done.value events (event_fits setup m event fits) goes.kept)
 
 pub sent_can_join : (setup : Setup) (events : List GatewayEvent) → IsSetUp setup → All IsOut (sent_from setup (opening setup) events)
 sent_can_join setup events set_up = sent_out setup (opening setup) events (opening_fits setup set_up) (nothing_kept setup)

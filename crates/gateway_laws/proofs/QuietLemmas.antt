@@ -37,11 +37,12 @@ use Rattle.plain_machine.specs.declared.response.Response.{Response}
 use Rattle.plain_machine.specs.declared.setup.Setup.{Setup}
 use Rattle.plain_machine.specs.declared.station.Station.{Station}
 use Rattle.transmission.specs.declared.output.OutDatagram.{OutDatagram}
+use Rattle.plain_machine.specs.Effect.{Effect}
 use Rattle.plain_machine.specs.Message.{Sent, is_answer, datagram_of, datagrams_of}
 use Rattle.plain_machine.specs.Posting.{line_of_id, repeated_as, resent_by, resent_on}
 use Rattle.plain_machine.specs.Announcing.{announced, announced_by, announced_on, heard_on, replied}
-use Rattle.plain_machine.specs.Notifying.{Turn, posted, with_notice, noted}
-use Rattle.plain_machine.specs.Machine.{Endpoints, Machine, OwnTurn, serves, station_at, turned_at, own_posted, on_line, on_own, on_either, on_lines}
+use Rattle.plain_machine.specs.Notifying.{posted, with_notice, noted}
+use Rattle.plain_machine.specs.Machine.{Endpoints, Machine, serves, station_at, turned_at, own_posted, on_line, on_own, on_either, on_lines}
 use Rattle.plain_machine.specs.Acting.{acted_on, acted}
 use Rattle.plain_machine.specs.Falling.{due_by, happened_on, own_happened, happened, go_on, passed, room, pass}
 use Rattle.plain_machine.specs.Done.{Done}
@@ -118,7 +119,7 @@ responded_on_quiet setup line moment response station = by_heard (heard_on stati
   by_heard PutOff = refl
   by_heard (Redirected agent) = refl
   by_heard (Answered agent) =
-      let becomes = (posted station (replied (Answered agent) setup line moment response station.post)).station in
+      let becomes = (posted station (replied (Answered agent) setup line moment response station.post)).value in
       noted_quiet setup line moment becomes (answered becomes.line moment)
 
 own_responded_quiet : (setup : Setup) (moment : ℕ) (response : Response) (own : Own) → Quiet (own_responded setup moment response own).sent
@@ -140,26 +141,26 @@ opened_quiet agent setup moment line station = noted_quiet setup line moment (wi
 
 -- An act, a response, and what falls due
 
-turned_quiet : (endpoints : Endpoints) (line : ℕ) (turn : Station → Turn) → ((station : Station) → Quiet (turn station).sent) → Quiet (on_line endpoints line turn).sent
+turned_quiet : (endpoints : Endpoints) (line : ℕ) (turn : Station → Effect Station) → ((station : Station) → Quiet (turn station).sent) → Quiet (on_line endpoints line turn).sent
 unfolding on_line
 turned_quiet endpoints line turn quiet = by_station (station_at endpoints line) where
   by_station : (found : Option Station) → Quiet (turned_at found endpoints line turn).sent
   by_station None = refl
   by_station (Some station) = quiet station
 
-either_quiet : (endpoints : Endpoints) (line : ℕ) (own_turn : Own → OwnTurn) (turn : Station → Turn) → ((own : Own) → Quiet (own_turn own).sent)
+either_quiet : (endpoints : Endpoints) (line : ℕ) (own_turn : Own → Effect Own) (turn : Station → Effect Station) → ((own : Own) → Quiet (own_turn own).sent)
     → ((station : Station) → Quiet (turn station).sent) → Quiet (on_either endpoints line own_turn turn).sent
 either_quiet endpoints line own_turn turn own_quiet quiet = by_test (line == 0) where
   by_test : (b : Bool) → Quiet (if b then on_own endpoints own_turn else on_line endpoints line turn).sent
   by_test true = own_quiet endpoints.own
   by_test false = turned_quiet endpoints line turn quiet
 
-all_quiet : (lines : List ℕ) (endpoints : Endpoints) (turn : ℕ → Station → Turn) → ((line : ℕ) (station : Station) → Quiet (turn line station).sent)
+all_quiet : (lines : List ℕ) (endpoints : Endpoints) (turn : ℕ → Station → Effect Station) → ((line : ℕ) (station : Station) → Quiet (turn line station).sent)
     → Quiet (on_lines lines endpoints turn).sent
 unfolding on_lines
 all_quiet [] endpoints turn quiet = refl
 all_quiet (line ∷ lines) endpoints turn quiet =
-    quiet_both (on_line endpoints line (turn line)).sent _ (turned_quiet endpoints line (turn line) (quiet line)) (all_quiet lines (on_line endpoints line (turn line)).endpoints turn quiet)
+    quiet_both (on_line endpoints line (turn line)).sent _ (turned_quiet endpoints line (turn line) (quiet line)) (all_quiet lines (on_line endpoints line (turn line)).value turn quiet)
 
 pub acted_quiet : (setup : Setup) (endpoints : Endpoints) (number moment : ℕ) (act : Act) → Quiet (acted setup endpoints number moment act).sent
 acted_quiet setup endpoints number moment act =
@@ -177,7 +178,7 @@ responded_quiet setup endpoints moment response = by_test (line_of_id response.i
       else on_line endpoints (line_of_id response.id) (responded_on setup (line_of_id response.id) moment response)).sent
   by_test true =
       quiet_both (own_responded setup moment response endpoints.own).sent _ (own_responded_quiet setup moment response endpoints.own)
-      (told_quiet (heard_on endpoints.own.post response) setup moment (on_own endpoints (own_responded setup moment response)).endpoints)
+      (told_quiet (heard_on endpoints.own.post response) setup moment (on_own endpoints (own_responded setup moment response)).value)
   by_test false = turned_quiet endpoints (line_of_id response.id) (responded_on setup (line_of_id response.id) moment response) (responded_on_quiet setup (line_of_id response.id) moment response)
 
 acknowledged_quiet : (moment : ℕ) (source : SocketAddrV4) (code id : ℕ) (params : List Param) → Quiet (acknowledged moment source code id params)
@@ -203,8 +204,8 @@ happened_quiet setup endpoints item =
 passed_quiet : (n : ℕ) (setup : Setup) (endpoints : Endpoints) (moment : ℕ) → Quiet (passed n setup endpoints moment).sent
 unfolding passed
 passed_quiet zero setup endpoints moment = refl
-passed_quiet (suc n) setup endpoints moment = by_due (due_by endpoints moment) (λ item. passed_quiet n setup (happened setup endpoints item).endpoints moment) where
-  by_due : (found : Option DueItem) → ((item : DueItem) → Quiet (passed n setup (happened setup endpoints item).endpoints moment).sent)
+passed_quiet (suc n) setup endpoints moment = by_due (due_by endpoints moment) (λ item. passed_quiet n setup (happened setup endpoints item).value moment) where
+  by_due : (found : Option DueItem) → ((item : DueItem) → Quiet (passed n setup (happened setup endpoints item).value moment).sent)
       → Quiet (go_on found setup endpoints (λ next. passed n setup next moment)).sent
   by_due None rest = refl
   by_due (Some item) rest = quiet_both (happened setup endpoints item).sent _ (happened_quiet setup endpoints item) (rest item)

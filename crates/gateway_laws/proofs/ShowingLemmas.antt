@@ -225,21 +225,21 @@ pub record Shows (line : ℕ) (station : Station) : Type 0 where
   pub entity : is_entity_text station.post.entity.text ≡ true
   pub places : AllShow station.connections.places
 
-noted_entity : (setup : Setup) (line moment : ℕ) (station : Station) (done : LineDone) → (noted setup line moment station done).station.post.entity ≡ station.post.entity
+noted_entity : (setup : Setup) (line moment : ℕ) (station : Station) (done : LineDone) → (noted setup line moment station done).value.post.entity ≡ station.post.entity
 unfolding noted
 noted_entity setup line moment station done = by_notice done.notice where
-  by_notice : (notice : Option Notice) → (with_notice setup line moment (record station { line = done.line }) notice).station.post.entity ≡ station.post.entity
+  by_notice : (notice : Option Notice) → (with_notice setup line moment (record station { line = done.line }) notice).value.post.entity ≡ station.post.entity
   by_notice None = refl
   by_notice (Some notice) = refl
 
-noted_shows : (setup : Setup) (line moment : ℕ) (station : Station) (done : LineDone) → Shows line station → Shows line (noted setup line moment station done).station
+noted_shows : (setup : Setup) (line moment : ℕ) (station : Station) (done : LineDone) → Shows line station → Shows line (noted setup line moment station done).value
 noted_shows setup line moment station done shows = record {
   entity = subst IsNamed (sym (noted_entity setup line moment station done)) shows.entity;
   places = subst (λ (s : Standing). AllShow s.places) (sym (noted_same setup line moment station done)) shows.places;
 }
 
 deed_shows : (setup : Setup) (command : Command) (confirms : KValue) (target : Target) (deed : Deed) → form_of command confirms setup.names ≡ Ok (Does target deed)
-    → (line moment : ℕ) (station : Station) → Shows line station → Shows line (deed_on setup (line_deed deed) moment line station).station
+    → (line moment : ℕ) (station : Station) → Shows line station → Shows line (deed_on setup (line_deed deed) moment line station).value
 unfolding deed_on
 deed_shows setup command confirms target deed is line moment station shows =
     let has = deed_has_values command confirms setup.names target deed is in
@@ -251,42 +251,42 @@ deed_shows setup command confirms target deed is line moment station shows =
           (done_shows command.params command.body deed.connections (encoding_with (line_deed deed) station) station.connections has.connections shows.places);
     }
 
-happened_shows : (setup : Setup) (due : StationDue) (line moment : ℕ) (station : Station) → Shows line station → Shows line (happened_on due setup line moment station).station
+happened_shows : (setup : Setup) (due : StationDue) (line moment : ℕ) (station : Station) → Shows line station → Shows line (happened_on due setup line moment station).value
 unfolding happened_on announced
 happened_shows setup (OfLine due) line moment station shows = noted_shows setup line moment station (fired station.line due moment) shows
 happened_shows setup Resend line moment station shows = by_pending station.post.pending where
-  by_repeat : (flight : InFlight) (repeat : Repeat) → Shows line (posted station (repeated_as repeat setup line moment station.post flight)).station
+  by_repeat : (flight : InFlight) (repeat : Repeat) → Shows line (posted station (repeated_as repeat setup line moment station.post flight)).value
   by_repeat flight SentAgain = record { entity = shows.entity; places = shows.places }
   by_repeat flight GivenUp = record { entity = shows.entity; places = shows.places }
 
-  by_pending : (pending : Option InFlight) → Shows line (posted station (resent_by pending setup line moment station.post)).station
+  by_pending : (pending : Option InFlight) → Shows line (posted station (resent_by pending setup line moment station.post)).value
   by_pending None = record { entity = shows.entity; places = shows.places }
   by_pending (Some flight) = by_repeat flight (repeat_of flight moment)
 happened_shows setup Announce line moment station shows = by_restart station.post.restart where
-  by_restart : (restart : Restart) → Shows line (posted station (announced_by restart setup line moment station.post)).station
+  by_restart : (restart : Restart) → Shows line (posted station (announced_by restart setup line moment station.post)).value
   by_restart (Waiting until) = record { entity = shows.entity; places = shows.places }
   by_restart Announced = record { entity = shows.entity; places = shows.places }
   by_restart Serving = record { entity = shows.entity; places = shows.places }
 
 responded_shows : (setup : Setup) (line moment : ℕ) (response : Response) (station : Station) → IsRead setup response → Shows line station
-    → Shows line (responded_on setup line moment response station).station
+    → Shows line (responded_on setup line moment response station).value
 unfolding responded_on replied announced
 responded_shows setup line moment response station read shows = by_heard (heard_on station.post response) (heard_read setup station.post response read) where
-  by_heard : (heard : Heard) → HeardRead setup heard → Shows line (responded_as heard setup line moment response station).station
+  by_heard : (heard : Heard) → HeardRead setup heard → Shows line (responded_as heard setup line moment response station).value
   by_heard Nothing named = shows
   by_heard PutOff named = record { entity = shows.entity; places = shows.places }
   by_heard (Redirected agent) named = record { entity = named_is setup agent named; places = shows.places }
   by_heard (Answered agent) named =
-      let becomes : Station = (posted station (replied (Answered agent) setup line moment response station.post)).station in
+      let becomes : Station = (posted station (replied (Answered agent) setup line moment response station.post)).value in
       noted_shows setup line moment becomes (answered becomes.line moment)
       (record { entity = perhaps_named setup agent station.post.entity named shows.entity; places = shows.places })
 
-redirected_shows : (setup : Setup) (agent : Entity) (line : ℕ) (station : Station) → IsEntity setup agent → Shows line station → Shows line (redirected_on agent line station).station
+redirected_shows : (setup : Setup) (agent : Entity) (line : ℕ) (station : Station) → IsEntity setup agent → Shows line station → Shows line (redirected_on agent line station).value
 unfolding redirected_on
 redirected_shows setup agent line station read shows = record { entity = named_is setup agent read; places = shows.places }
 
 opened_shows : (setup : Setup) (agent : Option Entity) (line moment : ℕ) (station : Station) → IfSome agent (IsEntity setup) → Shows line station
-    → Shows line (opened_on agent setup moment line station).station
+    → Shows line (opened_on agent setup moment line station).value
 unfolding opened_on
 opened_shows setup agent line moment station read shows =
     noted_shows setup line moment (with_entity agent station) (opened station.line moment)

@@ -70,42 +70,42 @@ connected_after (Delete deletion) encoding was = left_showing_what (deleted_show
 
 -- A turn that is no deed leaves the connections as they are
 
-pub noted_same : (setup : Setup) (line moment : ℕ) (station : Station) (done : LineDone) → (noted setup line moment station done).station.connections ≡ station.connections
+pub noted_same : (setup : Setup) (line moment : ℕ) (station : Station) (done : LineDone) → (noted setup line moment station done).value.connections ≡ station.connections
 unfolding noted
 noted_same setup line moment station done = by_notice done.notice where
-  by_notice : (notice : Option Notice) → (with_notice setup line moment (record station { line = done.line }) notice).station.connections ≡ station.connections
+  by_notice : (notice : Option Notice) → (with_notice setup line moment (record station { line = done.line }) notice).value.connections ≡ station.connections
   by_notice None = refl
   by_notice (Some notice) = refl
 
 pub deed_connections : (setup : Setup) (deed : LineDeed) (moment line : ℕ) (station : Station)
-    → (deed_on setup deed moment line station).station.connections ≡ after station.connections (happenings deed.connections (encoding_with deed station))
+    → (deed_on setup deed moment line station).value.connections ≡ after station.connections (happenings deed.connections (encoding_with deed station))
 unfolding deed_on
 deed_connections setup deed moment line station =
     noted_same setup line moment (with_connections deed (with_entity deed.entity station)) (asked_if deed.request station.line moment)
     ∙ connected_after deed.connections (encoding_with deed station) station.connections
 
-pub happened_same : (setup : Setup) (due : StationDue) (line moment : ℕ) (station : Station) → (happened_on due setup line moment station).station.connections ≡ station.connections
+pub happened_same : (setup : Setup) (due : StationDue) (line moment : ℕ) (station : Station) → (happened_on due setup line moment station).value.connections ≡ station.connections
 unfolding happened_on
 happened_same setup (OfLine due) line moment station = noted_same setup line moment station (fired station.line due moment)
 happened_same setup Resend line moment station = refl
 happened_same setup Announce line moment station = refl
 
-pub responded_same : (setup : Setup) (line moment : ℕ) (response : Response) (station : Station) → (responded_on setup line moment response station).station.connections ≡ station.connections
+pub responded_same : (setup : Setup) (line moment : ℕ) (response : Response) (station : Station) → (responded_on setup line moment response station).value.connections ≡ station.connections
 unfolding responded_on
 responded_same setup line moment response station = by_heard (heard_on station.post response) where
-  by_heard : (heard : Heard) → (responded_as heard setup line moment response station).station.connections ≡ station.connections
+  by_heard : (heard : Heard) → (responded_as heard setup line moment response station).value.connections ≡ station.connections
   by_heard Nothing = refl
   by_heard PutOff = refl
   by_heard (Redirected agent) = refl
   by_heard (Answered agent) =
-      let becomes = (posted station (replied (Answered agent) setup line moment response station.post)).station in
+      let becomes = (posted station (replied (Answered agent) setup line moment response station.post)).value in
       noted_same setup line moment becomes (answered becomes.line moment)
 
-pub redirected_same : (agent : Entity) (line : ℕ) (station : Station) → (redirected_on agent line station).station.connections ≡ station.connections
+pub redirected_same : (agent : Entity) (line : ℕ) (station : Station) → (redirected_on agent line station).value.connections ≡ station.connections
 unfolding redirected_on
 redirected_same agent line station = refl
 
-pub opened_same : (setup : Setup) (agent : Option Entity) (line moment : ℕ) (station : Station) → (opened_on agent setup moment line station).station.connections ≡ station.connections
+pub opened_same : (setup : Setup) (agent : Option Entity) (line moment : ℕ) (station : Station) → (opened_on agent setup moment line station).value.connections ≡ station.connections
 unfolding opened_on
 opened_same setup agent line moment station = noted_same setup line moment (with_entity agent station) (opened station.line moment)
 

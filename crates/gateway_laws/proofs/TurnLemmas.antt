@@ -43,12 +43,12 @@ use Rattle.plain_machine.specs.declared.post.Post.{Post}
 use Rattle.plain_machine.specs.declared.response.Response.{Response}
 use Rattle.plain_machine.specs.declared.setup.Setup.{Setup}
 use Rattle.plain_machine.specs.declared.station.Station.{Station}
+use Rattle.plain_machine.specs.Effect.{Effect, silently, effect_map, afterwards}
 use Rattle.plain_machine.specs.Event.{GatewayEvent, datagram, phone, tick}
 use Rattle.plain_machine.specs.Message.{Sent}
 use Rattle.plain_machine.specs.Posting.{line_of_id, repeated_as, resent_by}
 use Rattle.plain_machine.specs.Announcing.{announced, announced_by, heard_by, heard_on, replied}
-use Rattle.plain_machine.specs.Notifying.{Turn}
-use Rattle.plain_machine.specs.Machine.{Endpoints, Machine, OwnTurn, Told, told, serves, station_at, with_turn, turned_at, on_line, own_posted, with_own, on_own, on_lines, afterwards}
+use Rattle.plain_machine.specs.Machine.{Endpoints, Machine, serves, station_at, with_turn, turned_at, on_line, own_posted, with_own, on_own, on_lines}
 use Rattle.transmission.specs.Texts.{texts_of}
 use Rattle.plain_machine.specs.Acting.{acted_on, acted}
 use Rattle.plain_machine.specs.Falling.{due_by, happened_on, own_happened, happened, go_on, passed, room, pass}
@@ -143,8 +143,8 @@ response_read setup id code params = by_value (param_at (codes "N") params) wher
 
 -- A turn
 
-abbrev pub Good : (ℕ → Station → Type 0) → (Sent → Type 0) → ℕ → Turn → Type 0
-Good P Q line turn = P line turn.station × All Q turn.sent
+abbrev pub Good : (ℕ → Station → Type 0) → (Sent → Type 0) → ℕ → Effect Station → Type 0
+Good P Q line turn = P line turn.value × All Q turn.sent
 
 -- each turn keeps what holds of the station, while the gateway serves and while it doesn't yet, and what it sends is so; the
 -- answer to the gateway's announcement makes what holds while it serves
@@ -175,27 +175,27 @@ IsEqual P = (serving other : Bool) (line : ℕ) (station : Station) → P servin
 pub record OwnTurns (setup : Setup) (P : Bool → ℕ → Station → Type 0) (R : Own → Type 0) (Q : Sent → Type 0) : Type 1 where
   pub free : (own : Own) → R own → IsFree own ⊎ IsEqual P
   pub response : (moment : ℕ) (response : Response) (own : Own) → IsRead setup response → R own
-      → R (own_responded setup moment response own).own × All Q (own_responded setup moment response own).sent
-  pub happening : (due : StationDue) (moment : ℕ) (own : Own) → R own → R (own_happened due setup moment own).own × All Q (own_happened due setup moment own).sent
+      → R (own_responded setup moment response own).value × All Q (own_responded setup moment response own).sent
+  pub happening : (due : StationDue) (moment : ℕ) (own : Own) → R own → R (own_happened due setup moment own).value × All Q (own_happened due setup moment own).sent
 
 -- what falls due of the gateway itself leaves it serving, or not yet
-pub happening_serves : (setup : Setup) (due : StationDue) (moment : ℕ) (own : Own) → IsFree own → is_serving (own_happened due setup moment own).own.post.restart ≡ is_serving own.post.restart
+pub happening_serves : (setup : Setup) (due : StationDue) (moment : ℕ) (own : Own) → IsFree own → is_serving (own_happened due setup moment own).value.post.restart ≡ is_serving own.post.restart
 unfolding own_happened announced
 happening_serves setup (OfLine due) moment own free = refl
 happening_serves setup Resend moment own free = by_serving (is_serving own.post.restart) refl where
-  by_repeat : (flight : InFlight) (repeat : Repeat) → is_serving own.post.restart ≡ false → is_serving (repeated_as repeat setup 0 moment own.post flight).post.restart ≡ is_serving own.post.restart
+  by_repeat : (flight : InFlight) (repeat : Repeat) → is_serving own.post.restart ≡ false → is_serving (repeated_as repeat setup 0 moment own.post flight).value.restart ≡ is_serving own.post.restart
   by_repeat flight SentAgain e = refl
   by_repeat flight GivenUp e = sym e
 
-  by_pending : (pending : Option InFlight) → is_serving own.post.restart ≡ false → is_serving (resent_by pending setup 0 moment own.post).post.restart ≡ is_serving own.post.restart
+  by_pending : (pending : Option InFlight) → is_serving own.post.restart ≡ false → is_serving (resent_by pending setup 0 moment own.post).value.restart ≡ is_serving own.post.restart
   by_pending None e = refl
   by_pending (Some flight) e = by_repeat flight (repeat_of flight moment) e
 
-  by_serving : (b : Bool) → is_serving own.post.restart ≡ b → is_serving (resent_by own.post.pending setup 0 moment own.post).post.restart ≡ is_serving own.post.restart
-  by_serving true e = ap (λ (pending : Option InFlight). is_serving (resent_by pending setup 0 moment own.post).post.restart) (free e)
+  by_serving : (b : Bool) → is_serving own.post.restart ≡ b → is_serving (resent_by own.post.pending setup 0 moment own.post).value.restart ≡ is_serving own.post.restart
+  by_serving true e = ap (λ (pending : Option InFlight). is_serving (resent_by pending setup 0 moment own.post).value.restart) (free e)
   by_serving false e = by_pending own.post.pending e
 happening_serves setup Announce moment own free = by_restart own.post.restart where
-  by_restart : (restart : Restart) → is_serving (announced_by restart setup 0 moment (record own.post { restart = restart })).post.restart ≡ is_serving restart
+  by_restart : (restart : Restart) → is_serving (announced_by restart setup 0 moment (record own.post { restart = restart })).value.restart ≡ is_serving restart
   by_restart (Waiting until) = refl
   by_restart Announced = refl
   by_restart Serving = refl
@@ -206,8 +206,8 @@ pub record Holds (P : Bool → ℕ → Station → Type 0) (R : Own → Type 0) 
   pub own : R endpoints.own
 
 -- the endpoints after it, and what is sent
-pub record GoesOn (P : Bool → ℕ → Station → Type 0) (R : Own → Type 0) (Q : Sent → Type 0) (is : Told) : Type 0 where
-  pub holds : Holds P R is.endpoints
+pub record GoesOn (P : Bool → ℕ → Station → Type 0) (R : Own → Type 0) (Q : Sent → Type 0) (is : Effect Endpoints) : Type 0 where
+  pub holds : Holds P R is.value
   pub sent : All Q is.sent
 
 -- the station of a line
@@ -221,7 +221,7 @@ of_line P endpoints line station all at = by_zero (line == 0) refl at where
   by_zero true e at = absurd (none-some station at)
   by_zero false e at = subst (λ (i : ℕ). P i station) (one_more e) (on_one P 1 endpoints.stations (line - 1) station all at)
 
-turned : (P : Bool → ℕ → Station → Type 0) (R : Own → Type 0) (Q : Sent → Type 0) (endpoints : Endpoints) (line : ℕ) (station : Station) (turn : Turn) → Holds P R endpoints
+turned : (P : Bool → ℕ → Station → Type 0) (R : Own → Type 0) (Q : Sent → Type 0) (endpoints : Endpoints) (line : ℕ) (station : Station) (turn : Effect Station) → Holds P R endpoints
     → station_at endpoints line ≡ Some station → Good (P (serves endpoints)) Q line turn → GoesOn P R Q (with_turn endpoints line turn)
 turned P R Q endpoints line station turn all at good = by_zero (line == 0) refl at where
   one_more : (line == 0) ≡ false → line ≡ 1 + (line - 1)
@@ -231,12 +231,12 @@ turned P R Q endpoints line station turn all at good = by_zero (line == 0) refl 
   by_zero true e at = absurd (none-some station at)
   by_zero false e at =
       record {
-        holds = record { stations = on_set (P (serves endpoints)) 1 endpoints.stations (line - 1) turn.station all.stations (subst (λ (i : ℕ). P (serves endpoints) i turn.station) (one_more e) good.0); own = all.own };
+        holds = record { stations = on_set (P (serves endpoints)) 1 endpoints.stations (line - 1) turn.value all.stations (subst (λ (i : ℕ). P (serves endpoints) i turn.value) (one_more e) good.0); own = all.own };
         sent = good.1;
       }
 
 module _ (setup : Setup) (P : Bool → ℕ → Station → Type 0) (R : Own → Type 0) (Q : Sent → Type 0) (turns : Turns setup P Q) (own_turns : OwnTurns setup P R Q) where
-  stays : (endpoints : Endpoints) → Holds P R endpoints → GoesOn P R Q (record { endpoints = endpoints; sent = [] })
+  stays : (endpoints : Endpoints) → Holds P R endpoints → GoesOn P R Q (silently endpoints)
   stays endpoints all = record { holds = all; sent = All-nil Q }
 
   -- what holds of all stations holds of them whether or not the gateway serves
@@ -245,7 +245,7 @@ module _ (setup : Setup) (P : Bool → ℕ → Station → Type 0) (R : Own → 
   moved serving other equal n (station ∷ stations) all = (equal serving other n station all.0, moved serving other equal (n + 1) stations all.1)
 
   -- one line has a turn
-  turned_goes : (endpoints : Endpoints) (line : ℕ) (turn : Station → Turn) → Holds P R endpoints
+  turned_goes : (endpoints : Endpoints) (line : ℕ) (turn : Station → Effect Station) → Holds P R endpoints
       → ((station : Station) → P (serves endpoints) line station → Good (P (serves endpoints)) Q line (turn station)) → GoesOn P R Q (on_line endpoints line turn)
   unfolding on_line
   turned_goes endpoints line turn all good = by_station (station_at endpoints line) refl where
@@ -254,23 +254,23 @@ module _ (setup : Setup) (P : Bool → ℕ → Station → Type 0) (R : Own → 
     by_station (Some station) e = turned P R Q endpoints line station _ all e (good station (of_line (P (serves endpoints)) endpoints line station all.stations e))
 
   -- it leaves what the gateway keeps for itself
-  own_kept : (endpoints : Endpoints) (line : ℕ) (turn : Station → Turn) → (on_line endpoints line turn).endpoints.own ≡ endpoints.own
+  own_kept : (endpoints : Endpoints) (line : ℕ) (turn : Station → Effect Station) → (on_line endpoints line turn).value.own ≡ endpoints.own
   unfolding on_line
   own_kept endpoints line turn = by_station (station_at endpoints line) where
-    by_station : (found : Option Station) → (turned_at found endpoints line turn).endpoints.own ≡ endpoints.own
+    by_station : (found : Option Station) → (turned_at found endpoints line turn).value.own ≡ endpoints.own
     by_station None = refl
     by_station (Some station) = refl
 
   -- several lines have theirs
-  several_go : (serving : Bool) (lines : List ℕ) (endpoints : Endpoints) (turn : ℕ → Station → Turn) → serves endpoints ≡ serving → Holds P R endpoints
+  several_go : (serving : Bool) (lines : List ℕ) (endpoints : Endpoints) (turn : ℕ → Station → Effect Station) → serves endpoints ≡ serving → Holds P R endpoints
       → ((line : ℕ) (station : Station) → P serving line station → Good (P serving) Q line (turn line station)) → GoesOn P R Q (on_lines lines endpoints turn)
   unfolding on_lines
   several_go serving [] endpoints turn is all good = stays endpoints all
   several_go serving (line ∷ lines) endpoints turn is all good =
       let here = subst (λ (b : Bool). (station : Station) → P b line station → Good (P b) Q line (turn line station)) (sym is) (good line) in
       let first = turned_goes endpoints line (turn line) all here in
-      let still : serves (on_line endpoints line (turn line)).endpoints ≡ serving = ap (λ (own : Own). is_serving own.post.restart) (own_kept endpoints line (turn line)) ∙ is in
-      let rest = several_go serving lines (on_line endpoints line (turn line)).endpoints turn still first.holds good in
+      let still : serves (on_line endpoints line (turn line)).value ≡ serving = ap (λ (own : Own). is_serving own.post.restart) (own_kept endpoints line (turn line)) ∙ is in
+      let rest = several_go serving lines (on_line endpoints line (turn line)).value turn still first.holds good in
       record { holds = rest.holds; sent = All-append Q (on_line endpoints line (turn line)).sent _ first.sent rest.sent }
 
   pub acted_goes : (endpoints : Endpoints) (line moment : ℕ) (act : Act) → Holds P R endpoints → GoesOn P R Q (acted setup endpoints line moment act)
@@ -279,20 +279,20 @@ module _ (setup : Setup) (P : Bool → ℕ → Station → Type 0) (R : Own → 
   -- A response
 
   -- to the gateway itself, by what it is
-  abbrev OwnAs : Heard → Endpoints → ℕ → Response → OwnTurn
+  abbrev OwnAs : Heard → Endpoints → ℕ → Response → Effect Own
   OwnAs heard endpoints moment response = own_posted endpoints.own (replied heard setup 0 moment response endpoints.own.post)
 
-  abbrev HeardAs : Heard → Endpoints → ℕ → Response → Told
+  abbrev HeardAs : Heard → Endpoints → ℕ → Response → Effect Endpoints
   HeardAs heard endpoints moment response =
-      afterwards (told (with_own endpoints (OwnAs heard endpoints moment response).own) (OwnAs heard endpoints moment response).sent) (λ next. lines_told heard setup moment next)
+      afterwards (effect_map (with_own endpoints) (OwnAs heard endpoints moment response)) (λ next. lines_told heard setup moment next)
 
   -- the lines have their turns after it
-  then_all : (serving : Bool) (first : Told) (turn : ℕ → Station → Turn) → serves first.endpoints ≡ serving → R first.endpoints.own → All Q first.sent
-      → AllGone (P serving) Q first.endpoints (on_all first.endpoints turn) → GoesOn P R Q (afterwards first (λ next. on_all next turn))
+  then_all : (serving : Bool) (first : Effect Endpoints) (turn : ℕ → Station → Effect Station) → serves first.value ≡ serving → R first.value.own → All Q first.sent
+      → AllGone (P serving) Q first.value (on_all first.value turn) → GoesOn P R Q (afterwards first (λ next. on_all next turn))
   then_all serving first turn is own sent gone =
-      let same : serves (on_all first.endpoints turn).endpoints ≡ serving = ap (λ (own : Own). is_serving own.post.restart) gone.own ∙ is in
+      let same : serves (on_all first.value turn).value ≡ serving = ap (λ (own : Own). is_serving own.post.restart) gone.own ∙ is in
       record {
-        holds = record { stations = subst (λ (b : Bool). OnAll (P b) 1 (on_all first.endpoints turn).endpoints.stations) (sym same) gone.stations; own = subst R (sym gone.own) own };
+        holds = record { stations = subst (λ (b : Bool). OnAll (P b) 1 (on_all first.value turn).value.stations) (sym same) gone.stations; own = subst R (sym gone.own) own };
         sent = All-append Q first.sent _ sent gone.sent;
       }
 
@@ -314,21 +314,21 @@ module _ (setup : Setup) (P : Bool → ℕ → Station → Type 0) (R : Own → 
           by_free (inr equal) = moved (serves endpoints) false equal 1 endpoints.stations all.stations
 
         by_heard : (heard : Heard) → heard_on endpoints.own.post response ≡ heard → HeardRead setup heard
-            → R (OwnAs heard endpoints moment response).own × All Q (OwnAs heard endpoints moment response).sent → GoesOn P R Q (HeardAs heard endpoints moment response)
+            → R (OwnAs heard endpoints moment response).value × All Q (OwnAs heard endpoints moment response).sent → GoesOn P R Q (HeardAs heard endpoints moment response)
         by_heard Nothing e named goes =
             record { holds = record { stations = all.stations; own = goes.0 }; sent = All-append Q (OwnAs Nothing endpoints moment response).sent [] goes.1 (All-nil Q) }
         by_heard PutOff e named goes =
             record { holds = record { stations = all.stations; own = goes.0 }; sent = All-append Q (OwnAs PutOff endpoints moment response).sent [] goes.1 (All-nil Q) }
         by_heard (Redirected agent) e named goes =
-            let first : Told = told (with_own endpoints (OwnAs (Redirected agent) endpoints moment response).own) (OwnAs (Redirected agent) endpoints moment response).sent in
+            let first : Effect Endpoints = effect_map (with_own endpoints) (OwnAs (Redirected agent) endpoints moment response) in
             let apart : Redirected agent ≢ Nothing = λ same. absurd cc in
             then_all false first (redirected_on agent) refl goes.0 goes.1
-            (all_go (P false) (P false) Q (redirected_on agent) (λ line station holds. turns.redirecting agent line station named holds) first.endpoints (closed (Redirected agent) e apart))
+            (all_go (P false) (P false) Q (redirected_on agent) (λ line station holds. turns.redirecting agent line station named holds) first.value (closed (Redirected agent) e apart))
         by_heard (Answered agent) e named goes =
-            let first : Told = told (with_own endpoints (OwnAs (Answered agent) endpoints moment response).own) (OwnAs (Answered agent) endpoints moment response).sent in
+            let first : Effect Endpoints = effect_map (with_own endpoints) (OwnAs (Answered agent) endpoints moment response) in
             let apart : Answered agent ≢ Nothing = λ same. absurd cc in
             then_all true first (opened_on agent setup moment) refl goes.0 goes.1
-            (all_go (P false) (P true) Q (opened_on agent setup moment) (λ line station holds. turns.opening agent line moment station named holds) first.endpoints
+            (all_go (P false) (P true) Q (opened_on agent setup moment) (λ line station holds. turns.opening agent line moment station named holds) first.value
             (closed (Answered agent) e apart))
 
   pub responded_goes : (endpoints : Endpoints) (moment : ℕ) (response : Response) → IsRead setup response → Holds P R endpoints → GoesOn P R Q (responded setup endpoints moment response)
@@ -344,7 +344,7 @@ module _ (setup : Setup) (P : Bool → ℕ → Station → Type 0) (R : Own → 
   pub happened_goes : (endpoints : Endpoints) (item : DueItem) → Holds P R endpoints → GoesOn P R Q (happened setup endpoints item)
   happened_goes endpoints item all = by_test (item.line == 0) where
     after : Bool
-    after = is_serving (own_happened item.due setup item.moment endpoints.own).own.post.restart
+    after = is_serving (own_happened item.due setup item.moment endpoints.own).value.post.restart
 
     by_free : (IsFree endpoints.own ⊎ IsEqual P) → OnAll (P after) 1 endpoints.stations
     by_free (inl free) = subst (λ (b : Bool). OnAll (P b) 1 endpoints.stations) (sym (happening_serves setup item.due item.moment endpoints.own free)) all.stations
@@ -360,8 +360,8 @@ module _ (setup : Setup) (P : Bool → ℕ → Station → Type 0) (R : Own → 
   unfolding passed
   passed_goes zero endpoints moment all = stays endpoints all
   passed_goes (suc n) endpoints moment all = by_due (due_by endpoints moment)
-      (λ item. passed_goes n (happened setup endpoints item).endpoints moment (happened_goes endpoints item all).holds) where
-        by_due : (found : Option DueItem) → ((item : DueItem) → GoesOn P R Q (passed n setup (happened setup endpoints item).endpoints moment))
+      (λ item. passed_goes n (happened setup endpoints item).value moment (happened_goes endpoints item all).holds) where
+        by_due : (found : Option DueItem) → ((item : DueItem) → GoesOn P R Q (passed n setup (happened setup endpoints item).value moment))
             → GoesOn P R Q (go_on found setup endpoints (λ next. passed n setup next moment))
         by_due None rest = stays endpoints all
         by_due (Some item) rest = record {
@@ -413,8 +413,8 @@ module _ (setup : Setup) (P : Bool → ℕ → Station → Type 0) (R : Own → 
       form_goes (serves endpoints) command confirms (form_while (serves endpoints) command confirms setup.names) refl endpoints moment id refl all
 
   -- an event
-  transacted_on_all : (looked : Looked) (m : Machine) (source : SocketAddrV4) (t : Transaction) → Holds P R m.endpoints → Holds P R t.done.told.endpoints
-      → Holds P R (transacted_by looked m source t).machine.endpoints
+  transacted_on_all : (looked : Looked) (m : Machine) (source : SocketAddrV4) (t : Transaction) → Holds P R m.endpoints → Holds P R t.done.told.value
+      → Holds P R (transacted_by looked m source t).value.endpoints
   unfolding executed
   transacted_on_all new m source t all after = after
   transacted_on_all (repeat text) m source t all after = all
@@ -422,7 +422,7 @@ module _ (setup : Setup) (P : Bool → ℕ → Station → Type 0) (R : Own → 
   transacted_on_all full m source t all after = all
 
   pub handled_on_all : (m : Machine) (source : SocketAddrV4) (outcome : Outcome) → Holds P R m.endpoints
-      → Holds P R (handled setup m source outcome).machine.endpoints
+      → Holds P R (handled setup m source outcome).value.endpoints
   unfolding handled
   handled_on_all m source no_header all = all
   handled_on_all m source (bad_version id) all = transacted_on_all (look_of most_firsts m.history id m.now) m source _ all all
@@ -434,13 +434,13 @@ module _ (setup : Setup) (P : Bool → ℕ → Station → Type 0) (R : Own → 
       (responded_goes m.endpoints m.now (response_with setup id code params) (response_read setup id code params) all).holds
 
   pub took_on_all : (m : Machine) (source : SocketAddrV4) (texts : List (List ℕ)) → Holds P R m.endpoints
-      → Holds P R (took_all setup m source texts).machine.endpoints
+      → Holds P R (took_all setup m source texts).value.endpoints
   unfolding took_all
   took_on_all m source [] all = all
   took_on_all m source (text ∷ texts) all =
-      took_on_all (handled setup m source (read_text text)).machine source texts (handled_on_all m source (read_text text) all)
+      took_on_all (handled setup m source (read_text text)).value source texts (handled_on_all m source (read_text text) all)
 
-  pub event_on_all : (m : Machine) (event : GatewayEvent) → Holds P R m.endpoints → Holds P R (effect setup m event).machine.endpoints
+  pub event_on_all : (m : Machine) (event : GatewayEvent) → Holds P R m.endpoints → Holds P R (effect setup m event).value.endpoints
   unfolding effect
   event_on_all m (datagram source bytes) all = took_on_all m source (texts_of bytes) all
   event_on_all m (phone line act) all = (acted_goes m.endpoints line m.now act all).holds
@@ -449,4 +449,4 @@ module _ (setup : Setup) (P : Bool → ℕ → Station → Type 0) (R : Own → 
   pub events_on_all : (m : Machine) (events : List GatewayEvent) → Holds P R m.endpoints → Holds P R (machine_after setup m events).endpoints
   unfolding machine_after
   events_on_all m [] all = all
-  events_on_all m (event ∷ events) all = events_on_all (effect setup m event).machine events (event_on_all m event all)
+  events_on_all m (event ∷ events) all = events_on_all (effect setup m event).value events (event_on_all m event all)

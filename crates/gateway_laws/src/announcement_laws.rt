@@ -1,5 +1,5 @@
 //! Laws of announcements (RFC 3435, 2.3.12, 4.4.6 and 4.4.7), for every setup and every list of events.
-ghost use Rattle.std.specs.Prelude.{ℕ, ◌≡◌, ◌≢◌, ◌+◌, ◌++◌, true, false, [], List, All, Option, None, Some, Result, Ok, Err};
+ghost use Rattle.std.specs.Prelude.{ℕ, ◌≡◌, ◌≢◌, ◌+◌, ◌++◌, true, false, List, All, Option, None, Some, Result, Ok, Err};
 ghost use Rattle.endpoint_names.specs.declared.entity.Entity.{Entity};
 ghost use Rattle.mgcp_text.specs.declared.confirmation.KValue.{KValue};
 ghost use Rattle.mgcp_text.specs.Answer.{plain_code};
@@ -25,11 +25,12 @@ ghost use Rattle.plain_machine.specs.declared.post.Post.{Post};
 ghost use Rattle.plain_machine.specs.declared.response.Response.{Response};
 ghost use Rattle.plain_machine.specs.declared.setup.Setup.{Setup};
 ghost use Rattle.plain_machine.specs.declared.station.Station.{Station};
+ghost use Rattle.plain_machine.specs.Effect.{silently};
 ghost use Rattle.plain_machine.specs.Event.{GatewayEvent};
 ghost use Rattle.plain_machine.specs.Message.{Sent};
-ghost use Rattle.plain_machine.specs.Posting.{id_on, line_of_id, unsent, with_command, wait_of, resent_on};
+ghost use Rattle.plain_machine.specs.Posting.{id_on, line_of_id, with_command, wait_of, resent_on};
 ghost use Rattle.plain_machine.specs.Announcing.{announcement, announced_on, heard_on};
-ghost use Rattle.plain_machine.specs.Machine.{Endpoints, told, serves};
+ghost use Rattle.plain_machine.specs.Machine.{Endpoints, serves};
 ghost use Rattle.plain_machine.specs.Acting.{acted_on, acted};
 ghost use Rattle.plain_machine.specs.Requesting.{deed_on};
 ghost use Rattle.plain_machine.specs.Commanding.{done_by, commanded};
@@ -49,7 +50,7 @@ pub fn what_is_in_flight_agrees_with_announcements()
 pub fn until_it_serves_a_gateway_only_reports()
     ensures nothing { (setup : Setup) (endpoints : Endpoints) (moment id : ℕ) (command : Command) (confirms : KValue) →
         serves endpoints ≡ false →
-        (commanded setup endpoints moment id command confirms).told ≡ told endpoints [] }
+        (commanded setup endpoints moment id command confirms).told ≡ silently endpoints }
     ensures named { (setup : Setup) (endpoints : Endpoints) (moment id : ℕ) (command : Command) (confirms : KValue)
         (refused : Refused) → meant command setup.names ≡ Err refused →
         (commanded setup endpoints moment id command confirms).answer ≡ plain_code refused.code }
@@ -72,17 +73,17 @@ pub fn a_gateway_serves_once_its_announcement_is_answered()
     ensures lasts { (setup : Setup) (before events : List GatewayEvent) → serves (plain setup before).endpoints ≡ true →
         serves (plain setup (before ++ events)).endpoints ≡ true }
     ensures act { (setup : Setup) (endpoints : Endpoints) (line moment : ℕ) (act : Act) →
-        serves (acted setup endpoints line moment act).endpoints ≡ serves endpoints }
+        serves (acted setup endpoints line moment act).value ≡ serves endpoints }
     ensures deed { (setup : Setup) (endpoints : Endpoints) (moment id : ℕ) (command : Command) (confirms : KValue) →
-        serves (commanded setup endpoints moment id command confirms).told.endpoints ≡ serves endpoints }
+        serves (commanded setup endpoints moment id command confirms).told.value ≡ serves endpoints }
     ensures due { (setup : Setup) (endpoints : Endpoints) (item : DueItem) → OwnIsInOrder endpoints.own →
-        serves (happened setup endpoints item).endpoints ≡ serves endpoints }
+        serves (happened setup endpoints item).value ≡ serves endpoints }
     ensures answered { (setup : Setup) (endpoints : Endpoints) (moment : ℕ) (response : Response) (agent : Option Entity) →
         line_of_id response.id ≡ 0 → heard_on endpoints.own.post response ≡ Answered agent →
-        serves (responded setup endpoints moment response).endpoints ≡ true }
+        serves (responded setup endpoints moment response).value ≡ true }
     ensures other { (setup : Setup) (endpoints : Endpoints) (moment : ℕ) (response : Response) →
         serves endpoints ≡ false → ((agent : Option Entity) → heard_on endpoints.own.post response ≢ Answered agent) →
-        serves (responded setup endpoints moment response).endpoints ≡ false }
+        serves (responded setup endpoints moment response).value ≡ false }
     ensures redirected { (post : Post) (message : InFlight) (response : Response) (agent : Entity) →
         post.restart ≡ Announced → post.pending ≡ Some message →
         reply_of message response.id response.code ≡ replies.Answered → response.code ≡ 521 →
@@ -102,7 +103,7 @@ pub fn an_announcement_goes_on_until_it_is_answered()
     ensures given_up { (setup : Setup) (line moment : ℕ) (post : Post) (message : InFlight) →
         post.pending ≡ Some message → repeat_of message moment ≡ GivenUp →
         resent_on setup line moment post
-        ≡ unsent (record post { pending = None; restart = Waiting (moment + wait_of setup line) }) }
+        ≡ silently (record post { pending = None; restart = Waiting (moment + wait_of setup line) }) }
 {}
 
 /// A line whose command was given up begins nothing until its wait ends: no act, no deed, no response and nothing that falls
@@ -119,11 +120,11 @@ pub fn a_line_that_gave_up_waits_and_announces_itself()
         IsInOrder line station → station.post.restart ≡ Waiting until →
         BeginsNothing station (responded_on setup line moment response station) }
     ensures kept { (setup : Setup) (line moment : ℕ) (station : Station) →
-        (happened_on Resend setup line moment station).station.line ≡ station.line }
+        (happened_on Resend setup line moment station).value.line ≡ station.line }
     ensures kept_too { (setup : Setup) (line moment : ℕ) (station : Station) →
-        (happened_on Announce setup line moment station).station.line ≡ station.line }
+        (happened_on Announce setup line moment station).value.line ≡ station.line }
     ensures named { (setup : Setup) (line moment : ℕ) (response : Response) (agent : Entity) (station : Station) →
         heard_on station.post response ≡ Answered (Some agent) →
-        ((responded_on setup line moment response station).station.post.entity ≡ agent)
+        ((responded_on setup line moment response station).value.post.entity ≡ agent)
         × All (λ (sent : Sent). sent.to ≡ agent.address) (responded_on setup line moment response station).sent }
 {}

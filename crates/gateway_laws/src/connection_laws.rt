@@ -27,14 +27,14 @@ ghost use Rattle.plain_machine.specs.declared.line_deed.LineDeed.{LineDeed};
 ghost use Rattle.plain_machine.specs.declared.response.Response.{Response};
 ghost use Rattle.plain_machine.specs.declared.setup.Setup.{Setup};
 ghost use Rattle.plain_machine.specs.declared.station.Station.{Station};
+ghost use Rattle.plain_machine.specs.Effect.{silently};
 ghost use Rattle.plain_machine.specs.Acting.{acted};
 ghost use Rattle.plain_machine.specs.Answering.{Transaction, transaction_of, handled, took_all};
 ghost use Rattle.plain_machine.specs.Connecting.{id_param};
 ghost use Rattle.plain_machine.specs.Event.{GatewayEvent};
 ghost use Rattle.plain_machine.specs.Falling.{happened, pass};
 ghost use Rattle.plain_machine.specs.Happening.{effect};
-ghost use Rattle.plain_machine.specs.Machine.{Endpoints, Machine, told, port_of, station_at};
-ghost use Rattle.plain_machine.specs.Notifying.{silent};
+ghost use Rattle.plain_machine.specs.Machine.{Endpoints, Machine, port_of, station_at};
 ghost use Rattle.plain_machine.specs.Done.{only_answer};
 ghost use Rattle.plain_machine.specs.Requesting.{connected_on, refusal_by, shown_by, deed_on, deed_on_all, deed_done, done_for};
 ghost use Rattle.plain_machine.specs.Requesting.{has_place, line_with_place};
@@ -60,16 +60,16 @@ pub fn a_line_has_at_most_four_connections()
 /// response and what falls due leave those of every line as they are, and so does a deed that keeps them.
 pub fn nothing_else_changes_connections()
     ensures act { (setup : Setup) (endpoints : Endpoints) (line moment other : ℕ) (act : Act) →
-        standing_at (acted setup endpoints line moment act).endpoints other ≡ standing_at endpoints other }
+        standing_at (acted setup endpoints line moment act).value other ≡ standing_at endpoints other }
     ensures response { (setup : Setup) (endpoints : Endpoints) (moment : ℕ) (response : Response) (other : ℕ) →
-        standing_at (responded setup endpoints moment response).endpoints other ≡ standing_at endpoints other }
+        standing_at (responded setup endpoints moment response).value other ≡ standing_at endpoints other }
     ensures due { (setup : Setup) (endpoints : Endpoints) (item : DueItem) (other : ℕ) →
-        standing_at (happened setup endpoints item).endpoints other ≡ standing_at endpoints other }
+        standing_at (happened setup endpoints item).value other ≡ standing_at endpoints other }
     ensures pass { (setup : Setup) (endpoints : Endpoints) (moment other : ℕ) →
-        standing_at (pass setup endpoints moment).endpoints other ≡ standing_at endpoints other }
+        standing_at (pass setup endpoints moment).value other ≡ standing_at endpoints other }
     ensures deed { (setup : Setup) (endpoints : Endpoints) (target : Target) (deed : LineDeed) (moment other : ℕ) →
         deed.connections ≡ deeds.Keep →
-        standing_at (done_for setup endpoints target deed moment).told.endpoints other ≡ standing_at endpoints other }
+        standing_at (done_for setup endpoints target deed moment).told.value other ≡ standing_at endpoints other }
 {}
 
 /// No two connections of a gateway receive at one port.
@@ -101,19 +101,19 @@ pub fn a_number_is_given_once_within_an_event_too()
     ensures given { (setup : Setup) (deed : LineDeed) (creation : Creation) (moment line : ℕ) (station : Station) →
         deed.connections ≡ deeds.Create creation → refusal_by deed station ≡ None →
         ((shown_by (connected_on deed station)).params ≡ id_param (station.connections.last + 1) ∷ [])
-        × ((deed_on setup deed moment line station).station.connections.last ≡ station.connections.last + 1) }
+        × ((deed_on setup deed moment line station).value.connections.last ≡ station.connections.last + 1) }
     ensures act { (setup : Setup) (endpoints : Endpoints) (line moment : ℕ) (act : Act) →
-        NumbersGoOn endpoints (acted setup endpoints line moment act).endpoints }
+        NumbersGoOn endpoints (acted setup endpoints line moment act).value }
     ensures due { (setup : Setup) (endpoints : Endpoints) (item : DueItem) →
-        NumbersGoOn endpoints (happened setup endpoints item).endpoints }
+        NumbersGoOn endpoints (happened setup endpoints item).value }
     ensures pass { (setup : Setup) (endpoints : Endpoints) (moment : ℕ) →
-        NumbersGoOn endpoints (pass setup endpoints moment).endpoints }
+        NumbersGoOn endpoints (pass setup endpoints moment).value }
     ensures text { (setup : Setup) (m : Machine) (source : SocketAddrV4) (outcome : Outcome) →
-        NumbersGoOn m.endpoints (handled setup m source outcome).machine.endpoints }
+        NumbersGoOn m.endpoints (handled setup m source outcome).value.endpoints }
     ensures texts { (setup : Setup) (m : Machine) (source : SocketAddrV4) (texts : List (List ℕ)) →
-        NumbersGoOn m.endpoints (took_all setup m source texts).machine.endpoints }
+        NumbersGoOn m.endpoints (took_all setup m source texts).value.endpoints }
     ensures event { (setup : Setup) (m : Machine) (event : GatewayEvent) →
-        NumbersGoOn m.endpoints (effect setup m event).machine.endpoints }
+        NumbersGoOn m.endpoints (effect setup m event).value.endpoints }
 {}
 
 /// A command that is refused, and so answered neither with 200 nor with 250 (RFC 3435, 2.4), changes no line, and no line
@@ -122,14 +122,14 @@ pub fn a_number_is_given_once_within_an_event_too()
 pub fn what_is_refused_changes_no_line()
     ensures text { (setup : Setup) (m : Machine) (outcome : Outcome) (t : Transaction) →
         transaction_of setup m outcome ≡ Some t → t.done.answer.code ≢ 200 → t.done.answer.code ≢ 250 →
-        t.done.told ≡ told m.endpoints [] }
+        t.done.told ≡ silently m.endpoints }
     ensures after { (setup : Setup) (m : Machine) (source : SocketAddrV4) (outcome : Outcome) (t : Transaction) →
         transaction_of setup m outcome ≡ Some t → t.done.answer.code ≢ 200 → t.done.answer.code ≢ 250 →
-        (handled setup m source outcome).machine.endpoints ≡ m.endpoints }
+        (handled setup m source outcome).value.endpoints ≡ m.endpoints }
     ensures command { (setup : Setup) (endpoints : Endpoints) (moment id : ℕ) (command : Command) (confirms : KValue) →
         (commanded setup endpoints moment id command confirms).answer.code ≢ 200 →
         (commanded setup endpoints moment id command confirms).answer.code ≢ 250 →
-        (commanded setup endpoints moment id command confirms).told ≡ told endpoints [] }
+        (commanded setup endpoints moment id command confirms).told ≡ silently endpoints }
 {}
 
 /// A deletion that the line doesn't refuse empties the places of the connections that it means, and no others.
@@ -137,14 +137,14 @@ pub fn a_deletion_empties_what_it_means()
     ensures meant { (setup : Setup) (deed : LineDeed) (deletion : Deletion) (moment line place : ℕ) (station : Station)
         (connection : Connection) → deed.connections ≡ deeds.Delete deletion → refusal_by deed station ≡ None →
         get_or station.connections.places place None ≡ Some connection → is_meant deletion connection ≡ true →
-        get_or (deed_on setup deed moment line station).station.connections.places place None ≡ None }
+        get_or (deed_on setup deed moment line station).value.connections.places place None ≡ None }
     ensures others { (setup : Setup) (deed : LineDeed) (deletion : Deletion) (moment line place : ℕ) (station : Station)
         (connection : Connection) → deed.connections ≡ deeds.Delete deletion →
         get_or station.connections.places place None ≡ Some connection → is_meant deletion connection ≡ false →
-        get_or (deed_on setup deed moment line station).station.connections.places place None ≡ Some connection }
+        get_or (deed_on setup deed moment line station).value.connections.places place None ≡ Some connection }
     ensures free { (setup : Setup) (deed : LineDeed) (deletion : Deletion) (moment line place : ℕ) (station : Station) →
         deed.connections ≡ deeds.Delete deletion → get_or station.connections.places place None ≡ None →
-        get_or (deed_on setup deed moment line station).station.connections.places place None ≡ None }
+        get_or (deed_on setup deed moment line station).value.connections.places place None ≡ None }
 {}
 
 /// What an EndpointConfiguration changes is the encoding alone (RFC 3435, 2.3.2): a line that it is for has that which is
@@ -154,7 +154,7 @@ pub fn an_endpoint_configuration_gives_an_encoding()
         (moment line : ℕ) (station : Station) → command.verb ≡ Epcf →
         form_of command confirms setup.names ≡ Ok (Does target deed) →
         deed_on setup (line_deed deed) moment line station
-        ≡ silent (record station { encoding = unwrap_or deed.encoding station.encoding }) }
+        ≡ silently (record station { encoding = unwrap_or deed.encoding station.encoding }) }
     ensures taken { (setup : Setup) (command : Command) (confirms : KValue) (target : Target) (deed : Deed)
         (station : Station) → command.verb ≡ Epcf → form_of command confirms setup.names ≡ Ok (Does target deed) →
         refusal_by (line_deed deed) station ≡ None }
@@ -177,11 +177,11 @@ pub fn the_least_line_that_refuses_decides()
 pub fn a_deed_is_done_on_its_lines()
     ensures each { (setup : Setup) (endpoints : Endpoints) (target : Target) (deed : LineDeed) (moment line : ℕ)
         (station : Station) → is_for target line ≡ true → station_at endpoints line ≡ Some station →
-        station_at (deed_on_all setup endpoints target deed moment).endpoints line
-        ≡ Some (deed_on setup deed moment line station).station }
+        station_at (deed_on_all setup endpoints target deed moment).value line
+        ≡ Some (deed_on setup deed moment line station).value }
     ensures others { (setup : Setup) (endpoints : Endpoints) (target : Target) (deed : LineDeed) (moment line : ℕ) →
         is_for target line ≡ false →
-        station_at (deed_on_all setup endpoints target deed moment).endpoints line ≡ station_at endpoints line }
+        station_at (deed_on_all setup endpoints target deed moment).value line ≡ station_at endpoints line }
 {}
 
 /// Any one line is the least that has a place for one more connection.

@@ -11,9 +11,10 @@ ghost use Rattle.plain_machine.specs.declared.setup.Setup.{Setup};
 ghost use Rattle.transmission.specs.declared.output.OutDatagram.{OutDatagram};
 ghost use Rattle.plain_machine.specs.declared.refusal.Refusal.{Refusal};
 ghost use Rattle.plain_machine.specs.declared.refusal.Refusal.TheVariants as refusals;
+ghost use Rattle.plain_machine.specs.Effect.{silently, afterwards};
 ghost use Rattle.plain_machine.specs.Event.{GatewayEvent};
 ghost use Rattle.plain_machine.specs.Message.{again, is_answer, text_of, Sent, datagrams_of};
-ghost use Rattle.plain_machine.specs.Machine.{Machine, Endpoints, idle, told, afterwards};
+ghost use Rattle.plain_machine.specs.Machine.{Machine, Endpoints};
 ghost use Rattle.plain_machine.specs.Falling.{due_at, due_by, happened, pass};
 ghost use Rattle.plain_machine.specs.declared.due_item.DueItem.{DueItem};
 ghost use Rattle.plain_machine.specs.declared.config.Config.{Config};
@@ -44,7 +45,7 @@ pub fn lines_stay()
 
 /// The clock is moved by a tick alone.
 pub fn a_tick_alone_moves_the_clock()
-    ensures { (setup : Setup) (m : Machine) (event : GatewayEvent) → (effect setup m event).machine.now ≡ clock_after m.now event }
+    ensures { (setup : Setup) (m : Machine) (event : GatewayEvent) → (effect setup m event).value.now ≡ clock_after m.now event }
 {}
 
 /// What arrives with an event arrives at the machine's moment, after all that arrived before.
@@ -94,13 +95,13 @@ pub fn commands_are_done_by_what_they_are()
         m.history ≡ entries_of (firsts_of most_firsts earlier) →
         kind_of most_firsts (firsts_of most_firsts earlier) (command_arrival m t) ≡ a_repeat copied →
         transacted m source t ≡ record {
-          machine = m;
+          value = m;
           sent = if is_confirmed t.id copied.after then [] else reply m source t.line (again copied.original.answer) ∷ [];
         } }
     ensures lost { (m : Machine) (source : SocketAddrV4) (t : Transaction) (earlier : List Arrival) →
         m.history ≡ entries_of (firsts_of most_firsts earlier) →
         kind_of most_firsts (firsts_of most_firsts earlier) (command_arrival m t) ≡ lost →
-        transacted m source t ≡ idle m }
+        transacted m source t ≡ silently m }
 {}
 
 /// A configuration is refused exactly where a key is at fault, and by the fault of that key.
@@ -138,9 +139,9 @@ pub fn what_is_due_happens_in_its_order()
         due_by endpoints moment ≡ Some item →
         pass setup endpoints moment ≡ afterwards (happened setup endpoints item) (λ next. pass setup next moment) }
     ensures nothing { (setup : Setup) (endpoints : Endpoints) (moment : ℕ) → due_by endpoints moment ≡ None →
-        pass setup endpoints moment ≡ told endpoints [] }
+        pass setup endpoints moment ≡ silently endpoints }
     ensures after { (setup : Setup) (endpoints : Endpoints) (moment : ℕ) →
-        due_by (pass setup endpoints moment).endpoints moment ≡ None }
+        due_by (pass setup endpoints moment).value moment ≡ None }
 {}
 
 /// What falls due first is the first on its line; nothing on any line is due earlier, and nothing on a lesser line as

@@ -10,34 +10,34 @@ use Rattle.plain_machine.specs.declared.post.Post.{Post}
 use Rattle.plain_machine.specs.declared.response.Response.{Response}
 use Rattle.plain_machine.specs.declared.setup.Setup.{Setup}
 use Rattle.plain_machine.specs.declared.station.Station.{Station}
-use Rattle.plain_machine.specs.Posting.{PostTurn}
+use Rattle.plain_machine.specs.Effect.{Effect}
 use Rattle.plain_machine.specs.Announcing.{heard_on, replied}
 use Rattle.plain_machine.specs.Notifying.{posted, noted}
 use Rattle.plain_machine.specs.Responding.{responded_as, responded_on}
-use Rattle.gateway_stations.specs.Turns.{HasTurn, PostHasTurn}
+use Rattle.gateway_stations.specs.Effects.{HasEffect}
 
 heard_so : (setup : Setup) (line moment : ℕ) (response : Response) (station becomes : Station) (heard : Heard) (were are : List OutDatagram) → heard ≡ heard_on station.post response
-    → HasTurn (responded_as heard setup line moment response station) becomes were are → HasTurn (responded_on setup line moment response station) becomes were are
+    → HasEffect (responded_as heard setup line moment response station) becomes were are → HasEffect (responded_on setup line moment response station) becomes were are
 unfolding responded_on
 heard_so setup line moment response station becomes heard were are is has =
-    subst (λ (h : Heard). HasTurn (responded_as h setup line moment response station) becomes were are) is has
+    subst (λ (h : Heard). HasEffect (responded_as h setup line moment response station) becomes were are) is has
 
 -- the answer sends nothing by itself
 answer_silent : (agent : Option Entity) (setup : Setup) (line moment : ℕ) (response : Response) (station : Station) (post : Post) (were mid : List OutDatagram)
-    → PostHasTurn (replied (Answered agent) setup line moment response station.post) post were mid → mid ≡ were
+    → HasEffect (replied (Answered agent) setup line moment response station.post) post were mid → mid ≡ were
 unfolding replied
 answer_silent agent setup line moment response station post were mid has = has.sent ∙ append-nil were
 
 pub is_answered : (setup : Setup) (line moment : ℕ) (response : Response) (station becomes : Station) (agent : Option Entity) (post : Post) (were mid are : List OutDatagram)
-    → Answered agent ≡ heard_on station.post response → PostHasTurn (replied (Answered agent) setup line moment response station.post) post were mid
-    → HasTurn (noted setup line moment (record station { post = post }) (answered station.line moment)) becomes mid are
-    → HasTurn (responded_on setup line moment response station) becomes were are
+    → Answered agent ≡ heard_on station.post response → HasEffect (replied (Answered agent) setup line moment response station.post) post were mid
+    → HasEffect (noted setup line moment (record station { post = post }) (answered station.line moment)) becomes mid are
+    → HasEffect (responded_on setup line moment response station) becomes were are
 is_answered setup line moment response station becomes agent post were mid are is has goes =
-    let first : Post = (replied (Answered agent) setup line moment response station.post).post in
+    let first : Post = (replied (Answered agent) setup line moment response station.post).value in
     let same : mid ≡ were = answer_silent agent setup line moment response station post were mid has in
     heard_so setup line moment response station becomes (Answered agent) were are is
-    (subst (λ (p : Post). HasTurn (noted setup line moment (record station { post = p }) (answered station.line moment)) becomes were are) has.post
-    (subst (λ (x : List OutDatagram). HasTurn (noted setup line moment (record station { post = post }) (answered station.line moment)) becomes x are) same goes))
+    (subst (λ (p : Post). HasEffect (noted setup line moment (record station { post = p }) (answered station.line moment)) becomes were are) has.value
+    (subst (λ (x : List OutDatagram). HasEffect (noted setup line moment (record station { post = post }) (answered station.line moment)) becomes x are) same goes))
 
 -- where it ends well
 pub on_ok : {A E : Type 0} {P Q : Type 0} (result : Result A E) → (P → Q) → OnOk result P → OnOk result Q

@@ -21,7 +21,7 @@ use Rattle.plain_machine.specs.declared.setup.Setup.{Setup}
 use Rattle.plain_machine.specs.Posting.{resent_on}
 use Rattle.plain_machine.specs.Announcing.{announced_lines}
 use Rattle.plain_machine.proofs.NameLemmas.{name_is_word, all_is_word}
-use Rattle.gateway_stations.specs.Turns.{PostHasTurn}
+use Rattle.gateway_stations.specs.Effects.{HasEffect}
 
 name_some : (domain : List ℕ) (line : ℕ) → is_empty (name_text (One line) domain) ≡ false
 unfolding name_text
@@ -68,10 +68,10 @@ kept_to message moment = by_repeat (repeat_of message moment) where
 
 pub sent_again : (setup : Setup) (line moment : ℕ) (post becomes : Post) (message again : InFlight) (to : SocketAddrV4) (text : List ℕ) (were are : List OutDatagram) → post.pending ≡ Some message
     → SentAgain ≡ repeat_of message moment → again ≡ repeated message moment → to ≡ again.to → text ≡ again.text
-    → are ≡ were ++ (record { to = to; moment = moment; bytes = text }) ∷ [] → becomes ≡ record post { pending = Some again } → PostHasTurn (resent_on setup line moment post) becomes were are
+    → are ≡ were ++ (record { to = to; moment = moment; bytes = text }) ∷ [] → becomes ≡ record post { pending = Some again } → HasEffect (resent_on setup line moment post) becomes were are
 sent_again setup line moment post becomes message again to text were are flying goes is to_same text_same more same =
     let kept = kept_to message moment in
     rw (flying, sym goes) (record {
-      post = same ∙ ap (λ (m : InFlight). let p : Post = record post { pending = Some m } in p) is;
+      value = same ∙ ap (λ (m : InFlight). let p : Post = record post { pending = Some m } in p) is;
       sent = more ∙ rw (to_same, text_same, is, kept.0, kept.1) refl;
     })

@@ -1,3 +1,3 @@
 pub mod Telling
-pub mod Turns
+pub mod Effects
 pub mod News

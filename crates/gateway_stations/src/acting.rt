@@ -3,7 +3,7 @@ ghost use Rattle.std.specs.Prelude.{IsTrue, OnOk};
 ghost use Rattle.mg_line.specs.Acting.{is_possible};
 ghost use Rattle.plain_machine.specs.Acting.{acted_on};
 ghost use Rattle.gateway_stations.specs.Telling.{MayTell, IsLine};
-ghost use Rattle.gateway_stations.specs.Turns.{HasTurn};
+ghost use Rattle.gateway_stations.specs.Effects.{HasEffect};
 
 use crate::context::Context;
 use crate::notifying::tell;
@@ -24,7 +24,7 @@ pub fn acted_on(
     requires possible { IsTrue (is_possible station.old.line.hook act) }
     requires line { IsLine occasion.line }
     requires may { MayTell context.setup.now occasion.moment }
-    ensures { OnOk result (HasTurn (acted_on context.entry.setup.now occasion.line occasion.moment act station.old)
+    ensures { OnOk result (HasEffect (acted_on context.entry.setup.now occasion.line occasion.moment act station.old)
         station.new out.old.items out.new.items) }
 {
     let notice = station.line.phone(act, occasion.moment)?;

@@ -9,7 +9,7 @@ ghost use Rattle.plain_machine.specs.Announcing.{announced_lines, method_of, ann
 ghost use Rattle.plain_machine.specs.Announcing.{heard_on, put_off, replied};
 ghost use Rattle.restart.specs.declared.restart.Restart.TheVariants.{Serving};
 ghost use Rattle.gateway_stations.specs.Telling.{MayTell, HasId};
-ghost use Rattle.gateway_stations.specs.Turns.{PostHasTurn};
+ghost use Rattle.gateway_stations.specs.Effects.{HasEffect};
 
 use crate::context::Context;
 use crate::posting::{Occasion, begin, redirect};
@@ -91,7 +91,7 @@ fn announced(
 ) -> Result<(), OutOfMemory>
     requires id { HasId occasion.line post.old.number }
     requires may { MayTell context.setup.now occasion.moment }
-    ensures turn { OnOk result (PostHasTurn (announced context.entry.setup.now occasion.line occasion.moment post.old)
+    ensures turn { OnOk result (HasEffect (announced context.entry.setup.now occasion.line occasion.moment post.old)
         post.new out.old.items out.new.items) }
     ensures id { HasId occasion.line post.new.number }
 {
@@ -111,7 +111,7 @@ pub(crate) fn announced_on(
 ) -> Result<(), OutOfMemory>
     requires id { HasId occasion.line post.old.number }
     requires may { MayTell context.setup.now occasion.moment }
-    ensures turn { OnOk result (PostHasTurn
+    ensures turn { OnOk result (HasEffect
         (announced_on context.entry.setup.now occasion.line occasion.moment post.old)
         post.new out.old.items out.new.items) }
     ensures id { HasId occasion.line post.new.number }
@@ -167,7 +167,7 @@ pub(crate) fn replied(
 ) -> Result<(), OutOfMemory>
     requires id { HasId occasion.line post.old.number }
     requires may { MayTell context.setup.now occasion.moment }
-    ensures turn { OnOk result (PostHasTurn
+    ensures turn { OnOk result (HasEffect
         (replied heard context.entry.setup.now occasion.line occasion.moment response.now post.old)
         post.new out.old.items out.new.items) }
     ensures id { HasId occasion.line post.new.number }

@@ -7,7 +7,7 @@ ghost use Rattle.restart.specs.Restarting.{announced_at};
 ghost use Rattle.plain_machine.specs.Falling.{line_item, command_item, announcement_item, post_due, due_on, earlier};
 ghost use Rattle.plain_machine.specs.Falling.{happened_on, own_happened};
 ghost use Rattle.gateway_stations.specs.Telling.{MayTell, IsLine, HasId};
-ghost use Rattle.gateway_stations.specs.Turns.{HasTurn, OwnHasTurn};
+ghost use Rattle.gateway_stations.specs.Effects.{HasEffect};
 
 use crate::announcing::announced_on;
 use crate::context::Context;
@@ -98,7 +98,7 @@ pub fn happened_on(
 ) -> Result<(), OutOfMemory>
     requires line { IsLine occasion.line }
     requires may { MayTell context.setup.now occasion.moment }
-    ensures { OnOk result (HasTurn
+    ensures { OnOk result (HasEffect
         (happened_on due context.entry.setup.now occasion.line occasion.moment station.old)
         station.new out.old.items out.new.items) }
 {
@@ -124,7 +124,7 @@ pub fn own_happened(
 ) -> Result<(), OutOfMemory>
     requires id { HasId 0 own.old.post.number }
     requires may { MayTell context.setup.now moment }
-    ensures turn { OnOk result (OwnHasTurn (own_happened due context.entry.setup.now moment own.old)
+    ensures turn { OnOk result (HasEffect (own_happened due context.entry.setup.now moment own.old)
         own.new out.old.items out.new.items) }
     ensures id { HasId 0 own.new.post.number }
 {

@@ -10,7 +10,7 @@ ghost use Rattle.event_values.specs.Observed.{observed_text};
 ghost use Rattle.plain_machine.specs.Posting.{id_on, with_command};
 ghost use Rattle.plain_machine.specs.Notifying.{notification, with_notice};
 ghost use Rattle.gateway_stations.specs.Telling.{MayTell, IsLine};
-ghost use Rattle.gateway_stations.specs.Turns.{HasTurn, PostHasTurn};
+ghost use Rattle.gateway_stations.specs.Effects.{HasEffect};
 
 use crate::context::Context;
 use crate::posting::{Occasion, begin};
@@ -81,7 +81,7 @@ fn notified(
 ) -> Result<(), OutOfMemory>
     requires line { IsLine occasion.line }
     requires may { MayTell context.setup.now occasion.moment }
-    ensures { OnOk result (PostHasTurn (with_command occasion.line occasion.moment post.old
+    ensures { OnOk result (HasEffect (with_command occasion.line occasion.moment post.old
         (notification context.entry.setup.now occasion.line (id_on occasion.line post.old.number) notice.now))
         post.new out.old.items out.new.items) }
 {
@@ -100,7 +100,7 @@ pub(crate) fn tell(
 ) -> Result<(), OutOfMemory>
     requires line { IsLine occasion.line }
     requires may { MayTell context.setup.now occasion.moment }
-    ensures { OnOk result (HasTurn (with_notice context.entry.setup.now occasion.line occasion.moment station.old notice)
+    ensures { OnOk result (HasEffect (with_notice context.entry.setup.now occasion.line occasion.moment station.old notice)
         station.new out.old.items out.new.items) }
 {
     match notice {

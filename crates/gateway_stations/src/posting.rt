@@ -5,7 +5,7 @@ ghost use Rattle.std.specs.Option.{unwrap_or};
 ghost use Rattle.mgcp_text.specs.Writing.{is_writable};
 ghost use Rattle.plain_machine.specs.Posting.{wait_of, given_up, with_command, resent_on};
 ghost use Rattle.gateway_stations.specs.Telling.{HasId};
-ghost use Rattle.gateway_stations.specs.Turns.{PostHasTurn};
+ghost use Rattle.gateway_stations.specs.Effects.{HasEffect};
 
 use crate::context::Context;
 use endpoint_names::Entity;
@@ -66,7 +66,7 @@ pub(crate) fn begin(
     requires id { HasId occasion.line post.old.number }
     requires early { occasion.moment < 2 ^ 62 }
     requires writable { IsTrue (is_writable said.now) }
-    ensures turn { OnOk result (PostHasTurn (with_command occasion.line occasion.moment post.old said.now)
+    ensures turn { OnOk result (HasEffect (with_command occasion.line occasion.moment post.old said.now)
         post.new out.old.items out.new.items) }
     ensures id { HasId occasion.line post.new.number }
 {
@@ -108,7 +108,7 @@ pub(crate) fn resent_on(
     out: &mut Vec<OutDatagram>,
 ) -> Result<(), OutOfMemory>
     requires { occasion.moment < 2 ^ 62 }
-    ensures turn { OnOk result (PostHasTurn (resent_on context.entry.setup.now occasion.line occasion.moment post.old)
+    ensures turn { OnOk result (HasEffect (resent_on context.entry.setup.now occasion.line occasion.moment post.old)
         post.new out.old.items out.new.items) }
     ensures number { post.new.number ≡ post.old.number }
 {

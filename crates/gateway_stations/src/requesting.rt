@@ -5,7 +5,7 @@ ghost use Rattle.plain_machine.specs.Requesting.{refusal_by, connected_on, deed_
 ghost use Rattle.connections.specs.Places.{is_free};
 ghost use Rattle.gateway_stations.specs.News.{shown_as};
 ghost use Rattle.gateway_stations.specs.Telling.{MayTell, IsLine};
-ghost use Rattle.gateway_stations.specs.Turns.{HasTurn};
+ghost use Rattle.gateway_stations.specs.Effects.{HasEffect};
 
 use crate::connecting::{News, connect, connections_refuse};
 use crate::context::Context;
@@ -40,7 +40,7 @@ pub fn deed_on(
 ) -> Result<News, OutOfMemory>
     requires line { IsLine occasion.line }
     requires may { MayTell context.setup.now occasion.moment }
-    ensures turn { OnOk result (HasTurn (deed_on context.entry.setup.now deed.now occasion.moment occasion.line
+    ensures turn { OnOk result (HasEffect (deed_on context.entry.setup.now deed.now occasion.moment occasion.line
         station.old) station.new sent.old.items sent.new.items) }
     ensures news { IfOk result (λ news. shown_as news ≡ shown_by (connected_on deed.now station.old)) }
 {

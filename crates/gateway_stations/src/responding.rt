@@ -1,10 +1,11 @@
 //! What a response does to a station, and to the gateway itself (RFC 3435, 3.5, 4.4.1, 4.4.6 and 4.4.7).
 ghost use Rattle.std.specs.Prelude.{◌≡◌, ℕ, OnOk};
 ghost use Rattle.mg_line.specs.Answering.{answered};
-ghost use Rattle.plain_machine.specs.Notifying.{noted, silent};
+ghost use Rattle.plain_machine.specs.Effect.{silently};
+ghost use Rattle.plain_machine.specs.Notifying.{noted};
 ghost use Rattle.plain_machine.specs.Responding.{responded_on, own_responded, redirected_on, opened_on};
 ghost use Rattle.gateway_stations.specs.Telling.{MayTell, IsLine, HasId};
-ghost use Rattle.gateway_stations.specs.Turns.{HasTurn, OwnHasTurn};
+ghost use Rattle.gateway_stations.specs.Effects.{HasEffect};
 
 use crate::announcing::{heard_on, replied};
 use crate::context::Context;
@@ -26,7 +27,7 @@ pub fn responded_on(
 ) -> Result<(), OutOfMemory>
     requires line { IsLine occasion.line }
     requires may { MayTell context.setup.now occasion.moment }
-    ensures { OnOk result (HasTurn
+    ensures { OnOk result (HasEffect
         (responded_on context.entry.setup.now occasion.line occasion.moment response.now station.old)
         station.new out.old.items out.new.items) }
 {
@@ -54,7 +55,7 @@ fn answered_on(
 ) -> Result<(), OutOfMemory>
     requires line { IsLine occasion.line }
     requires may { MayTell context.setup.now occasion.moment }
-    ensures { OnOk result (HasTurn (noted context.entry.setup.now occasion.line occasion.moment
+    ensures { OnOk result (HasEffect (noted context.entry.setup.now occasion.line occasion.moment
         station.old (answered station.old.line occasion.moment))
         station.new out.old.items out.new.items) }
 {
@@ -74,7 +75,7 @@ pub fn own_responded(
 ) -> Result<(), OutOfMemory>
     requires id { HasId 0 own.old.post.number }
     requires may { MayTell context.setup.now moment }
-    ensures turn { OnOk result (OwnHasTurn (own_responded context.entry.setup.now moment response.now own.old)
+    ensures turn { OnOk result (HasEffect (own_responded context.entry.setup.now moment response.now own.old)
         own.new out.old.items out.new.items) }
     ensures id { HasId 0 own.new.post.number }
 {
@@ -86,7 +87,7 @@ pub fn own_responded(
 /// The line of a station notifies this entity from now on.
 #[tactic(auto, unfolding(plain_machine::specs::Responding::redirected_on))]
 pub fn redirected_on(station: &mut Station, entity: Entity)
-    ensures { (line : ℕ) → silent station.new ≡ redirected_on entity line station.old }
+    ensures { (line : ℕ) → silently station.new ≡ redirected_on entity line station.old }
 {
     station.post.entity = entity;
 }
@@ -103,7 +104,7 @@ pub fn opened_on(
 ) -> Result<(), OutOfMemory>
     requires line { IsLine occasion.line }
     requires may { MayTell context.setup.now occasion.moment }
-    ensures { OnOk result (HasTurn
+    ensures { OnOk result (HasEffect
         (opened_on entity context.entry.setup.now occasion.moment occasion.line station.old)
         station.new out.old.items out.new.items) }
 {

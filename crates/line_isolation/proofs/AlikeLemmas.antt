@@ -15,10 +15,10 @@ use Rattle.plain_machine.specs.declared.own.Own.{Own}
 use Rattle.plain_machine.specs.declared.response.Response.{Response}
 use Rattle.plain_machine.specs.declared.setup.Setup.{Setup}
 use Rattle.plain_machine.specs.declared.station.Station.{Station}
+use Rattle.plain_machine.specs.Effect.{Effect, silently, afterwards}
 use Rattle.plain_machine.specs.Message.{of_none, acknowledgement, Sent}
 use Rattle.plain_machine.specs.Posting.{line_of_id}
-use Rattle.plain_machine.specs.Notifying.{Turn, silent}
-use Rattle.plain_machine.specs.Machine.{Endpoints, Told, told, station_at, on_line, on_lines, on_own, afterwards}
+use Rattle.plain_machine.specs.Machine.{Endpoints, station_at, on_line, on_lines, on_own}
 use Rattle.plain_machine.specs.Acting.{acted_on, acted}
 use Rattle.plain_machine.specs.Announcing.{heard_on}
 use Rattle.plain_machine.specs.Falling.{own_due, pass}
@@ -35,45 +35,45 @@ pub record AreAlike (line : ℕ) (one other : Endpoints) : Type 0 where
   pub station : station_at other line ≡ station_at one line
 
 -- and the line sends the same
-pub record ToldAlike (line : ℕ) (one other : Told) : Type 0 where
-  pub endpoints : AreAlike line one.endpoints other.endpoints
+pub record ToldAlike (line : ℕ) (one other : Effect Endpoints) : Type 0 where
+  pub endpoints : AreAlike line one.value other.value
   pub sent : of_line line one.sent ≡ of_line line other.sent
 
-pub nothing_told : (line : ℕ) (one other : Endpoints) → AreAlike line one other → ToldAlike line (told one []) (told other [])
+pub nothing_told : (line : ℕ) (one other : Endpoints) → AreAlike line one other → ToldAlike line (silently one) (silently other)
 nothing_told line one other alike = record { endpoints = alike; sent = refl }
 
 -- the same turn on both
-pub turn_alike : (line : ℕ) (one other : Endpoints) (turn : Station → Turn) (is was : Told) → AreAlike line one other
-    → LineTurns line one turn is → LineTurns line other turn was → is.endpoints.own ≡ one.own → was.endpoints.own ≡ other.own → ToldAlike line is was
+pub turn_alike : (line : ℕ) (one other : Endpoints) (turn : Station → Effect Station) (is was : Effect Endpoints) → AreAlike line one other
+    → LineTurns line one turn is → LineTurns line other turn was → is.value.own ≡ one.own → was.value.own ≡ other.own → ToldAlike line is was
 turn_alike line one other turn is was alike here there own own' = record {
   endpoints = record {
     own = own' ∙ alike.own ∙ sym own;
-    station = there.station ∙ ap (option_map (λ (s : Station). (turn s).station)) alike.station ∙ sym here.station;
+    station = there.station ∙ ap (option_map (λ (s : Station). (turn s).value)) alike.station ∙ sym here.station;
   };
   sent = here.sent ∙ ap (sent_by turn) (sym alike.station) ∙ sym there.sent;
 }
 
 -- one thing after another
-pub afterwards_alike : (line : ℕ) (first other : Told) (next : Endpoints → Told) → ToldAlike line first other
-    → ToldAlike line (next first.endpoints) (next other.endpoints) → ToldAlike line (afterwards first next) (afterwards other next)
+pub afterwards_alike : (line : ℕ) (first other : Effect Endpoints) (next : Endpoints → Effect Endpoints) → ToldAlike line first other
+    → ToldAlike line (next first.value) (next other.value) → ToldAlike line (afterwards first next) (afterwards other next)
 afterwards_alike line first other next alike rest = record {
   endpoints = rest.endpoints;
-  sent = of_both line first.sent (next first.endpoints).sent
-      ∙ ap (λ (x : List Sent). x ++ of_line line (next first.endpoints).sent) alike.sent
+  sent = of_both line first.sent (next first.value).sent
+      ∙ ap (λ (x : List Sent). x ++ of_line line (next first.value).sent) alike.sent
       ∙ ap (λ (x : List Sent). of_line line other.sent ++ x) rest.sent
-      ∙ sym (of_both line other.sent (next other.endpoints).sent);
+      ∙ sym (of_both line other.sent (next other.value).sent);
 }
 
 module _ (setup : Setup) (line : ℕ) where
   -- what comes to one line
-  one_line_alike : (one other : Endpoints) (n : ℕ) (turn : Station → Turn) → ((s : Station) → OwnedBy n (turn s).sent) → AreAlike line one other
+  one_line_alike : (one other : Endpoints) (n : ℕ) (turn : Station → Effect Station) → ((s : Station) → OwnedBy n (turn s).sent) → AreAlike line one other
       → ToldAlike line (on_line one n turn) (on_line other n turn)
   one_line_alike one other n turn owned alike =
       turn_alike line one other (turn_if (n == line) turn) (on_line one n turn) (on_line other n turn) alike
       (on_one_line one line n turn owned) (on_one_line other line n turn owned) (own_stays_on one n turn) (own_stays_on other n turn)
 
   -- and to all of them
-  all_alike : (one other : Endpoints) (turn : ℕ → Station → Turn) → ((n : ℕ) (s : Station) → OwnedBy n (turn n s).sent) → AreAlike line one other
+  all_alike : (one other : Endpoints) (turn : ℕ → Station → Effect Station) → ((n : ℕ) (s : Station) → OwnedBy n (turn n s).sent) → AreAlike line one other
       → ToldAlike line (on_all one turn) (on_all other turn)
   all_alike one other turn owned alike =
       turn_alike line one other (turn_if true (turn line)) (on_all one turn) (on_all other turn) alike
@@ -86,12 +86,12 @@ module _ (setup : Setup) (line : ℕ) where
 
   -- an act on another line is none of this
   pub acted_elsewhere : (one other : Endpoints) (n moment : ℕ) (act : Act) → (n == line) ≡ false → AreAlike line one other
-      → ToldAlike line (acted setup one n moment act) (told other [])
+      → ToldAlike line (acted setup one n moment act) (silently other)
   acted_elsewhere one other n moment act apart alike =
-      let turns : LineTurns line one silent (acted setup one n moment act) =
+      let turns : LineTurns line one silently (acted setup one n moment act) =
       subst (λ (b : Bool). LineTurns line one (turn_if b (acted_on setup n moment act)) (acted setup one n moment act)) apart
       (on_one_line one line n (acted_on setup n moment act) (acted_owned setup n moment act)) in
-      turn_alike line one other silent (acted setup one n moment act) (told other []) alike turns
+      turn_alike line one other silently (acted setup one n moment act) (silently other) alike turns
       (record { station = silent_stays (station_at other line); sent = sym (silent_sends (station_at other line)) })
       (own_stays_on one n (acted_on setup n moment act)) refl
 
@@ -107,7 +107,7 @@ module _ (setup : Setup) (line : ℕ) where
   own_turn_alike : (one other : Endpoints) (moment : ℕ) (response : Response) → AreAlike line one other
       → ToldAlike line (on_own one (own_responded setup moment response)) (on_own other (own_responded setup moment response))
   own_turn_alike one other moment response alike = record {
-    endpoints = record { own = ap (λ (own : Own). (own_responded setup moment response own).own) alike.own; station = alike.station };
+    endpoints = record { own = ap (λ (own : Own). (own_responded setup moment response own).value) alike.own; station = alike.station };
     sent = ap (λ (own : Own). of_line line (own_responded setup moment response own).sent) (sym alike.own);
   }
 
@@ -121,7 +121,7 @@ module _ (setup : Setup) (line : ℕ) where
       (afterwards (on_own other (own_responded setup moment response)) (λ next. lines_told h setup moment next))) (sym same)
       (afterwards_alike line (on_own one (own_responded setup moment response)) (on_own other (own_responded setup moment response))
       (λ next. lines_told heard setup moment next) first
-      (lines_told_alike heard (on_own one (own_responded setup moment response)).endpoints (on_own other (own_responded setup moment response)).endpoints moment first.endpoints))
+      (lines_told_alike heard (on_own one (own_responded setup moment response)).value (on_own other (own_responded setup moment response)).value moment first.endpoints))
 
   responded_alike : (one other : Endpoints) (moment : ℕ) (response : Response) → AreAlike line one other
       → ToldAlike line (responded setup one moment response) (responded setup other moment response)
@@ -161,27 +161,27 @@ module _ (setup : Setup) (line : ℕ) where
   -- A tick
 
   own_passed : (one other : Endpoints) (moment : ℕ) → AreAlike line one other
-      → turned (pass setup other moment).endpoints.own (of_line 0 (pass setup other moment).sent)
-      ≡ turned (pass setup one moment).endpoints.own (of_line 0 (pass setup one moment).sent)
+      → turned (pass setup other moment).value.own (of_line 0 (pass setup other moment).sent)
+      ≡ turned (pass setup one moment).value.own (of_line 0 (pass setup one moment).sent)
   own_passed one other moment alike =
       passes_once own_due (own_happens setup) moment one.own _ _
       (subst (λ (own : Own). PassesAlone own_due (own_happens setup) moment own
-      (turned (pass setup other moment).endpoints.own (of_line 0 (pass setup other moment).sent))) alike.own (own_passes setup moment other))
+      (turned (pass setup other moment).value.own (of_line 0 (pass setup other moment).sent))) alike.own (own_passes setup moment other))
       (own_passes setup moment one)
 
   line_passed : (one other : Endpoints) (moment : ℕ) → 1 ≤ line → AreAlike line one other
-      → turned (station_at (pass setup other moment).endpoints line) (of_line line (pass setup other moment).sent)
-      ≡ turned (station_at (pass setup one moment).endpoints line) (of_line line (pass setup one moment).sent)
+      → turned (station_at (pass setup other moment).value line) (of_line line (pass setup other moment).sent)
+      ≡ turned (station_at (pass setup one moment).value line) (of_line line (pass setup one moment).sent)
   line_passed one other moment some alike =
       passes_once (line_due line) (line_happens setup line) moment (station_at one line) _ _
       (subst (λ (found : Option Station). PassesAlone (line_due line) (line_happens setup line) moment found
-      (turned (station_at (pass setup other moment).endpoints line) (of_line line (pass setup other moment).sent))) alike.station (line_passes setup line moment some other))
+      (turned (station_at (pass setup other moment).value line) (of_line line (pass setup other moment).sent))) alike.station (line_passes setup line moment some other))
       (line_passes setup line moment some one)
 
   pub pass_alike : (one other : Endpoints) (moment : ℕ) → AreAlike line one other → ToldAlike line (pass setup one moment) (pass setup other moment)
   pass_alike one other moment alike = by_zero (line == 0) refl where
-    own : turned (pass setup other moment).endpoints.own (of_line 0 (pass setup other moment).sent)
-        ≡ turned (pass setup one moment).endpoints.own (of_line 0 (pass setup one moment).sent)
+    own : turned (pass setup other moment).value.own (of_line 0 (pass setup other moment).sent)
+        ≡ turned (pass setup one moment).value.own (of_line 0 (pass setup one moment).sent)
     own = own_passed one other moment alike
 
     by_zero : (b : Bool) → (line == 0) ≡ b → ToldAlike line (pass setup one moment) (pass setup other moment)

@@ -22,12 +22,12 @@ use Rattle.plain_machine.specs.declared.line_deed.LineDeed.{LineDeed}
 use Rattle.plain_machine.specs.declared.own.Own.{Own}
 use Rattle.plain_machine.specs.declared.setup.Setup.{Setup}
 use Rattle.plain_machine.specs.declared.station.Station.{Station}
+use Rattle.plain_machine.specs.Effect.{Effect, silently}
 use Rattle.plain_machine.specs.Answering.{line_of_name}
 use Rattle.plain_machine.specs.Commanding.{audited, answer_by, line_deed, done_by, commanded}
 use Rattle.plain_machine.specs.Done.{Done, only_answer}
-use Rattle.plain_machine.specs.Machine.{Endpoints, Told, told, serves, station_at}
+use Rattle.plain_machine.specs.Machine.{Endpoints, serves, station_at}
 use Rattle.plain_machine.specs.Message.{Sent}
-use Rattle.plain_machine.specs.Notifying.{Turn, silent}
 use Rattle.plain_machine.specs.Reporting.{line_report}
 use Rattle.plain_machine.specs.Requesting.{refusal_by, refusal_on, deed_on, shown_on, shown_of, answer_with, deed_done, done_for}
 use Rattle.machine_laws.specs.Refusals.{refusal_at, IsRefused, NoneRefuses}
@@ -47,8 +47,8 @@ pub record DoneAlike (line : ℕ) (one other : Done) : Type 0 where
 pub only_alike : (line : ℕ) (one other : Endpoints) (a b : Answer) → AreAlike line one other → b ≡ a → DoneAlike line (only_answer one a) (only_answer other b)
 only_alike line one other a b alike same = record { told = nothing_told line one other alike; answer = same }
 
-if_turned : (b : Bool) (turn : Station → Turn) (found : Option Station)
-    → option_map (λ (s : Station). if b then (turn s).station else s) found ≡ option_map (λ (s : Station). (turn_if b turn s).station) found
+if_turned : (b : Bool) (turn : Station → Effect Station) (found : Option Station)
+    → option_map (λ (s : Station). if b then (turn s).value else s) found ≡ option_map (λ (s : Station). (turn_if b turn s).value) found
 if_turned true turn found = refl
 if_turned false turn found = refl
 
@@ -162,29 +162,29 @@ module _ (setup : Setup) (line : ℕ) (one other : Endpoints) (alike : AreAlike 
 -- Another line
 
 module _ (setup : Setup) (line n : ℕ) (apart : (n == line) ≡ false) (one other : Endpoints) (alike : AreAlike line one other) where
-  deed_elsewhere : (deed : LineDeed) (moment : ℕ) → ToldAlike line (deed_done setup one (One n) [] deed moment).told (told other [])
+  deed_elsewhere : (deed : LineDeed) (moment : ℕ) → ToldAlike line (deed_done setup one (One n) [] deed moment).told (silently other)
   deed_elsewhere deed moment = by_refusal (refused_or_not one (One n) deed) where
-    by_refusal : IsRefused one (One n) deed ⊎ NoneRefuses one (One n) deed → ToldAlike line (deed_done setup one (One n) [] deed moment).told (told other [])
+    by_refusal : IsRefused one (One n) deed ⊎ NoneRefuses one (One n) deed → ToldAlike line (deed_done setup one (One n) [] deed moment).told (silently other)
     by_refusal (inl refused) =
-        subst (λ (d : Done). ToldAlike line d.told (told other [])) (sym (refused_deed setup one (One n) [] deed moment refused)) (nothing_told line one other alike)
+        subst (λ (d : Done). ToldAlike line d.told (silently other)) (sym (refused_deed setup one (One n) [] deed moment refused)) (nothing_told line one other alike)
     by_refusal (inr none) =
-        let turns : LineTurns line one silent (deed_done setup one (One n) [] deed moment).told =
+        let turns : LineTurns line one silently (deed_done setup one (One n) [] deed moment).told =
         subst (λ (b : Bool). LineTurns line one (turn_if b (deed_on setup deed moment line)) (deed_done setup one (One n) [] deed moment).told) apart
         (done_turns setup one (One n) deed moment line none) in
-        turn_alike line one other silent (deed_done setup one (One n) [] deed moment).told (told other []) alike turns
+        turn_alike line one other silently (deed_done setup one (One n) [] deed moment).told (silently other) alike turns
         (record { station = silent_stays (station_at other line); sent = sym (silent_sends (station_at other line)) })
         (own_alone setup one (One n) [] deed moment) refl
 
   asks_elsewhere : (asks : Result Asks ℕ) (moment id : ℕ) → ((target : Target) (deed : Deed) → asks ≡ Ok (Does target deed) → target ≡ One n)
-      → ToldAlike line (done_by asks setup one moment id).told (told other [])
+      → ToldAlike line (done_by asks setup one moment id).told (silently other)
   asks_elsewhere (Err code) moment id does = nothing_told line one other alike
   asks_elsewhere (Ok (Reports target audit)) moment id does = nothing_told line one other alike
   asks_elsewhere (Ok (Does target deed)) moment id does =
-      subst (λ (t : Target). ToldAlike line (done_by (Ok (Does t deed)) setup one moment id).told (told other []))
+      subst (λ (t : Target). ToldAlike line (done_by (Ok (Does t deed)) setup one moment id).told (silently other))
       (sym (does target deed refl)) (deed_elsewhere (line_deed deed) moment)
 
   pub command_elsewhere : (moment id : ℕ) (command : Command) (confirms : KValue) → line_of_name setup command.name ≡ Some n
-      → ToldAlike line (commanded setup one moment id command confirms).told (told other [])
+      → ToldAlike line (commanded setup one moment id command confirms).told (silently other)
   command_elsewhere moment id command confirms named =
       asks_elsewhere (form_while (serves one) command confirms setup.names) moment id
       (λ target deed e. for_the_line setup (serves one) command confirms (Does target deed) n e named)

@@ -13,9 +13,10 @@ use Rattle.mgcp_text.specs.Reading.{read_text}
 use Rattle.mg_line.specs.declared.phone.Act.{Act}
 use Rattle.plain_machine.specs.declared.setup.Setup.{Setup}
 use Rattle.plain_machine.specs.declared.station.Station.{Station}
+use Rattle.plain_machine.specs.Effect.{Effect, silently}
 use Rattle.plain_machine.specs.Event.{GatewayEvent, datagram, phone, tick}
 use Rattle.plain_machine.specs.Message.{Sent}
-use Rattle.plain_machine.specs.Machine.{Machine, Effect, Told, told, told_in, idle, station_at, opening}
+use Rattle.plain_machine.specs.Machine.{Machine, told_in, station_at, opening}
 use Rattle.plain_machine.specs.Acting.{acted}
 use Rattle.plain_machine.specs.Answering.{handled, took_all}
 use Rattle.plain_machine.specs.Falling.{pass}
@@ -61,8 +62,8 @@ sent_on : (setup : Setup) (m : Machine) (es fs : List GatewayEvent) → sent_fro
 unfolding sent_from machine_after
 sent_on setup m [] fs = refl
 sent_on setup m (event ∷ es) fs =
-    ap (λ (x : List Sent). (effect setup m event).sent ++ x) (sent_on setup (effect setup m event).machine es fs)
-    ∙ sym (append_assoc (effect setup m event).sent (sent_from setup (effect setup m event).machine es) _)
+    ap (λ (x : List Sent). (effect setup m event).sent ++ x) (sent_on setup (effect setup m event).value es fs)
+    ∙ sym (append_assoc (effect setup m event).sent (sent_from setup (effect setup m event).value es) _)
 
 module _ (setup : Setup) (keep : ℕ → Bool) (line : ℕ) where
   abbrev own_texts : List (List ℕ) → List (List ℕ)
@@ -81,35 +82,35 @@ module _ (setup : Setup) (keep : ℕ → Bool) (line : ℕ) where
 
   abbrev TextsMatch : Machine → Machine → SocketAddrV4 → List (List ℕ) → Type 0
   TextsMatch m alone source texts =
-      GoOn (took_all setup m source texts).machine (took_all setup m source texts).sent
+      GoOn (took_all setup m source texts).value (took_all setup m source texts).sent
       (alone_after alone source (own_texts texts)) (alone_sent alone source (own_texts texts))
 
   one_part : (m : Machine) (source : SocketAddrV4) (text : List ℕ) → IsPart text
-      → ((effect setup m (datagram source text)).machine ≡ (handled setup m source (read_text text)).machine)
+      → ((effect setup m (datagram source text)).value ≡ (handled setup m source (read_text text)).value)
       × ((effect setup m (datagram source text)).sent ≡ (handled setup m source (read_text text)).sent)
   unfolding effect took_all
   one_part m source text is = (
-    ap (λ (texts : List (List ℕ)). (took_all setup m source texts).machine) is,
+    ap (λ (texts : List (List ℕ)). (took_all setup m source texts).value) is,
     ap (λ (texts : List (List ℕ)). (took_all setup m source texts).sent) is ∙ append-nil (handled setup m source (read_text text)).sent,
   )
 
   more_texts : (m alone : Machine) (source : SocketAddrV4) (text : List ℕ) (texts : List (List ℕ)) → IsPart text → Agree keep line m alone
       → TextsFit setup keep line m source (text ∷ texts)
-      → ((next : Machine) → Agree keep line (handled setup m source (read_text text)).machine next → TextsMatch (handled setup m source (read_text text)).machine next source texts)
+      → ((next : Machine) → Agree keep line (handled setup m source (read_text text)).value next → TextsMatch (handled setup m source (read_text text)).value next source texts)
       → TextsMatch m alone source (text ∷ texts)
   unfolding took_all machine_after sent_from
   more_texts m alone source text texts part agree fits rest = by_other (is_of_another setup line text) refl where
-    here : Effect
+    here : Effect Machine
     here = handled setup m source (read_text text)
 
-    after : Effect
-    after = took_all setup here.machine source texts
+    after : Effect Machine
+    after = took_all setup here.value source texts
 
     kept : List (List ℕ)
     kept = own_texts texts
 
     by_other : (b : Bool) → is_of_another setup line text ≡ b
-        → GoOn after.machine (here.sent ++ after.sent) (alone_after alone source (if not b then text ∷ kept else kept)) (alone_sent alone source (if not b then text ∷ kept else kept))
+        → GoOn after.value (here.sent ++ after.sent) (alone_after alone source (if not b then text ∷ kept else kept)) (alone_sent alone source (if not b then text ∷ kept else kept))
     by_other true is =
         let h = other_handled setup keep line m alone source (read_text text) agree fits.0 is in
         let r = rest alone h.machines in
@@ -117,16 +118,16 @@ module _ (setup : Setup) (keep : ℕ → Bool) (line : ℕ) where
     by_other false is =
         let h = own_handled setup keep line m alone source (read_text text) agree fits.0 fits.1 is in
         let one = one_part alone source text part in
-        let next : Machine = (handled setup alone source (read_text text)).machine in
+        let next : Machine = (handled setup alone source (read_text text)).value in
         let r = rest next h.machines in
         record {
-          machines = subst (λ (x : Machine). Agree keep line after.machine (alone_after x source kept)) (sym one.0) r.machines;
+          machines = subst (λ (x : Machine). Agree keep line after.value (alone_after x source kept)) (sym one.0) r.machines;
           sent_same = of_both line here.sent after.sent
               ∙ ap (λ (x : List Sent). x ++ of_line line after.sent) h.sent
               ∙ ap (λ (x : List Sent). of_line line (handled setup alone source (read_text text)).sent ++ x) r.sent_same
               ∙ sym (of_both line (handled setup alone source (read_text text)).sent (alone_sent next source kept))
               ∙ ap (λ (x : Machine). of_line line ((handled setup alone source (read_text text)).sent ++ alone_sent x source kept)) (sym one.0)
-              ∙ ap (λ (x : List Sent). of_line line (x ++ alone_sent (effect setup alone (datagram source text)).machine source kept)) (sym one.1);
+              ∙ ap (λ (x : List Sent). of_line line (x ++ alone_sent (effect setup alone (datagram source text)).value source kept)) (sym one.1);
         }
 
   no_texts : (m alone : Machine) (source : SocketAddrV4) → Agree keep line m alone → TextsMatch m alone source []
@@ -138,19 +139,19 @@ module _ (setup : Setup) (keep : ℕ → Bool) (line : ℕ) where
   texts_match m alone source [] parts agree fits = no_texts m alone source agree
   texts_match m alone source (text ∷ texts) parts agree fits =
       more_texts m alone source text texts parts.0 agree fits
-      (λ next both. texts_match (handled setup m source (read_text text)).machine next source texts parts.1 both fits.2)
+      (λ next both. texts_match (handled setup m source (read_text text)).value next source texts parts.1 both fits.2)
 
   -- An event
 
   abbrev EventMatches : Machine → Machine → GatewayEvent → List GatewayEvent → Type 0
   EventMatches m alone event left =
-      GoOn (effect setup m event).machine (effect setup m event).sent (machine_after setup alone left) (sent_from setup alone left)
+      GoOn (effect setup m event).value (effect setup m event).sent (machine_after setup alone left) (sent_from setup alone left)
 
   one_event : (m alone : Machine) (event : GatewayEvent) → Matches keep line (effect setup m event) (effect setup alone event) → EventMatches m alone event (event ∷ [])
   unfolding machine_after sent_from
   one_event m alone event h = record { machines = h.machines; sent_same = h.sent ∙ ap (of_line line) (sym (append-nil (effect setup alone event).sent)) }
 
-  no_event : (m alone : Machine) (event : GatewayEvent) → Matches keep line (effect setup m event) (idle alone) → EventMatches m alone event []
+  no_event : (m alone : Machine) (event : GatewayEvent) → Matches keep line (effect setup m event) (silently alone) → EventMatches m alone event []
   unfolding machine_after sent_from
   no_event m alone event h = record { machines = h.machines; sent_same = h.sent }
 
@@ -160,7 +161,7 @@ module _ (setup : Setup) (keep : ℕ → Bool) (line : ℕ) where
       subst (λ (now : ℕ). Matches keep line (told_in m (acted setup m.endpoints n m.now act)) (told_in alone (acted setup alone.endpoints n now act))) (sym agree.now)
       (in_machine setup keep line m alone _ _ agree (acted_alike setup line m.endpoints alone.endpoints n m.now act agree.endpoints))
 
-  act_elsewhere : (m alone : Machine) (n : ℕ) (act : Act) → (n == line) ≡ false → Agree keep line m alone → Matches keep line (effect setup m (phone n act)) (idle alone)
+  act_elsewhere : (m alone : Machine) (n : ℕ) (act : Act) → (n == line) ≡ false → Agree keep line m alone → Matches keep line (effect setup m (phone n act)) (silently alone)
   unfolding effect
   act_elsewhere m alone n act apart agree =
       let h = acted_elsewhere setup line m.endpoints alone.endpoints n m.now act apart agree.endpoints in
@@ -204,11 +205,11 @@ module _ (setup : Setup) (keep : ℕ → Bool) (line : ℕ) where
       let here = own_part setup line event in
       let rest = own_events setup line events in
       let next : Machine = machine_after setup alone here in
-      let r = isolated (effect setup m event).machine next events h.machines fits.1 in
+      let r = isolated (effect setup m event).value next events h.machines fits.1 in
       record {
-        machines = subst (λ (x : Machine). Agree keep line (machine_after setup (effect setup m event).machine events) x) (sym (machine_on setup alone here rest)) r.machines;
-        sent_same = of_both line (effect setup m event).sent (sent_from setup (effect setup m event).machine events)
-            ∙ ap (λ (x : List Sent). x ++ of_line line (sent_from setup (effect setup m event).machine events)) h.sent_same
+        machines = subst (λ (x : Machine). Agree keep line (machine_after setup (effect setup m event).value events) x) (sym (machine_on setup alone here rest)) r.machines;
+        sent_same = of_both line (effect setup m event).sent (sent_from setup (effect setup m event).value events)
+            ∙ ap (λ (x : List Sent). x ++ of_line line (sent_from setup (effect setup m event).value events)) h.sent_same
             ∙ ap (λ (x : List Sent). of_line line (sent_from setup alone here) ++ x) r.sent_same
             ∙ sym (of_both line (sent_from setup alone here) (sent_from setup next rest))
             ∙ ap (of_line line) (sym (sent_on setup alone here rest));
@@ -220,13 +221,13 @@ module _ (setup : Setup) (keep : ℕ → Bool) (line : ℕ) where
   unfolding are_taken machine_after
   taken_both m [] fs h k = k
   taken_both m (event ∷ es) fs h k =
-      let both = and_parts (is_none (refusal_of m event)) (are_taken setup (effect setup m event).machine es) h in
-      both_true both.0 (taken_both (effect setup m event).machine es fs both.1 k)
+      let both = and_parts (is_none (refusal_of m event)) (are_taken setup (effect setup m event).value es) h in
+      both_true both.0 (taken_both (effect setup m event).value es fs both.1 k)
 
   datagrams_taken : (m : Machine) (source : SocketAddrV4) (texts : List (List ℕ)) → are_taken setup m (map (datagram source) texts) ≡ true
   unfolding are_taken refusal_of
   datagrams_taken m source [] = refl
-  datagrams_taken m source (text ∷ texts) = datagrams_taken (effect setup m (datagram source text)).machine source texts
+  datagrams_taken m source (text ∷ texts) = datagrams_taken (effect setup m (datagram source text)).value source texts
 
   own_taken : (m alone : Machine) (event : GatewayEvent) → Agree keep line m alone → is_none (refusal_of m event) ≡ true
       → are_taken setup alone (own_part setup line event) ≡ true
@@ -248,10 +249,10 @@ module _ (setup : Setup) (keep : ℕ → Bool) (line : ℕ) where
   unfolding are_taken
   all_taken m alone [] agree fits taken = refl
   all_taken m alone (event ∷ events) agree fits taken =
-      let both = and_parts (is_none (refusal_of m event)) (are_taken setup (effect setup m event).machine events) taken in
+      let both = and_parts (is_none (refusal_of m event)) (are_taken setup (effect setup m event).value events) taken in
       let h = event_matches m alone event agree fits.0 in
       taken_both alone (own_part setup line event) (own_events setup line events) (own_taken m alone event agree both.0)
-      (all_taken (effect setup m event).machine (machine_after setup alone (own_part setup line event)) events h.machines fits.1 both.1)
+      (all_taken (effect setup m event).value (machine_after setup alone (own_part setup line event)) events h.machines fits.1 both.1)
 
   -- From the opening on
 

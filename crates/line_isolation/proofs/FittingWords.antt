@@ -13,9 +13,10 @@ use Rattle.history.specs.Looking.{full, look_of}
 use Rattle.transmission.specs.Confirming.{spans_of}
 use Rattle.transmission.specs.Texts.{texts_of}
 use Rattle.plain_machine.specs.declared.setup.Setup.{Setup}
+use Rattle.plain_machine.specs.Effect.{Effect}
 use Rattle.plain_machine.specs.Event.{GatewayEvent, datagram, phone, tick}
 use Rattle.plain_machine.specs.Answering.{line_of_name, transaction_of, handled}
-use Rattle.plain_machine.specs.Machine.{Machine, Effect}
+use Rattle.plain_machine.specs.Machine.{Machine}
 use Rattle.plain_machine.specs.Happening.{effect}
 use Rattle.line_isolation.specs.Apart.{is_single}
 use Rattle.line_isolation.specs.Belonging.{of_line}
@@ -29,8 +30,8 @@ pub record Agree (keep : ℕ → Bool) (line : ℕ) (m alone : Machine) : Type 0
   pub endpoints : AreAlike line m.endpoints alone.endpoints
   pub history : Thins keep m.history alone.history
 
-pub record Matches (keep : ℕ → Bool) (line : ℕ) (one alone : Effect) : Type 0 where
-  pub machines : Agree keep line one.machine alone.machine
+pub record Matches (keep : ℕ → Bool) (line : ℕ) (one alone : Effect Machine) : Type 0 where
+  pub machines : Agree keep line one.value alone.value
   pub sent : of_line line one.sent ≡ of_line line alone.sent
 
 -- the id of a command of another line isn't kept, and it confirms none that is; those of others are
@@ -56,7 +57,7 @@ abbrev pub TextsFit : Setup → (ℕ → Bool) → ℕ → Machine → SocketAdd
 TextsFit setup keep line m source [] = Unit {0}
 TextsFit setup keep line m source (text ∷ texts) =
     Fits setup keep line (read_text text) × FindsRoom setup m (read_text text)
-    × TextsFit setup keep line (handled setup m source (read_text text)).machine source texts
+    × TextsFit setup keep line (handled setup m source (read_text text)).value source texts
 
 abbrev pub EventFits : Setup → (ℕ → Bool) → ℕ → Machine → GatewayEvent → Type 0
 EventFits setup keep line m (datagram source bytes) = TextsFit setup keep line m source (texts_of bytes)
@@ -66,4 +67,4 @@ EventFits setup keep line m (tick moment) = Unit {0}
 abbrev pub EventsFit : Setup → (ℕ → Bool) → ℕ → Machine → List GatewayEvent → Type 0
 EventsFit setup keep line m [] = Unit {0}
 EventsFit setup keep line m (event ∷ events) =
-    EventFits setup keep line m event × EventsFit setup keep line (effect setup m event).machine events
+    EventFits setup keep line m event × EventsFit setup keep line (effect setup m event).value events

@@ -27,11 +27,12 @@ use Rattle.plain_machine.specs.declared.post.Post.{Post}
 use Rattle.plain_machine.specs.declared.response.Response.{Response}
 use Rattle.plain_machine.specs.declared.setup.Setup.{Setup}
 use Rattle.plain_machine.specs.declared.station.Station.{Station}
+use Rattle.plain_machine.specs.Effect.{Effect, silently}
 use Rattle.plain_machine.specs.Message.{own_of, Sent}
 use Rattle.plain_machine.specs.Posting.{repeated_as, resent_by, resent_on}
 use Rattle.plain_machine.specs.Announcing.{announced, announced_by, announced_on, heard_on, replied}
-use Rattle.plain_machine.specs.Notifying.{Turn, silent, posted, with_notice, noted}
-use Rattle.plain_machine.specs.Machine.{Endpoints, Told, station_at, own_posted, on_line, on_own, on_lines}
+use Rattle.plain_machine.specs.Notifying.{posted, with_notice, noted}
+use Rattle.plain_machine.specs.Machine.{Endpoints, station_at, own_posted, on_line, on_own, on_lines}
 use Rattle.plain_machine.specs.Acting.{acted_on}
 use Rattle.plain_machine.specs.Requesting.{with_entity, with_connections, asked_if, deed_on}
 use Rattle.plain_machine.specs.Responding.{responded_as, responded_on, own_responded, redirected_on, opened_on}
@@ -117,7 +118,7 @@ responded_owned setup line moment response station = by_heard (heard_on station.
   by_heard PutOff = none_owned line
   by_heard (Redirected agent) = one_owned line _ refl
   by_heard (Answered agent) =
-      let becomes = (posted station (replied (Answered agent) setup line moment response station.post)).station in
+      let becomes = (posted station (replied (Answered agent) setup line moment response station.post)).value in
       noted_owned setup line moment becomes (answered becomes.line moment)
 
 pub own_responded_owned : (setup : Setup) (moment : ℕ) (response : Response) (own : Own) → OwnedBy 0 (own_responded setup moment response own).sent
@@ -140,9 +141,9 @@ opened_owned agent setup moment line station = noted_owned setup line moment (wi
 pub happening_owned : (setup : Setup) (endpoints : Endpoints) (item : DueItem) → OwnedBy item.line (happened setup endpoints item).sent
 happening_owned setup endpoints item = by_test (item.line == 0) refl where
   on_station : (found : Option Station) → station_at endpoints item.line ≡ found → OwnedBy item.line (on_line endpoints item.line (happened_on item.due setup item.line item.moment)).sent
-  on_station None at = subst (λ (x : Told). OwnedBy item.line x.sent) (sym (on_nothing endpoints item.line (happened_on item.due setup item.line item.moment) at)) (none_owned item.line)
+  on_station None at = subst (λ (x : Effect Endpoints). OwnedBy item.line x.sent) (sym (on_nothing endpoints item.line (happened_on item.due setup item.line item.moment) at)) (none_owned item.line)
   on_station (Some station) at =
-      subst (λ (x : Told). OwnedBy item.line x.sent) (sym (on_this endpoints item.line station (happened_on item.due setup item.line item.moment) at))
+      subst (λ (x : Effect Endpoints). OwnedBy item.line x.sent) (sym (on_this endpoints item.line station (happened_on item.due setup item.line item.moment) at))
       (happened_owned item.due setup item.line item.moment station)
 
   by_test : (b : Bool) → (item.line == 0) ≡ b
@@ -155,37 +156,37 @@ happening_owned setup endpoints item = by_test (item.line == 0) refl where
 -- One line's turn
 
 -- the line has this turn, or none
-abbrev pub turn_if : Bool → (Station → Turn) → Station → Turn
+abbrev pub turn_if : Bool → (Station → Effect Station) → Station → Effect Station
 turn_if true turn station = turn station
-turn_if false turn station = silent station
+turn_if false turn station = silently station
 
-abbrev pub sent_by : (Station → Turn) → Option Station → List Sent
+abbrev pub sent_by : (Station → Effect Station) → Option Station → List Sent
 sent_by turn None = []
 sent_by turn (Some station) = (turn station).sent
 
 -- what becomes of the line is this turn of it, and so is what it sends
-pub record LineTurns (line : ℕ) (endpoints : Endpoints) (turn : Station → Turn) (is : Told) : Type 0 where
-  pub station : station_at is.endpoints line ≡ option_map (λ (s : Station). (turn s).station) (station_at endpoints line)
+pub record LineTurns (line : ℕ) (endpoints : Endpoints) (turn : Station → Effect Station) (is : Effect Endpoints) : Type 0 where
+  pub station : station_at is.value line ≡ option_map (λ (s : Station). (turn s).value) (station_at endpoints line)
   pub sent : of_line line is.sent ≡ sent_by turn (station_at endpoints line)
 
-pub silent_stays : (found : Option Station) → found ≡ option_map (λ (s : Station). (silent s).station) found
+pub silent_stays : (found : Option Station) → found ≡ option_map (λ (s : Station). (silently s).value) found
 silent_stays None = refl
 silent_stays (Some station) = refl
 
-pub silent_sends : (found : Option Station) → sent_by silent found ≡ []
+pub silent_sends : (found : Option Station) → sent_by silently found ≡ []
 silent_sends None = refl
 silent_sends (Some station) = refl
 
-pub on_one_line : (endpoints : Endpoints) (line n : ℕ) (turn : Station → Turn) → ((s : Station) → OwnedBy n (turn s).sent)
+pub on_one_line : (endpoints : Endpoints) (line n : ℕ) (turn : Station → Effect Station) → ((s : Station) → OwnedBy n (turn s).sent)
     → LineTurns line endpoints (turn_if (n == line) turn) (on_line endpoints n turn)
 on_one_line endpoints line n turn owned = by_test (n == line) refl where
   sent_here : (found : Option Station) → station_at endpoints n ≡ found → of_line n (on_line endpoints n turn).sent ≡ sent_by turn found
-  sent_here None at = ap (λ (x : Told). of_line n x.sent) (on_nothing endpoints n turn at)
-  sent_here (Some s) at = ap (λ (x : Told). of_line n x.sent) (on_this endpoints n s turn at) ∙ owned_here n (turn s).sent (owned s)
+  sent_here None at = ap (λ (x : Effect Endpoints). of_line n x.sent) (on_nothing endpoints n turn at)
+  sent_here (Some s) at = ap (λ (x : Effect Endpoints). of_line n x.sent) (on_this endpoints n s turn at) ∙ owned_here n (turn s).sent (owned s)
 
   sent_there : (n == line) ≡ false → (found : Option Station) → station_at endpoints n ≡ found → of_line line (on_line endpoints n turn).sent ≡ []
-  sent_there apart None at = ap (λ (x : Told). of_line line x.sent) (on_nothing endpoints n turn at)
-  sent_there apart (Some s) at = ap (λ (x : Told). of_line line x.sent) (on_this endpoints n s turn at) ∙ owned_elsewhere n line (turn s).sent (owned s) apart
+  sent_there apart None at = ap (λ (x : Effect Endpoints). of_line line x.sent) (on_nothing endpoints n turn at)
+  sent_there apart (Some s) at = ap (λ (x : Effect Endpoints). of_line line x.sent) (on_this endpoints n s turn at) ∙ owned_elsewhere n line (turn s).sent (owned s) apart
 
   by_test : (b : Bool) → (n == line) ≡ b → LineTurns line endpoints (turn_if b turn) (on_line endpoints n turn)
   by_test true is =
@@ -206,7 +207,7 @@ apart_below n line low = by_test (n == line) refl where
   by_test false e = refl
   by_test true e = absurd (let same : n ≡ line = (Decides-eqb n line).0 e in omega (arith, low, same))
 
-module _ (p : ℕ → Bool) (turn : ℕ → Station → Turn) (owned : (n : ℕ) (s : Station) → OwnedBy n (turn n s).sent) where
+module _ (p : ℕ → Bool) (turn : ℕ → Station → Effect Station) (owned : (n : ℕ) (s : Station) → OwnedBy n (turn n s).sent) where
   -- of lines below these numbers nothing is sent
   low_more : (n : ℕ) (first : Station) (stations : List Station) (line : ℕ) → line < n → of_line line (sent_in turn (stations_passing p (n + 1) stations)) ≡ []
       → of_line line (sent_in turn (stations_passing p n (first ∷ stations))) ≡ []
@@ -284,14 +285,14 @@ module _ (p : ℕ → Bool) (turn : ℕ → Station → Turn) (owned : (n : ℕ)
       → LineTurns line endpoints (turn_if (p line) (turn line)) (on_lines (passing_from p 1 endpoints.stations) endpoints turn)
   on_many_lines endpoints line = record { station = by_station (station_at endpoints line) refl; sent = lines_sent endpoints line } where
     by_test : (station : Station) (b : Bool) → p line ≡ b → station_at endpoints line ≡ Some station
-        → station_at (on_lines (passing_from p 1 endpoints.stations) endpoints turn).endpoints line ≡ Some (turn_if b (turn line) station).station
+        → station_at (on_lines (passing_from p 1 endpoints.stations) endpoints turn).value line ≡ Some (turn_if b (turn line) station).value
     by_test station true meant at =
         let place = place_of endpoints line station at in
-        among_from p 1 endpoints.stations endpoints turn line place.0 place.1 meant ∙ ap (option_map (λ (s : Station). (turn line s).station)) at
+        among_from p 1 endpoints.stations endpoints turn line place.0 place.1 meant ∙ ap (option_map (λ (s : Station). (turn line s).value)) at
     by_test station false other at = not_among (passing_from p 1 endpoints.stations) endpoints turn line (apart_from endpoints.stations line other) ∙ at
 
     by_station : (found : Option Station) → station_at endpoints line ≡ found
-        → station_at (on_lines (passing_from p 1 endpoints.stations) endpoints turn).endpoints line
-        ≡ option_map (λ (station : Station). (turn_if (p line) (turn line) station).station) found
+        → station_at (on_lines (passing_from p 1 endpoints.stations) endpoints turn).value line
+        ≡ option_map (λ (station : Station). (turn_if (p line) (turn line) station).value) found
     by_station None at = none_stays (passing_from p 1 endpoints.stations) endpoints turn line at
     by_station (Some station) at = by_test station (p line) refl at

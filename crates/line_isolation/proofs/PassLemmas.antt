@@ -8,8 +8,9 @@ use Rattle.plain_machine.specs.declared.due_item.DueItem.{DueItem}
 use Rattle.plain_machine.specs.declared.own.Own.{Own}
 use Rattle.plain_machine.specs.declared.setup.Setup.{Setup}
 use Rattle.plain_machine.specs.declared.station.Station.{Station}
+use Rattle.plain_machine.specs.Effect.{Effect}
 use Rattle.plain_machine.specs.Message.{Sent}
-use Rattle.plain_machine.specs.Machine.{Endpoints, Told, told, station_at, on_line, on_own}
+use Rattle.plain_machine.specs.Machine.{Endpoints, station_at, on_line, on_own}
 use Rattle.plain_machine.specs.Falling.{due_on, own_due, due_at, due_by, if_by, happened_on, own_happened, happened, pass}
 use Rattle.plain_machine.proofs.EffectLaws.{either_own, either_line, on_this, on_nothing}
 use Rattle.plain_machine.proofs.FirstLemmas.{item_same, first_at, none_by}
@@ -26,12 +27,12 @@ use Rattle.line_isolation.proofs.OwningLemmas.{of_both, owned_here, owned_elsewh
 pub record Here {S : Type 0} (due : S → Option DueItem) (happens : DueItem → S → Turned S) (setup : Setup) (moment n : ℕ) (view : Endpoints → S)
     (endpoints : Endpoints) (item : DueItem) : Type 0 where
   first : if_by moment (due (view endpoints)) ≡ Some item
-  becomes : view (happened setup endpoints item).endpoints ≡ (happens item (view endpoints)).becomes
+  becomes : view (happened setup endpoints item).value ≡ (happens item (view endpoints)).becomes
   sends : of_line n (happened setup endpoints item).sent ≡ (happens item (view endpoints)).sends
 
 -- and where it is of another
 pub record There {S : Type 0} (setup : Setup) (n : ℕ) (view : Endpoints → S) (endpoints : Endpoints) (item : DueItem) : Type 0 where
-  stays : view (happened setup endpoints item).endpoints ≡ view endpoints
+  stays : view (happened setup endpoints item).value ≡ view endpoints
   silent : of_line n (happened setup endpoints item).sent ≡ []
 
 module _ {S : Type 0} (due : S → Option DueItem) (happens : DueItem → S → Turned S) (setup : Setup) (moment n : ℕ) (view : Endpoints → S)
@@ -41,33 +42,33 @@ module _ {S : Type 0} (due : S → Option DueItem) (happens : DueItem → S → 
   abbrev Passes : Endpoints → Type 0
   Passes endpoints =
       PassesAlone due happens moment (view endpoints)
-      (turned (view (pass setup endpoints moment).endpoints) (of_line n (pass setup endpoints moment).sent))
+      (turned (view (pass setup endpoints moment).value) (of_line n (pass setup endpoints moment).sent))
 
   none_passes : (endpoints : Endpoints) → due_by endpoints moment ≡ None → Passes endpoints
   none_passes endpoints is =
       let done = pass_none setup endpoints moment is in
-      rests (view endpoints) _ (none endpoints is) (ap (λ (t : Told). let x : Turned S = turned (view t.endpoints) (of_line n t.sent) in x) done)
+      rests (view endpoints) _ (none endpoints is) (ap (λ (t : Effect Endpoints). let x : Turned S = turned (view t.value) (of_line n t.sent) in x) done)
 
-  some_passes : (endpoints : Endpoints) (item : DueItem) → due_by endpoints moment ≡ Some item → Passes (happened setup endpoints item).endpoints → Passes endpoints
+  some_passes : (endpoints : Endpoints) (item : DueItem) → due_by endpoints moment ≡ Some item → Passes (happened setup endpoints item).value → Passes endpoints
   some_passes endpoints item is rest = by_line (item.line == n) refl where
     next : Endpoints
-    next = (happened setup endpoints item).endpoints
+    next = (happened setup endpoints item).value
 
     after : Turned S
-    after = turned (view (pass setup next moment).endpoints) (of_line n (pass setup next moment).sent)
+    after = turned (view (pass setup next moment).value) (of_line n (pass setup next moment).sent)
 
-    done : turned (view (pass setup endpoints moment).endpoints) (of_line n (pass setup endpoints moment).sent)
-        ≡ turned (view (pass setup next moment).endpoints) (of_line n (happened setup endpoints item).sent ++ of_line n (pass setup next moment).sent)
+    done : turned (view (pass setup endpoints moment).value) (of_line n (pass setup endpoints moment).sent)
+        ≡ turned (view (pass setup next moment).value) (of_line n (happened setup endpoints item).sent ++ of_line n (pass setup next moment).sent)
     done =
-        ap (λ (t : Told). let x : Turned S = turned (view t.endpoints) (of_line n t.sent) in x) (pass_some setup endpoints moment item is)
-        ∙ ap (λ (sent : List Sent). let x : Turned S = turned (view (pass setup next moment).endpoints) sent in x)
+        ap (λ (t : Effect Endpoints). let x : Turned S = turned (view t.value) (of_line n t.sent) in x) (pass_some setup endpoints moment item is)
+        ∙ ap (λ (sent : List Sent). let x : Turned S = turned (view (pass setup next moment).value) sent in x)
         (of_both n (happened setup endpoints item).sent (pass setup next moment).sent)
 
     with_sent : (one other : List Sent) → one ≡ other
-        → turned (view (pass setup next moment).endpoints) (one ++ of_line n (pass setup next moment).sent)
-        ≡ turned (view (pass setup next moment).endpoints) (other ++ of_line n (pass setup next moment).sent)
+        → turned (view (pass setup next moment).value) (one ++ of_line n (pass setup next moment).sent)
+        ≡ turned (view (pass setup next moment).value) (other ++ of_line n (pass setup next moment).sent)
     with_sent one other same =
-        ap (λ (sent : List Sent). let x : Turned S = turned (view (pass setup next moment).endpoints) (sent ++ of_line n (pass setup next moment).sent) in x) same
+        ap (λ (sent : List Sent). let x : Turned S = turned (view (pass setup next moment).value) (sent ++ of_line n (pass setup next moment).sent) in x) same
 
     by_line : (b : Bool) → (item.line == n) ≡ b → Passes endpoints
     by_line true e =
@@ -86,8 +87,8 @@ module _ {S : Type 0} (due : S → Option DueItem) (happens : DueItem → S → 
   passes_by zero endpoints enough (Some item) is = absurd (let falls = left_falls setup endpoints moment item is in omega (arith, falls, enough))
   passes_by (suc k) endpoints enough (Some item) is =
       some_passes endpoints item is
-      (passes_by k (happened setup endpoints item).endpoints (let falls = left_falls setup endpoints moment item is in omega (arith, falls, enough))
-      (due_by (happened setup endpoints item).endpoints moment) refl)
+      (passes_by k (happened setup endpoints item).value (let falls = left_falls setup endpoints moment item is in omega (arith, falls, enough))
+      (due_by (happened setup endpoints item).value moment) refl)
 
   passes : (endpoints : Endpoints) → Passes endpoints
   passes endpoints = passes_by (left endpoints moment) endpoints (omega arith) (due_by endpoints moment) refl
@@ -154,13 +155,13 @@ module _ (setup : Setup) (line moment : ℕ) (some : 1 ≤ line) where
         ∙ ap (λ (n : ℕ). on_line endpoints n (happened_on item.due setup n item.moment)) same
 
     by_station : (found : Option Station) → station_at endpoints line ≡ found
-        → (station_at (happened setup endpoints item).endpoints line ≡ (line_happens setup line item found).becomes)
+        → (station_at (happened setup endpoints item).value line ≡ (line_happens setup line item found).becomes)
         × (of_line line (happened setup endpoints item).sent ≡ (line_happens setup line item found).sends)
     by_station None at = absurd (none-some item (ap (line_due line) (sym at) ∙ due_here))
     by_station (Some station) at = (
-      ap (λ (t : Told). station_at t.endpoints line) turns ∙ this_turns endpoints line (happened_on item.due setup line item.moment)
-          ∙ ap (option_map (λ (s : Station). (happened_on item.due setup line item.moment s).station)) at,
-      ap (λ (t : Told). of_line line t.sent) (turns ∙ on_this endpoints line station (happened_on item.due setup line item.moment) at)
+      ap (λ (t : Effect Endpoints). station_at t.value line) turns ∙ this_turns endpoints line (happened_on item.due setup line item.moment)
+          ∙ ap (option_map (λ (s : Station). (happened_on item.due setup line item.moment s).value)) at,
+      ap (λ (t : Effect Endpoints). of_line line t.sent) (turns ∙ on_this endpoints line station (happened_on item.due setup line item.moment) at)
           ∙ owned_here line _ (happened_owned item.due setup line item.moment station),
     )
 
@@ -178,7 +179,7 @@ module _ (setup : Setup) (line moment : ℕ) (some : 1 ≤ line) where
 
   pub line_passes : (endpoints : Endpoints)
       → PassesAlone (line_due line) (line_happens setup line) moment (station_at endpoints line)
-      (turned (station_at (pass setup endpoints moment).endpoints line) (of_line line (pass setup endpoints moment).sent))
+      (turned (station_at (pass setup endpoints moment).value line) (of_line line (pass setup endpoints moment).sent))
   line_passes endpoints =
       passes (line_due line) (line_happens setup line) setup moment line (λ (e : Endpoints). station_at e line) line_here line_there line_none endpoints
 
@@ -193,8 +194,8 @@ module _ (setup : Setup) (moment : ℕ) where
       (ap (λ (n : ℕ). n == 0) same) in
       record {
         first = by_moment_is moment (own_due endpoints.own) item (ap (due_at endpoints) (sym same) ∙ first.0) first.1;
-        becomes = ap (λ (t : Told). t.endpoints.own) turns;
-        sends = ap (λ (t : Told). of_line 0 t.sent) turns ∙ owned_here 0 _ (own_happened_owned item.due setup item.moment endpoints.own);
+        becomes = ap (λ (t : Effect Endpoints). t.value.own) turns;
+        sends = ap (λ (t : Effect Endpoints). of_line 0 t.sent) turns ∙ owned_here 0 _ (own_happened_owned item.due setup item.moment endpoints.own);
       }
 
   own_there : (endpoints : Endpoints) (item : DueItem) → due_by endpoints moment ≡ Some item → (item.line == 0) ≡ false
@@ -209,5 +210,5 @@ module _ (setup : Setup) (moment : ℕ) where
 
   pub own_passes : (endpoints : Endpoints)
       → PassesAlone own_due (own_happens setup) moment endpoints.own
-      (turned (pass setup endpoints moment).endpoints.own (of_line 0 (pass setup endpoints moment).sent))
+      (turned (pass setup endpoints moment).value.own (of_line 0 (pass setup endpoints moment).sent))
   own_passes endpoints = passes own_due (own_happens setup) setup moment 0 (λ (e : Endpoints). e.own) own_here own_there own_none endpoints

@@ -17,8 +17,9 @@ use Rattle.history.specs.Looking.{Looked, new, repeat, confirmed, full, look_of}
 use Rattle.transmission.specs.Confirming.{spans_of}
 use Rattle.command_forms.specs.Command.{Command}
 use Rattle.plain_machine.specs.declared.setup.Setup.{Setup}
+use Rattle.plain_machine.specs.Effect.{Effect, silently}
 use Rattle.plain_machine.specs.Message.{answer_of, Said, answer, again, Sent}
-use Rattle.plain_machine.specs.Machine.{Machine, Effect, Told, told, told_in, idle}
+use Rattle.plain_machine.specs.Machine.{Machine, told_in, Endpoints}
 use Rattle.plain_machine.specs.Done.{Done, only_answer}
 use Rattle.plain_machine.specs.Commanding.{commanded}
 use Rattle.plain_machine.specs.Responding.{heard_from}
@@ -83,9 +84,9 @@ module _ (setup : Setup) (keep : ℕ → Bool) (line : ℕ) where
   -- A command of another line
 
   other_transacted : (looked : Looked) (m alone : Machine) (source : SocketAddrV4) (id other : ℕ) (confirms : List IdSpan) (done : Done)
-      → Agree keep line m alone → ToldAlike line done.told (told alone.endpoints []) → (other == line) ≡ false → keep id ≡ false
+      → Agree keep line m alone → ToldAlike line done.told (silently alone.endpoints) → (other == line) ≡ false → keep id ≡ false
       → ((i : ℕ) → keep i ≡ true → is_named i confirms ≡ false)
-      → Matches keep line (transacted_by looked m source (transaction id (Some other) confirms done)) (idle alone)
+      → Matches keep line (transacted_by looked m source (transaction id (Some other) confirms done)) (silently alone)
   unfolding executed
   other_transacted new m alone source id other confirms done agree there apart foreign unnamed = record {
     machines = record {
@@ -105,7 +106,7 @@ module _ (setup : Setup) (keep : ℕ → Bool) (line : ℕ) where
 
   -- A text
 
-  pub in_machine : (m alone : Machine) (is was : Told) → Agree keep line m alone → ToldAlike line is was → Matches keep line (told_in m is) (told_in alone was)
+  pub in_machine : (m alone : Machine) (is was : Effect Endpoints) → Agree keep line m alone → ToldAlike line is was → Matches keep line (told_in m is) (told_in alone was)
   in_machine m alone is was agree h = record { machines = record { now = agree.now; endpoints = h.endpoints; history = agree.history }; sent = h.sent }
 
   own_is : (n : ℕ) → is_another line (Some n) ≡ false → n ≡ line
@@ -146,7 +147,7 @@ module _ (setup : Setup) (keep : ℕ → Bool) (line : ℕ) where
 
   -- a text that isn't
   pub other_handled : (m alone : Machine) (source : SocketAddrV4) (outcome : Outcome) → Agree keep line m alone → Fits setup keep line outcome
-      → is_another line (line_read setup outcome) ≡ true → Matches keep line (handled setup m source outcome) (idle alone)
+      → is_another line (line_read setup outcome) ≡ true → Matches keep line (handled setup m source outcome) (silently alone)
   unfolding handled
   other_handled m alone source no_header agree fits other = absurd cc
   other_handled m alone source (bad_version id) agree fits other = absurd cc
@@ -158,7 +159,7 @@ module _ (setup : Setup) (keep : ℕ → Bool) (line : ℕ) where
 
     by_who : (who : Option ℕ) → line_of_name setup name ≡ who → is_another line who ≡ true
         → Matches keep line (transacted_by (look_of most_firsts m.history id m.now) m source (transaction id who (spans_of (k_of params))
-        (commanded setup m.endpoints m.now id command (k_of params)))) (idle alone)
+        (commanded setup m.endpoints m.now id command (k_of params)))) (silently alone)
     by_who None named is = absurd cc
     by_who (Some n) named is =
         let apart = not_this (n == line) is in

@@ -71,7 +71,7 @@ module _ (setup : Setup) (keep : ℕ → Bool) (line : ℕ) where
   texts_fit m source [] earlier keeps fit none = tt
   texts_fit m source (text ∷ texts) earlier keeps fit none =
       let found = transaction_of setup m (read_text text) in
-      let next : Machine = (handled setup m source (read_text text)).machine in
+      let next : Machine = (handled setup m source (read_text text)).value in
       let both = none_both (firsts_of most_firsts earlier) (arriving m found) (commands_in setup next source texts) none in (
         fit.0,
         finds_room m earlier found keeps both.0,
@@ -91,7 +91,7 @@ module _ (setup : Setup) (keep : ℕ → Bool) (line : ℕ) where
   unfolding commands_from arrivals_from
   events_fit m [] earlier keeps fit none = tt
   events_fit m (event ∷ events) earlier keeps fit none =
-      let next : Machine = (effect setup m event).machine in
+      let next : Machine = (effect setup m event).value in
       let fits : TextArrival → Type 0 = λ a. Fits setup keep line a.outcome in
       let both = none_both (firsts_of most_firsts earlier) (commands_with setup m event) (commands_from setup next events) none in (
         event_fits m event earlier keeps (each_front fits (arrivals_at m.now event) (arrivals_from (clock_after m.now event) events) fit) both.0,

@@ -29,10 +29,10 @@ line_due line found = option_and_then (λ station. due_on (line, station)) found
 abbrev pub line_happens : Setup → ℕ → DueItem → Option Station → Turned (Option Station)
 line_happens setup line item None = turned None []
 line_happens setup line item (Some station) =
-    turned (Some (happened_on item.due setup line item.moment station).station)
+    turned (Some (happened_on item.due setup line item.moment station).value)
     (happened_on item.due setup line item.moment station).sent
 
 -- of the gateway itself
 abbrev pub own_happens : Setup → DueItem → Own → Turned Own
 own_happens setup item own =
-    turned (own_happened item.due setup item.moment own).own (own_happened item.due setup item.moment own).sent
+    turned (own_happened item.due setup item.moment own).value (own_happened item.due setup item.moment own).sent

@@ -25,10 +25,10 @@ pub fn lines_that_keep_apart_are_isolated()
 pub fn each_line_passes_alone()
     ensures line { (setup : Setup) (endpoints : Endpoints) (line moment : ℕ) → 1 ≤ line →
         PassesAlone (line_due line) (line_happens setup line) moment (station_at endpoints line)
-        (turned (station_at (pass setup endpoints moment).endpoints line) (of_line line (pass setup endpoints moment).sent)) }
+        (turned (station_at (pass setup endpoints moment).value line) (of_line line (pass setup endpoints moment).sent)) }
     ensures own { (setup : Setup) (endpoints : Endpoints) (moment : ℕ) →
         PassesAlone own_due (own_happens setup) moment endpoints.own
-        (turned (pass setup endpoints moment).endpoints.own (of_line 0 (pass setup endpoints moment).sent)) }
+        (turned (pass setup endpoints moment).value.own (of_line 0 (pass setup endpoints moment).sent)) }
     ensures line_once { (setup : Setup) (line moment : ℕ) (was : Option Station) (one other : Turned (Option Station)) →
         PassesAlone (line_due line) (line_happens setup line) moment was one →
         PassesAlone (line_due line) (line_happens setup line) moment was other → one ≡ other }

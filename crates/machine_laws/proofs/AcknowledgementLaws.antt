@@ -15,13 +15,14 @@ use Rattle.mgcp_text.specs.declared.message.Param.{Param}
 use Rattle.mgcp_text.specs.Reading.{Outcome, message, no_header, bad_version, bad_body, read_text}
 use Rattle.command_forms.specs.Command.{Command}
 use Rattle.plain_machine.specs.declared.setup.Setup.{Setup}
+use Rattle.plain_machine.specs.Effect.{behind}
 use Rattle.plain_machine.specs.Answering.{Transaction, refusing, command_with, executed, transacted_by, handled, took_all}
 use Rattle.transmission.specs.Texts.{texts_of}
 use Rattle.plain_machine.specs.Arriving.{arrival, arrivals_at, clock_after, arrivals_from, arrivals_of}
 use Rattle.plain_machine.specs.Event.{GatewayEvent, datagram, phone, tick}
 use Rattle.plain_machine.specs.Happening.{effect}
 use Rattle.plain_machine.specs.Lists.{sent_from, sent_of}
-use Rattle.plain_machine.specs.Machine.{Endpoints, Machine, told, opening}
+use Rattle.plain_machine.specs.Machine.{Endpoints, Machine, opening}
 use Rattle.plain_machine.specs.Message.{Sent}
 use Rattle.transmission.specs.Acknowledging.{is_empty_k, asks_for_acknowledgement}
 use Rattle.plain_machine.specs.Responding.{response_with, acknowledged, responded, heard_from}
@@ -34,18 +35,16 @@ use Rattle.machine_laws.proofs.SendLemmas.{Any, AnyOwn, holds_any, NoAck, none_t
 
 heard_by : (setup : Setup) (endpoints : Endpoints) (moment code id : ℕ) (source : SocketAddrV4) (params : List Param) (asks : Bool) → asks_for_acknowledgement code params ≡ asks
     → heard_from setup endpoints moment source code id params
-    ≡ told (responded setup endpoints moment (response_with setup id code params)).endpoints
-    ((if asks then acknowledging moment source id ∷ [] else []) ++ (responded setup endpoints moment (response_with setup id code params)).sent)
+    ≡ behind (if asks then acknowledging moment source id ∷ [] else []) (responded setup endpoints moment (response_with setup id code params))
 heard_by setup endpoints moment code id source params asks is =
-    ap (λ (b : Bool). told (responded setup endpoints moment (response_with setup id code params)).endpoints
-    ((if b then acknowledging moment source id ∷ [] else []) ++ (responded setup endpoints moment (response_with setup id code params)).sent)) is
+    ap (λ (b : Bool). behind (if b then acknowledging moment source id ∷ [] else []) (responded setup endpoints moment (response_with setup id code params))) is
 
 abbrev tested : Bool → Bool → Bool → Bool
 tested low high empty = low && high && empty
 
 pub asked_for : (setup : Setup) (endpoints : Endpoints) (moment code id : ℕ) (source : SocketAddrV4) (params : List Param) → 200 ≤ code → code ≤ 999 → k_of params ≡ Items []
     → heard_from setup endpoints moment source code id params
-    ≡ told (responded setup endpoints moment (response_with setup id code params)).endpoints (acknowledging moment source id ∷ (responded setup endpoints moment (response_with setup id code params)).sent)
+    ≡ behind (acknowledging moment source id ∷ []) (responded setup endpoints moment (response_with setup id code params))
 asked_for setup endpoints moment code id source params low high empty =
     heard_by setup endpoints moment code id source params true
     (ap (λ (b : Bool). tested b (nat_le code 999) (is_empty_k (k_of params))) (le-leb 200 code low)
@@ -139,9 +138,9 @@ unfolding took_all
 texts_acks setup m source [] = refl
 texts_acks setup m source (text ∷ texts) =
     let first = handled setup m source (read_text text) in
-    acks-append first.sent (took_all setup first.machine source texts).sent
-    ∙ ap (λ (x : List Sent). x ++ acks (took_all setup first.machine source texts).sent) (handled_acks setup m source (read_text text))
-    ∙ ap (λ (x : List Sent). acknowledged_as m.now source (read_text text) ++ x) (texts_acks setup first.machine source texts)
+    acks-append first.sent (took_all setup first.value source texts).sent
+    ∙ ap (λ (x : List Sent). x ++ acks (took_all setup first.value source texts).sent) (handled_acks setup m source (read_text text))
+    ∙ ap (λ (x : List Sent). acknowledged_as m.now source (read_text text) ++ x) (texts_acks setup first.value source texts)
     ∙ ap (λ (now : ℕ). acknowledged_as m.now source (read_text text) ++ flat_map acknowledgements_to (map (arrival now source) texts)) (handled_now setup m source (read_text text))
 
 event_acks : (setup : Setup) (m : Machine) (event : GatewayEvent) → acks (effect setup m event).sent ≡ flat_map acknowledgements_to (arrivals_at m.now event)
@@ -156,7 +155,7 @@ events_acks : (setup : Setup) (m : Machine) (events : List GatewayEvent) → ack
 unfolding sent_from arrivals_from
 events_acks setup m [] = refl
 events_acks setup m (event ∷ events) =
-    let next = (effect setup m event).machine in
+    let next = (effect setup m event).value in
     acks-append (effect setup m event).sent (sent_from setup next events)
     ∙ ap (λ (x : List Sent). x ++ acks (sent_from setup next events)) (event_acks setup m event)
     ∙ ap (λ (x : List Sent). flat_map acknowledgements_to (arrivals_at m.now event) ++ x) (events_acks setup next events)

@@ -26,12 +26,13 @@ use Rattle.command_forms.specs.declared.forms.Target.TheVariants.{One, All as Al
 use Rattle.plain_machine.specs.declared.line_deed.LineDeed.{LineDeed}
 use Rattle.plain_machine.specs.declared.setup.Setup.{Setup}
 use Rattle.plain_machine.specs.declared.station.Station.{Station}
+use Rattle.plain_machine.specs.Effect.{silently}
 use Rattle.plain_machine.specs.Connecting.{Shown, nothing_shown, done_code, connected}
 use Rattle.plain_machine.specs.Commanding.{line_deed, done_by, commanded}
 use Rattle.plain_machine.specs.Done.{Done, only_answer}
 use Rattle.plain_machine.specs.Event.{GatewayEvent}
 use Rattle.plain_machine.specs.Lists.{plain}
-use Rattle.plain_machine.specs.Machine.{serves, Endpoints, opening, told, station_at, numbered}
+use Rattle.plain_machine.specs.Machine.{serves, Endpoints, opening, station_at, numbered}
 use Rattle.plain_machine.specs.Reporting.{name_of_line}
 use Rattle.plain_machine.specs.Requesting.{refusal_on, refused_by, lines_meant, encoding_with, deed_on, deed_on_all, shown_by, shown_on, shown_of, answer_with, unless_refused, deed_done, line_with_place, done_there, done_for}
 use Rattle.command_forms.proofs.FormLemmas.{form_lines}
@@ -186,29 +187,29 @@ apart_from_passing p n line stations fails k d within same =
     absurd cc
 
 deed_station : (setup : Setup) (endpoints : Endpoints) (lines : Target) (deed : LineDeed) (moment line : ℕ)
-    → station_at (deed_on_all setup endpoints lines deed moment).endpoints line
-    ≡ option_map (λ (station : Station). if is_for lines line then (deed_on setup deed moment line station).station else station) (station_at endpoints line)
+    → station_at (deed_on_all setup endpoints lines deed moment).value line
+    ≡ option_map (λ (station : Station). if is_for lines line then (deed_on setup deed moment line station).value else station) (station_at endpoints line)
 deed_station setup endpoints lines deed moment line = by_station (station_at endpoints line) refl where
   by_test : (station : Station) (b : Bool) → is_for lines line ≡ b → station_at endpoints line ≡ Some station
-      → station_at (deed_on_all setup endpoints lines deed moment).endpoints line ≡ Some (if b then (deed_on setup deed moment line station).station else station)
+      → station_at (deed_on_all setup endpoints lines deed moment).value line ≡ Some (if b then (deed_on setup deed moment line station).value else station)
   by_test station true meant at =
       let place = place_of endpoints line station at in
       among_from (is_for lines) 1 endpoints.stations endpoints (deed_on setup deed moment) line place.0 place.1 meant
-      ∙ ap (option_map (λ (s : Station). (deed_on setup deed moment line s).station)) at
+      ∙ ap (option_map (λ (s : Station). (deed_on setup deed moment line s).value)) at
   by_test station false other at =
       not_among (lines_meant endpoints lines) endpoints (deed_on setup deed moment) line (apart_from_passing (is_for lines) 1 line endpoints.stations other) ∙ at
 
   by_station : (found : Option Station) → station_at endpoints line ≡ found
-      → station_at (deed_on_all setup endpoints lines deed moment).endpoints line
-      ≡ option_map (λ (station : Station). if is_for lines line then (deed_on setup deed moment line station).station else station) found
+      → station_at (deed_on_all setup endpoints lines deed moment).value line
+      ≡ option_map (λ (station : Station). if is_for lines line then (deed_on setup deed moment line station).value else station) found
   by_station None at = none_stays (lines_meant endpoints lines) endpoints (deed_on setup deed moment) line at
   by_station (Some station) at = by_test station (is_for lines line) refl at
 
 pub done_station : (setup : Setup) (endpoints : Endpoints) (lines : Target) (more : List Param) (deed : LineDeed) (moment line : ℕ) → NoneRefuses endpoints lines deed
-    → station_at (deed_done setup endpoints lines more deed moment).told.endpoints line
-    ≡ option_map (λ (station : Station). if is_for lines line then (deed_on setup deed moment line station).station else station) (station_at endpoints line)
+    → station_at (deed_done setup endpoints lines more deed moment).told.value line
+    ≡ option_map (λ (station : Station). if is_for lines line then (deed_on setup deed moment line station).value else station) (station_at endpoints line)
 done_station setup endpoints lines more deed moment line none =
-    ap (λ (x : Done). station_at x.told.endpoints line) (all_done setup endpoints lines more deed moment none) ∙ deed_station setup endpoints lines deed moment line
+    ap (λ (x : Done). station_at x.told.value line) (all_done setup endpoints lines more deed moment none) ∙ deed_station setup endpoints lines deed moment line
 
 pub done_sent : (setup : Setup) (endpoints : Endpoints) (lines : Target) (more : List Param) (deed : LineDeed) (moment : ℕ) → NoneRefuses endpoints lines deed
     → (deed_done setup endpoints lines more deed moment).told.sent
@@ -220,7 +221,7 @@ done_sent setup endpoints lines more deed moment none =
 -- One line
 
 pub one_line_alone : (setup : Setup) (endpoints : Endpoints) (more : List Param) (deed : LineDeed) (moment line other : ℕ) → other ≢ line
-    → station_at (deed_done setup endpoints (One line) more deed moment).told.endpoints other ≡ station_at endpoints other
+    → station_at (deed_done setup endpoints (One line) more deed moment).told.value other ≡ station_at endpoints other
 one_line_alone setup endpoints more deed moment line other apart = by_refusal (refused_by endpoints (One line) deed) where
   not_meant : is_for (One line) other ≡ false
   not_meant = by_test (line == other) refl where
@@ -229,17 +230,17 @@ one_line_alone setup endpoints more deed moment line other apart = by_refusal (r
     by_test false e = refl
 
   by_refusal : (refusal : Option ℕ)
-      → station_at (unless_refused refusal endpoints (done_whole setup endpoints (One line) more deed moment)).told.endpoints other
+      → station_at (unless_refused refusal endpoints (done_whole setup endpoints (One line) more deed moment)).told.value other
       ≡ station_at endpoints other
   by_refusal None =
       not_among (lines_meant endpoints (One line)) endpoints (deed_on setup deed moment) other (apart_from_passing (is_for (One line)) 1 other endpoints.stations not_meant)
   by_refusal (Some code) = refl
 
 pub own_alone : (setup : Setup) (endpoints : Endpoints) (lines : Target) (more : List Param) (deed : LineDeed) (moment : ℕ)
-    → (deed_done setup endpoints lines more deed moment).told.endpoints.own ≡ endpoints.own
+    → (deed_done setup endpoints lines more deed moment).told.value.own ≡ endpoints.own
 own_alone setup endpoints lines more deed moment = by_refusal (refused_by endpoints lines deed) where
   by_refusal : (refusal : Option ℕ)
-      → (unless_refused refusal endpoints (done_whole setup endpoints lines more deed moment)).told.endpoints.own ≡ endpoints.own
+      → (unless_refused refusal endpoints (done_whole setup endpoints lines more deed moment)).told.value.own ≡ endpoints.own
   by_refusal None = own_stays (lines_meant endpoints lines) endpoints (deed_on setup deed moment)
   by_refusal (Some code) = refl
 
@@ -291,7 +292,7 @@ audit_finds setup events command confirms line audit is =
     station_there (plain setup events).endpoints line (known.0) (omega (arith, known.1, lines))
 
 pub audit_stays : (setup : Setup) (endpoints : Endpoints) (moment id : ℕ) (command : Command) (confirms : KValue) (lines : AuditTarget) (audit : Audit)
-    → form_while (serves endpoints) command confirms setup.names ≡ Ok (Reports lines audit) → (commanded setup endpoints moment id command confirms).told ≡ told endpoints []
+    → form_while (serves endpoints) command confirms setup.names ≡ Ok (Reports lines audit) → (commanded setup endpoints moment id command confirms).told ≡ silently endpoints
 audit_stays setup endpoints moment id command confirms lines audit is = ap (λ (x : Result Asks ℕ). (done_by x setup endpoints moment id).told) is
 
 pub fault_stays : (setup : Setup) (endpoints : Endpoints) (moment id code : ℕ) (command : Command) (confirms : KValue) → form_while (serves endpoints) command confirms setup.names ≡ Err code

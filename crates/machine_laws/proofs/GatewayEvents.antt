@@ -26,11 +26,12 @@ use Rattle.plain_machine.specs.declared.own.Own.{Own as Itself}
 use Rattle.plain_machine.specs.declared.setup.Setup.{Setup}
 use Rattle.plain_machine.specs.declared.station.Station.{Station}
 use Rattle.plain_machine.specs.declared.refusal.Refusal.TheVariants.{ClockBack, TickTooFar}
+use Rattle.plain_machine.specs.Effect.{Effect, silently}
 use Rattle.plain_machine.specs.Setup.{IsSetUp, most_lines}
 use Rattle.plain_machine.specs.Event.{GatewayEvent, datagram, phone, tick}
 use Rattle.plain_machine.specs.Message.{of_none, again, acknowledgement, Sent, text_of}
 use Rattle.plain_machine.specs.Posting.{first_number}
-use Rattle.plain_machine.specs.Machine.{Endpoints, Machine, Effect, Told, told, opening, opening_station}
+use Rattle.plain_machine.specs.Machine.{Endpoints, Machine, opening, opening_station}
 use Rattle.transmission.specs.Texts.{texts_of}
 use Rattle.plain_machine.specs.Arriving.{clock_after}
 use Rattle.plain_machine.specs.Done.{Done, only_answer}
@@ -67,17 +68,17 @@ pub record EndpointsStand (until : ℕ) (log : List Begun) (endpoints : Endpoint
   pub own : OwnStands until log endpoints.own
 
 -- what is done is said by the gateway's lines and itself alone
-pub record ToldGoes (until : ℕ) (log : List Begun) (is : Told) : Type 0 where
-  pub stands : EndpointsStand until (log ++ begun_in is.sent) is.endpoints
+pub record ToldGoes (until : ℕ) (log : List Begun) (is : Effect Endpoints) : Type 0 where
+  pub stands : EndpointsStand until (log ++ begun_in is.sent) is.value
   pub sent_own : Each (Own until (log ++ begun_in is.sent)) is.sent
 
 -- what a text does
-pub record TextGoes (log : List Begun) (m : Machine) (done : Effect) : Type 0 where
-  pub stands : EndpointsStand m.now (log ++ begun_in done.sent) done.machine.endpoints
+pub record TextGoes (log : List Begun) (m : Machine) (done : Effect Machine) : Type 0 where
+  pub stands : EndpointsStand m.now (log ++ begun_in done.sent) done.value.endpoints
   pub more : List KeptFirst
-  pub grown : firsts_in done.machine.history ≡ firsts_in m.history ++ more
-  pub answers : AreAnswers (firsts_in done.machine.history)
-  pub sent_says : Each (Said (log ++ begun_in done.sent) (firsts_in done.machine.history) m.now) done.sent
+  pub grown : firsts_in done.value.history ≡ firsts_in m.history ++ more
+  pub answers : AreAnswers (firsts_in done.value.history)
+  pub sent_says : Each (Said (log ++ begun_in done.sent) (firsts_in done.value.history) m.now) done.sent
 
 own_said : (until : ℕ) (log : List Begun) (firsts : List KeptFirst) (sent : List Sent) → Each (Own until log) sent → Each (Said log firsts until) sent
 own_said until log firsts sent own = each_weaker (Own until log) (Said log firsts until) (λ one is. (inl is.carries, is.early)) sent own
@@ -110,7 +111,7 @@ endpoints_same until log endpoints sent none s =
     subst (λ (x : List Begun). EndpointsStand until x endpoints) (sym (ap (λ (x : List Begun). log ++ x) none ∙ append-nil log)) s
 
 still_goes : (log : List Begun) (m : Machine) (sent : List Sent) → begun_in sent ≡ [] → EndpointsStand m.now log m.endpoints → AreAnswers (firsts_in m.history)
-    → Each (Said log (firsts_in m.history) m.now) sent → TextGoes log m (record { machine = m; sent = sent })
+    → Each (Said log (firsts_in m.history) m.now) sent → TextGoes log m (record { value = m; sent = sent })
 still_goes log m sent none stands answered says =
     let same : log ≡ log ++ begun_in sent = sym (ap (λ (x : List Begun). log ++ x) none ∙ append-nil log) in
     record {
@@ -143,7 +144,7 @@ transacted_goes log (repeat text) m source t stands answered is goes at =
 transacted_goes log confirmed m source t stands answered is goes at = still_goes log m [] refl stands answered tt
 transacted_goes log full m source t stands answered is goes at = still_goes log m [] refl stands answered tt
 
-only_goes : (log : List Begun) (until : ℕ) (endpoints : Endpoints) → EndpointsStand until log endpoints → ToldGoes until log (told endpoints [])
+only_goes : (log : List Begun) (until : ℕ) (endpoints : Endpoints) → EndpointsStand until log endpoints → ToldGoes until log (silently endpoints)
 only_goes log until endpoints stands = record { stands = endpoints_same until log endpoints [] refl stands; sent_own = tt }
 
 none_acknowledged : (now : ℕ) (source : SocketAddrV4) (code id : ℕ) (params : List Param) → begun_in (acknowledged now source code id params) ≡ []
@@ -160,7 +161,7 @@ acknowledged_says log firsts now source code id params has = by_test (asks_for_a
   by_test false = tt
 
 -- what a turn of the endpoints gives
-from_goes : (setup : Setup) (until : ℕ) (set_up : IsSetUp setup) (log : List Begun) (is : Told)
+from_goes : (setup : Setup) (until : ℕ) (set_up : IsSetUp setup) (log : List Begun) (is : Effect Endpoints)
     → Goes setup until (Stationed until) (OwnStands until) (Own until) (Logged until) (log_turns setup until set_up) log is → ToldGoes until log is
 from_goes setup until set_up log is goes =
     record { stands = record { logged = goes.stands.log_holds; stations = goes.stands.stations; own = goes.stands.own }; sent_own = goes.sent }
@@ -194,7 +195,7 @@ handled_goes setup log m source (message (messages.Response code id params body)
     let same : log ++ begun_in own ≡ log ++ begun_in (ack ++ own) =
     sym (log_both log ack own ∙ ap (λ (x : List Begun). (log ++ x) ++ begun_in own) (none_acknowledged m.now source code id params) ∙ ap (λ (x : List Begun). x ++ begun_in own) (append-nil log)) in
     record {
-      stands = subst (λ (x : List Begun). EndpointsStand m.now x (responded setup m.endpoints m.now response).endpoints) same goes.stands;
+      stands = subst (λ (x : List Begun). EndpointsStand m.now x (responded setup m.endpoints m.now response).value) same goes.stands;
       more = [];
       grown = sym (append-nil (firsts_in m.history));
       answers = answered;
@@ -210,24 +211,24 @@ texts_go setup log m source [] fits stands answered = still_goes log m [] refl s
 texts_go setup log m source (text ∷ texts) fits stands answered =
     let one = handled setup m source (read_text text) in
     let first = handled_goes setup log m source (read_text text) fits stands answered (read_id text) in
-    let now : one.machine.now ≡ m.now = handled_now setup m source (read_text text) in
+    let now : one.value.now ≡ m.now = handled_now setup m source (read_text text) in
     let log' = log ++ begun_in one.sent in
-    let rest = texts_go setup log' one.machine source texts (handled_fits setup m source (read_text text) fits)
-    (subst (λ (t : ℕ). EndpointsStand t log' one.machine.endpoints) (sym now) first.stands) first.answers in
-    let others = took_all setup one.machine source texts in
+    let rest = texts_go setup log' one.value source texts (handled_fits setup m source (read_text text) fits)
+    (subst (λ (t : ℕ). EndpointsStand t log' one.value.endpoints) (sym now) first.stands) first.answers in
+    let others = took_all setup one.value source texts in
     let is = sym (log_both log one.sent others.sent) in
     record {
-      stands = subst (λ (x : List Begun). EndpointsStand m.now x others.machine.endpoints) is
-          (subst (λ (t : ℕ). EndpointsStand t (log' ++ begun_in others.sent) others.machine.endpoints) now rest.stands);
+      stands = subst (λ (x : List Begun). EndpointsStand m.now x others.value.endpoints) is
+          (subst (λ (t : ℕ). EndpointsStand t (log' ++ begun_in others.sent) others.value.endpoints) now rest.stands);
       more = first.more ++ rest.more;
       grown = rest.grown ∙ ap (λ (x : List KeptFirst). x ++ rest.more) first.grown ∙ append_assoc (firsts_in m.history) first.more rest.more;
       answers = rest.answers;
-      sent_says = subst (λ (x : List Begun). Each (Said x (firsts_in others.machine.history) m.now) (one.sent ++ others.sent)) is
-          (each_both (Said (log' ++ begun_in others.sent) (firsts_in others.machine.history) m.now) one.sent others.sent
+      sent_says = subst (λ (x : List Begun). Each (Said x (firsts_in others.value.history) m.now) (one.sent ++ others.sent)) is
+          (each_both (Said (log' ++ begun_in others.sent) (firsts_in others.value.history) m.now) one.sent others.sent
           (subst (λ (f : List KeptFirst). Each (Said (log' ++ begun_in others.sent) f m.now) one.sent) (sym rest.grown)
-          (each_weaker (Said log' (firsts_in one.machine.history) m.now) (Said (log' ++ begun_in others.sent) (firsts_in one.machine.history ++ rest.more) m.now)
-          (said_on log' (begun_in others.sent) (firsts_in one.machine.history) rest.more m.now) one.sent first.sent_says))
-          (subst (λ (t : ℕ). Each (Said (log' ++ begun_in others.sent) (firsts_in others.machine.history) t) others.sent) now rest.sent_says));
+          (each_weaker (Said log' (firsts_in one.value.history) m.now) (Said (log' ++ begun_in others.sent) (firsts_in one.value.history ++ rest.more) m.now)
+          (said_on log' (begun_in others.sent) (firsts_in one.value.history) rest.more m.now) one.sent first.sent_says))
+          (subst (λ (t : ℕ). Each (Said (log' ++ begun_in others.sent) (firsts_in others.value.history) t) others.sent) now rest.sent_says));
     }
 
 -- An event
@@ -239,11 +240,11 @@ pub record GatewayHolds (setup : Setup) (log : List Begun) (m : Machine) : Type 
   pub kept : AreKept m.history
   pub answers : AreAnswers (firsts_in m.history)
 
-pub record EventGoes (setup : Setup) (log : List Begun) (m : Machine) (done : Effect) : Type 0 where
-  pub holds : GatewayHolds setup (log ++ begun_in done.sent) done.machine
+pub record EventGoes (setup : Setup) (log : List Begun) (m : Machine) (done : Effect Machine) : Type 0 where
+  pub holds : GatewayHolds setup (log ++ begun_in done.sent) done.value
   pub more : List KeptFirst
-  pub grown : firsts_in done.machine.history ≡ firsts_in m.history ++ more
-  pub sent_says : Each (Said (log ++ begun_in done.sent) (firsts_in done.machine.history) done.machine.now) done.sent
+  pub grown : firsts_in done.value.history ≡ firsts_in m.history ++ more
+  pub sent_says : Each (Said (log ++ begun_in done.sent) (firsts_in done.value.history) done.value.now) done.sent
 
 flight_later : (now later : ℕ) → now ≤ later → (log : List Begun) (found : Option InFlight) → IfSome found (InLog now log) → IfSome found (InLog later log)
 flight_later now later past log None is = tt
@@ -279,18 +280,18 @@ pub event_holds : (setup : Setup) (log : List Begun) (m : Machine) (event : Gate
 unfolding effect
 event_holds setup log m (datagram source bytes) h taken =
     let goes = texts_go setup log m source (texts_of bytes) h.fits h.stands h.answers in
-    let now : (took_all setup m source (texts_of bytes)).machine.now ≡ m.now = effect_now setup m (datagram source bytes) in
+    let now : (took_all setup m source (texts_of bytes)).value.now ≡ m.now = effect_now setup m (datagram source bytes) in
     let done = took_all setup m source (texts_of bytes) in
     record {
       holds = record {
         fits = event_fits setup m (datagram source bytes) h.fits;
-        stands = subst (λ (t : ℕ). EndpointsStand t (log ++ begun_in done.sent) done.machine.endpoints) (sym now) goes.stands;
+        stands = subst (λ (t : ℕ). EndpointsStand t (log ++ begun_in done.sent) done.value.endpoints) (sym now) goes.stands;
         kept = (event_goes setup m (datagram source bytes) h.fits h.kept).kept;
         answers = goes.answers;
       };
       more = goes.more;
       grown = goes.grown;
-      sent_says = subst (λ (t : ℕ). Each (Said (log ++ begun_in done.sent) (firsts_in done.machine.history) t) done.sent) (sym now) goes.sent_says;
+      sent_says = subst (λ (t : ℕ). Each (Said (log ++ begun_in done.sent) (firsts_in done.value.history) t) done.sent) (sym now) goes.sent_says;
     }
 event_holds setup log m (phone line act) h taken =
     let goes = from_goes setup m.now h.fits.set_up log _

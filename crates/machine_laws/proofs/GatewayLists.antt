@@ -33,9 +33,9 @@ unfolding are_taken machine_after sent_from
 events_hold setup log m [] h taken =
     record { holds = subst (λ (x : List Begun). GatewayHolds setup x m) (sym (append-nil log)) h; more = []; grown = sym (append-nil (firsts_in m.history)); time = omega arith; says = tt }
 events_hold setup log m (e ∷ es) h taken =
-    let both = and_parts (is_none (refusal_of m e)) (are_taken setup (effect setup m e).machine es) taken in
+    let both = and_parts (is_none (refusal_of m e)) (are_taken setup (effect setup m e).value es) taken in
     let may = is_none-None (refusal_of m e) both.0 in
-    let next = (effect setup m e).machine in
+    let next = (effect setup m e).value in
     let first = event_holds setup log m e h may in
     let here = (effect setup m e).sent in
     let log' = log ++ begun_in here in

@@ -34,10 +34,11 @@ use Rattle.plain_machine.specs.declared.post.Post.{Post}
 use Rattle.plain_machine.specs.declared.response.Response.{Response}
 use Rattle.plain_machine.specs.declared.setup.Setup.{Setup}
 use Rattle.plain_machine.specs.declared.station.Station.{Station}
+use Rattle.plain_machine.specs.Effect.{Effect, silently}
 use Rattle.plain_machine.specs.Setup.{IsSetUp}
-use Rattle.plain_machine.specs.Posting.{id_on, line_of_id, PostTurn, resent_on}
+use Rattle.plain_machine.specs.Posting.{id_on, line_of_id, resent_on}
 use Rattle.plain_machine.specs.Announcing.{announced_on, heard_on, replied}
-use Rattle.plain_machine.specs.Notifying.{Turn, silent, posted, notification, with_notice, noted}
+use Rattle.plain_machine.specs.Notifying.{posted, notification, with_notice, noted}
 use Rattle.plain_machine.specs.Machine.{own_posted}
 use Rattle.plain_machine.specs.Requesting.{with_entity, with_connections, asked_if, deed_on}
 use Rattle.plain_machine.specs.Commanding.{line_request, line_deed}
@@ -60,11 +61,11 @@ pub record OwnStands (until : ℕ) (log : List Begun) (own : Itself) : Type 0 wh
   pub sound : OwnSound own
   pub post : Posted until log 0 own.post
 
-abbrev GoodTurn : ℕ → List Begun → ℕ → Turn → Type 0
+abbrev GoodTurn : ℕ → List Begun → ℕ → Effect Station → Type 0
 GoodTurn until log line turn = Good (Stationed until) (Own until) (Logged until) log line turn
 
 -- a turn of its post, after which the station is sound
-post_turn : (until : ℕ) (log : List Begun) (line : ℕ) (station : Station) (turn : PostTurn) → Sound line (posted station turn).station → PostGood until log line turn
+post_turn : (until : ℕ) (log : List Begun) (line : ℕ) (station : Station) (turn : Effect Post) → Sound line (posted station turn).value → PostGood until log line turn
     → GoodTurn until log line (posted station turn)
 post_turn until log line station turn sound good = record {
   log_holds = good.log_holds;
@@ -74,7 +75,7 @@ post_turn until log line station turn sound good = record {
 }
 
 -- a turn in which nothing is sent
-still : (until : ℕ) (log : List Begun) (line : ℕ) (station : Station) → Logged until log → Stationed until log line station → GoodTurn until log line (silent station)
+still : (until : ℕ) (log : List Begun) (line : ℕ) (station : Station) → Logged until log → Stationed until log line station → GoodTurn until log line (silently station)
 still until log line station logged s = record {
   log_holds = subst (Logged until) (sym (append-nil log)) logged;
   of = tt;
@@ -83,7 +84,7 @@ still until log line station logged s = record {
 }
 
 -- the same of the gateway itself
-own_turn : (until : ℕ) (log : List Begun) (own : Itself) (turn : PostTurn) → OwnSound (own_posted own turn).own → PostGood until log 0 turn
+own_turn : (until : ℕ) (log : List Begun) (own : Itself) (turn : Effect Post) → OwnSound (own_posted own turn).value → PostGood until log 0 turn
     → OwnGood (OwnStands until) (Own until) (Logged until) log (own_posted own turn)
 own_turn until log own turn sound good = record {
   log_holds = good.log_holds;
@@ -109,7 +110,7 @@ noted_good setup until set_up log line moment station done past logged s is =
       was : Station
       was = record station { line = done.line }
 
-      by_notice : (notice : Option Notice) → IfSome notice IsTold → Sound line (with_notice setup line moment was notice).station
+      by_notice : (notice : Option Notice) → IfSome notice IsTold → Sound line (with_notice setup line moment was notice).value
           → GoodTurn until log line (with_notice setup line moment was notice)
       by_notice None told sound = still until log line was logged (record { sound = sound; post = s.post })
       by_notice (Some notice) told sound =
@@ -127,21 +128,21 @@ happening_good : (setup : Setup) (until : ℕ) → IsSetUp setup → (log : List
     → due_on (line, station) ≡ Some item → item.moment ≤ until → GoodTurn until log line (happened_on item.due setup line item.moment station)
 unfolding happened_on
 happening_good setup until set_up log line item station logged s due past = by_case (due_cases line station item due) where
-  sounds : Sound line (happened_on item.due setup line item.moment station).station
+  sounds : Sound line (happened_on item.due setup line item.moment station).value
   sounds = ((sound_turns setup set_up).happening true item.due line item.moment station s.sound).0
 
   Happens : DueItem → Type 0
-  Happens i = i.moment ≤ until → Sound line (happened_on i.due setup line i.moment station).station → GoodTurn until log line (happened_on i.due setup line i.moment station)
+  Happens i = i.moment ≤ until → Sound line (happened_on i.due setup line i.moment station).value → GoodTurn until log line (happened_on i.due setup line i.moment station)
 
   of_line : (due : LineDue) (moment : ℕ) → moment ≤ until → GoodTurn until log line (happened_on (OfLine due) setup line moment station)
   of_line due moment by = noted_good setup until set_up log line moment station (fired station.line due moment) by logged s (fired_done station.line due moment s.sound.fine)
 
-  of_command : (message : InFlight) → station.post.pending ≡ Some message → message.due ≤ until → Sound line (happened_on Resend setup line message.due station).station
+  of_command : (message : InFlight) → station.post.pending ≡ Some message → message.due ≤ until → Sound line (happened_on Resend setup line message.due station).value
       → GoodTurn until log line (happened_on Resend setup line message.due station)
   of_command message pending by sound =
       post_turn until log line station (resent_on setup line message.due station.post) sound (resent_good setup until log line message.due station.post message pending refl by logged s.post)
 
-  of_announcement : (moment : ℕ) → moment ≤ until → Sound line (happened_on Announce setup line moment station).station → GoodTurn until log line (happened_on Announce setup line moment station)
+  of_announcement : (moment : ℕ) → moment ≤ until → Sound line (happened_on Announce setup line moment station).value → GoodTurn until log line (happened_on Announce setup line moment station)
   of_announcement moment by sound =
       post_turn until log line station (announced_on setup line moment station.post) sound
       (announcing_good setup until log line moment station.post set_up s.sound.few (some_id line station s.sound) by logged s.post)
@@ -158,18 +159,18 @@ own_happening_good : (setup : Setup) (until : ℕ) → IsSetUp setup → (log : 
     → own_due own ≡ Some item → item.moment ≤ until → OwnGood (OwnStands until) (Own until) (Logged until) log (own_happened item.due setup item.moment own)
 unfolding own_happened
 own_happening_good setup until set_up log item own logged s due past = by_post (post_cases 0 own.post item due) where
-  sounds : OwnSound (own_happened item.due setup item.moment own).own
+  sounds : OwnSound (own_happened item.due setup item.moment own).value
   sounds = ((sound_own_turns setup set_up).happening item.due item.moment own s.sound).0
 
   Happens : DueItem → Type 0
-  Happens i = i.moment ≤ until → OwnSound (own_happened i.due setup i.moment own).own → OwnGood (OwnStands until) (Own until) (Logged until) log (own_happened i.due setup i.moment own)
+  Happens i = i.moment ≤ until → OwnSound (own_happened i.due setup i.moment own).value → OwnGood (OwnStands until) (Own until) (Logged until) log (own_happened i.due setup i.moment own)
 
-  of_command : (message : InFlight) → own.post.pending ≡ Some message → message.due ≤ until → OwnSound (own_happened Resend setup message.due own).own
+  of_command : (message : InFlight) → own.post.pending ≡ Some message → message.due ≤ until → OwnSound (own_happened Resend setup message.due own).value
       → OwnGood (OwnStands until) (Own until) (Logged until) log (own_happened Resend setup message.due own)
   of_command message pending by sound =
       own_turn until log own (resent_on setup 0 message.due own.post) sound (resent_good setup until log 0 message.due own.post message pending refl by logged s.post)
 
-  of_announcement : (moment : ℕ) → moment ≤ until → OwnSound (own_happened Announce setup moment own).own
+  of_announcement : (moment : ℕ) → moment ≤ until → OwnSound (own_happened Announce setup moment own).value
       → OwnGood (OwnStands until) (Own until) (Logged until) log (own_happened Announce setup moment own)
   of_announcement moment by sound =
       own_turn until log own (announced_on setup 0 moment own.post) sound
@@ -188,7 +189,7 @@ responded_good setup until set_up log line response station logged s = by_heard 
   goes : (heard : Heard) → PostGood until log line (replied heard setup line until response station.post)
   goes heard = replied_good heard setup until log line response station.post set_up s.sound.few (some_id line station s.sound) logged s.post
 
-  by_heard : (heard : Heard) → Sound line (responded_as heard setup line until response station).station → GoodTurn until log line (responded_as heard setup line until response station)
+  by_heard : (heard : Heard) → Sound line (responded_as heard setup line until response station).value → GoodTurn until log line (responded_as heard setup line until response station)
   by_heard Nothing sound = still until log line station logged s
   by_heard PutOff sound = post_turn until log line station (replied PutOff setup line until response station.post) sound (goes PutOff)
   by_heard (Redirected agent) sound = post_turn until log line station (replied (Redirected agent) setup line until response station.post) sound (goes (Redirected agent))

@@ -25,11 +25,11 @@ use Rattle.plain_machine.specs.declared.own.Own.{Own as Itself}
 use Rattle.plain_machine.specs.declared.response.Response.{Response}
 use Rattle.plain_machine.specs.declared.setup.Setup.{Setup}
 use Rattle.plain_machine.specs.declared.station.Station.{Station}
+use Rattle.plain_machine.specs.Effect.{Effect, silently, behind}
 use Rattle.plain_machine.specs.Message.{Sent}
 use Rattle.plain_machine.specs.Posting.{line_of_id}
 use Rattle.plain_machine.specs.Announcing.{heard_on}
-use Rattle.plain_machine.specs.Notifying.{Turn}
-use Rattle.plain_machine.specs.Machine.{Endpoints, OwnTurn, Told, told, serves, station_at, with_turn, turned_at, on_line, on_own, on_lines, afterwards}
+use Rattle.plain_machine.specs.Machine.{Endpoints, serves, station_at, with_turn, turned_at, on_line, on_own, on_lines}
 use Rattle.plain_machine.specs.Acting.{acted_on, acted}
 use Rattle.plain_machine.specs.Falling.{due_on, own_due, first_due, due_by, own_happened, happened_on, happened, go_on, passed, room, pass}
 use Rattle.plain_machine.specs.Done.{Done}
@@ -70,16 +70,16 @@ log_both log some more =
 
 -- What a turn keeps: P of a line, R of the gateway itself, Q of what is sent, and L of all that began
 
-pub record Good (P : List Begun → ℕ → Station → Type 0) (Q : List Begun → Sent → Type 0) (L : List Begun → Type 0) (log : List Begun) (line : ℕ) (turn : Turn) : Type 0 where
+pub record Good (P : List Begun → ℕ → Station → Type 0) (Q : List Begun → Sent → Type 0) (L : List Begun → Type 0) (log : List Begun) (line : ℕ) (turn : Effect Station) : Type 0 where
   pub log_holds : L (log ++ begun_in turn.sent)
   pub of : Each (λ (b : Begun). line_of_id b.id ≡ line) (begun_in turn.sent)
-  pub station_holds : P (log ++ begun_in turn.sent) line turn.station
+  pub station_holds : P (log ++ begun_in turn.sent) line turn.value
   pub sent_holds : Each (Q (log ++ begun_in turn.sent)) turn.sent
 
-pub record OwnGood (R : List Begun → Itself → Type 0) (Q : List Begun → Sent → Type 0) (L : List Begun → Type 0) (log : List Begun) (turn : OwnTurn) : Type 0 where
+pub record OwnGood (R : List Begun → Itself → Type 0) (Q : List Begun → Sent → Type 0) (L : List Begun → Type 0) (log : List Begun) (turn : Effect Itself) : Type 0 where
   pub log_holds : L (log ++ begun_in turn.sent)
   pub of : Each (λ (b : Begun). line_of_id b.id ≡ 0) (begun_in turn.sent)
-  pub own_holds : R (log ++ begun_in turn.sent) turn.own
+  pub own_holds : R (log ++ begun_in turn.sent) turn.value
   pub sent_holds : Each (Q (log ++ begun_in turn.sent)) turn.sent
 
 -- each turn by this moment keeps what holds
@@ -107,19 +107,19 @@ module _ (setup : Setup) (until : ℕ) (P : List Begun → ℕ → Station → T
     pub stations : OnAll (P log) 1 endpoints.stations
     pub own : R log endpoints.own
 
-  pub record Goes (log : List Begun) (is : Told) : Type 0 where
-    pub stands : Stands (log ++ begun_in is.sent) is.endpoints
+  pub record Goes (log : List Begun) (is : Effect Endpoints) : Type 0 where
+    pub stands : Stands (log ++ begun_in is.sent) is.value
     pub sent : Each (Q (log ++ begun_in is.sent)) is.sent
 
-  stays : (log : List Begun) (endpoints : Endpoints) → Stands log endpoints → Goes log (told endpoints [])
+  stays : (log : List Begun) (endpoints : Endpoints) → Stands log endpoints → Goes log (silently endpoints)
   stays log endpoints s = record { stands = subst (λ (x : List Begun). Stands x endpoints) (sym (append-nil log)) s; sent = tt }
 
   -- one thing, and then what comes after it
-  both_go : (log : List Begun) (first next : Told) → Goes log first → Goes (log ++ begun_in first.sent) next → Goes log (told next.endpoints (first.sent ++ next.sent))
+  both_go : (log : List Begun) (first next : Effect Endpoints) → Goes log first → Goes (log ++ begun_in first.sent) next → Goes log (behind first.sent next)
   both_go log first next one two =
       let is = sym (log_both log first.sent next.sent) in
       record {
-        stands = subst (λ (x : List Begun). Stands x next.endpoints) is two.stands;
+        stands = subst (λ (x : List Begun). Stands x next.value) is two.stands;
         sent = subst (λ (x : List Begun). Each (Q x) (first.sent ++ next.sent)) is
             (each_both (Q ((log ++ begun_in first.sent) ++ begun_in next.sent)) first.sent next.sent
             (each_weaker (Q (log ++ begun_in first.sent)) (Q ((log ++ begun_in first.sent) ++ begun_in next.sent))
@@ -127,7 +127,7 @@ module _ (setup : Setup) (until : ℕ) (P : List Begun → ℕ → Station → T
             two.sent);
       }
 
-  turned : (log : List Begun) (endpoints : Endpoints) (line : ℕ) (station : Station) (turn : Turn) → Stands log endpoints → station_at endpoints line ≡ Some station
+  turned : (log : List Begun) (endpoints : Endpoints) (line : ℕ) (station : Station) (turn : Effect Station) → Stands log endpoints → station_at endpoints line ≡ Some station
       → Good P Q L log line turn → Goes log (with_turn endpoints line turn)
   turned log endpoints line station turn s at good = by_zero (line == 0) refl at where
     one_more : (line == 0) ≡ false → line ≡ 1 + (line - 1)
@@ -138,10 +138,10 @@ module _ (setup : Setup) (until : ℕ) (P : List Begun → ℕ → Station → T
     by_zero false e at = record {
       stands = record {
         log_holds = good.log_holds;
-        stations = on_turned (P log) (P (log ++ begun_in turn.sent)) 1 endpoints.stations (line - 1) turn.station
+        stations = on_turned (P log) (P (log ++ begun_in turn.sent)) 1 endpoints.stations (line - 1) turn.value
             (λ i other apart holds. turns.others log (begun_in turn.sent) i other
             (each_weaker (λ (b : Begun). line_of_id b.id ≡ line) (λ (b : Begun). line_of_id b.id ≢ i) (λ b of. λ same. apart (sym same ∙ of ∙ one_more e)) (begun_in turn.sent) good.of) holds)
-            (subst (λ (i : ℕ). P (log ++ begun_in turn.sent) i turn.station) (one_more e) good.station_holds) s.stations;
+            (subst (λ (i : ℕ). P (log ++ begun_in turn.sent) i turn.value) (one_more e) good.station_holds) s.stations;
         own = turns.own_others log (begun_in turn.sent) endpoints.own
             (each_weaker (λ (b : Begun). line_of_id b.id ≡ line) (λ (b : Begun). line_of_id b.id ≢ 0)
             (λ b of. λ none. absurd (let some : line ≡ 1 + (line - 1) = one_more e in omega (arith, of, none, some))) (begun_in turn.sent) good.of)
@@ -150,10 +150,10 @@ module _ (setup : Setup) (until : ℕ) (P : List Begun → ℕ → Station → T
       sent = good.sent_holds;
     }
 
-  abbrev LineGoes : List Begun → ℕ → (Station → Turn) → Type 0
+  abbrev LineGoes : List Begun → ℕ → (Station → Effect Station) → Type 0
   LineGoes log line turn = (station : Station) → L log → P log line station → Good P Q L log line (turn station)
 
-  turned_goes : (log : List Begun) (endpoints : Endpoints) (line : ℕ) (turn : Station → Turn) → Stands log endpoints → LineGoes log line turn → Goes log (on_line endpoints line turn)
+  turned_goes : (log : List Begun) (endpoints : Endpoints) (line : ℕ) (turn : Station → Effect Station) → Stands log endpoints → LineGoes log line turn → Goes log (on_line endpoints line turn)
   unfolding on_line
   turned_goes log endpoints line turn s good = by_station (station_at endpoints line) refl where
     by_station : (found : Option Station) → station_at endpoints line ≡ found → Goes log (turned_at found endpoints line turn)
@@ -161,7 +161,7 @@ module _ (setup : Setup) (until : ℕ) (P : List Begun → ℕ → Station → T
     by_station (Some station) e = turned log endpoints line station _ s e (good station s.log_holds (of_line (P log) endpoints line station s.stations e))
 
   -- the gateway itself has its turn
-  own_turned : (log : List Begun) (endpoints : Endpoints) (turn : Itself → OwnTurn) → Stands log endpoints → OwnGood R Q L log (turn endpoints.own) → Goes log (on_own endpoints turn)
+  own_turned : (log : List Begun) (endpoints : Endpoints) (turn : Itself → Effect Itself) → Stands log endpoints → OwnGood R Q L log (turn endpoints.own) → Goes log (on_own endpoints turn)
   own_turned log endpoints turn s good = record {
     stands = record {
       log_holds = good.log_holds;
@@ -175,14 +175,14 @@ module _ (setup : Setup) (until : ℕ) (P : List Begun → ℕ → Station → T
   }
 
   -- several lines have theirs
-  several_go : (lines : List ℕ) (log : List Begun) (endpoints : Endpoints) (turn : ℕ → Station → Turn) → Stands log endpoints → ((log : List Begun) (line : ℕ) → LineGoes log line (turn line))
+  several_go : (lines : List ℕ) (log : List Begun) (endpoints : Endpoints) (turn : ℕ → Station → Effect Station) → Stands log endpoints → ((log : List Begun) (line : ℕ) → LineGoes log line (turn line))
       → Goes log (on_lines lines endpoints turn)
   unfolding on_lines
   several_go [] log endpoints turn s good = stays log endpoints s
   several_go (line ∷ lines) log endpoints turn s good =
       let first = turned_goes log endpoints line (turn line) s (good log line) in
       let here = on_line endpoints line (turn line) in
-      both_go log here (on_lines lines here.endpoints turn) first (several_go lines (log ++ begun_in here.sent) here.endpoints turn first.stands good)
+      both_go log here (on_lines lines here.value turn) first (several_go lines (log ++ begun_in here.sent) here.value turn first.stands good)
 
   pub acted_goes : (log : List Begun) (endpoints : Endpoints) (line : ℕ) (act : Act) → Stands log endpoints → Goes log (acted setup endpoints line until act)
   acted_goes log endpoints line act s = turned_goes log endpoints line (acted_on setup line until act) s (λ station holds has. turns.act log line act station holds has)
@@ -201,8 +201,8 @@ module _ (setup : Setup) (until : ℕ) (P : List Begun → ℕ → Station → T
   own_heard_goes log endpoints response s =
       let first = own_turned log endpoints (own_responded setup until response) s (turns.own_response log response endpoints.own s.log_holds s.own) in
       let here = on_own endpoints (own_responded setup until response) in
-      both_go log here (lines_told (heard_on endpoints.own.post response) setup until here.endpoints) first
-      (lines_go (heard_on endpoints.own.post response) (log ++ begun_in here.sent) here.endpoints first.stands)
+      both_go log here (lines_told (heard_on endpoints.own.post response) setup until here.value) first
+      (lines_go (heard_on endpoints.own.post response) (log ++ begun_in here.sent) here.value first.stands)
 
   pub responded_goes : (log : List Begun) (endpoints : Endpoints) (response : Response) → Stands log endpoints → Goes log (responded setup endpoints until response)
   responded_goes log endpoints response s = by_test (line_of_id response.id == 0) where
@@ -239,14 +239,14 @@ module _ (setup : Setup) (until : ℕ) (P : List Begun → ℕ → Station → T
   unfolding passed
   passed_goes zero log endpoints s = stays log endpoints s
   passed_goes (suc n) log endpoints s = by_due (due_by endpoints until) refl
-      (λ item goes. passed_goes n (log ++ begun_in (happened setup endpoints item).sent) (happened setup endpoints item).endpoints goes.stands) where
+      (λ item goes. passed_goes n (log ++ begun_in (happened setup endpoints item).sent) (happened setup endpoints item).value goes.stands) where
         by_due : (found : Option DueItem) → due_by endpoints until ≡ found
-            → ((item : DueItem) → (goes : Goes log (happened setup endpoints item)) → Goes (log ++ begun_in (happened setup endpoints item).sent) (passed n setup (happened setup endpoints item).endpoints until))
+            → ((item : DueItem) → (goes : Goes log (happened setup endpoints item)) → Goes (log ++ begun_in (happened setup endpoints item).sent) (passed n setup (happened setup endpoints item).value until))
             → Goes log (go_on found setup endpoints (λ next. passed n setup next until))
         by_due None e rest = stays log endpoints s
         by_due (Some item) e rest =
             let first = happened_goes log endpoints item e s in
-            both_go log (happened setup endpoints item) (passed n setup (happened setup endpoints item).endpoints until) first (rest item first)
+            both_go log (happened setup endpoints item) (passed n setup (happened setup endpoints item).value until) first (rest item first)
 
   pub pass_goes : (log : List Begun) (endpoints : Endpoints) → Stands log endpoints → Goes log (pass setup endpoints until)
   unfolding pass

@@ -16,11 +16,11 @@ use Rattle.command_forms.specs.declared.forms.Target.TheVariants.{One, All as Al
 use Rattle.plain_machine.specs.declared.line_deed.LineDeed.{LineDeed}
 use Rattle.plain_machine.specs.declared.setup.Setup.{Setup}
 use Rattle.plain_machine.specs.declared.station.Station.{Station}
+use Rattle.plain_machine.specs.Effect.{Effect}
 use Rattle.plain_machine.specs.Answering.{Transaction, reply, response_to, command_with, executed}
 use Rattle.plain_machine.specs.Commanding.{line_deed, done_by, commanded}
 use Rattle.plain_machine.specs.Machine.{serves, Endpoints, Machine}
 use Rattle.plain_machine.specs.Message.{answer, own_of, Sent}
-use Rattle.plain_machine.specs.Notifying.{Turn}
 use Rattle.plain_machine.specs.Reporting.{name_of_line}
 use Rattle.plain_machine.specs.Requesting.{refused_by, deed_on, deed_on_all, shown_of, answer_with, unless_refused, deed_done, line_with_place, done_there, done_for}
 use Rattle.machine_laws.specs.Owning.{IsOfALine, IsOfALesserLine}
@@ -67,7 +67,7 @@ before_them n mine sent (once one is own) order =
       pairs = AllPairs-cons IsOfALesserLine one sent (λ k d within. lesser n one (get_or sent k d) own (order.from k d within)) order.pairs;
     })
 
-in_order : (p : ℕ → Bool) (n : ℕ) (stations : List Station) (turn : ℕ → Station → Turn) → ((line : ℕ) (station : Station) → OnceAtMost line (turn line station).sent)
+in_order : (p : ℕ → Bool) (n : ℕ) (stations : List Station) (turn : ℕ → Station → Effect Station) → ((line : ℕ) (station : Station) → OnceAtMost line (turn line station).sent)
     → InOrder n (sent_in turn (stations_passing p n stations))
 in_order p n [] turn each = nothing n
 in_order p n (first ∷ stations) turn each = by_test (p n) (in_order p (n + 1) stations turn each) where

@@ -199,7 +199,7 @@ sent_last : (P : Sent → Type 0) (setup : Setup) (m : Machine) (before : List G
 unfolding sent_from machine_after
 sent_last P setup m [] event all = subst (All P) (append-nil (effect setup m event).sent) all
 sent_last P setup m (e ∷ before) event all =
-    sent_last P setup (effect setup m e).machine before event (behind (effect setup m e).sent (sent_from setup (effect setup m e).machine (before ++ event ∷ [])) all) where
+    sent_last P setup (effect setup m e).value before event (behind (effect setup m e).sent (sent_from setup (effect setup m e).value (before ++ event ∷ [])) all) where
       behind : (some more : List Sent) → All P (some ++ more) → All P more
       behind [] more all = all
       behind (one ∷ some) more all = behind some more (All-tail P one (some ++ more) all)

@@ -30,9 +30,10 @@ use Rattle.restart.specs.declared.heard.Heard.TheVariants.{Nothing, PutOff, Redi
 use Rattle.plain_machine.specs.declared.post.Post.{Post}
 use Rattle.plain_machine.specs.declared.response.Response.{Response}
 use Rattle.plain_machine.specs.declared.setup.Setup.{Setup}
+use Rattle.plain_machine.specs.Effect.{Effect, silently}
 use Rattle.plain_machine.specs.Setup.{IsSetUp, most_lines}
 use Rattle.plain_machine.specs.Message.{own_of, command, resent, Sent, text_of}
-use Rattle.plain_machine.specs.Posting.{numbers, first_number, number_after, id_on, line_of_id, PostTurn, unsent, with_command, given_up, repeated_as, resent_by, resent_on}
+use Rattle.plain_machine.specs.Posting.{numbers, first_number, number_after, id_on, line_of_id, with_command, given_up, repeated_as, resent_by, resent_on}
 use Rattle.plain_machine.specs.Announcing.{announced_lines, method_of, announcement, announced, announced_by, announced_on, put_off, replied}
 use Rattle.gateway_laws.proofs.FlightLaws.{next_below}
 use Rattle.gateway_laws.proofs.AnnouncementLemmas.{announcement_writable}
@@ -81,10 +82,10 @@ pub record Own (until : ℕ) (log : List Begun) (sent : Sent) : Type 0 where
   pub early : sent.moment ≤ until
 
 -- a turn of a post keeps all that
-pub record PostGood (until : ℕ) (log : List Begun) (line : ℕ) (turn : PostTurn) : Type 0 where
+pub record PostGood (until : ℕ) (log : List Begun) (line : ℕ) (turn : Effect Post) : Type 0 where
   pub log_holds : Logged until (log ++ begun_in turn.sent)
   pub of : Each (λ (b : Begun). line_of_id b.id ≡ line) (begun_in turn.sent)
-  pub post_holds : Posted until (log ++ begun_in turn.sent) line turn.post
+  pub post_holds : Posted until (log ++ begun_in turn.sent) line turn.value
   pub sent_holds : Each (Own until (log ++ begun_in turn.sent)) turn.sent
 
 -- Counting
@@ -139,7 +140,7 @@ own_more until log new sent own = record { carries = one_before (Carries (text_o
 
 -- A turn in which nothing begins and nothing is sent
 
-pub post_still : (until : ℕ) (log : List Begun) (line : ℕ) (post : Post) → Logged until log → Posted until log line post → PostGood until log line (unsent post)
+pub post_still : (until : ℕ) (log : List Begun) (line : ℕ) (post : Post) → Logged until log → Posted until log line post → PostGood until log line (silently post)
 post_still until log line post logged s = record {
   log_holds = subst (Logged until) (sym (append-nil log)) logged;
   of = tt;

@@ -73,7 +73,7 @@ responded_none setup line moment response station = by_heard (heard_on station.p
   by_heard PutOff = All-nil NoAck
   by_heard (Redirected agent) = All-cons NoAck _ [] refl (All-nil NoAck)
   by_heard (Answered agent) =
-      let becomes : Station = (posted station (replied (Answered agent) setup line moment response station.post)).station in
+      let becomes : Station = (posted station (replied (Answered agent) setup line moment response station.post)).value in
       noted_none setup line moment becomes (answered becomes.line moment)
 
 resent_none : (setup : Setup) (line moment : ℕ) (post : Post) → All NoAck (resent_on setup line moment post).sent

@@ -12,13 +12,14 @@ use Rattle.plain_machine.specs.declared.due_item.StationDue.TheVariants.{OfLine,
 use Rattle.plain_machine.specs.declared.due_item.DueItem.{DueItem}
 use Rattle.plain_machine.specs.declared.setup.Setup.{Setup}
 use Rattle.plain_machine.specs.declared.station.Station.{Station}
+use Rattle.plain_machine.specs.Effect.{Effect}
 use Rattle.plain_machine.specs.Acting.{acted}
 use Rattle.plain_machine.specs.Answering.{handled, took_all}
 use Rattle.plain_machine.specs.Event.{GatewayEvent}
 use Rattle.plain_machine.specs.Falling.{happened_on, own_happened, happened, pass}
 use Rattle.plain_machine.specs.Flights.{IsSame, Carries}
 use Rattle.plain_machine.specs.Lists.{plain}
-use Rattle.plain_machine.specs.Machine.{Endpoints, Machine, Told, serves, opening, station_at, on_line, on_own}
+use Rattle.plain_machine.specs.Machine.{Endpoints, Machine, serves, opening, station_at, on_line, on_own}
 use Rattle.gateway_laws.proofs.AllLemmas.{OnAll}
 use Rattle.plain_machine.proofs.EffectLaws.{either_own, either_line, some_line, on_this}
 use Rattle.gateway_laws.proofs.FlightLaws.{Orders, OwnOrders, opening_orders, all_order, orders_acted, orders_happened, orders_passed, orders_handled, in_order, order_waits, no_command_when_due, repeat_carries, repeat_keeps, own_carries, own_keeps}
@@ -62,27 +63,27 @@ opening_waits setup = each_in_order (opening setup).endpoints (opening_orders se
 pub events_wait : (setup : Setup) (events : List GatewayEvent) → KeepOrder (plain setup events).endpoints
 events_wait setup events = each_in_order (plain setup events).endpoints (all_order setup events)
 
-pub acts_wait : (setup : Setup) (endpoints : Endpoints) (line moment : ℕ) (act : Act) → KeepOrder endpoints → KeepOrder (acted setup endpoints line moment act).endpoints
+pub acts_wait : (setup : Setup) (endpoints : Endpoints) (line moment : ℕ) (act : Act) → KeepOrder endpoints → KeepOrder (acted setup endpoints line moment act).value
 acts_wait setup endpoints line moment act keep =
-    each_in_order (acted setup endpoints line moment act).endpoints (orders_acted setup endpoints line moment act (all_in_order endpoints keep))
+    each_in_order (acted setup endpoints line moment act).value (orders_acted setup endpoints line moment act (all_in_order endpoints keep))
 
-pub dues_wait : (setup : Setup) (endpoints : Endpoints) (item : DueItem) → KeepOrder endpoints → KeepOrder (happened setup endpoints item).endpoints
+pub dues_wait : (setup : Setup) (endpoints : Endpoints) (item : DueItem) → KeepOrder endpoints → KeepOrder (happened setup endpoints item).value
 dues_wait setup endpoints item keep =
-    each_in_order (happened setup endpoints item).endpoints (orders_happened setup endpoints item (all_in_order endpoints keep))
+    each_in_order (happened setup endpoints item).value (orders_happened setup endpoints item (all_in_order endpoints keep))
 
-pub pass_waits : (setup : Setup) (endpoints : Endpoints) (moment : ℕ) → KeepOrder endpoints → KeepOrder (pass setup endpoints moment).endpoints
+pub pass_waits : (setup : Setup) (endpoints : Endpoints) (moment : ℕ) → KeepOrder endpoints → KeepOrder (pass setup endpoints moment).value
 pass_waits setup endpoints moment keep =
-    each_in_order (pass setup endpoints moment).endpoints (orders_passed setup endpoints moment (all_in_order endpoints keep))
+    each_in_order (pass setup endpoints moment).value (orders_passed setup endpoints moment (all_in_order endpoints keep))
 
-pub text_waits : (setup : Setup) (m : Machine) (source : SocketAddrV4) (outcome : Outcome) → KeepOrder m.endpoints → KeepOrder (handled setup m source outcome).machine.endpoints
+pub text_waits : (setup : Setup) (m : Machine) (source : SocketAddrV4) (outcome : Outcome) → KeepOrder m.endpoints → KeepOrder (handled setup m source outcome).value.endpoints
 text_waits setup m source outcome keep =
-    each_in_order (handled setup m source outcome).machine.endpoints (orders_handled setup m source outcome (all_in_order m.endpoints keep))
+    each_in_order (handled setup m source outcome).value.endpoints (orders_handled setup m source outcome (all_in_order m.endpoints keep))
 
-pub texts_wait : (setup : Setup) (m : Machine) (source : SocketAddrV4) (texts : List (List ℕ)) → KeepOrder m.endpoints → KeepOrder (took_all setup m source texts).machine.endpoints
+pub texts_wait : (setup : Setup) (m : Machine) (source : SocketAddrV4) (texts : List (List ℕ)) → KeepOrder m.endpoints → KeepOrder (took_all setup m source texts).value.endpoints
 unfolding took_all
 texts_wait setup m source [] keep = keep
 texts_wait setup m source (text ∷ texts) keep =
-    texts_wait setup (handled setup m source (read_text text)).machine source texts (text_waits setup m source (read_text text) keep)
+    texts_wait setup (handled setup m source (read_text text)).value source texts (text_waits setup m source (read_text text) keep)
 
 -- What falls due on a line whose command is in flight
 
@@ -93,23 +94,23 @@ on_the_line setup endpoints item station at =
     either_line endpoints item.line (own_happened item.due setup item.moment) (happened_on item.due setup item.line item.moment) (some_line endpoints item.line station at)
 
 line_turned : (setup : Setup) (endpoints : Endpoints) (item : DueItem) (due : StationDue) (station : Station) → item.due ≡ due → station_at endpoints item.line ≡ Some station
-    → station_at (happened setup endpoints item).endpoints item.line ≡ Some (happened_on due setup item.line item.moment station).station
+    → station_at (happened setup endpoints item).value item.line ≡ Some (happened_on due setup item.line item.moment station).value
 line_turned setup endpoints item due station is at =
-    ap (λ (x : Told). station_at x.endpoints item.line) (on_the_line setup endpoints item station at)
+    ap (λ (x : Effect Endpoints). station_at x.value item.line) (on_the_line setup endpoints item station at)
     ∙ this_turns endpoints item.line (happened_on item.due setup item.line item.moment)
-    ∙ ap (option_map (λ (s : Station). (happened_on item.due setup item.line item.moment s).station)) at
-    ∙ ap (λ (which : StationDue). Some (happened_on which setup item.line item.moment station).station) is
+    ∙ ap (option_map (λ (s : Station). (happened_on item.due setup item.line item.moment s).value)) at
+    ∙ ap (λ (which : StationDue). Some (happened_on which setup item.line item.moment station).value) is
 
 line_sent : (setup : Setup) (endpoints : Endpoints) (item : DueItem) (due : StationDue) (station : Station) → item.due ≡ due → station_at endpoints item.line ≡ Some station
     → (happened setup endpoints item).sent ≡ (happened_on due setup item.line item.moment station).sent
 line_sent setup endpoints item due station is at =
-    ap (λ (x : Told). x.sent) (on_the_line setup endpoints item station at ∙ on_this endpoints item.line station (happened_on item.due setup item.line item.moment) at)
+    ap (λ (x : Effect Endpoints). x.sent) (on_the_line setup endpoints item station at ∙ on_this endpoints item.line station (happened_on item.due setup item.line item.moment) at)
     ∙ ap (λ (which : StationDue). (happened_on which setup item.line item.moment station).sent) is
 
 pub line_silent : (setup : Setup) (endpoints : Endpoints) (item : DueItem) (due : LineDue) (station : Station) (message : InFlight) → KeepOrder endpoints → item.due ≡ OfLine due
     → station_at endpoints item.line ≡ Some station → in_flight station ≡ Some message
     → ((happened setup endpoints item).sent ≡ [])
-    × IfSome (station_at (happened setup endpoints item).endpoints item.line) (λ after. in_flight after ≡ Some message)
+    × IfSome (station_at (happened setup endpoints item).value item.line) (λ after. in_flight after ≡ Some message)
 line_silent setup endpoints item due station message are is at flight =
     let begins = no_command_when_due setup due item.line item.moment station message (order_waits (serves endpoints) item.line station (are.order.lines item.line station at)) flight in (
       line_sent setup endpoints item (OfLine due) station is at ∙ begins.sent,
@@ -119,7 +120,7 @@ line_silent setup endpoints item due station message are is at flight =
 pub command_again : (setup : Setup) (endpoints : Endpoints) (item : DueItem) (station : Station) (message : InFlight) → item.due ≡ Resend
     → station_at endpoints item.line ≡ Some station → in_flight station ≡ Some message
     → All (Carries item.line message) (happened setup endpoints item).sent
-    × IfSome (station_at (happened setup endpoints item).endpoints item.line) (λ after. IfSome (in_flight after) (IsSame message))
+    × IfSome (station_at (happened setup endpoints item).value item.line) (λ after. IfSome (in_flight after) (IsSame message))
 command_again setup endpoints item station message is at flight = (
   subst (All (Carries item.line message)) (sym (line_sent setup endpoints item Resend station is at)) (repeat_carries setup item.line item.moment station message flight),
   subst (λ (x : Option Station). IfSome x (λ after. IfSome (in_flight after) (IsSame message))) (sym (line_turned setup endpoints item Resend station is at))
@@ -127,10 +128,10 @@ command_again setup endpoints item station message is at flight = (
 )
 
 pub others_wait : (setup : Setup) (endpoints : Endpoints) (item : DueItem) (other : ℕ) → other ≢ item.line
-    → station_at (happened setup endpoints item).endpoints other ≡ station_at endpoints other
+    → station_at (happened setup endpoints item).value other ≡ station_at endpoints other
 others_wait setup endpoints item other apart = by_test (item.line == 0) where
   by_test : (b : Bool)
-      → station_at (if b then on_own endpoints (own_happened item.due setup item.moment) else on_line endpoints item.line (happened_on item.due setup item.line item.moment)).endpoints other
+      → station_at (if b then on_own endpoints (own_happened item.due setup item.moment) else on_line endpoints item.line (happened_on item.due setup item.line item.moment)).value other
       ≡ station_at endpoints other
   by_test true = refl
   by_test false = others_stay_on endpoints item.line other (happened_on item.due setup item.line item.moment) apart
@@ -146,17 +147,17 @@ at_own setup endpoints item is =
 
 pub own_again : (setup : Setup) (endpoints : Endpoints) (item : DueItem) (message : InFlight) → item.due ≡ Resend → item.line ≡ 0
     → endpoints.own.post.pending ≡ Some message
-    → All (Carries 0 message) (happened setup endpoints item).sent × IfSome (happened setup endpoints item).endpoints.own.post.pending (IsSame message)
+    → All (Carries 0 message) (happened setup endpoints item).sent × IfSome (happened setup endpoints item).value.own.post.pending (IsSame message)
 own_again setup endpoints item message is line flight =
     let here : happened setup endpoints item ≡ on_own endpoints (own_happened Resend setup item.moment) =
     at_own setup endpoints item line ∙ ap (λ (which : StationDue). on_own endpoints (own_happened which setup item.moment)) is in
-    subst (λ (x : Told). All (Carries 0 message) x.sent × IfSome x.endpoints.own.post.pending (IsSame message)) (sym here)
+    subst (λ (x : Effect Endpoints). All (Carries 0 message) x.sent × IfSome x.value.own.post.pending (IsSame message)) (sym here)
     (own_carries setup item.moment endpoints.own message flight, own_keeps setup item.moment endpoints.own message flight)
 
-pub own_waits : (setup : Setup) (endpoints : Endpoints) (item : DueItem) → item.line ≢ 0 → (happened setup endpoints item).endpoints.own ≡ endpoints.own
+pub own_waits : (setup : Setup) (endpoints : Endpoints) (item : DueItem) → item.line ≢ 0 → (happened setup endpoints item).value.own ≡ endpoints.own
 own_waits setup endpoints item apart = by_test (item.line == 0) refl where
   by_test : (b : Bool) → (item.line == 0) ≡ b
-      → (if b then on_own endpoints (own_happened item.due setup item.moment) else on_line endpoints item.line (happened_on item.due setup item.line item.moment)).endpoints.own
+      → (if b then on_own endpoints (own_happened item.due setup item.moment) else on_line endpoints item.line (happened_on item.due setup item.line item.moment)).value.own
       ≡ endpoints.own
   by_test true e = absurd (apart ((Decides-eqb item.line 0).0 e))
   by_test false e = own_stays_on endpoints item.line (happened_on item.due setup item.line item.moment)

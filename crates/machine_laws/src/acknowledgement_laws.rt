@@ -8,7 +8,7 @@ ghost use Rattle.plain_machine.specs.declared.setup.Setup.{Setup};
 ghost use Rattle.plain_machine.specs.Arriving.{arrivals_of};
 ghost use Rattle.plain_machine.specs.Event.{GatewayEvent};
 ghost use Rattle.plain_machine.specs.Lists.{sent_of};
-ghost use Rattle.plain_machine.specs.Machine.{Endpoints, told};
+ghost use Rattle.plain_machine.specs.Machine.{Endpoints};
 ghost use Rattle.plain_machine.specs.Message.{Sent};
 ghost use Rattle.plain_machine.specs.Responding.{response_with, heard_from, responded};
 ghost use Rattle.machine_laws.specs.Owning.{is_acknowledgement, acknowledging, acknowledgements_to};
@@ -19,8 +19,10 @@ pub fn a_final_response_with_an_empty_k_is_acknowledged()
     ensures asked { (setup : Setup) (endpoints : Endpoints) (moment code id : ℕ) (source : SocketAddrV4)
         (params : List Param) → 200 ≤ code → code ≤ 999 → k_of params ≡ Items [] →
         heard_from setup endpoints moment source code id params
-        ≡ told (responded setup endpoints moment (response_with setup id code params)).endpoints
-        (acknowledging moment source id ∷ (responded setup endpoints moment (response_with setup id code params)).sent) }
+        ≡ record {
+          value = (responded setup endpoints moment (response_with setup id code params)).value;
+          sent = acknowledging moment source id ∷ (responded setup endpoints moment (response_with setup id code params)).sent;
+        } }
     ensures once { (setup : Setup) (endpoints : Endpoints) (moment code id : ℕ) (params : List Param) →
         All (λ (sent : Sent). is_acknowledgement sent.said ≡ false) (responded setup endpoints moment (response_with setup id code params)).sent }
 {}

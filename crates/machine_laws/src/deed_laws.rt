@@ -18,11 +18,12 @@ ghost use Rattle.command_forms.specs.declared.forms.Target.TheVariants.{One, All
 ghost use Rattle.plain_machine.specs.declared.line_deed.LineDeed.{LineDeed};
 ghost use Rattle.plain_machine.specs.declared.setup.Setup.{Setup};
 ghost use Rattle.plain_machine.specs.declared.station.Station.{Station};
+ghost use Rattle.plain_machine.specs.Effect.{silently};
 ghost use Rattle.plain_machine.specs.Commanding.{line_deed, commanded};
 ghost use Rattle.plain_machine.specs.Done.{only_answer};
 ghost use Rattle.plain_machine.specs.Event.{GatewayEvent};
 ghost use Rattle.plain_machine.specs.Lists.{plain};
-ghost use Rattle.plain_machine.specs.Machine.{serves, Endpoints, told, station_at, numbered};
+ghost use Rattle.plain_machine.specs.Machine.{serves, Endpoints, station_at, numbered};
 ghost use Rattle.plain_machine.specs.Reporting.{name_of_line};
 ghost use Rattle.plain_machine.specs.Requesting.{deed_on, shown_of, answer_with, deed_done, line_with_place, done_for};
 ghost use Rattle.machine_laws.specs.Refusals.{IsRefused, NoneRefuses};
@@ -72,9 +73,9 @@ pub fn a_deed_that_no_line_refuses_is_done_on_each()
         (deed_done setup endpoints lines [] deed moment).answer ≡ plain_code 200 }
     ensures station { (setup : Setup) (endpoints : Endpoints) (lines : Target) (more : List Param) (deed : LineDeed)
         (moment line : ℕ) → NoneRefuses endpoints lines deed →
-        station_at (deed_done setup endpoints lines more deed moment).told.endpoints line
+        station_at (deed_done setup endpoints lines more deed moment).told.value line
         ≡ option_map (λ (station : Station).
-        if is_for lines line then (deed_on setup deed moment line station).station else station)
+        if is_for lines line then (deed_on setup deed moment line station).value else station)
         (station_at endpoints line) }
     ensures sent { (setup : Setup) (endpoints : Endpoints) (lines : Target) (more : List Param) (deed : LineDeed)
         (moment : ℕ) → NoneRefuses endpoints lines deed →
@@ -88,10 +89,10 @@ pub fn a_deed_that_no_line_refuses_is_done_on_each()
 pub fn a_deed_on_one_line_changes_that_line_alone()
     ensures others { (setup : Setup) (endpoints : Endpoints) (more : List Param) (deed : LineDeed)
         (moment line other : ℕ) → other ≢ line →
-        station_at (deed_done setup endpoints (One line) more deed moment).told.endpoints other
+        station_at (deed_done setup endpoints (One line) more deed moment).told.value other
         ≡ station_at endpoints other }
     ensures own { (setup : Setup) (endpoints : Endpoints) (lines : Target) (more : List Param) (deed : LineDeed)
-        (moment : ℕ) → (deed_done setup endpoints lines more deed moment).told.endpoints.own ≡ endpoints.own }
+        (moment : ℕ) → (deed_done setup endpoints lines more deed moment).told.value.own ≡ endpoints.own }
 {}
 
 /// An audit of one line is of a line that there is, after every list of events.
@@ -106,7 +107,7 @@ pub fn an_audit_of_one_line_finds_it()
 pub fn an_audit_changes_nothing()
     ensures audit { (setup : Setup) (endpoints : Endpoints) (moment id : ℕ) (command : Command) (confirms : KValue)
         (lines : AuditTarget) (audit : Audit) → form_while (serves endpoints) command confirms setup.names ≡ Ok (Reports lines audit) →
-        (commanded setup endpoints moment id command confirms).told ≡ told endpoints [] }
+        (commanded setup endpoints moment id command confirms).told ≡ silently endpoints }
     ensures fault { (setup : Setup) (endpoints : Endpoints) (moment id code : ℕ) (command : Command)
         (confirms : KValue) → form_while (serves endpoints) command confirms setup.names ≡ Err code →
         commanded setup endpoints moment id command confirms ≡ only_answer endpoints (plain_code code) }

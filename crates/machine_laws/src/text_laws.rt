@@ -11,11 +11,12 @@ ghost use Rattle.mgcp_text.specs.declared.message.Message.TheVariants as message
 ghost use Rattle.mgcp_text.specs.declared.message.Param.{Param};
 ghost use Rattle.mg_line.specs.declared.phone.Act.{Act};
 ghost use Rattle.plain_machine.specs.declared.setup.Setup.{Setup};
-ghost use Rattle.plain_machine.specs.Answering.{Transaction, transaction_of, transacted, handled, took_all, after};
+ghost use Rattle.plain_machine.specs.Effect.{silently, afterwards};
+ghost use Rattle.plain_machine.specs.Answering.{Transaction, transaction_of, transacted, handled, took_all};
 ghost use Rattle.plain_machine.specs.Event.{GatewayEvent, datagram, phone, tick};
 ghost use Rattle.transmission.specs.Texts.{texts_of};
 ghost use Rattle.plain_machine.specs.Happening.{effect};
-ghost use Rattle.plain_machine.specs.Machine.{Machine, idle, told_in};
+ghost use Rattle.plain_machine.specs.Machine.{Machine, told_in};
 ghost use Rattle.plain_machine.specs.Responding.{heard_from};
 ghost use Rattle.plain_machine.specs.Transactions.{command_arrival, commands_in};
 
@@ -27,7 +28,7 @@ pub fn a_text_that_is_a_command_is_transacted()
     ensures history { (setup : Setup) (m : Machine) (source : SocketAddrV4) (outcome : Outcome) (t : Transaction)
         (earlier : List Arrival) → transaction_of setup m outcome ≡ Some t →
         m.history ≡ entries_of (firsts_of most_firsts earlier) →
-        (handled setup m source outcome).machine.history
+        (handled setup m source outcome).value.history
         ≡ entries_of (firsts_of most_firsts (earlier ++ command_arrival m t ∷ [])) }
 {}
 
@@ -35,12 +36,12 @@ pub fn a_text_that_is_a_command_is_transacted()
 /// nothing.
 pub fn a_text_that_is_no_command_leaves_the_history()
     ensures history { (setup : Setup) (m : Machine) (source : SocketAddrV4) (outcome : Outcome) →
-        transaction_of setup m outcome ≡ None → (handled setup m source outcome).machine.history ≡ m.history }
+        transaction_of setup m outcome ≡ None → (handled setup m source outcome).value.history ≡ m.history }
     ensures response { (setup : Setup) (m : Machine) (source : SocketAddrV4) (code id : ℕ) (params : List Param)
         (body : List ℕ) → handled setup m source (message (messages.Response code id params body))
         ≡ told_in m (heard_from setup m.endpoints m.now source code id params) }
     ensures unreadable { (setup : Setup) (m : Machine) (source : SocketAddrV4) →
-        handled setup m source no_header ≡ idle m }
+        handled setup m source no_header ≡ silently m }
 {}
 
 /// Each text of a datagram is handled after what those before it did, and before those behind it; and where the history
@@ -49,14 +50,14 @@ pub fn a_text_that_is_no_command_leaves_the_history()
 pub fn each_text_is_handled_after_those_before_it()
     ensures at { (setup : Setup) (m : Machine) (source : SocketAddrV4) (before behind : List (List ℕ)) (text : List ℕ) →
         took_all setup m source (before ++ text ∷ behind)
-        ≡ after (took_all setup m source before) (λ (now : Machine).
-        after (handled setup now source (read_text text)) (λ (next : Machine). took_all setup next source behind)) }
+        ≡ afterwards (took_all setup m source before) (λ (now : Machine).
+        afterwards (handled setup now source (read_text text)) (λ (next : Machine). took_all setup next source behind)) }
     ensures history { (setup : Setup) (m : Machine) (source : SocketAddrV4) (before : List (List ℕ))
         (earlier : List Arrival) → m.history ≡ entries_of (firsts_of most_firsts earlier) →
-        (took_all setup m source before).machine.history
+        (took_all setup m source before).value.history
         ≡ entries_of (firsts_of most_firsts (earlier ++ commands_in setup m source before)) }
     ensures moment { (setup : Setup) (m : Machine) (source : SocketAddrV4) (before : List (List ℕ)) →
-        (took_all setup m source before).machine.now ≡ m.now }
+        (took_all setup m source before).value.now ≡ m.now }
 {}
 
 /// A datagram does what its texts do, and an act or a tick leaves the history.
@@ -64,7 +65,7 @@ pub fn only_texts_change_the_history()
     ensures datagram { (setup : Setup) (m : Machine) (source : SocketAddrV4) (bytes : List ℕ) →
         effect setup m (datagram source bytes) ≡ took_all setup m source (texts_of bytes) }
     ensures act { (setup : Setup) (m : Machine) (line : ℕ) (act : Act) →
-        (effect setup m (phone line act)).machine.history ≡ m.history }
+        (effect setup m (phone line act)).value.history ≡ m.history }
     ensures tick { (setup : Setup) (m : Machine) (moment : ℕ) →
-        (effect setup m (tick moment)).machine.history ≡ m.history }
+        (effect setup m (tick moment)).value.history ≡ m.history }
 {}

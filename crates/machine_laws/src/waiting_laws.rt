@@ -25,15 +25,15 @@ pub fn lines_wait_at_each_thing_that_happens()
     ensures opening { (setup : Setup) → KeepOrder (opening setup).endpoints }
     ensures events { (setup : Setup) (events : List GatewayEvent) → KeepOrder (plain setup events).endpoints }
     ensures act { (setup : Setup) (endpoints : Endpoints) (line moment : ℕ) (act : Act) → KeepOrder endpoints →
-        KeepOrder (acted setup endpoints line moment act).endpoints }
+        KeepOrder (acted setup endpoints line moment act).value }
     ensures due { (setup : Setup) (endpoints : Endpoints) (item : DueItem) → KeepOrder endpoints →
-        KeepOrder (happened setup endpoints item).endpoints }
+        KeepOrder (happened setup endpoints item).value }
     ensures pass { (setup : Setup) (endpoints : Endpoints) (moment : ℕ) → KeepOrder endpoints →
-        KeepOrder (pass setup endpoints moment).endpoints }
+        KeepOrder (pass setup endpoints moment).value }
     ensures text { (setup : Setup) (m : Machine) (source : SocketAddrV4) (outcome : Outcome) → KeepOrder m.endpoints →
-        KeepOrder (handled setup m source outcome).machine.endpoints }
+        KeepOrder (handled setup m source outcome).value.endpoints }
     ensures texts { (setup : Setup) (m : Machine) (source : SocketAddrV4) (texts : List (List ℕ)) →
-        KeepOrder m.endpoints → KeepOrder (took_all setup m source texts).machine.endpoints }
+        KeepOrder m.endpoints → KeepOrder (took_all setup m source texts).value.endpoints }
 {}
 
 /// What falls due on a line whose command is in flight begins no other: the end of a signal or of timer T sends nothing
@@ -45,20 +45,20 @@ pub fn what_falls_due_begins_nothing_while_a_command_is_in_flight()
         (message : InFlight) → KeepOrder endpoints → item.due ≡ OfLine due →
         station_at endpoints item.line ≡ Some station → in_flight station ≡ Some message →
         ((happened setup endpoints item).sent ≡ [])
-        × IfSome (station_at (happened setup endpoints item).endpoints item.line)
+        × IfSome (station_at (happened setup endpoints item).value item.line)
         (λ after. in_flight after ≡ Some message) }
     ensures command { (setup : Setup) (endpoints : Endpoints) (item : DueItem) (station : Station)
         (message : InFlight) → item.due ≡ Resend →
         station_at endpoints item.line ≡ Some station → in_flight station ≡ Some message →
         All (Carries item.line message) (happened setup endpoints item).sent
-        × IfSome (station_at (happened setup endpoints item).endpoints item.line)
+        × IfSome (station_at (happened setup endpoints item).value item.line)
         (λ after. IfSome (in_flight after) (IsSame message)) }
     ensures others { (setup : Setup) (endpoints : Endpoints) (item : DueItem) (other : ℕ) → other ≢ item.line →
-        station_at (happened setup endpoints item).endpoints other ≡ station_at endpoints other }
+        station_at (happened setup endpoints item).value other ≡ station_at endpoints other }
     ensures own_command { (setup : Setup) (endpoints : Endpoints) (item : DueItem) (message : InFlight) →
         item.due ≡ Resend → item.line ≡ 0 → endpoints.own.post.pending ≡ Some message →
         All (Carries 0 message) (happened setup endpoints item).sent
-        × IfSome (happened setup endpoints item).endpoints.own.post.pending (IsSame message) }
+        × IfSome (happened setup endpoints item).value.own.post.pending (IsSame message) }
     ensures own { (setup : Setup) (endpoints : Endpoints) (item : DueItem) → item.line ≢ 0 →
-        (happened setup endpoints item).endpoints.own ≡ endpoints.own }
+        (happened setup endpoints item).value.own ≡ endpoints.own }
 {}

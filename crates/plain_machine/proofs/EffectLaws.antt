@@ -12,9 +12,9 @@ use Rattle.mgcp_text.specs.Reading.{Outcome, message, no_header, bad_version, ba
 use Rattle.plain_machine.specs.declared.own.Own.{Own}
 use Rattle.plain_machine.specs.declared.setup.Setup.{Setup}
 use Rattle.plain_machine.specs.declared.station.Station.{Station}
+use Rattle.plain_machine.specs.Effect.{Effect, silently}
 use Rattle.plain_machine.specs.Event.{GatewayEvent, datagram, phone, tick}
-use Rattle.plain_machine.specs.Notifying.{Turn, silent}
-use Rattle.plain_machine.specs.Machine.{Endpoints, Machine, Effect, OwnTurn, told, serves, station_at, with_turn, turned_at, on_line, on_own, on_either, on_lines}
+use Rattle.plain_machine.specs.Machine.{Endpoints, Machine, serves, station_at, with_turn, turned_at, on_line, on_own, on_either, on_lines}
 use Rattle.transmission.specs.Texts.{texts_of}
 use Rattle.plain_machine.specs.Arriving.{clock_after}
 use Rattle.history.specs.Memory.{most_firsts}
@@ -46,44 +46,44 @@ lines_in endpoints = length endpoints.stations
 set_same : (stations : List Station) (i : ℕ) (station : Station) → length (slice_set stations i station) ≡ length stations
 set_same stations i station = grind (arith, common_steps)
 
-pub turned_lines : (endpoints : Endpoints) (line : ℕ) (turn : Station → Turn) → lines_in (on_line endpoints line turn).endpoints ≡ lines_in endpoints
+pub turned_lines : (endpoints : Endpoints) (line : ℕ) (turn : Station → Effect Station) → lines_in (on_line endpoints line turn).value ≡ lines_in endpoints
 unfolding on_line
 turned_lines endpoints line turn = by_station (station_at endpoints line) where
-  by_station : (found : Option Station) → lines_in (turned_at found endpoints line turn).endpoints ≡ lines_in endpoints
+  by_station : (found : Option Station) → lines_in (turned_at found endpoints line turn).value ≡ lines_in endpoints
   by_station None = refl
   by_station (Some station) = set_same endpoints.stations (line - 1) _
 
-either_lines : (endpoints : Endpoints) (line : ℕ) (own_turn : Own → OwnTurn) (turn : Station → Turn) → lines_in (on_either endpoints line own_turn turn).endpoints ≡ lines_in endpoints
+either_lines : (endpoints : Endpoints) (line : ℕ) (own_turn : Own → Effect Own) (turn : Station → Effect Station) → lines_in (on_either endpoints line own_turn turn).value ≡ lines_in endpoints
 either_lines endpoints line own_turn turn = by_test (line == 0) where
-  by_test : (b : Bool) → lines_in (if b then on_own endpoints own_turn else on_line endpoints line turn).endpoints ≡ lines_in endpoints
+  by_test : (b : Bool) → lines_in (if b then on_own endpoints own_turn else on_line endpoints line turn).value ≡ lines_in endpoints
   by_test true = refl
   by_test false = turned_lines endpoints line turn
 
-several_lines : (lines : List ℕ) (endpoints : Endpoints) (turn : ℕ → Station → Turn) → lines_in (on_lines lines endpoints turn).endpoints ≡ lines_in endpoints
+several_lines : (lines : List ℕ) (endpoints : Endpoints) (turn : ℕ → Station → Effect Station) → lines_in (on_lines lines endpoints turn).value ≡ lines_in endpoints
 unfolding on_lines
 several_lines [] endpoints turn = refl
-several_lines (line ∷ lines) endpoints turn = several_lines lines (on_line endpoints line (turn line)).endpoints turn ∙ turned_lines endpoints line (turn line)
+several_lines (line ∷ lines) endpoints turn = several_lines lines (on_line endpoints line (turn line)).value turn ∙ turned_lines endpoints line (turn line)
 
 -- what comes to the gateway itself, and then to its lines
-told_lines : (heard : Heard) (setup : Setup) (moment : ℕ) (endpoints : Endpoints) → lines_in (lines_told heard setup moment endpoints).endpoints ≡ lines_in endpoints
+told_lines : (heard : Heard) (setup : Setup) (moment : ℕ) (endpoints : Endpoints) → lines_in (lines_told heard setup moment endpoints).value ≡ lines_in endpoints
 told_lines Nothing setup moment endpoints = refl
 told_lines PutOff setup moment endpoints = refl
 told_lines (Redirected agent) setup moment endpoints = several_lines (lines_meant endpoints All) endpoints (redirected_on agent)
 told_lines (Answered agent) setup moment endpoints = several_lines (lines_meant endpoints All) endpoints (opened_on agent setup moment)
 
-responded_lines : (setup : Setup) (endpoints : Endpoints) (moment : ℕ) (response : Response) → lines_in (responded setup endpoints moment response).endpoints ≡ lines_in endpoints
+responded_lines : (setup : Setup) (endpoints : Endpoints) (moment : ℕ) (response : Response) → lines_in (responded setup endpoints moment response).value ≡ lines_in endpoints
 responded_lines setup endpoints moment response = by_test (line_of_id response.id == 0) where
   by_test : (b : Bool) → lines_in (if b then own_heard setup endpoints moment response
-      else on_line endpoints (line_of_id response.id) (responded_on setup (line_of_id response.id) moment response)).endpoints ≡ lines_in endpoints
-  by_test true = told_lines (heard_on endpoints.own.post response) setup moment (on_own endpoints (own_responded setup moment response)).endpoints
+      else on_line endpoints (line_of_id response.id) (responded_on setup (line_of_id response.id) moment response)).value ≡ lines_in endpoints
+  by_test true = told_lines (heard_on endpoints.own.post response) setup moment (on_own endpoints (own_responded setup moment response)).value
   by_test false = turned_lines endpoints (line_of_id response.id) (responded_on setup (line_of_id response.id) moment response)
 
 -- what is done at texts
-record Keeps (m : Machine) (done : Effect) : Type 0 where
-  lines : lines_in done.machine.endpoints ≡ lines_in m.endpoints
-  now : done.machine.now ≡ m.now
+record Keeps (m : Machine) (done : Effect Machine) : Type 0 where
+  lines : lines_in done.value.endpoints ≡ lines_in m.endpoints
+  now : done.value.now ≡ m.now
 
-transacted_keeps : (told : Looked) (m : Machine) (source : SocketAddrV4) (t : Transaction) → lines_in t.done.told.endpoints ≡ lines_in m.endpoints
+transacted_keeps : (told : Looked) (m : Machine) (source : SocketAddrV4) (t : Transaction) → lines_in t.done.told.value ≡ lines_in m.endpoints
     → Keeps m (transacted_by told m source t)
 unfolding executed
 transacted_keeps new m source t same = record { lines = same; now = refl }
@@ -91,25 +91,25 @@ transacted_keeps (repeat text) m source t same = record { lines = refl; now = re
 transacted_keeps confirmed m source t same = record { lines = refl; now = refl }
 transacted_keeps full m source t same = record { lines = refl; now = refl }
 
-asked_lines : (refusal : Option ℕ) (endpoints : Endpoints) (done : Done) → lines_in done.told.endpoints ≡ lines_in endpoints → lines_in (unless_refused refusal endpoints done).told.endpoints ≡ lines_in endpoints
+asked_lines : (refusal : Option ℕ) (endpoints : Endpoints) (done : Done) → lines_in done.told.value ≡ lines_in endpoints → lines_in (unless_refused refusal endpoints done).told.value ≡ lines_in endpoints
 asked_lines None endpoints done same = same
 asked_lines (Some code) endpoints done same = refl
 
 deed_lines : (setup : Setup) (endpoints : Endpoints) (lines : Target) (more : List Param) (deed : LineDeed) (moment : ℕ)
-    → lines_in (deed_done setup endpoints lines more deed moment).told.endpoints ≡ lines_in endpoints
+    → lines_in (deed_done setup endpoints lines more deed moment).told.value ≡ lines_in endpoints
 deed_lines setup endpoints lines more deed moment =
     asked_lines (refused_by endpoints lines deed) endpoints _ (several_lines (lines_meant endpoints lines) endpoints _)
 
 target_lines : (setup : Setup) (endpoints : Endpoints) (target : Target) (deed : LineDeed) (moment : ℕ)
-    → lines_in (done_for setup endpoints target deed moment).told.endpoints ≡ lines_in endpoints
+    → lines_in (done_for setup endpoints target deed moment).told.value ≡ lines_in endpoints
 target_lines setup endpoints (One line) deed moment = deed_lines setup endpoints (One line) [] deed moment
 target_lines setup endpoints All deed moment = deed_lines setup endpoints All [] deed moment
 target_lines setup endpoints Any deed moment = by_line (line_with_place endpoints) where
-  by_line : (found : Option ℕ) → lines_in (done_there found setup endpoints deed moment).told.endpoints ≡ lines_in endpoints
+  by_line : (found : Option ℕ) → lines_in (done_there found setup endpoints deed moment).told.value ≡ lines_in endpoints
   by_line None = refl
   by_line (Some line) = deed_lines setup endpoints (One line) _ deed moment
 
-done_lines : (asks : Result Asks ℕ) (setup : Setup) (endpoints : Endpoints) (moment id : ℕ) → lines_in (done_by asks setup endpoints moment id).told.endpoints ≡ lines_in endpoints
+done_lines : (asks : Result Asks ℕ) (setup : Setup) (endpoints : Endpoints) (moment id : ℕ) → lines_in (done_by asks setup endpoints moment id).told.value ≡ lines_in endpoints
 done_lines (Err code) setup endpoints moment id = refl
 done_lines (Ok (Reports target audit)) setup endpoints moment id = refl
 done_lines (Ok (Does target deed)) setup endpoints moment id = target_lines setup endpoints target (line_deed deed) moment
@@ -123,10 +123,10 @@ handled_keeps setup m source (message (messages.Command verb id name params body
     transacted_keeps (look_of most_firsts m.history id m.now) m source _ (done_lines (form_while (serves m.endpoints) (record { verb = verb; name = name; params = params; body = body }) (k_of params) setup.names) setup m.endpoints m.now id)
 handled_keeps setup m source (message (messages.Response code id params body)) = record { lines = responded_lines setup m.endpoints m.now (response_with setup id code params); now = refl }
 
-pub handled_now : (setup : Setup) (m : Machine) (source : SocketAddrV4) (outcome : Outcome) → (handled setup m source outcome).machine.now ≡ m.now
+pub handled_now : (setup : Setup) (m : Machine) (source : SocketAddrV4) (outcome : Outcome) → (handled setup m source outcome).value.now ≡ m.now
 handled_now setup m source outcome = (handled_keeps setup m source outcome).now
 
-pub handled_lines : (setup : Setup) (m : Machine) (source : SocketAddrV4) (outcome : Outcome) → length (handled setup m source outcome).machine.endpoints.stations ≡ length m.endpoints.stations
+pub handled_lines : (setup : Setup) (m : Machine) (source : SocketAddrV4) (outcome : Outcome) → length (handled setup m source outcome).value.endpoints.stations ≡ length m.endpoints.stations
 handled_lines setup m source outcome = (handled_keeps setup m source outcome).lines
 
 took_keeps : (setup : Setup) (m : Machine) (source : SocketAddrV4) (texts : List (List ℕ)) → Keeps m (took_all setup m source texts)
@@ -134,40 +134,40 @@ unfolding took_all
 took_keeps setup m source [] = record { lines = refl; now = refl }
 took_keeps setup m source (text ∷ texts) =
     let first = handled_keeps setup m source (read_text text) in
-    let rest = took_keeps setup (handled setup m source (read_text text)).machine source texts in
+    let rest = took_keeps setup (handled setup m source (read_text text)).value source texts in
     record { lines = rest.lines ∙ first.lines; now = rest.now ∙ first.now }
 
-pub took_lines : (setup : Setup) (m : Machine) (source : SocketAddrV4) (texts : List (List ℕ)) → length (took_all setup m source texts).machine.endpoints.stations ≡ length m.endpoints.stations
+pub took_lines : (setup : Setup) (m : Machine) (source : SocketAddrV4) (texts : List (List ℕ)) → length (took_all setup m source texts).value.endpoints.stations ≡ length m.endpoints.stations
 took_lines setup m source texts = (took_keeps setup m source texts).lines
 
 -- what falls due changes a station, and adds none
-pub happened_lines : (setup : Setup) (endpoints : Endpoints) (item : DueItem) → lines_in (happened setup endpoints item).endpoints ≡ lines_in endpoints
+pub happened_lines : (setup : Setup) (endpoints : Endpoints) (item : DueItem) → lines_in (happened setup endpoints item).value ≡ lines_in endpoints
 happened_lines setup endpoints item =
     either_lines endpoints item.line (own_happened item.due setup item.moment) (happened_on item.due setup item.line item.moment)
 
-passed_lines : (n : ℕ) (setup : Setup) (endpoints : Endpoints) (moment : ℕ) → lines_in (passed n setup endpoints moment).endpoints ≡ lines_in endpoints
+passed_lines : (n : ℕ) (setup : Setup) (endpoints : Endpoints) (moment : ℕ) → lines_in (passed n setup endpoints moment).value ≡ lines_in endpoints
 unfolding passed
 passed_lines zero setup endpoints moment = refl
-passed_lines (suc n) setup endpoints moment = by_due (due_by endpoints moment) (λ item. passed_lines n setup (happened setup endpoints item).endpoints moment) where
-  by_due : (found : Option DueItem) → ((item : DueItem) → lines_in (passed n setup (happened setup endpoints item).endpoints moment).endpoints ≡ lines_in (happened setup endpoints item).endpoints)
-      → lines_in (go_on found setup endpoints (λ next. passed n setup next moment)).endpoints ≡ lines_in endpoints
+passed_lines (suc n) setup endpoints moment = by_due (due_by endpoints moment) (λ item. passed_lines n setup (happened setup endpoints item).value moment) where
+  by_due : (found : Option DueItem) → ((item : DueItem) → lines_in (passed n setup (happened setup endpoints item).value moment).value ≡ lines_in (happened setup endpoints item).value)
+      → lines_in (go_on found setup endpoints (λ next. passed n setup next moment)).value ≡ lines_in endpoints
   by_due None rest = refl
   by_due (Some item) rest = rest item ∙ happened_lines setup endpoints item
 
-pub pass_lines : (setup : Setup) (endpoints : Endpoints) (moment : ℕ) → lines_in (pass setup endpoints moment).endpoints ≡ lines_in endpoints
+pub pass_lines : (setup : Setup) (endpoints : Endpoints) (moment : ℕ) → lines_in (pass setup endpoints moment).value ≡ lines_in endpoints
 unfolding pass
 pass_lines setup endpoints moment = passed_lines (room endpoints moment) setup endpoints moment
 
 -- no line is lost
 pub effect_lines : (setup : Setup) (m : Machine) (event : GatewayEvent)
-    → length (effect setup m event).machine.endpoints.stations ≡ length m.endpoints.stations
+    → length (effect setup m event).value.endpoints.stations ≡ length m.endpoints.stations
 unfolding effect
 effect_lines setup m (datagram source bytes) = (took_keeps setup m source (texts_of bytes)).lines
 effect_lines setup m (phone line act) = turned_lines m.endpoints line (acted_on setup line m.now act)
 effect_lines setup m (tick moment) = pass_lines setup m.endpoints moment
 
 -- a tick alone moves the clock
-pub effect_now : (setup : Setup) (m : Machine) (event : GatewayEvent) → (effect setup m event).machine.now ≡ clock_after m.now event
+pub effect_now : (setup : Setup) (m : Machine) (event : GatewayEvent) → (effect setup m event).value.now ≡ clock_after m.now event
 unfolding effect
 effect_now setup m (datagram source bytes) = (took_keeps setup m source (texts_of bytes)).now
 effect_now setup m (phone line act) = refl
@@ -190,17 +190,17 @@ other_station (first ∷ stations) (suc place) (suc other) station apart = other
 
 -- a station that stays as it is, and sends nothing
 pub turned_still : (endpoints : Endpoints) (line : ℕ) (station : Station) → station_at endpoints line ≡ Some station
-    → with_turn endpoints line (silent station) ≡ told endpoints []
+    → with_turn endpoints line (silently station) ≡ silently endpoints
 turned_still endpoints line station at =
     let same : slice_set endpoints.stations (line - 1) station ≡ endpoints.stations = same_station (line == 0) endpoints.stations (line - 1) station at in
-    ap (λ (x : List Station). let e : Endpoints = record endpoints { stations = x } in told e []) same
+    ap (λ (x : List Station). let e : Endpoints = record endpoints { stations = x } in silently e) same
 
 -- the gateway itself, and a line
-pub either_own : (endpoints : Endpoints) (line : ℕ) (own_turn : Own → OwnTurn) (turn : Station → Turn) → (line == 0) ≡ true
+pub either_own : (endpoints : Endpoints) (line : ℕ) (own_turn : Own → Effect Own) (turn : Station → Effect Station) → (line == 0) ≡ true
     → on_either endpoints line own_turn turn ≡ on_own endpoints own_turn
 either_own endpoints line own_turn turn is = ap (λ (b : Bool). if b then on_own endpoints own_turn else on_line endpoints line turn) is
 
-pub either_line : (endpoints : Endpoints) (line : ℕ) (own_turn : Own → OwnTurn) (turn : Station → Turn) → (line == 0) ≡ false
+pub either_line : (endpoints : Endpoints) (line : ℕ) (own_turn : Own → Effect Own) (turn : Station → Effect Station) → (line == 0) ≡ false
     → on_either endpoints line own_turn turn ≡ on_line endpoints line turn
 either_line endpoints line own_turn turn is = ap (λ (b : Bool). if b then on_own endpoints own_turn else on_line endpoints line turn) is
 
@@ -212,18 +212,18 @@ some_line endpoints line station at = by_zero (line == 0) refl at where
   by_zero false e at = refl
 
 -- where there is such a line
-pub on_this : (endpoints : Endpoints) (line : ℕ) (station : Station) (turn : Station → Turn) → station_at endpoints line ≡ Some station
+pub on_this : (endpoints : Endpoints) (line : ℕ) (station : Station) (turn : Station → Effect Station) → station_at endpoints line ≡ Some station
     → on_line endpoints line turn ≡ with_turn endpoints line (turn station)
 unfolding on_line
 on_this endpoints line station turn at = ap (λ (x : Option Station). turned_at x endpoints line turn) at
 
 -- where there is none
-pub on_nothing : (endpoints : Endpoints) (line : ℕ) (turn : Station → Turn) → station_at endpoints line ≡ None → on_line endpoints line turn ≡ told endpoints []
+pub on_nothing : (endpoints : Endpoints) (line : ℕ) (turn : Station → Effect Station) → station_at endpoints line ≡ None → on_line endpoints line turn ≡ silently endpoints
 unfolding on_line
 on_nothing endpoints line turn at = ap (λ (x : Option Station). turned_at x endpoints line turn) at
 
 -- a line whose station stays, and sends nothing
-pub on_still : (endpoints : Endpoints) (line : ℕ) (station : Station) (turn : Station → Turn) → station_at endpoints line ≡ Some station → turn station ≡ silent station
-    → on_line endpoints line turn ≡ told endpoints []
+pub on_still : (endpoints : Endpoints) (line : ℕ) (station : Station) (turn : Station → Effect Station) → station_at endpoints line ≡ Some station → turn station ≡ silently station
+    → on_line endpoints line turn ≡ silently endpoints
 on_still endpoints line station turn at still =
-    on_this endpoints line station turn at ∙ ap (λ (t : Turn). with_turn endpoints line t) still ∙ turned_still endpoints line station at
+    on_this endpoints line station turn at ∙ ap (λ (t : Effect Station). with_turn endpoints line t) still ∙ turned_still endpoints line station at

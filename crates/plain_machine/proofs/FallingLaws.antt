@@ -1,5 +1,5 @@
 -- What falls due: the first first, each at its own moment, up to when nothing is due.
-use Rattle.std.proofs.Common.{◌≡◌, ℕ, zero, suc, ◌+◌, ◌-◌, ◌*◌, ◌<◌, ◌≤◌, ◌≢◌, Bool, true, false, ◌==◌, List, [], ◌∷◌, ◌++◌, length, get_or, Option, Some, None, refl, sym, ap, ◌∙◌, subst, arith, inl, inr}
+use Rattle.std.proofs.Common.{◌≡◌, ℕ, zero, suc, ◌+◌, ◌-◌, ◌*◌, ◌<◌, ◌≤◌, ◌≢◌, Bool, true, false, ◌==◌, List, [], ◌∷◌, length, get_or, Option, Some, None, refl, sym, ap, ◌∙◌, subst, arith, inl, inr}
 use Rattle.std.specs.Prelude.{◌⊎◌, slice_get, slice_set}
 use Rattle.std.specs.List.{sum_by}
 use Rattle.std.proofs.Math.Nat.{mul-le-mul_right}
@@ -10,7 +10,8 @@ use Rattle.std.proofs.lemmas.Option.{slice_get_within, get_or_from_slice_get}
 use Rattle.plain_machine.specs.declared.due_item.DueItem.{DueItem}
 use Rattle.plain_machine.specs.declared.setup.Setup.{Setup}
 use Rattle.plain_machine.specs.declared.station.Station.{Station}
-use Rattle.plain_machine.specs.Machine.{Endpoints, Told, told, with_turn, with_own, on_own, afterwards}
+use Rattle.plain_machine.specs.Effect.{Effect, silently, behind, afterwards}
+use Rattle.plain_machine.specs.Machine.{Endpoints, with_turn, with_own, on_own}
 use Rattle.plain_machine.specs.Falling.{due_on, own_due, first_due, due_by, happened_on, own_happened, happened, go_on, passed, room, pass, things_of_a_line, own_things}
 use Rattle.plain_machine.proofs.EffectLaws.{happened_lines, other_station, either_own, either_line, on_this}
 use Rattle.plain_machine.proofs.FirstLemmas.{IsDueOn, first_on, post_line, by_moment, station_is, station_line, earliest_own, earliest_on}
@@ -62,9 +63,9 @@ second_less a b c less = omega (arith, less)
 
 -- at that moment there is less to come
 less_to_come : (setup : Setup) (endpoints : Endpoints) (item : DueItem) → first_due endpoints ≡ Some item
-    → total item.moment (happened setup endpoints item).endpoints < total item.moment endpoints
+    → total item.moment (happened setup endpoints item).value < total item.moment endpoints
 less_to_come setup endpoints item first = by_case (first_on endpoints item first) where
-  by_case : (own_due endpoints.own ≡ Some item) ⊎ IsDueOn 1 endpoints.stations item → total item.moment (happened setup endpoints item).endpoints < total item.moment endpoints
+  by_case : (own_due endpoints.own ≡ Some item) ⊎ IsDueOn 1 endpoints.stations item → total item.moment (happened setup endpoints item).value < total item.moment endpoints
   by_case (inl is) =
       rw (own_happened_is setup endpoints item is)
       (second_less _ _ _ (own_happens_less item.moment item.due endpoints.own _ (own_first_happens setup endpoints.own item is)))
@@ -87,30 +88,30 @@ get_set_same stations place was is station at found =
 
 -- after what happened to the gateway itself
 own_not_earlier : (setup : Setup) (endpoints : Endpoints) (item next : DueItem) → first_due endpoints ≡ Some item → own_due endpoints.own ≡ Some item
-    → first_due (happened setup endpoints item).endpoints ≡ Some next → item.moment ≤ next.moment
+    → first_due (happened setup endpoints item).value ≡ Some next → item.moment ≤ next.moment
 own_not_earlier setup endpoints item next first is after =
-    by_case (first_on (with_own endpoints (own_happened item.due setup item.moment endpoints.own).own) next
-    (subst (λ (t : Told). first_due t.endpoints ≡ Some next) (own_happened_is setup endpoints item is) after)) where
+    by_case (first_on (with_own endpoints (own_happened item.due setup item.moment endpoints.own).value) next
+    (subst (λ (t : Effect Endpoints). first_due t.value ≡ Some next) (own_happened_is setup endpoints item is) after)) where
       by_each : (post_has next.moment endpoints.own.post next.due ≡ true) ⊎ (item.moment < next.moment) → item.moment ≤ next.moment
       by_each (inl before) = own_none_before endpoints.own item next.due next.moment is before
       by_each (inr later) = omega (arith, later)
 
-      by_case : (own_due (own_happened item.due setup item.moment endpoints.own).own ≡ Some next) ⊎ IsDueOn 1 endpoints.stations next → item.moment ≤ next.moment
+      by_case : (own_due (own_happened item.due setup item.moment endpoints.own).value ≡ Some next) ⊎ IsDueOn 1 endpoints.stations next → item.moment ≤ next.moment
       by_case (inl own) =
           by_each ((own_first_happens setup endpoints.own item is).each next.due next.moment
-          (own_first_happens setup (own_happened item.due setup item.moment endpoints.own).own next own).on)
+          (own_first_happens setup (own_happened item.due setup item.moment endpoints.own).value next own).on)
       by_case (inr on) =
           earliest_on endpoints item next on.place on.station first on.at (subst (λ (l : ℕ). due_on (l, on.station) ≡ Some next) on.line on.due)
 
 -- after what happened on a line
 line_not_earlier : (setup : Setup) (endpoints : Endpoints) (item next : DueItem) → first_due endpoints ≡ Some item → (is : IsDueOn 1 endpoints.stations item)
-    → IsDueOn 1 (happened setup endpoints item).endpoints.stations next → item.moment ≤ next.moment
+    → IsDueOn 1 (happened setup endpoints item).value.stations next → item.moment ≤ next.moment
 line_not_earlier setup endpoints item next first is later =
-    let now = (happened_on item.due setup item.line item.moment is.station).station in
+    let now = (happened_on item.due setup item.line item.moment is.station).value in
     let h = first_happens setup item.line is.station item is.due in
     let place : item.line - 1 ≡ is.place = omega (arith, is.line) in
-    let stations : (happened setup endpoints item).endpoints.stations ≡ slice_set endpoints.stations is.place now =
-    ap (λ (t : Told). t.endpoints.stations) (happened_is setup endpoints item is) ∙ ap (λ (p : ℕ). slice_set endpoints.stations p now) place in
+    let stations : (happened setup endpoints item).value.stations ≡ slice_set endpoints.stations is.place now =
+    ap (λ (t : Effect Endpoints). t.value.stations) (happened_is setup endpoints item is) ∙ ap (λ (p : ℕ). slice_set endpoints.stations p now) place in
     let at : slice_get (slice_set endpoints.stations is.place now) later.place ≡ Some later.station =
     subst (λ (xs : List Station). slice_get xs later.place ≡ Some later.station) stations later.at in
     by_place is.place is.station now later.place later.station is.at is.due h at (subst (λ (l : ℕ). due_on (l, later.station) ≡ Some next) later.line later.due)
@@ -131,18 +132,18 @@ line_not_earlier setup endpoints item next first is later =
           earliest_on endpoints item next other station first
           (sym (other_station endpoints.stations place other now (λ same. absurd (let b : (other == place) ≡ true = (Decides-eqb other place).1 same in cc))) ∙ found) on
 
-not_earlier : (setup : Setup) (endpoints : Endpoints) (item next : DueItem) → first_due endpoints ≡ Some item → first_due (happened setup endpoints item).endpoints ≡ Some next
+not_earlier : (setup : Setup) (endpoints : Endpoints) (item next : DueItem) → first_due endpoints ≡ Some item → first_due (happened setup endpoints item).value ≡ Some next
     → item.moment ≤ next.moment
 not_earlier setup endpoints item next first after = by_case (first_on endpoints item first) where
-  by_next : IsDueOn 1 endpoints.stations item → (own_due (happened setup endpoints item).endpoints.own ≡ Some next) ⊎ IsDueOn 1 (happened setup endpoints item).endpoints.stations next
+  by_next : IsDueOn 1 endpoints.stations item → (own_due (happened setup endpoints item).value.own ≡ Some next) ⊎ IsDueOn 1 (happened setup endpoints item).value.stations next
       → item.moment ≤ next.moment
   by_next is (inl own) =
-      earliest_own endpoints item next first (subst (λ (t : Told). own_due t.endpoints.own ≡ Some next) (happened_is setup endpoints item is) own)
+      earliest_own endpoints item next first (subst (λ (t : Effect Endpoints). own_due t.value.own ≡ Some next) (happened_is setup endpoints item is) own)
   by_next is (inr later) = line_not_earlier setup endpoints item next first is later
 
   by_case : (own_due endpoints.own ≡ Some item) ⊎ IsDueOn 1 endpoints.stations item → item.moment ≤ next.moment
   by_case (inl is) = own_not_earlier setup endpoints item next first is after
-  by_case (inr is) = by_next is (first_on (happened setup endpoints item).endpoints next after)
+  by_case (inr is) = by_next is (first_on (happened setup endpoints item).value next after)
 
 -- How much is left
 
@@ -190,9 +191,9 @@ under a b c most some = omega (arith, most, some)
 
 -- each thing that happens leaves less
 pub left_falls : (setup : Setup) (endpoints : Endpoints) (moment : ℕ) (item : DueItem) → due_by endpoints moment ≡ Some item
-    → left (happened setup endpoints item).endpoints moment < left endpoints moment
+    → left (happened setup endpoints item).value moment < left endpoints moment
 left_falls setup endpoints moment item due =
-    let after = (happened setup endpoints item).endpoints in
+    let after = (happened setup endpoints item).value in
     let first = (by_moment endpoints moment item due).0 in
     rw (left_some endpoints moment item due) (by_next after (due_by after moment) refl first (ap (λ (n : ℕ). things_of_a_line * n + own_things) (happened_lines setup endpoints item))
     (some_due setup endpoints item first) (less_to_come setup endpoints item first)
@@ -220,7 +221,7 @@ left_falls setup endpoints moment item due =
 
 -- More room than is needed changes nothing
 
-on_none : (n : ℕ) (setup : Setup) (endpoints : Endpoints) (moment : ℕ) → due_by endpoints moment ≡ None → passed n setup endpoints moment ≡ told endpoints []
+on_none : (n : ℕ) (setup : Setup) (endpoints : Endpoints) (moment : ℕ) → due_by endpoints moment ≡ None → passed n setup endpoints moment ≡ silently endpoints
 unfolding passed
 on_none zero setup endpoints moment none = refl
 on_none (suc n) setup endpoints moment none = ap (λ (o : Option DueItem). go_on o setup endpoints (λ next. passed n setup next moment)) none
@@ -230,8 +231,8 @@ on_some : (n : ℕ) (setup : Setup) (endpoints : Endpoints) (moment : ℕ) (item
 unfolding passed
 on_some n setup endpoints moment item due = ap (λ (o : Option DueItem). go_on o setup endpoints (λ next. passed n setup next moment)) due
 
-then_same : (first : Told) (some other : Endpoints → Told) → some first.endpoints ≡ other first.endpoints → afterwards first some ≡ afterwards first other
-then_same first some other same = ap (λ (next : Told). told next.endpoints (first.sent ++ next.sent)) same
+then_same : (first : Effect Endpoints) (some other : Endpoints → Effect Endpoints) → some first.value ≡ other first.value → afterwards first some ≡ afterwards first other
+then_same first some other same = ap (behind first.sent) same
 
 no_room : (k : ℕ) (setup : Setup) (endpoints : Endpoints) (moment : ℕ) (found : Option DueItem) → due_by endpoints moment ≡ found → left endpoints moment ≤ 0
     → passed zero setup endpoints moment ≡ passed k setup endpoints moment
@@ -240,8 +241,8 @@ no_room k setup endpoints moment (Some item) some enough = absurd (omega (arith,
 
 some_room : (n k : ℕ) (setup : Setup) (endpoints : Endpoints) (moment : ℕ) (found : Option DueItem) → due_by endpoints moment ≡ found → left endpoints moment ≤ suc n
     → left endpoints moment ≤ k
-    → ((item : DueItem) (j : ℕ) → left (happened setup endpoints item).endpoints moment ≤ n → left (happened setup endpoints item).endpoints moment ≤ j
-    → passed n setup (happened setup endpoints item).endpoints moment ≡ passed j setup (happened setup endpoints item).endpoints moment)
+    → ((item : DueItem) (j : ℕ) → left (happened setup endpoints item).value moment ≤ n → left (happened setup endpoints item).value moment ≤ j
+    → passed n setup (happened setup endpoints item).value moment ≡ passed j setup (happened setup endpoints item).value moment)
     → passed (suc n) setup endpoints moment ≡ passed k setup endpoints moment
 some_room n k setup endpoints moment None none enough more next = on_none (suc n) setup endpoints moment none ∙ sym (on_none k setup endpoints moment none)
 some_room n zero setup endpoints moment (Some item) some enough more next = absurd (omega (arith, left_falls setup endpoints moment item some, more))
@@ -255,11 +256,11 @@ passed_same : (n k : ℕ) (setup : Setup) (endpoints : Endpoints) (moment : ℕ)
     → passed n setup endpoints moment ≡ passed k setup endpoints moment
 passed_same zero k setup endpoints moment enough more = no_room k setup endpoints moment (due_by endpoints moment) refl enough
 passed_same (suc n) k setup endpoints moment enough more =
-    some_room n k setup endpoints moment (due_by endpoints moment) refl enough more (λ item j fits goes. passed_same n j setup (happened setup endpoints item).endpoints moment fits goes)
+    some_room n k setup endpoints moment (due_by endpoints moment) refl enough more (λ item j fits goes. passed_same n j setup (happened setup endpoints item).value moment fits goes)
 
 -- The laws
 
-pub pass_none : (setup : Setup) (endpoints : Endpoints) (moment : ℕ) → due_by endpoints moment ≡ None → pass setup endpoints moment ≡ told endpoints []
+pub pass_none : (setup : Setup) (endpoints : Endpoints) (moment : ℕ) → due_by endpoints moment ≡ None → pass setup endpoints moment ≡ silently endpoints
 unfolding pass
 pass_none setup endpoints moment none = on_none (room endpoints moment) setup endpoints moment none
 
@@ -267,7 +268,7 @@ pub pass_some : (setup : Setup) (endpoints : Endpoints) (moment : ℕ) (item : D
     → pass setup endpoints moment ≡ afterwards (happened setup endpoints item) (λ next. pass setup next moment)
 unfolding pass
 pass_some setup endpoints moment item some =
-    let after = (happened setup endpoints item).endpoints in
+    let after = (happened setup endpoints item).value in
     let fits : left endpoints moment ≤ room endpoints moment = left_fits endpoints moment in
     let less : left after moment < left endpoints moment = left_falls setup endpoints moment item some in
     passed_same (room endpoints moment) (suc (room endpoints moment)) setup endpoints moment fits (omega (arith, fits))
@@ -276,19 +277,19 @@ pass_some setup endpoints moment item some =
     (passed_same (room endpoints moment) (room after moment) setup after moment (omega (arith, less, fits)) (left_fits after moment))
 
 -- what a pass leaves is due later
-nothing_after : (n : ℕ) (setup : Setup) (endpoints : Endpoints) (moment : ℕ) → left endpoints moment ≤ n → due_by (pass setup endpoints moment).endpoints moment ≡ None
+nothing_after : (n : ℕ) (setup : Setup) (endpoints : Endpoints) (moment : ℕ) → left endpoints moment ≤ n → due_by (pass setup endpoints moment).value moment ≡ None
 nothing_after zero setup endpoints moment enough = by_due (due_by endpoints moment) refl where
-  by_due : (found : Option DueItem) → due_by endpoints moment ≡ found → due_by (pass setup endpoints moment).endpoints moment ≡ None
+  by_due : (found : Option DueItem) → due_by endpoints moment ≡ found → due_by (pass setup endpoints moment).value moment ≡ None
   by_due None none = rw (pass_none setup endpoints moment none) none
   by_due (Some item) some = absurd (omega (arith, left_falls setup endpoints moment item some, enough))
 nothing_after (suc n) setup endpoints moment enough =
-    by_due (due_by endpoints moment) refl (λ item fits. nothing_after n setup (happened setup endpoints item).endpoints moment fits) where
+    by_due (due_by endpoints moment) refl (λ item fits. nothing_after n setup (happened setup endpoints item).value moment fits) where
       by_due : (found : Option DueItem) → due_by endpoints moment ≡ found
-          → ((item : DueItem) → left (happened setup endpoints item).endpoints moment ≤ n → due_by (pass setup (happened setup endpoints item).endpoints moment).endpoints moment ≡ None)
-          → due_by (pass setup endpoints moment).endpoints moment ≡ None
+          → ((item : DueItem) → left (happened setup endpoints item).value moment ≤ n → due_by (pass setup (happened setup endpoints item).value moment).value moment ≡ None)
+          → due_by (pass setup endpoints moment).value moment ≡ None
       by_due None none next = rw (pass_none setup endpoints moment none) none
       by_due (Some item) some next =
           rw (pass_some setup endpoints moment item some) (next item (omega (arith, left_falls setup endpoints moment item some, enough)))
 
-pub nothing_left : (setup : Setup) (endpoints : Endpoints) (moment : ℕ) → due_by (pass setup endpoints moment).endpoints moment ≡ None
+pub nothing_left : (setup : Setup) (endpoints : Endpoints) (moment : ℕ) → due_by (pass setup endpoints moment).value moment ≡ None
 nothing_left setup endpoints moment = nothing_after (left endpoints moment) setup endpoints moment (omega arith)

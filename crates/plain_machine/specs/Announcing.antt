@@ -17,7 +17,8 @@ use Rattle.restart.specs.Restarting.{heard_of}
 use Rattle.plain_machine.specs.declared.post.Post.{Post}
 use Rattle.plain_machine.specs.declared.response.Response.{Response}
 use Rattle.plain_machine.specs.declared.setup.Setup.{Setup}
-use Rattle.plain_machine.specs.Posting.{id_on, PostTurn, unsent, with_command}
+use Rattle.plain_machine.specs.Effect.{Effect, silently}
+use Rattle.plain_machine.specs.Posting.{id_on, with_command}
 
 -- What is announced
 
@@ -35,17 +36,17 @@ announcement setup line id =
     ((record { code = codes "RM"; value = method_of line }) ∷ []) []
 
 -- it goes out at this moment, and is the command in flight from then on
-unfoldable pub announced : Setup → ℕ → ℕ → Post → PostTurn
+unfoldable pub announced : Setup → ℕ → ℕ → Post → Effect Post
 announced setup line moment post =
     with_command line moment (record post { restart = Announced }) (announcement setup line (id_on line post.number))
 
 -- what waits announces itself; where nothing waits nothing is sent
-abbrev pub announced_by : Restart → Setup → ℕ → ℕ → Post → PostTurn
+abbrev pub announced_by : Restart → Setup → ℕ → ℕ → Post → Effect Post
 announced_by (Waiting until) setup line moment post = announced setup line moment post
-announced_by Announced setup line moment post = unsent post
-announced_by Serving setup line moment post = unsent post
+announced_by Announced setup line moment post = silently post
+announced_by Serving setup line moment post = silently post
 
-abbrev pub announced_on : Setup → ℕ → ℕ → Post → PostTurn
+abbrev pub announced_on : Setup → ℕ → ℕ → Post → Effect Post
 announced_on setup line moment post = announced_by post.restart setup line moment post
 
 -- A response comes
@@ -66,9 +67,9 @@ put_off response moment post =
 
 -- what becomes of the post: another agent that is named hears the announcement at once, under the next id; the answer ends
 -- the flight, and the agent that it names is notified from then on
-unfoldable pub replied : Heard → Setup → ℕ → ℕ → Response → Post → PostTurn
-replied Nothing setup line moment response post = unsent post
-replied PutOff setup line moment response post = unsent (put_off response moment post)
+unfoldable pub replied : Heard → Setup → ℕ → ℕ → Response → Post → Effect Post
+replied Nothing setup line moment response post = silently post
+replied PutOff setup line moment response post = silently (put_off response moment post)
 replied (Redirected agent) setup line moment response post = announced setup line moment (record post { entity = agent })
 replied (Answered agent) setup line moment response post =
-    unsent (record post { entity = unwrap_or agent post.entity; pending = None; restart = Serving })
+    silently (record post { entity = unwrap_or agent post.entity; pending = None; restart = Serving })

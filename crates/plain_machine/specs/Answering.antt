@@ -19,8 +19,9 @@ use Rattle.endpoint_names.specs.declared.name.Pattern.TheVariants.{One, All, Any
 use Rattle.endpoint_names.specs.declared.name.NameFault.{NameFault}
 use Rattle.endpoint_names.specs.Name.{name_of}
 use Rattle.plain_machine.specs.declared.setup.Setup.{Setup}
+use Rattle.plain_machine.specs.Effect.{Effect, silently, afterwards}
 use Rattle.plain_machine.specs.Message.{answer_of, Said, answer, again, Sent}
-use Rattle.plain_machine.specs.Machine.{Machine, Effect, Told, told, told_in, idle}
+use Rattle.plain_machine.specs.Machine.{Machine, told_in, Endpoints}
 use Rattle.plain_machine.specs.Done.{Done, only_answer}
 use Rattle.plain_machine.specs.Responding.{heard_from}
 use Rattle.command_forms.specs.Command.{Command}
@@ -65,21 +66,21 @@ history_with m t =
 
 -- A first is executed: what it confirms is confirmed, the endpoints become what it makes of them, and its answer goes to
 -- its source, before what lines send because of it.
-unfoldable pub executed : Machine → SocketAddrV4 → Transaction → Effect
+unfoldable pub executed : Machine → SocketAddrV4 → Transaction → Effect Machine
 executed m source t = record {
-  machine = record m { endpoints = t.done.told.endpoints; history = history_with m t };
+  value = record m { endpoints = t.done.told.value; history = history_with m t };
   sent = reply m source t.line (answer (response_to t)) ∷ t.done.told.sent;
 }
 
 -- a command, by what is told of its id: a first is executed, a repeat gets the stored answer, what is confirmed gets
 -- silence, and what finds no room is lost. But for a first nothing changes (RFC 3435, 3.5.1)
-abbrev pub transacted_by : Looked → Machine → SocketAddrV4 → Transaction → Effect
+abbrev pub transacted_by : Looked → Machine → SocketAddrV4 → Transaction → Effect Machine
 transacted_by new m source t = executed m source t
-transacted_by (repeat text) m source t = record { machine = m; sent = reply m source t.line (again text) ∷ [] }
-transacted_by confirmed m source t = idle m
-transacted_by full m source t = idle m
+transacted_by (repeat text) m source t = record { value = m; sent = reply m source t.line (again text) ∷ [] }
+transacted_by confirmed m source t = silently m
+transacted_by full m source t = silently m
 
-abbrev pub transacted : Machine → SocketAddrV4 → Transaction → Effect
+abbrev pub transacted : Machine → SocketAddrV4 → Transaction → Effect Machine
 transacted m source t = transacted_by (look_of most_firsts m.history t.id m.now) m source t
 
 -- a command that this code answers, which confirms nothing
@@ -102,26 +103,24 @@ transaction_of setup m (message (messages.Command verb id name params body)) =
 transaction_of setup m (message (messages.Response code id params body)) = None
 
 -- what is done at what is no command: a response is heard, and what has no header does nothing
-abbrev pub heard_as : Outcome → Setup → Machine → SocketAddrV4 → Told
+abbrev pub heard_as : Outcome → Setup → Machine → SocketAddrV4 → Effect Endpoints
 heard_as (message (messages.Response code id params body)) setup m source =
     heard_from setup m.endpoints m.now source code id params
-heard_as (message (messages.Command verb id name params body)) setup m source = told m.endpoints []
-heard_as no_header setup m source = told m.endpoints []
-heard_as (bad_version id) setup m source = told m.endpoints []
-heard_as (bad_body id) setup m source = told m.endpoints []
+heard_as (message (messages.Command verb id name params body)) setup m source = silently m.endpoints
+heard_as no_header setup m source = silently m.endpoints
+heard_as (bad_version id) setup m source = silently m.endpoints
+heard_as (bad_body id) setup m source = silently m.endpoints
 
-abbrev pub handled_as : Option Transaction → Setup → Machine → SocketAddrV4 → Outcome → Effect
+abbrev pub handled_as : Option Transaction → Setup → Machine → SocketAddrV4 → Outcome → Effect Machine
 handled_as None setup m source outcome = told_in m (heard_as outcome setup m source)
 handled_as (Some t) setup m source outcome = transacted m source t
 
 -- what is done at what arrived
-unfoldable pub handled : Setup → Machine → SocketAddrV4 → Outcome → Effect
+unfoldable pub handled : Setup → Machine → SocketAddrV4 → Outcome → Effect Machine
 handled setup m source outcome = handled_as (transaction_of setup m outcome) setup m source outcome
 
-abbrev pub after : Effect → (Machine → Effect) → Effect
-after first next = record { machine = (next first.machine).machine; sent = first.sent ++ (next first.machine).sent }
-
 -- the texts of a datagram in order, each completely
-unfoldable pub took_all : Setup → Machine → SocketAddrV4 → List (List ℕ) → Effect
-took_all setup m source [] = idle m
-took_all setup m source (text ∷ texts) = after (handled setup m source (read_text text)) (λ next. took_all setup next source texts)
+unfoldable pub took_all : Setup → Machine → SocketAddrV4 → List (List ℕ) → Effect Machine
+took_all setup m source [] = silently m
+took_all setup m source (text ∷ texts) =
+    afterwards (handled setup m source (read_text text)) (λ next. took_all setup next source texts)

@@ -1,6 +1,6 @@
 -- What falls due: on a line the end of timer T and the ends of signals; and of it and of the gateway itself the repeats of
 -- the command that is in flight, and the announcement, each at its own moment (RFC 3435, 2.1.5, 2.1.7, 3.5.3 and 4.4.6).
-use Rattle.std.specs.Prelude.{ℕ, ◌+◌, ◌*◌, ◌==◌, zero, suc, nat_le, if◌then◌else◌, Bool, [], length, fold, Option, Some, None, is_some, option_map, option_and_then}
+use Rattle.std.specs.Prelude.{ℕ, ◌+◌, ◌*◌, ◌==◌, zero, suc, nat_le, if◌then◌else◌, Bool, length, fold, Option, Some, None, is_some, option_map, option_and_then}
 use Rattle.mg_line.specs.declared.due.LineDue.{LineDue}
 use Rattle.mg_line.specs.Falling.{due_of, fired}
 use Rattle.outbound.specs.Flight.{InFlight}
@@ -12,10 +12,11 @@ use Rattle.plain_machine.specs.declared.own.Own.{Own}
 use Rattle.plain_machine.specs.declared.post.Post.{Post}
 use Rattle.plain_machine.specs.declared.setup.Setup.{Setup}
 use Rattle.plain_machine.specs.declared.station.Station.{Station}
-use Rattle.plain_machine.specs.Posting.{unsent, resent_on}
+use Rattle.plain_machine.specs.Effect.{Effect, silently, afterwards}
+use Rattle.plain_machine.specs.Posting.{resent_on}
 use Rattle.plain_machine.specs.Announcing.{announced_on}
-use Rattle.plain_machine.specs.Notifying.{Turn, posted, noted}
-use Rattle.plain_machine.specs.Machine.{Endpoints, OwnTurn, Told, told, station_at, own_posted, on_either, afterwards, numbered}
+use Rattle.plain_machine.specs.Notifying.{posted, noted}
+use Rattle.plain_machine.specs.Machine.{Endpoints, station_at, own_posted, on_either, numbered}
 
 -- What falls due first
 
@@ -72,29 +73,29 @@ is_due endpoints moment = is_some (due_by endpoints moment)
 -- What then happens
 
 -- what falls due on a station, at this moment: where its command is given up, or an announcement begins, the line waits on
-unfoldable pub happened_on : StationDue → Setup → ℕ → ℕ → Station → Turn
+unfoldable pub happened_on : StationDue → Setup → ℕ → ℕ → Station → Effect Station
 happened_on (OfLine due) setup line moment station = noted setup line moment station (fired station.line due moment)
 happened_on Resend setup line moment station = posted station (resent_on setup line moment station.post)
 happened_on Announce setup line moment station = posted station (announced_on setup line moment station.post)
 
 -- what falls due of the gateway itself, at this moment: of what falls due of lines there is nothing
-unfoldable pub own_happened : StationDue → Setup → ℕ → Own → OwnTurn
-own_happened (OfLine due) setup moment own = own_posted own (unsent own.post)
+unfoldable pub own_happened : StationDue → Setup → ℕ → Own → Effect Own
+own_happened (OfLine due) setup moment own = own_posted own (silently own.post)
 own_happened Resend setup moment own = own_posted own (resent_on setup 0 moment own.post)
 own_happened Announce setup moment own = own_posted own (announced_on setup 0 moment own.post)
 
 -- what falls due happens at its own moment
-abbrev pub happened : Setup → Endpoints → DueItem → Told
+abbrev pub happened : Setup → Endpoints → DueItem → Effect Endpoints
 happened setup endpoints item =
     on_either endpoints item.line (own_happened item.due setup item.moment) (happened_on item.due setup item.line item.moment)
 
-abbrev pub go_on : Option DueItem → Setup → Endpoints → (Endpoints → Told) → Told
-go_on None setup endpoints next = told endpoints []
+abbrev pub go_on : Option DueItem → Setup → Endpoints → (Endpoints → Effect Endpoints) → Effect Endpoints
+go_on None setup endpoints next = silently endpoints
 go_on (Some item) setup endpoints next = afterwards (happened setup endpoints item) next
 
 -- what is due up to this moment, but no more than so many things
-unfoldable pub passed : ℕ → Setup → Endpoints → ℕ → Told
-passed zero setup endpoints moment = told endpoints []
+unfoldable pub passed : ℕ → Setup → Endpoints → ℕ → Effect Endpoints
+passed zero setup endpoints moment = silently endpoints
 passed (suc n) setup endpoints moment = go_on (due_by endpoints moment) setup endpoints (λ next. passed n setup next moment)
 
 -- what falls due of a line, each once at a moment: its 9 signals, timer T, the command in flight and the announcement; and
@@ -112,5 +113,5 @@ room endpoints moment = (moment + 1) * (things_of_a_line * length endpoints.stat
 
 -- What is due up to this moment happens: while there is something, the first happens at its own moment. The law
 -- `what_is_due_happens_in_its_order` says so without a number.
-unfoldable pub pass : Setup → Endpoints → ℕ → Told
+unfoldable pub pass : Setup → Endpoints → ℕ → Effect Endpoints
 pass setup endpoints moment = passed (room endpoints moment) setup endpoints moment

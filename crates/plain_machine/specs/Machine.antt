@@ -1,5 +1,5 @@
 -- The plain machine: its clock, its endpoints, and the transactions that there ever were.
-use Rattle.std.specs.Prelude.{ℕ, Bool, ◌+◌, ◌-◌, ◌*◌, ◌==◌, if◌then◌else◌, List, [], ◌∷◌, ◌++◌, map, Option, Some, None, slice_get, slice_set}
+use Rattle.std.specs.Prelude.{ℕ, Bool, ◌+◌, ◌-◌, ◌*◌, ◌==◌, if◌then◌else◌, List, [], ◌∷◌, map, Option, Some, None, slice_get, slice_set}
 use Rattle.std.specs.List.{enumerate_from, range_with_len}
 use Rattle.connections.specs.declared.codec.Encoding.TheVariants.{Mu}
 use Rattle.connections.specs.Standing.{no_connections}
@@ -12,9 +12,8 @@ use Rattle.plain_machine.specs.declared.own.Own.{Own}
 use Rattle.plain_machine.specs.declared.post.Post.{Post}
 use Rattle.plain_machine.specs.declared.station.Station.{Station}
 use Rattle.history.specs.declared.entry.Entry.{Entry}
-use Rattle.plain_machine.specs.Message.{Sent}
-use Rattle.plain_machine.specs.Posting.{PostTurn, wait_of}
-use Rattle.plain_machine.specs.Notifying.{Turn}
+use Rattle.plain_machine.specs.Effect.{Effect, silently, effect_map, afterwards}
+use Rattle.plain_machine.specs.Posting.{wait_of}
 
 -- all that changes but the clock: the stations, of which the first is line 1, and what the gateway keeps for itself
 pub record Endpoints : Type 0 where
@@ -27,25 +26,9 @@ pub record Machine : Type 0 where
   pub endpoints : Endpoints
   pub history : List Entry
 
--- what an event does, and what it sends
-pub record Effect : Type 0 where
-  pub machine : Machine
-  pub sent : List Sent
-
-abbrev pub idle : Machine → Effect
-idle m = record { machine = m; sent = [] }
-
--- what the endpoints become, and what they send
-pub record Told : Type 0 where
-  pub endpoints : Endpoints
-  pub sent : List Sent
-
-abbrev pub told : Endpoints → List Sent → Told
-told endpoints sent = record { endpoints = endpoints; sent = sent }
-
 -- the machine's endpoints change and send
-abbrev pub told_in : Machine → Told → Effect
-told_in m change = record { machine = record m { endpoints = change.endpoints }; sent = change.sent }
+abbrev pub told_in : Machine → Effect Endpoints → Effect Machine
+told_in m change = effect_map (λ endpoints. record m { endpoints = endpoints }) change
 
 -- it reports to the configured agent, and sent nothing; its first command has this number
 abbrev pub opening_post : Setup → ℕ → Restart → Post
@@ -89,45 +72,36 @@ station_at endpoints line = if line == 0 then None else slice_get endpoints.stat
 abbrev pub with_station : Endpoints → ℕ → Station → Endpoints
 with_station endpoints line station = record endpoints { stations = slice_set endpoints.stations (line - 1) station }
 
--- the station of this line has its turn
-abbrev pub with_turn : Endpoints → ℕ → Turn → Told
-with_turn endpoints line turn = told (with_station endpoints line turn.station) turn.sent
+-- this becomes of the station of this line
+abbrev pub with_turn : Endpoints → ℕ → Effect Station → Effect Endpoints
+with_turn endpoints line turn = effect_map (with_station endpoints line) turn
 
-abbrev pub turned_at : Option Station → Endpoints → ℕ → (Station → Turn) → Told
-turned_at None endpoints line turn = told endpoints []
+abbrev pub turned_at : Option Station → Endpoints → ℕ → (Station → Effect Station) → Effect Endpoints
+turned_at None endpoints line turn = silently endpoints
 turned_at (Some station) endpoints line turn = with_turn endpoints line (turn station)
 
--- What comes to one line: its station has this turn; where there is no such line, nothing happens.
-unfoldable pub on_line : Endpoints → ℕ → (Station → Turn) → Told
+-- What comes to one line: this becomes of its station; where there is no such line, nothing happens.
+unfoldable pub on_line : Endpoints → ℕ → (Station → Effect Station) → Effect Endpoints
 on_line endpoints line turn = turned_at (station_at endpoints line) endpoints line turn
 
--- What becomes of what the gateway keeps for itself, and what it sends
-pub record OwnTurn : Type 0 where
-  pub own : Own
-  pub sent : List Sent
-
--- its post has this turn
-abbrev pub own_posted : Own → PostTurn → OwnTurn
-own_posted own turn = record { own = record own { post = turn.post }; sent = turn.sent }
+-- this becomes of the post of the gateway itself
+abbrev pub own_posted : Own → Effect Post → Effect Own
+own_posted own turn = effect_map (λ post. record own { post = post }) turn
 
 abbrev pub with_own : Endpoints → Own → Endpoints
 with_own endpoints own = record endpoints { own = own }
 
--- What comes to the gateway itself: it has this turn.
-abbrev pub on_own : Endpoints → (Own → OwnTurn) → Told
-on_own endpoints turn = told (with_own endpoints (turn endpoints.own).own) (turn endpoints.own).sent
+-- What comes to the gateway itself: this becomes of what it keeps.
+abbrev pub on_own : Endpoints → (Own → Effect Own) → Effect Endpoints
+on_own endpoints turn = effect_map (with_own endpoints) (turn endpoints.own)
 
 -- What comes to one of both: the gateway itself is line 0.
-abbrev pub on_either : Endpoints → ℕ → (Own → OwnTurn) → (Station → Turn) → Told
+abbrev pub on_either : Endpoints → ℕ → (Own → Effect Own) → (Station → Effect Station) → Effect Endpoints
 on_either endpoints line own_turn turn = if line == 0 then on_own endpoints own_turn else on_line endpoints line turn
 
--- one thing, and then what comes after it
-abbrev pub afterwards : Told → (Endpoints → Told) → Told
-afterwards first next = told (next first.endpoints).endpoints (first.sent ++ (next first.endpoints).sent)
-
 -- What comes to several lines, one after the other.
-unfoldable pub on_lines : List ℕ → Endpoints → (ℕ → Station → Turn) → Told
-on_lines [] endpoints turn = told endpoints []
+unfoldable pub on_lines : List ℕ → Endpoints → (ℕ → Station → Effect Station) → Effect Endpoints
+on_lines [] endpoints turn = silently endpoints
 on_lines (line ∷ lines) endpoints turn = afterwards (on_line endpoints line (turn line)) (λ next. on_lines lines next turn)
 
 -- the stations with the numbers of their lines

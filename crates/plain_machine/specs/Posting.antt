@@ -1,6 +1,6 @@
 -- What is sent under a post: a command begins, and is sent again or given up (RFC 3435, 3.2.1.2, 3.5 and 4.3). It is one
 -- rule for each line and for the gateway itself, which is line 0.
-use Rattle.std.specs.Prelude.{ℕ, ◌+◌, ◌*◌, ◌/◌, ◌==◌, if◌then◌else◌, List, [], ◌∷◌, Option, Some, None}
+use Rattle.std.specs.Prelude.{ℕ, ◌+◌, ◌*◌, ◌/◌, ◌==◌, if◌then◌else◌, [], ◌∷◌, Option, Some, None}
 use Rattle.mgcp_text.specs.declared.message.Message.{Message}
 use Rattle.mgcp_text.specs.Writing.{written}
 use Rattle.outbound.specs.declared.repeat.Repeat.{Repeat}
@@ -9,7 +9,8 @@ use Rattle.outbound.specs.Flight.{InFlight, sent_first, repeat_of, repeated}
 use Rattle.restart.specs.Restarting.{begun}
 use Rattle.plain_machine.specs.declared.post.Post.{Post}
 use Rattle.plain_machine.specs.declared.setup.Setup.{Setup}
-use Rattle.plain_machine.specs.Message.{own_of, command, resent, Sent}
+use Rattle.plain_machine.specs.Effect.{Effect, silently}
+use Rattle.plain_machine.specs.Message.{own_of, command, resent}
 
 -- Ids: so many numbers there are for the commands of one line, and it takes them in turn (this gateway's profile)
 
@@ -33,18 +34,11 @@ abbrev pub line_of_id : ℕ → ℕ
 line_of_id id = id / numbers
 
 -- What becomes of a post, and what is sent under it
-pub record PostTurn : Type 0 where
-  pub post : Post
-  pub sent : List Sent
-
--- nothing is sent
-abbrev pub unsent : Post → PostTurn
-unsent post = record { post = post; sent = [] }
 
 -- a command goes out under the next id at this moment, to the notified entity
-abbrev pub with_command : ℕ → ℕ → Post → Message → PostTurn
+abbrev pub with_command : ℕ → ℕ → Post → Message → Effect Post
 with_command line moment post said = record {
-  post = record post {
+  value = record post {
     number = number_after line post.number;
     pending = Some (sent_first (id_on line post.number) post.entity.address (written said) moment);
   };
@@ -62,16 +56,16 @@ abbrev pub given_up : Setup → ℕ → ℕ → Post → Post
 given_up setup line moment post = record post { pending = None; restart = begun moment (wait_of setup line) }
 
 -- it is sent again, to where it went first, or given up (RFC 3435, 4.3)
-abbrev pub repeated_as : Repeat → Setup → ℕ → ℕ → Post → InFlight → PostTurn
+abbrev pub repeated_as : Repeat → Setup → ℕ → ℕ → Post → InFlight → Effect Post
 repeated_as SentAgain setup line moment post message = record {
-  post = record post { pending = Some (repeated message moment) };
+  value = record post { pending = Some (repeated message moment) };
   sent = (record { to = message.to; moment = moment; owner = own_of line; said = resent message.text }) ∷ [];
 }
-repeated_as GivenUp setup line moment post message = unsent (given_up setup line moment post)
+repeated_as GivenUp setup line moment post message = silently (given_up setup line moment post)
 
-abbrev pub resent_by : Option InFlight → Setup → ℕ → ℕ → Post → PostTurn
-resent_by None setup line moment post = unsent post
+abbrev pub resent_by : Option InFlight → Setup → ℕ → ℕ → Post → Effect Post
+resent_by None setup line moment post = silently post
 resent_by (Some message) setup line moment post = repeated_as (repeat_of message moment) setup line moment post message
 
-abbrev pub resent_on : Setup → ℕ → ℕ → Post → PostTurn
+abbrev pub resent_on : Setup → ℕ → ℕ → Post → Effect Post
 resent_on setup line moment post = resent_by post.pending setup line moment post

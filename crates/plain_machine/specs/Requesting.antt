@@ -20,8 +20,9 @@ use Rattle.mg_line.specs.Requesting.{refusal_of, asked}
 use Rattle.plain_machine.specs.declared.setup.Setup.{Setup}
 use Rattle.plain_machine.specs.declared.station.Station.{Station}
 use Rattle.plain_machine.specs.declared.line_deed.LineDeed.{LineDeed}
-use Rattle.plain_machine.specs.Notifying.{Turn, noted}
-use Rattle.plain_machine.specs.Machine.{Endpoints, Told, station_at, on_lines, numbered}
+use Rattle.plain_machine.specs.Effect.{Effect}
+use Rattle.plain_machine.specs.Notifying.{noted}
+use Rattle.plain_machine.specs.Machine.{Endpoints, station_at, on_lines, numbered}
 use Rattle.plain_machine.specs.Done.{Done, only_answer}
 use Rattle.plain_machine.specs.Reporting.{name_of_line}
 use Rattle.plain_machine.specs.Connecting.{Shown, nothing_shown, done_code, connected}
@@ -73,12 +74,12 @@ asked_if (Some request) line moment = asked line request moment
 
 -- the deed on a station at this moment: entity and encoding, then connections, then the request; what its line has to tell
 -- goes to the entity that it now has
-unfoldable pub deed_on : Setup → LineDeed → ℕ → ℕ → Station → Turn
+unfoldable pub deed_on : Setup → LineDeed → ℕ → ℕ → Station → Effect Station
 deed_on setup deed moment line station =
     noted setup line moment (with_connections deed (with_entity deed.entity station)) (asked_if deed.request station.line moment)
 
 -- on each line that it is for, in the order of their numbers
-abbrev pub deed_on_all : Setup → Endpoints → Target → LineDeed → ℕ → Told
+abbrev pub deed_on_all : Setup → Endpoints → Target → LineDeed → ℕ → Effect Endpoints
 deed_on_all setup endpoints lines deed moment = on_lines (lines_meant endpoints lines) endpoints (deed_on setup deed moment)
 
 -- what it is answered

@@ -1,6 +1,6 @@
 -- What a response does to a command of the gateway's own, which its id joins it to (RFC 3435, 3.2.1.2, 3.5, 4.4.1, 4.4.6
 -- and 4.4.7).
-use Rattle.std.specs.Prelude.{ℕ, ◌==◌, codes, if◌then◌else◌, List, [], ◌∷◌, ◌++◌, Option, Some, option_and_then}
+use Rattle.std.specs.Prelude.{ℕ, ◌==◌, codes, if◌then◌else◌, List, [], ◌∷◌, Option, Some, option_and_then}
 use Rattle.std.specs.declared.net.socket_addr.SocketAddrV4.{SocketAddrV4}
 use Rattle.endpoint_names.specs.declared.entity.Entity.{Entity}
 use Rattle.endpoint_names.specs.Entity.{entity_of}
@@ -17,11 +17,12 @@ use Rattle.plain_machine.specs.declared.own.Own.{Own}
 use Rattle.plain_machine.specs.declared.response.Response.{Response}
 use Rattle.plain_machine.specs.declared.setup.Setup.{Setup}
 use Rattle.plain_machine.specs.declared.station.Station.{Station}
+use Rattle.plain_machine.specs.Effect.{Effect, silently, behind, afterwards}
 use Rattle.plain_machine.specs.Message.{of_none, acknowledgement, Sent}
 use Rattle.plain_machine.specs.Posting.{line_of_id}
-use Rattle.plain_machine.specs.Notifying.{Turn, silent, posted, noted}
+use Rattle.plain_machine.specs.Notifying.{posted, noted}
 use Rattle.plain_machine.specs.Announcing.{heard_on, replied}
-use Rattle.plain_machine.specs.Machine.{Endpoints, OwnTurn, Told, told, own_posted, on_own, on_line, on_lines, afterwards}
+use Rattle.plain_machine.specs.Machine.{Endpoints, own_posted, on_own, on_line, on_lines}
 use Rattle.plain_machine.specs.Requesting.{with_entity, lines_meant}
 
 -- The acknowledgement
@@ -45,11 +46,11 @@ response_with setup id code params = record { id = id; code = code; entity = ent
 -- What it does on a line
 
 -- the answer lets the line go on, after its post: it notifies whom the answer names
-abbrev pub goes_on_with : Turn → Setup → ℕ → ℕ → Turn
-goes_on_with first setup line moment = noted setup line moment first.station (answered first.station.line moment)
+abbrev pub goes_on_with : Effect Station → Setup → ℕ → ℕ → Effect Station
+goes_on_with first setup line moment = noted setup line moment first.value (answered first.value.line moment)
 
-abbrev pub responded_as : Heard → Setup → ℕ → ℕ → Response → Station → Turn
-responded_as Nothing setup line moment response station = silent station
+abbrev pub responded_as : Heard → Setup → ℕ → ℕ → Response → Station → Effect Station
+responded_as Nothing setup line moment response station = silently station
 responded_as PutOff setup line moment response station =
     posted station (replied PutOff setup line moment response station.post)
 responded_as (Redirected agent) setup line moment response station =
@@ -57,37 +58,37 @@ responded_as (Redirected agent) setup line moment response station =
 responded_as (Answered agent) setup line moment response station =
     goes_on_with (posted station (replied (Answered agent) setup line moment response station.post)) setup line moment
 
-unfoldable pub responded_on : Setup → ℕ → ℕ → Response → Station → Turn
+unfoldable pub responded_on : Setup → ℕ → ℕ → Response → Station → Effect Station
 responded_on setup line moment response station =
     responded_as (heard_on station.post response) setup line moment response station
 
 -- What it does to the gateway itself, and then to all lines
 
-unfoldable pub own_responded : Setup → ℕ → Response → Own → OwnTurn
+unfoldable pub own_responded : Setup → ℕ → Response → Own → Effect Own
 own_responded setup moment response own =
     own_posted own (replied (heard_on own.post response) setup 0 moment response own.post)
 
 -- the lines too have another notified entity
-unfoldable pub redirected_on : Entity → ℕ → Station → Turn
-redirected_on agent line station = silent (with_entity (Some agent) station)
+unfoldable pub redirected_on : Entity → ℕ → Station → Effect Station
+redirected_on agent line station = silently (with_entity (Some agent) station)
 
 -- the gateway serves from now on: a line notifies whom the answer names, and its quarantined events occur (RFC 3435, 4.4.1)
-unfoldable pub opened_on : Option Entity → Setup → ℕ → ℕ → Station → Turn
+unfoldable pub opened_on : Option Entity → Setup → ℕ → ℕ → Station → Effect Station
 opened_on agent setup moment line station =
     noted setup line moment (with_entity agent station) (opened station.line moment)
 
 -- on each line, in the order of their numbers
-abbrev pub on_all : Endpoints → (ℕ → Station → Turn) → Told
+abbrev pub on_all : Endpoints → (ℕ → Station → Effect Station) → Effect Endpoints
 on_all endpoints turn = on_lines (lines_meant endpoints All) endpoints turn
 
-abbrev pub lines_told : Heard → Setup → ℕ → Endpoints → Told
-lines_told Nothing setup moment endpoints = told endpoints []
-lines_told PutOff setup moment endpoints = told endpoints []
+abbrev pub lines_told : Heard → Setup → ℕ → Endpoints → Effect Endpoints
+lines_told Nothing setup moment endpoints = silently endpoints
+lines_told PutOff setup moment endpoints = silently endpoints
 lines_told (Redirected agent) setup moment endpoints = on_all endpoints (redirected_on agent)
 lines_told (Answered agent) setup moment endpoints = on_all endpoints (opened_on agent setup moment)
 
 -- the gateway's own post first
-abbrev pub own_heard : Setup → Endpoints → ℕ → Response → Told
+abbrev pub own_heard : Setup → Endpoints → ℕ → Response → Effect Endpoints
 own_heard setup endpoints moment response =
     afterwards (on_own endpoints (own_responded setup moment response))
     (λ next. lines_told (heard_on endpoints.own.post response) setup moment next)
@@ -95,14 +96,12 @@ own_heard setup endpoints moment response =
 -- A response comes
 
 -- what it does to the line of its id; id 0 to 9,999,999 are the gateway's own
-abbrev pub responded : Setup → Endpoints → ℕ → Response → Told
+abbrev pub responded : Setup → Endpoints → ℕ → Response → Effect Endpoints
 responded setup endpoints moment response =
     if line_of_id response.id == 0 then own_heard setup endpoints moment response
     else on_line endpoints (line_of_id response.id) (responded_on setup (line_of_id response.id) moment response)
 
 -- a response from this address: its acknowledgement goes out before anything else that it causes
-abbrev pub heard_from : Setup → Endpoints → ℕ → SocketAddrV4 → ℕ → ℕ → List Param → Told
+abbrev pub heard_from : Setup → Endpoints → ℕ → SocketAddrV4 → ℕ → ℕ → List Param → Effect Endpoints
 heard_from setup endpoints moment source code id params =
-    told (responded setup endpoints moment (response_with setup id code params)).endpoints
-    (acknowledged moment source code id params
-    ++ (responded setup endpoints moment (response_with setup id code params)).sent)
+    behind (acknowledged moment source code id params) (responded setup endpoints moment (response_with setup id code params))

@@ -245,8 +245,8 @@ sent_more : (setup : Setup) (m : Machine) (es : List GatewayEvent) (e : GatewayE
 unfolding sent_from machine_after
 sent_more setup m [] e = append-nil (effect setup m e).sent
 sent_more setup m (x ∷ es) e =
-    ap (λ (rest : List Sent). (effect setup m x).sent ++ rest) (sent_more setup (effect setup m x).machine es e)
-    ∙ sym (append_assoc (effect setup m x).sent (sent_from setup (effect setup m x).machine es) (effect setup (machine_after setup (effect setup m x).machine es) e).sent)
+    ap (λ (rest : List Sent). (effect setup m x).sent ++ rest) (sent_more setup (effect setup m x).value es e)
+    ∙ sym (append_assoc (effect setup m x).sent (sent_from setup (effect setup m x).value es) (effect setup (machine_after setup (effect setup m x).value es) e).sent)
 
 own_more : (setup : Setup) (w : World) (event : GatewayEvent)
     → own_in setup (to_gateway setup w event) ≡ own_in setup w ++ begun_in (effect setup (gateway_in setup w) event).sent
@@ -254,7 +254,7 @@ own_more setup w event =
     ap begun_in (sent_more setup (opening setup) w.gateway_took event)
     ∙ flat_map-append begun_at (sent_of setup w.gateway_took) (effect setup (gateway_in setup w) event).sent
 
-gateway_more : (setup : Setup) (w : World) (event : GatewayEvent) → gateway_in setup (to_gateway setup w event) ≡ (effect setup (gateway_in setup w) event).machine
+gateway_more : (setup : Setup) (w : World) (event : GatewayEvent) → gateway_in setup (to_gateway setup w event) ≡ (effect setup (gateway_in setup w) event).value
 gateway_more setup w event = machine_on setup (opening setup) w.gateway_took (event ∷ []) ∙ gateway_alone setup (gateway_in setup w) event
 
 gateway_sends_on : (log more : List Begun) (firsts later : List KeptFirst) (now next : ℕ) → now ≤ next → (post : Posted) → GatewaySends log firsts now post → GatewaySends (log ++ more) (firsts ++ later) next post
@@ -268,8 +268,8 @@ agent_posts log firsts now from [] = tt
 agent_posts log firsts now from (out ∷ outs) = (tt, agent_posts log firsts now from outs)
 
 gateway_links : (setup : Setup) (w : World) (event : GatewayEvent) (log : List Begun) (g : Machine) (m : AgentMachine) → gateway_in setup w ≡ g → Links setup w log g m
-    → refusal_of g event ≡ None → (effect setup g event).machine.now ≡ clock_after g.now event → Each (Returns (firsts_in m.history)) (arrivals_at g.now event)
-    → Links setup (to_gateway setup w event) (log ++ begun_in (effect setup g event).sent) (effect setup g event).machine m
+    → refusal_of g event ≡ None → (effect setup g event).value.now ≡ clock_after g.now event → Each (Returns (firsts_in m.history)) (arrivals_at g.now event)
+    → Links setup (to_gateway setup w event) (log ++ begun_in (effect setup g event).sent) (effect setup g event).value m
 gateway_links setup w event log g m is l taken now returns = record {
   gateway = goes.holds;
   posted = each_both (GatewaySends log' firsts' g'.now) w.posted _
@@ -294,13 +294,13 @@ gateway_links setup w event log g m is l taken now returns = record {
   goes = event_holds setup log g event l.gateway taken
 
   g' : Machine
-  g' = (effect setup g event).machine
+  g' = (effect setup g event).value
 
   log' : List Begun
   log' = log ++ begun_in (effect setup g event).sent
 
   firsts' : List KeptFirst
-  firsts' = firsts_in (effect setup g event).machine.history
+  firsts' = firsts_in (effect setup g event).value.history
 
 -- the agent takes an event
 

@@ -275,7 +275,7 @@ pub tick_is : (m : Machine) (moment : ℕ) → refusal_of m (tick moment) ≡ No
 unfolding refusal_of
 tick_is m moment none = none
 
-pub gateway_alone : (setup : Setup) (m : Machine) (event : GatewayEvent) → machine_after setup m (event ∷ []) ≡ (effect setup m event).machine
+pub gateway_alone : (setup : Setup) (m : Machine) (event : GatewayEvent) → machine_after setup m (event ∷ []) ≡ (effect setup m event).value
 unfolding machine_after
 gateway_alone setup m event = refl
 

@@ -2,7 +2,7 @@
 //! don't fit, what finds no room, what shares a datagram, and how much may fall due at one moment.
 #![tactic(auto, unfolding(crate::proofs::Computing::on_examples))]
 
-ghost use Rattle.std.specs.Prelude.{◌≡◌, ◌++◌, codes, [], ◌∷◌, length, replicate, true, false, None, Some, Ok, Err};
+ghost use Rattle.std.specs.Prelude.{◌≡◌, ℕ, List, ◌++◌, codes, [], ◌∷◌, length, replicate, true, false, None, Some, Ok, Err};
 ghost use Rattle.mgcp_text.specs.Answer.{plain_code, response_of};
 ghost use Rattle.mgcp_text.specs.Writing.{written};
 ghost use Rattle.command_forms.specs.declared.forms.Asks.TheVariants.{Reports};
@@ -13,9 +13,11 @@ ghost use Rattle.command_forms.specs.declared.forms.Audit.{Audit};
 ghost use Rattle.command_forms.specs.declared.forms.AuditTarget.TheVariants as audits;
 ghost use Rattle.history.specs.Looking.{full};
 ghost use Rattle.mg_line.specs.declared.phone.Act.TheVariants as acts;
+ghost use Rattle.plain_machine.specs.Effect.{silently, effect_map, behind, afterwards};
 ghost use Rattle.plain_machine.specs.Event.{phone};
+ghost use Rattle.plain_machine.specs.Message.{resent};
 ghost use Rattle.transmission.specs.Packing.{packed, messages_in};
-ghost use Rattle.plain_machine.specs.Machine.{opening, opening_endpoints, with_own, idle};
+ghost use Rattle.plain_machine.specs.Machine.{opening, opening_endpoints, with_own};
 ghost use Rattle.plain_machine.specs.Done.{only_answer};
 ghost use Rattle.plain_machine.specs.Connecting.{counts_param, nothing_shown};
 ghost use Rattle.plain_machine.specs.Requesting.{shown_of};
@@ -26,7 +28,7 @@ ghost use Rattle.transmission.specs.Acknowledging.{asks_for_acknowledgement};
 ghost use Rattle.plain_machine.specs.Answering.{transaction, transacted_by};
 ghost use Rattle.plain_machine.specs.Lists.{outputs_of};
 ghost use Rattle.plain_machine.specs.Example.{example, agent, audit, from_agent, one_answer, to_agent_at, rqnt, sends, ntfy, lifted_on_2, response, stations, busiest, wide, ready_endpoints, machine_at, busiest_own};
-ghost use Rattle.plain_machine.specs.Example.{requesting_nothing, holding, first_connection, other_host, to_agent, to_other_at};
+ghost use Rattle.plain_machine.specs.Example.{requesting_nothing, holding, first_connection, other_host, to_agent, to_other_at, own_at, lifted};
 
 /// The answer to a line's command lets that line go on, under its own ids, whichever it is.
 pub fn an_answer_is_for_its_line()
@@ -55,7 +57,7 @@ pub fn some_audits_have_no_report()
 pub fn what_finds_no_room_is_lost()
     ensures { transacted_by full (machine_at 0) agent
         (transaction 1306 (Some 1) [] (only_answer (ready_endpoints example) (plain_code 200)))
-        ≡ idle (machine_at 0) }
+        ≡ silently (machine_at 0) }
 {}
 
 /// Each item of K confirms.
@@ -70,10 +72,10 @@ pub fn each_item_of_k_confirms()
 
 /// At one moment 12 things may be due on each line, and two of the gateway itself: all of them happen.
 pub fn all_that_is_due_at_one_moment_happens()
-    ensures one_line { due_by (pass example (with_own (stations (busiest ∷ [])) busiest_own) 0).endpoints 0
+    ensures one_line { due_by (pass example (with_own (stations (busiest ∷ [])) busiest_own) 0).value 0
         ≡ None }
     ensures two_lines { due_by
-        (pass example (with_own (stations (busiest ∷ busiest ∷ [])) busiest_own) 0).endpoints 0 ≡ None }
+        (pass example (with_own (stations (busiest ∷ busiest ∷ [])) busiest_own) 0).value 0 ≡ None }
 {}
 
 /// Of all lines that refuse a request the least gives the code, be it the first of them or not.
@@ -153,4 +155,17 @@ pub fn successive_messages_share_a_datagram()
         ≡ to_agent (replicate 1999 10) ∷ to_agent (replicate 1999 10 ++ codes ".\r\nc\n") ∷ [] }
     ensures taken_apart { messages_in (to_other_at 7 (codes "a\n.\r\nb\n"))
         ≡ to_other_at 7 (codes "a\n") ∷ to_other_at 7 (codes "b\n") ∷ [] }
+{}
+
+/// What becomes of a part is put into the whole, and its messages stay; one thing after another begins with what that
+/// left, and its messages go out behind.
+pub fn effects_are_put_together()
+    ensures whole { effect_map (λ (x : List ℕ). x ++ codes "b") (record { value = codes "a"; sent = own_at 1 0 (resent lifted) ∷ [] })
+        ≡ record { value = codes "ab"; sent = own_at 1 0 (resent lifted) ∷ [] } }
+    ensures silent { silently (codes "a") ≡ record { value = codes "a"; sent = [] } }
+    ensures sent_first { behind (own_at 1 0 (resent lifted) ∷ []) (record { value = codes "a"; sent = own_at 2 0 (resent lifted_on_2) ∷ [] })
+        ≡ record { value = codes "a"; sent = own_at 1 0 (resent lifted) ∷ own_at 2 0 (resent lifted_on_2) ∷ [] } }
+    ensures after { afterwards (record { value = codes "a"; sent = own_at 1 0 (resent lifted) ∷ [] })
+        (λ (x : List ℕ). record { value = x ++ codes "b"; sent = own_at 2 0 (resent x) ∷ [] })
+        ≡ record { value = codes "ab"; sent = own_at 1 0 (resent lifted) ∷ own_at 2 0 (resent (codes "a")) ∷ [] } }
 {}

@@ -5,8 +5,8 @@ ghost use Rattle.std.specs.Prelude.{codes, [], ◌∷◌, None, Some, false, tru
 ghost use Rattle.outbound.specs.Flight.{sent_first};
 ghost use Rattle.mg_line.specs.declared.state.State.TheVariants.{Normal, Notification, Lockstep};
 ghost use Rattle.restart.specs.declared.restart.Restart.TheVariants.{Waiting, Announced, Serving};
+ghost use Rattle.plain_machine.specs.Effect.{silently};
 ghost use Rattle.plain_machine.specs.Message.{resent};
-ghost use Rattle.plain_machine.specs.Notifying.{silent};
 ghost use Rattle.plain_machine.specs.Flights.{Waits, HasOwnId, InOrderBy, IsInOrder, OwnInOrderBy, OwnIsInOrder, IsClosed, InOrderWhile, AreInOrder, BeginsNothing, IsSame, Carries};
 ghost use Rattle.plain_machine.specs.Machine.{opening_station, opening_own, with_own};
 ghost use Rattle.plain_machine.specs.Example.{example, agent, other_agent, announced, announced_under, announcing, lifted, own_at, flying, ending, waiting, ready_own, ready_post, ready_station, lost_station, stations, stations_announcing, disconnected};
@@ -84,11 +84,11 @@ pub fn each_line_has_its_order()
 
 /// A line begins nothing where its command in flight, if there is one, stays, and nothing is sent.
 pub fn a_line_may_begin_nothing()
-    ensures stays { BeginsNothing (ending None [] (Some 1500)) (silent (ending (Some 5000) [] (Some 1500))) }
-    ensures answered { BeginsNothing (ending None [] (Some 1500)) (silent (ready_station example 1)) → ⊥ }
-    ensures begins { BeginsNothing (ready_station example 1) (silent (ending None [] (Some 1500))) → ⊥ }
+    ensures stays { BeginsNothing (ending None [] (Some 1500)) (silently (ending (Some 5000) [] (Some 1500))) }
+    ensures answered { BeginsNothing (ending None [] (Some 1500)) (silently (ready_station example 1)) → ⊥ }
+    ensures begins { BeginsNothing (ready_station example 1) (silently (ending None [] (Some 1500))) → ⊥ }
     ensures sends { BeginsNothing (ending None [] (Some 1500))
-        (record { station = ending None [] (Some 1500); sent = own_at 1 1500 (resent lifted) ∷ [] }) → ⊥ }
+        (record { value = ending None [] (Some 1500); sent = own_at 1 1500 (resent lifted) ∷ [] }) → ⊥ }
 {}
 
 /// A message is the same where its id, its address and its bytes are, whenever it was sent and is due again.

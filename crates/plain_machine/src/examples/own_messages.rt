@@ -4,9 +4,10 @@
 ghost use Rattle.std.specs.Prelude.{◌≡◌, ◌++◌, codes, [], ◌∷◌, option_map, true, false, None, Some};
 ghost use Rattle.mg_line.specs.declared.due.LineDue.TheVariants as ends;
 ghost use Rattle.restart.specs.declared.restart.Restart.TheVariants.{Waiting, Announced};
+ghost use Rattle.plain_machine.specs.Effect.{silently};
 ghost use Rattle.plain_machine.specs.Event.{tick};
 ghost use Rattle.plain_machine.specs.Message.{resent};
-ghost use Rattle.plain_machine.specs.Machine.{opening_endpoints, told};
+ghost use Rattle.plain_machine.specs.Machine.{opening_endpoints};
 ghost use Rattle.plain_machine.specs.Falling.{due_at, first_due, due_by, happened, pass};
 ghost use Rattle.plain_machine.specs.Refusing.{takes_none};
 ghost use Rattle.plain_machine.specs.Lists.{sent_from};
@@ -62,9 +63,9 @@ pub fn an_own_message_goes_before_lines()
     ensures in_its_place { (pass example (stations_announcing (ending None [] (Some 4900) ∷ [])) 5000).sent
         ≡ own_at 1 4900 (resent lifted) ∷ own_at 0 5000 (resent announced) ∷ [] }
     ensures no_timer { happened example (stations_announcing []) (line_end 5000 0 ends.DigitTimer)
-        ≡ told (stations_announcing []) [] }
+        ≡ silently (stations_announcing []) }
     ensures idle { happened example (ready_endpoints example) (command_due 5000 0)
-        ≡ told (ready_endpoints example) [] }
+        ≡ silently (ready_endpoints example) }
 {}
 
 /// It is answered by its id and by no other, whoever responds; nothing is repeated after that.
