@@ -58,6 +58,10 @@ next_turn endpoints n front more station turn is here =
     on_this endpoints n station turn (stands_behind endpoints n front more station is here)
     ∙ ap (λ (stations : List Station). effect_map (λ (s : Station). with_stations endpoints stations) (turn station)) set
 
+-- P of what something becomes, and Q of what is sent
+abbrev pub Gives : {A : Type 0} → (A → Type 0) → (Sent → Type 0) → Effect A → Type 0
+Gives P Q effect = P effect.value × AllOf Q effect.sent
+
 -- what holds of each, of the gateway itself, and of what is sent
 pub record AllGone (P : ℕ → Station → Type 0) (Q : Sent → Type 0) (endpoints : Endpoints) (is : Effect Endpoints) : Type 0 where
   pub stations : OnAll P 1 is.value.stations
@@ -65,7 +69,7 @@ pub record AllGone (P : ℕ → Station → Type 0) (Q : Sent → Type 0) (endpo
   pub sent : AllOf Q is.sent
 
 module _ (P P' : ℕ → Station → Type 0) (Q : Sent → Type 0) (turn : ℕ → Station → Effect Station)
-    (good : (line : ℕ) (station : Station) → P line station → P' line (turn line station).value × AllOf Q (turn line station).sent) where
+    (good : (line : ℕ) (station : Station) → P line station → Gives (P' line) Q (turn line station)) where
   rest_goes : (n : ℕ) (front more : List Station) (endpoints : Endpoints) → endpoints.stations ≡ front ++ more → n ≡ 1 + length front → OnAll P' 1 front → OnAll P n more
       → AllGone P' Q endpoints (on_lines (NumbersFrom n more) endpoints turn)
   unfolding on_lines

@@ -52,6 +52,7 @@ use Rattle.plain_machine.proofs.IdLemmas.{next_some}
 use Rattle.gateway_laws.proofs.MapLemmas.{read_change, requested_spelled}
 use Rattle.gateway_laws.proofs.NoticeLemmas.{IsFine, IsTold, IsDone, opening_is_fine, phoned_done, asked_done, answered_done, opened_done, fired_done}
 use Rattle.gateway_laws.proofs.NotificationLemmas.{notification_goes}
+use Rattle.gateway_laws.proofs.AllLemmas.{Gives}
 use Rattle.gateway_laws.proofs.TurnLemmas.{Good, Always, Turns, OwnTurns, Holds, on_made}
 
 -- a text that can go out
@@ -216,11 +217,11 @@ sound_turns setup set_up = record {
 abbrev pub OwnSound : Own → Type 0
 OwnSound own = CanGo 0 own.post
 
-own_posted_sound : (own : Own) (turn : Effect Post) → PostGoes 0 turn → OwnSound (own_posted own turn).value × All IsOut (own_posted own turn).sent
+own_posted_sound : (own : Own) (turn : Effect Post) → PostGoes 0 turn → Gives OwnSound IsOut (own_posted own turn)
 own_posted_sound own turn goes = (goes.can, goes.sent)
 
 own_happened_sound : (setup : Setup) → IsSetUp setup → (due : StationDue) (moment : ℕ) (own : Own) → OwnSound own
-    → OwnSound (own_happened due setup moment own).value × All IsOut (own_happened due setup moment own).sent
+    → Gives OwnSound IsOut (own_happened due setup moment own)
 unfolding own_happened
 own_happened_sound setup set_up (OfLine due) moment own can = (can, All-nil IsOut)
 own_happened_sound setup set_up Resend moment own can = own_posted_sound own (resent_on setup 0 moment own.post) (resent_goes setup 0 moment own.post can)
@@ -228,7 +229,7 @@ own_happened_sound setup set_up Announce moment own can =
     own_posted_sound own (announced_on setup 0 moment own.post) (announced_on_goes setup 0 moment own.post set_up (omega arith) can)
 
 pub own_responded_sound : (setup : Setup) → IsSetUp setup → (moment : ℕ) (response : Response) (own : Own) → OwnSound own
-    → OwnSound (own_responded setup moment response own).value × All IsOut (own_responded setup moment response own).sent
+    → Gives OwnSound IsOut (own_responded setup moment response own)
 unfolding own_responded
 own_responded_sound setup set_up moment response own can =
     own_posted_sound own (replied (heard_on own.post response) setup 0 moment response own.post)

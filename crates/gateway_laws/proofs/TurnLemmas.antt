@@ -60,7 +60,7 @@ use Rattle.plain_machine.specs.Responding.{response_with, responded_on, own_resp
 use Rattle.plain_machine.specs.Answering.{Transaction, executed, transacted_by, handled, took_all}
 use Rattle.plain_machine.specs.Happening.{effect}
 use Rattle.plain_machine.specs.Lists.{machine_after}
-use Rattle.gateway_laws.proofs.AllLemmas.{OnAll, AllGone, all_go}
+use Rattle.gateway_laws.proofs.AllLemmas.{OnAll, Gives, AllGone, all_go}
 
 -- Of all stations, whose lines are numbered from here
 
@@ -144,7 +144,7 @@ response_read setup id code params = by_value (param_at (codes "N") params) wher
 -- A turn
 
 abbrev pub Good : (ℕ → Station → Type 0) → (Sent → Type 0) → ℕ → Effect Station → Type 0
-Good P Q line turn = P line turn.value × All Q turn.sent
+Good P Q line turn = Gives (P line) Q turn
 
 -- each turn keeps what holds of the station, while the gateway serves and while it doesn't yet, and what it sends is so; the
 -- answer to the gateway's announcement makes what holds while it serves
@@ -175,8 +175,8 @@ IsEqual P = (serving other : Bool) (line : ℕ) (station : Station) → P servin
 pub record OwnTurns (setup : Setup) (P : Bool → ℕ → Station → Type 0) (R : Own → Type 0) (Q : Sent → Type 0) : Type 1 where
   pub free : (own : Own) → R own → IsFree own ⊎ IsEqual P
   pub response : (moment : ℕ) (response : Response) (own : Own) → IsRead setup response → R own
-      → R (own_responded setup moment response own).value × All Q (own_responded setup moment response own).sent
-  pub happening : (due : StationDue) (moment : ℕ) (own : Own) → R own → R (own_happened due setup moment own).value × All Q (own_happened due setup moment own).sent
+      → Gives R Q (own_responded setup moment response own)
+  pub happening : (due : StationDue) (moment : ℕ) (own : Own) → R own → Gives R Q (own_happened due setup moment own)
 
 -- what falls due of the gateway itself leaves it serving, or not yet
 pub happening_serves : (setup : Setup) (due : StationDue) (moment : ℕ) (own : Own) → IsFree own → is_serving (own_happened due setup moment own).value.post.restart ≡ is_serving own.post.restart
@@ -314,7 +314,7 @@ module _ (setup : Setup) (P : Bool → ℕ → Station → Type 0) (R : Own → 
           by_free (inr equal) = moved (serves endpoints) false equal 1 endpoints.stations all.stations
 
         by_heard : (heard : Heard) → heard_on endpoints.own.post response ≡ heard → HeardRead setup heard
-            → R (OwnAs heard endpoints moment response).value × All Q (OwnAs heard endpoints moment response).sent → GoesOn P R Q (HeardAs heard endpoints moment response)
+            → Gives R Q (OwnAs heard endpoints moment response) → GoesOn P R Q (HeardAs heard endpoints moment response)
         by_heard Nothing e named goes =
             record { holds = record { stations = all.stations; own = goes.0 }; sent = All-append Q (OwnAs Nothing endpoints moment response).sent [] goes.1 (All-nil Q) }
         by_heard PutOff e named goes =
