@@ -50,6 +50,7 @@ use Rattle.gateway_laws.proofs.NotificationLemmas.{told_writable}
 use Rattle.plain_machine.proofs.FirstLemmas.{OfItsLine, OfItsCommand, OfItsAnnouncement, due_cases, post_cases}
 use Rattle.machine_laws.proofs.EachLemmas.{Each}
 use Rattle.machine_laws.proofs.LogTurns.{Good, LogTurns, OwnGood}
+use Rattle.machine_laws.proofs.KeepLemmas.{silent_keeps, whole_keeps}
 use Rattle.machine_laws.proofs.PostLogs.{InLog, Logged, Own, PostGood, Posted, announcing_good, command_good, others_stay, own_more, post_still, replied_good, resent_good}
 use Rattle.machine_laws.specs.Saying.{Begun, begun_in}
 
@@ -67,31 +68,20 @@ GoodTurn until log line turn = Good (Stationed until) (Own until) (Logged until)
 -- a turn of its post, after which the station is sound
 post_turn : (until : ℕ) (log : List Begun) (line : ℕ) (station : Station) (turn : Effect Post) → Sound line (posted station turn).value → PostGood until log line turn
     → GoodTurn until log line (posted station turn)
-post_turn until log line station turn sound good = record {
-  log_holds = good.log_holds;
-  of = good.of;
-  station_holds = record { sound = sound; post = good.post_holds };
-  sent_holds = good.sent_holds;
-}
+post_turn until log line station turn sound good =
+    whole_keeps (λ (x : List Begun). Posted until x line) (λ (x : List Begun). Stationed until x line) (Own until) (Logged until) log line
+    (λ (post : Post). record station { post = post }) turn (λ posted. record { sound = sound; post = posted }) good
 
 -- a turn in which nothing is sent
 still : (until : ℕ) (log : List Begun) (line : ℕ) (station : Station) → Logged until log → Stationed until log line station → GoodTurn until log line (silently station)
-still until log line station logged s = record {
-  log_holds = subst (Logged until) (sym (append-nil log)) logged;
-  of = tt;
-  station_holds = subst (λ (x : List Begun). Stationed until x line station) (sym (append-nil log)) s;
-  sent_holds = tt;
-}
+still until log line station logged s = silent_keeps (λ (x : List Begun). Stationed until x line) (Own until) (Logged until) log line station logged s
 
 -- the same of the gateway itself
 own_turn : (until : ℕ) (log : List Begun) (own : Itself) (turn : Effect Post) → OwnSound (own_posted own turn).value → PostGood until log 0 turn
     → OwnGood (OwnStands until) (Own until) (Logged until) log (own_posted own turn)
-own_turn until log own turn sound good = record {
-  log_holds = good.log_holds;
-  of = good.of;
-  own_holds = record { sound = sound; post = good.post_holds };
-  sent_holds = good.sent_holds;
-}
+own_turn until log own turn sound good =
+    whole_keeps (λ (x : List Begun). Posted until x 0) (OwnStands until) (Own until) (Logged until) log 0
+    (λ (post : Post). record own { post = post }) turn (λ posted. record { sound = sound; post = posted }) good
 
 -- with another notified entity it stands as well
 entity_stands : (until : ℕ) (log : List Begun) (line : ℕ) (station : Station) (agent : Option Entity) → Stationed until log line station → Stationed until log line (with_entity agent station)

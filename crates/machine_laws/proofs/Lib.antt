@@ -10,6 +10,7 @@ pub mod WaitLaws
 pub mod EachLemmas
 pub mod TellsLemmas
 pub mod FlightLemmas
+pub mod KeepLemmas
 pub mod PostLogs
 pub mod LogTurns
 pub mod GatewayTurns

@@ -40,6 +40,7 @@ use Rattle.gateway_laws.proofs.AllLemmas.{OnAll}
 use Rattle.gateway_laws.proofs.TurnLemmas.{of_line}
 use Rattle.plain_machine.proofs.FirstLemmas.{IsDueOn, first_on, by_moment, station_is, post_line, station_line}
 use Rattle.machine_laws.proofs.EachLemmas.{Each, each_both, each_weaker}
+use Rattle.machine_laws.proofs.KeepLemmas.{EffectKeeps}
 use Rattle.machine_laws.specs.Saying.{Begun, begun_at, begun_in}
 
 -- Of all stations from this line on
@@ -70,17 +71,11 @@ log_both log some more =
 
 -- What a turn keeps: P of a line, R of the gateway itself, Q of what is sent, and L of all that began
 
-pub record Good (P : List Begun → ℕ → Station → Type 0) (Q : List Begun → Sent → Type 0) (L : List Begun → Type 0) (log : List Begun) (line : ℕ) (turn : Effect Station) : Type 0 where
-  pub log_holds : L (log ++ begun_in turn.sent)
-  pub of : Each (λ (b : Begun). line_of_id b.id ≡ line) (begun_in turn.sent)
-  pub station_holds : P (log ++ begun_in turn.sent) line turn.value
-  pub sent_holds : Each (Q (log ++ begun_in turn.sent)) turn.sent
+abbrev pub Good : (List Begun → ℕ → Station → Type 0) → (List Begun → Sent → Type 0) → (List Begun → Type 0) → List Begun → ℕ → Effect Station → Type 0
+Good P Q L log line turn = EffectKeeps (λ (x : List Begun). P x line) Q L log line turn
 
-pub record OwnGood (R : List Begun → Itself → Type 0) (Q : List Begun → Sent → Type 0) (L : List Begun → Type 0) (log : List Begun) (turn : Effect Itself) : Type 0 where
-  pub log_holds : L (log ++ begun_in turn.sent)
-  pub of : Each (λ (b : Begun). line_of_id b.id ≡ 0) (begun_in turn.sent)
-  pub own_holds : R (log ++ begun_in turn.sent) turn.value
-  pub sent_holds : Each (Q (log ++ begun_in turn.sent)) turn.sent
+abbrev pub OwnGood : (List Begun → Itself → Type 0) → (List Begun → Sent → Type 0) → (List Begun → Type 0) → List Begun → Effect Itself → Type 0
+OwnGood R Q L log turn = EffectKeeps R Q L log 0 turn
 
 -- each turn by this moment keeps what holds
 pub record LogTurns (setup : Setup) (until : ℕ) (P : List Begun → ℕ → Station → Type 0) (R : List Begun → Itself → Type 0) (Q : List Begun → Sent → Type 0) (L : List Begun → Type 0) : Type 0 where
@@ -141,7 +136,7 @@ module _ (setup : Setup) (until : ℕ) (P : List Begun → ℕ → Station → T
         stations = on_turned (P log) (P (log ++ begun_in turn.sent)) 1 endpoints.stations (line - 1) turn.value
             (λ i other apart holds. turns.others log (begun_in turn.sent) i other
             (each_weaker (λ (b : Begun). line_of_id b.id ≡ line) (λ (b : Begun). line_of_id b.id ≢ i) (λ b of. λ same. apart (sym same ∙ of ∙ one_more e)) (begun_in turn.sent) good.of) holds)
-            (subst (λ (i : ℕ). P (log ++ begun_in turn.sent) i turn.value) (one_more e) good.station_holds) s.stations;
+            (subst (λ (i : ℕ). P (log ++ begun_in turn.sent) i turn.value) (one_more e) good.holds) s.stations;
         own = turns.own_others log (begun_in turn.sent) endpoints.own
             (each_weaker (λ (b : Begun). line_of_id b.id ≡ line) (λ (b : Begun). line_of_id b.id ≢ 0)
             (λ b of. λ none. absurd (let some : line ≡ 1 + (line - 1) = one_more e in omega (arith, of, none, some))) (begun_in turn.sent) good.of)
@@ -169,7 +164,7 @@ module _ (setup : Setup) (until : ℕ) (P : List Begun → ℕ → Station → T
           (λ i station low holds. turns.others log (begun_in (turn endpoints.own).sent) i station
           (each_weaker (λ (b : Begun). line_of_id b.id ≡ 0) (λ (b : Begun). line_of_id b.id ≢ i) (λ b of. λ same. absurd (omega (arith, of, same, low))) (begun_in (turn endpoints.own).sent) good.of) holds)
           s.stations;
-      own = good.own_holds;
+      own = good.holds;
     };
     sent = good.sent_holds;
   }

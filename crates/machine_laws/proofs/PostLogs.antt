@@ -38,6 +38,7 @@ use Rattle.plain_machine.specs.Announcing.{announced_lines, method_of, announcem
 use Rattle.gateway_laws.proofs.FlightLaws.{next_below}
 use Rattle.gateway_laws.proofs.AnnouncementLemmas.{announcement_writable}
 use Rattle.machine_laws.proofs.EachLemmas.{Each, all_from_each, each_both, each_push, each_weaker, one_before, one_behind, one_weaker}
+use Rattle.machine_laws.proofs.KeepLemmas.{EffectKeeps, silent_keeps}
 use Rattle.machine_laws.proofs.FlightLemmas.{IsSame}
 use Rattle.machine_laws.specs.Saying.{Carries, Begun, OneOf, begun_in, count_of, is_command_as}
 
@@ -82,11 +83,8 @@ pub record Own (until : ℕ) (log : List Begun) (sent : Sent) : Type 0 where
   pub early : sent.moment ≤ until
 
 -- a turn of a post keeps all that
-pub record PostGood (until : ℕ) (log : List Begun) (line : ℕ) (turn : Effect Post) : Type 0 where
-  pub log_holds : Logged until (log ++ begun_in turn.sent)
-  pub of : Each (λ (b : Begun). line_of_id b.id ≡ line) (begun_in turn.sent)
-  pub post_holds : Posted until (log ++ begun_in turn.sent) line turn.value
-  pub sent_holds : Each (Own until (log ++ begun_in turn.sent)) turn.sent
+abbrev pub PostGood : ℕ → List Begun → ℕ → Effect Post → Type 0
+PostGood until log line turn = EffectKeeps (λ (x : List Begun). Posted until x line) (Own until) (Logged until) log line turn
 
 -- Counting
 
@@ -141,12 +139,7 @@ own_more until log new sent own = record { carries = one_before (Carries (text_o
 -- A turn in which nothing begins and nothing is sent
 
 pub post_still : (until : ℕ) (log : List Begun) (line : ℕ) (post : Post) → Logged until log → Posted until log line post → PostGood until log line (silently post)
-post_still until log line post logged s = record {
-  log_holds = subst (Logged until) (sym (append-nil log)) logged;
-  of = tt;
-  post_holds = subst (λ (x : List Begun). Posted until x line post) (sym (append-nil log)) s;
-  sent_holds = tt;
-}
+post_still until log line post logged s = silent_keeps (λ (x : List Begun). Posted until x line) (Own until) (Logged until) log line post logged s
 
 -- A command begins
 
@@ -171,7 +164,7 @@ command_good until log line moment post verb name params body writable past logg
         log (s.counts (few_before line log (b ∷ []) (few line))).below));
   };
   of = (of_line, tt);
-  post_holds = record {
+  holds = record {
     below = next_below line post.number s.below;
     counts = λ few.
         let old = s.counts (few_before line log (b ∷ []) few) in
@@ -225,7 +218,7 @@ resent_good setup until log line moment post flight pending due past logged s =
           record {
             log_holds = subst (Logged until) (sym (append-nil log)) logged;
             of = tt;
-            post_holds = subst (λ (x : List Begun). Posted until x line (record post { pending = Some (repeated flight moment) })) (sym (append-nil log)) (record {
+            holds = subst (λ (x : List Begun). Posted until x line (record post { pending = Some (repeated flight moment) })) (sym (append-nil log)) (record {
               below = s.below;
               counts = s.counts;
               flight = record {
