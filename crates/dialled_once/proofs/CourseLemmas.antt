@@ -69,7 +69,7 @@ use Rattle.machine_laws.proofs.EachLemmas.{Each, each_back, each_front}
 use Rattle.machine_laws.proofs.LineLemmas.{own_stays_on, own_stays}
 use Rattle.machine_laws.proofs.WaitLaws.{acts_wait, pass_waits, text_waits}
 use Rattle.line_isolation.specs.Belonging.{is_of, of_line}
-use Rattle.line_isolation.specs.Passing.{Turned, turned, PassesAlone, rests, goes_on, line_due, line_happens, own_happens}
+use Rattle.line_isolation.specs.Passing.{PassesAlone, rests, goes_on, line_due, line_happens, own_happens}
 use Rattle.line_isolation.proofs.AlikeLemmas.{behind_acknowledged}
 use Rattle.line_isolation.proofs.OwningLemmas.{of_both, turn_if, sent_by, LineTurns, on_one_line, on_many_lines, acted_owned, deed_owned, responded_owned, redirected_owned, opened_owned}
 use Rattle.line_isolation.proofs.PassLemmas.{line_passes, own_passes}
@@ -100,11 +100,11 @@ free_happens setup Announce moment own free = by_restart own.post.restart refl w
   by_restart Announced e = free
   by_restart Serving e = free
 
-serves_passed : (setup : Setup) (moment : ℕ) (was : Own) (is : Turned Own) → PassesAlone own_due (own_happens setup) moment was is → IsFree was
-    → is_serving is.becomes.post.restart ≡ is_serving was.post.restart
-serves_passed setup moment was is (rests w t none same) free = ap (λ (t : Turned Own). is_serving t.becomes.post.restart) same
+serves_passed : (setup : Setup) (moment : ℕ) (was : Own) (is : Effect Own) → PassesAlone own_due (own_happens setup) moment was is → IsFree was
+    → is_serving is.value.post.restart ≡ is_serving was.post.restart
+serves_passed setup moment was is (rests w t none same) free = ap (λ (t : Effect Own). is_serving t.value.post.restart) same
 serves_passed setup moment was is (goes_on w item rest t some own same) free =
-    ap (λ (t : Turned Own). is_serving t.becomes.post.restart) same
+    ap (λ (t : Effect Own). is_serving t.value.post.restart) same
     ∙ serves_passed setup moment (own_happened item.due setup item.moment was).value rest own (free_happens setup item.due item.moment was free)
     ∙ happening_serves setup item.due item.moment was free
 
@@ -228,24 +228,24 @@ module _ (setup : Setup) (H : Response → Type 0) (G : Bool → List Step → L
 
   -- A tick
 
-  line_passed : (serving : Bool) (moment : ℕ) (was : Option Station) (is : Turned (Option Station)) → PassesAlone (line_due line) (line_happens setup line) moment was is
+  line_passed : (serving : Bool) (moment : ℕ) (was : Option Station) (is : Effect (Option Station)) → PassesAlone (line_due line) (line_happens setup line) moment was is
       → (course : List Step) (sent : List Sent) → ((s : Station) → was ≡ Some s → G serving course sent s)
-      → (s : Station) → is.becomes ≡ Some s → G serving (course ++ steps_in is.sends) (sent ++ is.sends) s
+      → (s : Station) → is.value ≡ Some s → G serving (course ++ steps_in is.sent) (sent ++ is.sent) s
   line_passed serving moment was is (rests w t none same) course sent goes s at =
-      subst (λ (x : List Sent). G serving (course ++ steps_in x) (sent ++ x) s) (sym (ap (λ (t : Turned (Option Station)). t.sends) same))
-      (both_padded serving course sent s (goes s (sym (ap (λ (t : Turned (Option Station)). t.becomes) same) ∙ at)))
+      subst (λ (x : List Sent). G serving (course ++ steps_in x) (sent ++ x) s) (sym (ap (λ (t : Effect (Option Station)). t.sent) same))
+      (both_padded serving course sent s (goes s (sym (ap (λ (t : Effect (Option Station)). t.value) same) ∙ at)))
   line_passed serving moment None is (goes_on w item rest t first own same) course sent goes s at = absurd (none-some item first)
   line_passed serving moment (Some was) is (goes_on w item rest t first own same) course sent goes s at =
       let turn : Effect Station = happened_on item.due setup line item.moment was in
       let here = turns.happening serving course sent line item was (by_is moment (due_on (line, was)) item first) (goes was refl) in
       let after = line_passed serving moment (Some turn.value) rest own (course ++ steps_in turn.sent) (sent ++ turn.sent)
       (λ x e. subst (λ (y : Station). G serving (course ++ steps_in turn.sent) (sent ++ turn.sent) y) (some_same turn.value x e) here)
-      s (sym (ap (λ (t : Turned (Option Station)). t.becomes) same) ∙ at) in
-      subst (λ (x : List Sent). G serving (course ++ steps_in x) (sent ++ x) s) (ap (λ (t : Turned (Option Station)). t.sends) (sym same))
-      (subst (λ (c : List Step). G serving c (sent ++ (turn.sent ++ rest.sends)) s)
-      (append_assoc course (steps_in turn.sent) (steps_in rest.sends)
-      ∙ ap (λ (x : List Step). course ++ x) (sym (flat_map-append (λ (one : Sent). notified_by one.said) turn.sent rest.sends)))
-      (subst (λ (x : List Sent). G serving ((course ++ steps_in turn.sent) ++ steps_in rest.sends) x s) (append_assoc sent turn.sent rest.sends) after))
+      s (sym (ap (λ (t : Effect (Option Station)). t.value) same) ∙ at) in
+      subst (λ (x : List Sent). G serving (course ++ steps_in x) (sent ++ x) s) (ap (λ (t : Effect (Option Station)). t.sent) (sym same))
+      (subst (λ (c : List Step). G serving c (sent ++ (turn.sent ++ rest.sent)) s)
+      (append_assoc course (steps_in turn.sent) (steps_in rest.sent)
+      ∙ ap (λ (x : List Step). course ++ x) (sym (flat_map-append (λ (one : Sent). notified_by one.said) turn.sent rest.sent)))
+      (subst (λ (x : List Sent). G serving ((course ++ steps_in turn.sent) ++ steps_in rest.sent) x s) (append_assoc sent turn.sent rest.sent) after))
 
   pass_holds : (endpoints : Endpoints) (course : List Step) (sent : List Sent) (moment : ℕ) → IsFree endpoints.own → Holds course sent endpoints
       → GoesOn course sent (pass setup endpoints moment)

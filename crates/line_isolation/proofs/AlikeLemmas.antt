@@ -25,7 +25,7 @@ use Rattle.plain_machine.specs.Falling.{own_due, pass}
 use Rattle.plain_machine.specs.Responding.{acknowledged, response_with, responded_on, own_responded, redirected_on, opened_on, on_all, lines_told, own_heard, responded, heard_from}
 use Rattle.machine_laws.proofs.LineLemmas.{own_stays_on, own_stays, passing_from}
 use Rattle.line_isolation.specs.Belonging.{is_of, of_line}
-use Rattle.line_isolation.specs.Passing.{Turned, turned, PassesAlone, line_due, line_happens, own_happens}
+use Rattle.line_isolation.specs.Passing.{seen, PassesAlone, line_due, line_happens, own_happens}
 use Rattle.line_isolation.proofs.OwningLemmas.{OwnedBy, of_both, turn_if, sent_by, LineTurns, silent_stays, silent_sends, on_one_line, on_many_lines, acted_owned, responded_owned, own_responded_owned, redirected_owned, opened_owned, owned_here, owned_elsewhere}
 use Rattle.line_isolation.proofs.PassLemmas.{passes_once, line_passes, own_passes}
 
@@ -161,27 +161,27 @@ module _ (setup : Setup) (line : ℕ) where
   -- A tick
 
   own_passed : (one other : Endpoints) (moment : ℕ) → AreAlike line one other
-      → turned (pass setup other moment).value.own (of_line 0 (pass setup other moment).sent)
-      ≡ turned (pass setup one moment).value.own (of_line 0 (pass setup one moment).sent)
+      → seen (λ (e : Endpoints). e.own) 0 (pass setup other moment)
+      ≡ seen (λ (e : Endpoints). e.own) 0 (pass setup one moment)
   own_passed one other moment alike =
       passes_once own_due (own_happens setup) moment one.own _ _
       (subst (λ (own : Own). PassesAlone own_due (own_happens setup) moment own
-      (turned (pass setup other moment).value.own (of_line 0 (pass setup other moment).sent))) alike.own (own_passes setup moment other))
+      (seen (λ (e : Endpoints). e.own) 0 (pass setup other moment))) alike.own (own_passes setup moment other))
       (own_passes setup moment one)
 
   line_passed : (one other : Endpoints) (moment : ℕ) → 1 ≤ line → AreAlike line one other
-      → turned (station_at (pass setup other moment).value line) (of_line line (pass setup other moment).sent)
-      ≡ turned (station_at (pass setup one moment).value line) (of_line line (pass setup one moment).sent)
+      → seen (λ (e : Endpoints). station_at e line) line (pass setup other moment)
+      ≡ seen (λ (e : Endpoints). station_at e line) line (pass setup one moment)
   line_passed one other moment some alike =
       passes_once (line_due line) (line_happens setup line) moment (station_at one line) _ _
       (subst (λ (found : Option Station). PassesAlone (line_due line) (line_happens setup line) moment found
-      (turned (station_at (pass setup other moment).value line) (of_line line (pass setup other moment).sent))) alike.station (line_passes setup line moment some other))
+      (seen (λ (e : Endpoints). station_at e line) line (pass setup other moment))) alike.station (line_passes setup line moment some other))
       (line_passes setup line moment some one)
 
   pub pass_alike : (one other : Endpoints) (moment : ℕ) → AreAlike line one other → ToldAlike line (pass setup one moment) (pass setup other moment)
   pass_alike one other moment alike = by_zero (line == 0) refl where
-    own : turned (pass setup other moment).value.own (of_line 0 (pass setup other moment).sent)
-        ≡ turned (pass setup one moment).value.own (of_line 0 (pass setup one moment).sent)
+    own : seen (λ (e : Endpoints). e.own) 0 (pass setup other moment)
+        ≡ seen (λ (e : Endpoints). e.own) 0 (pass setup one moment)
     own = own_passed one other moment alike
 
     by_zero : (b : Bool) → (line == 0) ≡ b → ToldAlike line (pass setup one moment) (pass setup other moment)
@@ -189,13 +189,13 @@ module _ (setup : Setup) (line : ℕ) where
         let none : line ≡ 0 = (Decides-eqb line 0).0 e in
         subst (λ (n : ℕ). ToldAlike n (pass setup one moment) (pass setup other moment)) (sym none)
         (record {
-          endpoints = record { own = ap (λ (t : Turned Own). t.becomes) own; station = refl };
-          sent = sym (ap (λ (t : Turned Own). t.sends) own);
+          endpoints = record { own = ap (λ (t : Effect Own). t.value) own; station = refl };
+          sent = sym (ap (λ (t : Effect Own). t.sent) own);
         })
     by_zero false e =
         let apart : line ≡ 0 → ⊥ = λ none. (let t : (line == 0) ≡ true = (Decides-eqb line 0).1 none in cc) in
         let mine = line_passed one other moment (omega (arith, apart)) alike in
         record {
-          endpoints = record { own = ap (λ (t : Turned Own). t.becomes) own; station = ap (λ (t : Turned (Option Station)). t.becomes) mine };
-          sent = sym (ap (λ (t : Turned (Option Station)). t.sends) mine);
+          endpoints = record { own = ap (λ (t : Effect Own). t.value) own; station = ap (λ (t : Effect (Option Station)). t.value) mine };
+          sent = sym (ap (λ (t : Effect (Option Station)). t.sent) mine);
         }

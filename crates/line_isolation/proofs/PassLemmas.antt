@@ -8,7 +8,7 @@ use Rattle.plain_machine.specs.declared.due_item.DueItem.{DueItem}
 use Rattle.plain_machine.specs.declared.own.Own.{Own}
 use Rattle.plain_machine.specs.declared.setup.Setup.{Setup}
 use Rattle.plain_machine.specs.declared.station.Station.{Station}
-use Rattle.plain_machine.specs.Effect.{Effect}
+use Rattle.plain_machine.specs.Effect.{Effect, behind}
 use Rattle.plain_machine.specs.Message.{Sent}
 use Rattle.plain_machine.specs.Machine.{Endpoints, station_at, on_line, on_own}
 use Rattle.plain_machine.specs.Falling.{due_on, own_due, due_at, due_by, if_by, happened_on, own_happened, happened, pass}
@@ -18,68 +18,58 @@ use Rattle.plain_machine.proofs.FallingLaws.{left, left_falls, pass_none, pass_s
 use Rattle.machine_laws.proofs.LineLemmas.{this_turns}
 use Rattle.machine_laws.proofs.WaitLaws.{others_wait, own_waits}
 use Rattle.line_isolation.specs.Belonging.{of_line}
-use Rattle.line_isolation.specs.Passing.{Turned, turned, PassesAlone, rests, goes_on, line_due, line_happens, own_happens}
+use Rattle.line_isolation.specs.Passing.{seen, PassesAlone, rests, goes_on, line_due, line_happens, own_happens}
 use Rattle.line_isolation.proofs.OwningLemmas.{of_both, owned_here, owned_elsewhere, happened_owned, own_happened_owned, happening_owned}
 
 -- What is seen of the endpoints goes on by itself
 
 -- what happens, where it is of this one
-pub record Here {S : Type 0} (due : S → Option DueItem) (happens : DueItem → S → Turned S) (setup : Setup) (moment n : ℕ) (view : Endpoints → S)
+pub record Here {S : Type 0} (due : S → Option DueItem) (happens : DueItem → S → Effect S) (setup : Setup) (moment n : ℕ) (view : Endpoints → S)
     (endpoints : Endpoints) (item : DueItem) : Type 0 where
   first : if_by moment (due (view endpoints)) ≡ Some item
-  becomes : view (happened setup endpoints item).value ≡ (happens item (view endpoints)).becomes
-  sends : of_line n (happened setup endpoints item).sent ≡ (happens item (view endpoints)).sends
+  becomes : view (happened setup endpoints item).value ≡ (happens item (view endpoints)).value
+  sends : of_line n (happened setup endpoints item).sent ≡ (happens item (view endpoints)).sent
 
 -- and where it is of another
 pub record There {S : Type 0} (setup : Setup) (n : ℕ) (view : Endpoints → S) (endpoints : Endpoints) (item : DueItem) : Type 0 where
   stays : view (happened setup endpoints item).value ≡ view endpoints
   silent : of_line n (happened setup endpoints item).sent ≡ []
 
-module _ {S : Type 0} (due : S → Option DueItem) (happens : DueItem → S → Turned S) (setup : Setup) (moment n : ℕ) (view : Endpoints → S)
+module _ {S : Type 0} (due : S → Option DueItem) (happens : DueItem → S → Effect S) (setup : Setup) (moment n : ℕ) (view : Endpoints → S)
     (here : (endpoints : Endpoints) (item : DueItem) → due_by endpoints moment ≡ Some item → item.line ≡ n → Here due happens setup moment n view endpoints item)
     (there : (endpoints : Endpoints) (item : DueItem) → due_by endpoints moment ≡ Some item → (item.line == n) ≡ false → There setup n view endpoints item)
     (none : (endpoints : Endpoints) → due_by endpoints moment ≡ None → if_by moment (due (view endpoints)) ≡ None) where
   abbrev Passes : Endpoints → Type 0
-  Passes endpoints =
-      PassesAlone due happens moment (view endpoints)
-      (turned (view (pass setup endpoints moment).value) (of_line n (pass setup endpoints moment).sent))
+  Passes endpoints = PassesAlone due happens moment (view endpoints) (seen view n (pass setup endpoints moment))
 
   none_passes : (endpoints : Endpoints) → due_by endpoints moment ≡ None → Passes endpoints
   none_passes endpoints is =
-      let done = pass_none setup endpoints moment is in
-      rests (view endpoints) _ (none endpoints is) (ap (λ (t : Effect Endpoints). let x : Turned S = turned (view t.value) (of_line n t.sent) in x) done)
+      rests (view endpoints) _ (none endpoints is) (ap (seen view n) (pass_none setup endpoints moment is))
 
   some_passes : (endpoints : Endpoints) (item : DueItem) → due_by endpoints moment ≡ Some item → Passes (happened setup endpoints item).value → Passes endpoints
   some_passes endpoints item is rest = by_line (item.line == n) refl where
     next : Endpoints
     next = (happened setup endpoints item).value
 
-    after : Turned S
-    after = turned (view (pass setup next moment).value) (of_line n (pass setup next moment).sent)
+    after : Effect S
+    after = seen view n (pass setup next moment)
 
-    done : turned (view (pass setup endpoints moment).value) (of_line n (pass setup endpoints moment).sent)
-        ≡ turned (view (pass setup next moment).value) (of_line n (happened setup endpoints item).sent ++ of_line n (pass setup next moment).sent)
-    done =
-        ap (λ (t : Effect Endpoints). let x : Turned S = turned (view t.value) (of_line n t.sent) in x) (pass_some setup endpoints moment item is)
-        ∙ ap (λ (sent : List Sent). let x : Turned S = turned (view (pass setup next moment).value) sent in x)
+    done : (sent : List Sent) → of_line n (happened setup endpoints item).sent ≡ sent → seen view n (pass setup endpoints moment) ≡ behind sent after
+    done sent same =
+        ap (seen view n) (pass_some setup endpoints moment item is)
+        ∙ ap (λ (sent : List Sent). let x : Effect S = record { value = after.value; sent = sent } in x)
         (of_both n (happened setup endpoints item).sent (pass setup next moment).sent)
-
-    with_sent : (one other : List Sent) → one ≡ other
-        → turned (view (pass setup next moment).value) (one ++ of_line n (pass setup next moment).sent)
-        ≡ turned (view (pass setup next moment).value) (other ++ of_line n (pass setup next moment).sent)
-    with_sent one other same =
-        ap (λ (sent : List Sent). let x : Turned S = turned (view (pass setup next moment).value) (sent ++ of_line n (pass setup next moment).sent) in x) same
+        ∙ ap (λ (sent : List Sent). behind sent after) same
 
     by_line : (b : Bool) → (item.line == n) ≡ b → Passes endpoints
     by_line true e =
         let h = here endpoints item is ((Decides-eqb item.line n).0 e) in
         goes_on (view endpoints) item after _ h.first
         (subst (λ (s : S). PassesAlone due happens moment s after) h.becomes rest)
-        (done ∙ with_sent (of_line n (happened setup endpoints item).sent) (happens item (view endpoints)).sends h.sends)
+        (done (happens item (view endpoints)).sent h.sends)
     by_line false e =
         let t = there endpoints item is e in
-        subst (λ (x : Turned S). PassesAlone due happens moment (view endpoints) x)
-        (sym (done ∙ with_sent (of_line n (happened setup endpoints item).sent) [] t.silent))
+        subst (λ (x : Effect S). PassesAlone due happens moment (view endpoints) x) (sym (done [] t.silent))
         (subst (λ (s : S). PassesAlone due happens moment s after) t.stays rest)
 
   passes_by : (k : ℕ) (endpoints : Endpoints) → left endpoints moment ≤ k → (found : Option DueItem) → due_by endpoints moment ≡ found → Passes endpoints
@@ -94,18 +84,17 @@ module _ {S : Type 0} (due : S → Option DueItem) (happens : DueItem → S → 
   passes endpoints = passes_by (left endpoints moment) endpoints (omega arith) (due_by endpoints moment) refl
 
 -- there is one outcome
-pub passes_once : {S : Type 0} (due : S → Option DueItem) (happens : DueItem → S → Turned S) (moment : ℕ) (was : S) (one other : Turned S)
+pub passes_once : {S : Type 0} (due : S → Option DueItem) (happens : DueItem → S → Effect S) (moment : ℕ) (was : S) (one other : Effect S)
     → PassesAlone due happens moment was one → PassesAlone due happens moment was other → one ≡ other
 passes_once {S} due happens moment was one other (rests w t none is) (rests w' t' none' is') = is ∙ sym is'
 passes_once {S} due happens moment was one other (rests w t none is) (goes_on w' item rest t' some own is') = absurd (none-some item (sym none ∙ some))
 passes_once {S} due happens moment was one other (goes_on w item rest t some own is) (rests w' t' none is') = absurd (none-some item (sym none ∙ some))
 passes_once {S} due happens moment was one other (goes_on w item rest t some own is) (goes_on w' item' rest' t' some' own' is') =
     let same : item ≡ item' = item_same item item' (sym some ∙ some') in
-    let moved : PassesAlone due happens moment (happens item' was).becomes rest =
-    subst (λ (i : DueItem). PassesAlone due happens moment (happens i was).becomes rest) same own in
-    let after : rest ≡ rest' = passes_once due happens moment (happens item' was).becomes rest rest' moved own' in
-    is ∙ ap (λ (i : DueItem). let x : Turned S = turned rest.becomes ((happens i was).sends ++ rest.sends) in x) same
-    ∙ ap (λ (r : Turned S). let x : Turned S = turned r.becomes ((happens item' was).sends ++ r.sends) in x) after ∙ sym is'
+    let moved : PassesAlone due happens moment (happens item' was).value rest =
+    subst (λ (i : DueItem). PassesAlone due happens moment (happens i was).value rest) same own in
+    let after : rest ≡ rest' = passes_once due happens moment (happens item' was).value rest rest' moved own' in
+    is ∙ ap (λ (i : DueItem). behind (happens i was).sent rest) same ∙ ap (behind (happens item' was).sent) after ∙ sym is'
 
 -- One item by a moment
 
@@ -155,8 +144,8 @@ module _ (setup : Setup) (line moment : ℕ) (some : 1 ≤ line) where
         ∙ ap (λ (n : ℕ). on_line endpoints n (happened_on item.due setup n item.moment)) same
 
     by_station : (found : Option Station) → station_at endpoints line ≡ found
-        → (station_at (happened setup endpoints item).value line ≡ (line_happens setup line item found).becomes)
-        × (of_line line (happened setup endpoints item).sent ≡ (line_happens setup line item found).sends)
+        → (station_at (happened setup endpoints item).value line ≡ (line_happens setup line item found).value)
+        × (of_line line (happened setup endpoints item).sent ≡ (line_happens setup line item found).sent)
     by_station None at = absurd (none-some item (ap (line_due line) (sym at) ∙ due_here))
     by_station (Some station) at = (
       ap (λ (t : Effect Endpoints). station_at t.value line) turns ∙ this_turns endpoints line (happened_on item.due setup line item.moment)
@@ -179,7 +168,7 @@ module _ (setup : Setup) (line moment : ℕ) (some : 1 ≤ line) where
 
   pub line_passes : (endpoints : Endpoints)
       → PassesAlone (line_due line) (line_happens setup line) moment (station_at endpoints line)
-      (turned (station_at (pass setup endpoints moment).value line) (of_line line (pass setup endpoints moment).sent))
+      (seen (λ (e : Endpoints). station_at e line) line (pass setup endpoints moment))
   line_passes endpoints =
       passes (line_due line) (line_happens setup line) setup moment line (λ (e : Endpoints). station_at e line) line_here line_there line_none endpoints
 
@@ -210,5 +199,5 @@ module _ (setup : Setup) (moment : ℕ) where
 
   pub own_passes : (endpoints : Endpoints)
       → PassesAlone own_due (own_happens setup) moment endpoints.own
-      (turned (pass setup endpoints moment).value.own (of_line 0 (pass setup endpoints moment).sent))
+      (seen (λ (e : Endpoints). e.own) 0 (pass setup endpoints moment))
   own_passes endpoints = passes own_due (own_happens setup) setup moment 0 (λ (e : Endpoints). e.own) own_here own_there own_none endpoints

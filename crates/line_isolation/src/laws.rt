@@ -4,13 +4,13 @@ ghost use Rattle.plain_machine.specs.declared.due_item.DueItem.{DueItem};
 ghost use Rattle.plain_machine.specs.declared.own.Own.{Own};
 ghost use Rattle.plain_machine.specs.declared.setup.Setup.{Setup};
 ghost use Rattle.plain_machine.specs.declared.station.Station.{Station};
+ghost use Rattle.plain_machine.specs.Effect.{Effect};
 ghost use Rattle.plain_machine.specs.Event.{GatewayEvent};
 ghost use Rattle.plain_machine.specs.Falling.{own_due, pass};
 ghost use Rattle.plain_machine.specs.Machine.{Endpoints, station_at};
 ghost use Rattle.line_isolation.specs.Apart.{LinesKeepApart};
-ghost use Rattle.line_isolation.specs.Belonging.{of_line};
 ghost use Rattle.line_isolation.specs.Isolation.{AsUnderItsOwn};
-ghost use Rattle.line_isolation.specs.Passing.{Turned, turned, PassesAlone, line_due, line_happens, own_happens};
+ghost use Rattle.line_isolation.specs.Passing.{seen, PassesAlone, line_due, line_happens, own_happens};
 
 /// Where lines keep apart, each is as it is under its own events alone: its hook state, its signals, its connections and
 /// what it lost, the answers to its commands and its own messages, each with its address and its moment. Of line 0, which
@@ -25,14 +25,14 @@ pub fn lines_that_keep_apart_are_isolated()
 pub fn each_line_passes_alone()
     ensures line { (setup : Setup) (endpoints : Endpoints) (line moment : ℕ) → 1 ≤ line →
         PassesAlone (line_due line) (line_happens setup line) moment (station_at endpoints line)
-        (turned (station_at (pass setup endpoints moment).value line) (of_line line (pass setup endpoints moment).sent)) }
+        (seen (λ (e : Endpoints). station_at e line) line (pass setup endpoints moment)) }
     ensures own { (setup : Setup) (endpoints : Endpoints) (moment : ℕ) →
         PassesAlone own_due (own_happens setup) moment endpoints.own
-        (turned (pass setup endpoints moment).value.own (of_line 0 (pass setup endpoints moment).sent)) }
-    ensures line_once { (setup : Setup) (line moment : ℕ) (was : Option Station) (one other : Turned (Option Station)) →
+        (seen (λ (e : Endpoints). e.own) 0 (pass setup endpoints moment)) }
+    ensures line_once { (setup : Setup) (line moment : ℕ) (was : Option Station) (one other : Effect (Option Station)) →
         PassesAlone (line_due line) (line_happens setup line) moment was one →
         PassesAlone (line_due line) (line_happens setup line) moment was other → one ≡ other }
-    ensures own_once { (setup : Setup) (moment : ℕ) (was : Own) (one other : Turned Own) →
+    ensures own_once { (setup : Setup) (moment : ℕ) (was : Own) (one other : Effect Own) →
         PassesAlone own_due (own_happens setup) moment was one →
         PassesAlone own_due (own_happens setup) moment was other → one ≡ other }
 {}
