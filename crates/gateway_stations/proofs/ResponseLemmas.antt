@@ -1,18 +1,17 @@
 -- What the answer to its command in flight does to a station.
-use Rattle.std.proofs.Common.{◌≡◌, ℕ, List, Option, Result, Ok, Err, ap, ◌∙◌, subst, append-nil}
+use Rattle.std.proofs.Common.{◌≡◌, ℕ, List, Option, Result, Ok, Err, ◌∙◌, subst, append-nil}
 use Rattle.std.specs.Prelude.{OnOk}
 use Rattle.endpoint_names.specs.declared.entity.Entity.{Entity}
 use Rattle.mg_line.specs.Answering.{answered}
 use Rattle.restart.specs.declared.heard.Heard.{Heard}
-use Rattle.restart.specs.declared.heard.Heard.TheVariants.{PutOff, Redirected, Answered}
+use Rattle.restart.specs.declared.heard.Heard.TheVariants.{Answered}
 use Rattle.transmission.specs.declared.output.OutDatagram.{OutDatagram}
 use Rattle.plain_machine.specs.declared.post.Post.{Post}
 use Rattle.plain_machine.specs.declared.response.Response.{Response}
 use Rattle.plain_machine.specs.declared.setup.Setup.{Setup}
 use Rattle.plain_machine.specs.declared.station.Station.{Station}
-use Rattle.plain_machine.specs.Effect.{Effect}
 use Rattle.plain_machine.specs.Announcing.{heard_on, replied}
-use Rattle.plain_machine.specs.Notifying.{posted, noted}
+use Rattle.plain_machine.specs.Notifying.{noted}
 use Rattle.plain_machine.specs.Responding.{responded_as, responded_on}
 use Rattle.gateway_stations.specs.Effects.{HasEffect}
 

@@ -1,6 +1,6 @@
 -- What a gateway sends of its own: the commands of each line, and of the gateway itself, under ids of their own, and again for
 -- less than 20,000 ms.
-use Rattle.std.proofs.Common.{◌≡◌, ◌≢◌, ℕ, ◌≤◌, true, List, [], ◌∷◌, ◌++◌, Option, Some, None, Ok, inl, inr, refl, sym, ap, subst, arith, append-nil}
+use Rattle.std.proofs.Common.{◌≡◌, ◌≢◌, ℕ, ◌≤◌, true, List, [], ◌∷◌, ◌++◌, Option, Some, None, Ok, inl, inr, refl, ap, subst, arith}
 use Rattle.std.specs.Prelude.{◌⊎◌, IfSome, option_map}
 use Rattle.std.specs.Option.{unwrap_or}
 use Rattle.mgcp_text.specs.declared.confirmation.KValue.{KValue}

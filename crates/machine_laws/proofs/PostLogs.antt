@@ -40,7 +40,7 @@ use Rattle.gateway_laws.proofs.AnnouncementLemmas.{announcement_writable}
 use Rattle.machine_laws.proofs.EachLemmas.{Each, all_from_each, each_both, each_push, each_weaker, one_before, one_behind, one_weaker}
 use Rattle.machine_laws.proofs.KeepLemmas.{EffectKeeps, silent_keeps}
 use Rattle.machine_laws.proofs.FlightLemmas.{IsSame}
-use Rattle.machine_laws.specs.Saying.{Carries, Begun, OneOf, begun_in, count_of, is_command_as}
+use Rattle.machine_laws.specs.Saying.{Carries, Begun, OneOf, count_of, is_command_as}
 
 -- a command of a gateway's own: it is read as a command with its id, and began by this moment
 pub record WasBegun (until : ℕ) (one : Begun) : Type 0 where
