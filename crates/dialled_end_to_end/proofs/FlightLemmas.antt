@@ -6,7 +6,7 @@ use Rattle.std.specs.List.{list_any}
 use Rattle.std.proofs.lemmas.Grind.{flat_map-append}
 use Rattle.std.proofs.lemmas.Option.{none-some}
 use Rattle.endpoint_names.specs.declared.entity.Entity.{Entity}
-use Rattle.mg_line.specs.declared.request.Request.{Request}
+use Rattle.event_requests.specs.declared.request.Request.{Request}
 use Rattle.mg_line.specs.declared.state.State.{State}
 use Rattle.mg_line.specs.declared.state.State.TheVariants.{Notification}
 use Rattle.mg_line.specs.Line.{LineState, LineDone, Notice}

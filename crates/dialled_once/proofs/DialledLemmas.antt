@@ -7,7 +7,7 @@ use Rattle.event_values.specs.declared.handling.Notifying.TheVariants.{Step as I
 use Rattle.event_values.specs.declared.observed.Observed.{Observed}
 use Rattle.quarantine.specs.Held.{most_lost}
 use Rattle.mg_line.specs.declared.phone.Act.{Act}
-use Rattle.mg_line.specs.declared.request.Request.{Request}
+use Rattle.event_requests.specs.declared.request.Request.{Request}
 use Rattle.mg_line.specs.Acting.{observed_at, phoned}
 use Rattle.mg_line.specs.Answering.{answered}
 use Rattle.mg_line.specs.Falling.{fired}

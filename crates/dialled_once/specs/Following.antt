@@ -4,7 +4,7 @@ use Rattle.event_values.specs.declared.handling.Handling.{Handling}
 use Rattle.event_values.specs.declared.handling.Notifying.TheVariants.{Step as InStep}
 use Rattle.mg_line.specs.declared.due.LineDue.{LineDue}
 use Rattle.mg_line.specs.declared.phone.Act.{Act}
-use Rattle.mg_line.specs.declared.request.Request.{Request}
+use Rattle.event_requests.specs.declared.request.Request.{Request}
 use Rattle.mg_line.specs.Line.{LineState, LineDone}
 use Rattle.mg_line.specs.Laws.{IsWaiting}
 use Rattle.mg_line.specs.Acting.{phoned}

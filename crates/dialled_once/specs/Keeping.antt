@@ -12,7 +12,7 @@ use Rattle.event_syntax.specs.declared.request.Reaction.TheVariants.{Plain, Embe
 use Rattle.event_requests.specs.Choice.{chosen}
 use Rattle.mg_line.specs.declared.due.LineDue.{LineDue}
 use Rattle.mg_line.specs.declared.phone.Act.{Act}
-use Rattle.mg_line.specs.declared.request.Request.{Request}
+use Rattle.event_requests.specs.declared.request.Request.{Request}
 use Rattle.mg_line.specs.declared.state.State.TheVariants.{Normal}
 use Rattle.mg_line.specs.Line.{LineState, Notice, LineDone}
 use Rattle.mg_line.specs.Acting.{observed_at, phoned}

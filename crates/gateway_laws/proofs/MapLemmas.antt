@@ -31,7 +31,7 @@ use Rattle.event_requests.specs.Naming.{names, event_of}
 use Rattle.event_requests.specs.Requests.{entry_in}
 use Rattle.mgcp_text.specs.declared.message.Param.{Param}
 use Rattle.command_forms.specs.Values.{change_at}
-use Rattle.mg_line.specs.declared.request.Request.{Request}
+use Rattle.event_requests.specs.declared.request.Request.{Request}
 use Rattle.mg_line.specs.Line.{LineState, still}
 use Rattle.mg_line.specs.Occurring.{notified, notified_if_full, with_event, letter_of, timed, judged, with_letter, dialled_by, embedded, acted, signals_after, occurred}
 use Rattle.mg_line.specs.Requesting.{map_after, replaced}

@@ -23,7 +23,7 @@ use Rattle.mg_line.specs.declared.due.LineDue.{LineDue}
 use Rattle.mg_line.specs.declared.due.LineDue.TheVariants.{DigitTimer, SignalEnd}
 use Rattle.mg_line.specs.declared.phone.Act.{Act}
 use Rattle.mg_line.specs.declared.phone.Act.TheVariants.{OffHook, OnHook, Flash, Key}
-use Rattle.mg_line.specs.declared.request.Request.{Request}
+use Rattle.event_requests.specs.declared.request.Request.{Request}
 use Rattle.mg_line.specs.declared.state.State.{State}
 use Rattle.mg_line.specs.declared.state.State.TheVariants.{Normal, Notification, Lockstep}
 use Rattle.mg_line.specs.Line.{LineState, LineDone, Notice, still, opening_line, most_accumulated}

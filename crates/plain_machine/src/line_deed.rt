@@ -3,7 +3,7 @@
 use command_forms::ConnectionDeed;
 use connections::Encoding;
 use endpoint_names::Entity;
-use mg_line::Request;
+use event_requests::Request;
 
 /// What is done on a line, as a line takes it (RFC 3435, 2.3).
 #[derive(Drop)]

@@ -1,9 +1,8 @@
 //! What a line is asked for, as rows say it: `X: A1  R: L/hd(A)  D: (xx)`.
 use digit_map::read_change;
-use event_requests::EventRequest;
+use event_requests::{EventRequest, Request};
 use event_syntax::{read_detect, read_events, read_handling, read_signals};
 use mg_bytes::{CodeFault, Identifier};
-use mg_line::Request;
 use std::alloc::Global;
 
 /// The value of a parameter, where it stands there.
