@@ -29,7 +29,7 @@ use Rattle.command_forms.specs.Refusing.{letter_k, refusal, absence, fault_at, p
 use Rattle.command_forms.specs.Params.{param_fault, params_fault, value_at}
 use Rattle.command_forms.specs.Meaning.{meant}
 use Rattle.command_forms.specs.Values.{is_readable, said_at, entity_at, encoding_from, identifier_from, mode_from, handling_at, change_at, remote_of}
-use Rattle.command_forms.specs.Deeds.{request_of, request_at, creation_of, modification_of, deletion_of, connected_by, deed_of}
+use Rattle.command_forms.specs.Deeds.{events_of, request_of, request_at, creation_of, modification_of, deletion_of, connected_by, deed_of}
 use Rattle.command_forms.specs.Order.{audit_of, absent_letter, counted, asked_for, asked, judged_while, judged, form_while, form_of}
 use Rattle.command_forms.specs.Codes.{name_codes, param_codes, has_code}
 use Rattle.command_forms.proofs.StepLemmas.{is_err}
@@ -123,15 +123,20 @@ coded_on : {A B : Type 0} (place : Place) (read : Result A ℕ) (next : A → Re
 coded_on place (Ok x) next here on = on x
 coded_on place (Err code) next here on = here
 
+events_coded : (params : List Param) → Refusable (events_of params)
+unfolding events_of
+events_coded params =
+    coded_on _ (requested_of (value_at (codes "R") params)) _ (requested_coded (value_at (codes "R") params)) (λ requested.
+    coded_on _ (detected_of (value_at (codes "T") params)) _ (detected_coded (value_at (codes "T") params)) (λ detected. tt))
+
 request_coded : (value : List ℕ) (params : List Param) → Refusable (request_of value params)
 unfolding request_of
 request_coded value params =
     coded_on _ (identifier_from value) _ (identifier_coded value) (λ identifier.
     coded_on _ (handling_at (param_at (codes "Q") params)) _ (handling_at_coded (param_at (codes "Q") params)) (λ handling.
     coded_on _ (change_at (param_at (codes "D") params)) _ (change_coded (param_at (codes "D") params)) (λ map.
-    coded_on _ (requested_of (value_at (codes "R") params)) _ (requested_coded (value_at (codes "R") params)) (λ requested.
-    coded_on _ (detected_of (value_at (codes "T") params)) _ (detected_coded (value_at (codes "T") params)) (λ detected.
-    coded_on _ (signals_of (value_at (codes "S") params)) _ (signals_coded (value_at (codes "S") params)) (λ signals. tt))))))
+    refusable_on (events_of params) _ (events_coded params) (λ events.
+    coded_on _ (signals_of (value_at (codes "S") params)) _ (signals_coded (value_at (codes "S") params)) (λ signals. tt)))))
 
 request_at_coded : (found : Option Param) (params : List Param) → Refusable (request_at found params)
 request_at_coded None params = tt

@@ -16,9 +16,11 @@ use Rattle.endpoint_names.specs.Name.{line_named, name_of}
 use Rattle.event_syntax.specs.declared.request.RequestedEvent.{RequestedEvent}
 use Rattle.event_syntax.specs.RequestSpelling.{are_requested}
 use Rattle.event_syntax.specs.Requested.{requested_in as requested_entries, requested_of, are_writable_requested}
-use Rattle.event_syntax.specs.Detect.{detected_of}
+use Rattle.event_syntax.specs.Detect.{detected_of, are_writable_events}
 use Rattle.event_values.specs.Signals.{signals_of}
 use Rattle.event_values.proofs.SignalReading.{read_is_writable}
+use Rattle.event_requests.specs.declared.request.Request.{Request}
+use Rattle.event_requests.specs.Requests.{EventRequests}
 use Rattle.event_syntax.proofs.DetectLaws.{read_is_writable as detected_is_writable}
 use Rattle.event_syntax.proofs.RequestReading.{read_is_writable as requested_is_writable}
 use Rattle.sdp_subset.specs.declared.session.Session.{Session}
@@ -36,7 +38,6 @@ use Rattle.command_forms.specs.declared.forms.AuditTarget.TheVariants as audits
 use Rattle.command_forms.specs.declared.forms.ConnectionDeed.{ConnectionDeed}
 use Rattle.command_forms.specs.declared.forms.ConnectionDeed.TheVariants as deeds
 use Rattle.command_forms.specs.declared.forms.Deed.{Deed}
-use Rattle.command_forms.specs.declared.forms.RequestForm.{RequestForm}
 use Rattle.command_forms.specs.declared.forms.Target.{Target}
 use Rattle.command_forms.specs.declared.forms.Target.TheVariants.{One, All, Any}
 use Rattle.command_forms.specs.declared.refused.Place.TheVariants.{Value}
@@ -60,7 +61,7 @@ use Rattle.command_forms.specs.Params.{has, missing_letter, params_fault, value_
 use Rattle.mg_bytes.specs.Lists.{is_empty}
 use Rattle.command_forms.specs.Meaning.{takes_all, takes_any, meant}
 use Rattle.command_forms.specs.Values.{is_readable, said_at, entity_at, encoding_from, identifier_from, mode_from, handling_at, change_at, remote_of}
-use Rattle.command_forms.specs.Deeds.{request_of, request_at, creation_of, modification_of, deletion_by, deletion_of, connected_by, with_remote, deed_of}
+use Rattle.command_forms.specs.Deeds.{events_of, request_of, request_at, creation_of, modification_of, deletion_by, deletion_of, connected_by, with_remote, deed_of}
 use Rattle.command_forms.specs.Order.{audit_of, names_call, are_requested as are_of_request, absent_letter, counted, asked_for, asked, judged_while, form_while, form_of}
 use Rattle.command_forms.specs.Codes.{Audits, target_for, target_in, target_meant, purpose_meant, AreOf, HasValues, IsAt, options_or, HasCreation, HasDeletion, HasConnections, connecting_in, may_connect_all, may_connect_any, MayBeOf, HasDeed}
 use Rattle.command_forms.proofs.StepLemmas.{is_ok}
@@ -163,30 +164,51 @@ requested_writable value list read =
     (λ (h : are_requested value ≡ false). let no : Err 510 ≡ Ok list = (rw h at read) in absurd cc)
     (cases_Bool (are_requested value))
 
+-- what is asked for about events is what stands there, and can be written
+record HasEvents (params : List Param) (events : EventRequests) : Type 0 where
+  requested : requested_of (value_at (codes "R") params) ≡ Ok events.requested
+  detected : detected_of (value_at (codes "T") params) ≡ Ok events.detected
+  writable_requested : are_writable_requested events.requested ≡ true
+  writable_detected : are_writable_events events.detected ≡ true
+
+events_have : (params : List Param) → IfOk (events_of params) (HasEvents params)
+unfolding events_of
+events_have params =
+    on_placed (HasEvents params) _ (requested_of (value_at (codes "R") params)) _ (λ requested r.
+    on_placed (HasEvents params) _ (detected_of (value_at (codes "T") params)) _ (λ detected t.
+    record {
+      requested = r;
+      detected = t;
+      writable_requested = requested_writable (value_at (codes "R") params) requested r;
+      writable_detected = detected_is_writable (value_at (codes "T") params) detected t;
+    }))
+
+events_are : (params : List Param) (events : EventRequests) → events_of params ≡ Ok events → HasEvents params events
+events_are params events e = is_ok (HasEvents params) (events_of params) events (events_have params) e
+
 request_has : (params : List Param) (value : List ℕ) → value ≡ value_at (codes "X") params → IfOk (request_of value params) (HasValues params)
 unfolding request_of
 request_has params value there =
     on_placed (HasValues params) _ (identifier_from value) _ (λ identifier x.
     on_placed (HasValues params) _ (handling_at (param_at (codes "Q") params)) _ (λ handling q.
     on_placed (HasValues params) _ (change_at (param_at (codes "D") params)) _ (λ map d.
-    on_placed (HasValues params) _ (requested_of (value_at (codes "R") params)) _ (λ requested r.
-    on_placed (HasValues params) _ (detected_of (value_at (codes "T") params)) _ (λ detected t.
+    on_ok (HasValues params) (events_of params) _ (λ events r.
     on_placed (HasValues params) _ (signals_of (value_at (codes "S") params)) _ (λ signals s.
     record {
       identifier = (identifier_is value identifier x).0 ∙ there;
       digits = (identifier_is value identifier x).1;
       handling = q;
       map = d;
-      requested = r;
-      detected = t;
+      requested = (events_are params events r).requested;
+      detected = (events_are params events r).detected;
       signals = s;
-      writable_requested = requested_writable (value_at (codes "R") params) requested r;
-      writable_detected = detected_is_writable (value_at (codes "T") params) detected t;
+      writable_requested = (events_are params events r).writable_requested;
+      writable_detected = (events_are params events r).writable_detected;
       writable_signals = read_is_writable (value_at (codes "S") params) signals s;
-    }))))))
+    })))))
 
 -- a request stands there where X does
-abbrev IsThere : List Param → Option Param → Option RequestForm → Type 0
+abbrev IsThere : List Param → Option Param → Option Request → Type 0
 IsThere params found request = (is_some request ≡ is_some found) × IfSome request (HasValues params)
 
 request_there : (params : List Param) (found : Option Param) → param_at (codes "X") params ≡ found → IfOk (request_at found params) (IsThere params found)

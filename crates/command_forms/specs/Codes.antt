@@ -10,6 +10,7 @@ use Rattle.endpoint_names.specs.declared.table.Host.{Host}
 use Rattle.event_syntax.specs.Requested.{requested_of, are_writable_requested}
 use Rattle.event_syntax.specs.Detect.{detected_of, are_writable_events}
 use Rattle.event_values.specs.Signals.{signals_of, are_writable_signals}
+use Rattle.event_requests.specs.declared.request.Request.{Request}
 use Rattle.connections.specs.declared.connection.Change.{Change}
 use Rattle.connections.specs.declared.connection.Creation.{Creation}
 use Rattle.connections.specs.declared.deletion.Deletion.{Deletion}
@@ -24,7 +25,6 @@ use Rattle.command_forms.specs.declared.forms.AuditTarget.TheVariants as audits
 use Rattle.command_forms.specs.declared.forms.ConnectionDeed.{ConnectionDeed}
 use Rattle.command_forms.specs.declared.forms.ConnectionDeed.TheVariants as deeds
 use Rattle.command_forms.specs.declared.forms.Deed.{Deed}
-use Rattle.command_forms.specs.declared.forms.RequestForm.{RequestForm}
 use Rattle.command_forms.specs.declared.forms.Target.{Target}
 use Rattle.command_forms.specs.declared.forms.Target.TheVariants.{One, All, Any}
 use Rattle.command_forms.specs.declared.verbs.Connecting.{Connecting}
@@ -104,16 +104,16 @@ MayBeOf (Does Any deed) = may_connect_any deed.connections ≡ true
 
 -- what a request has: its values are those of the command's parameters, its identifier is 1 to 32 hexadecimal digits, and
 -- its events, 32 of R and of T at most, and its signals, at most 8, can be written
-pub record HasValues (params : List Param) (request : RequestForm) : Type 0 where
+pub record HasValues (params : List Param) (request : Request) : Type 0 where
   pub identifier : request.identifier ≡ value_at (codes "X") params
   pub digits : is_hex_text request.identifier ≡ true
   pub handling : handling_at (param_at (codes "Q") params) ≡ Ok request.handling
   pub map : change_at (param_at (codes "D") params) ≡ Ok request.map
-  pub requested : requested_of (value_at (codes "R") params) ≡ Ok request.requested
-  pub detected : detected_of (value_at (codes "T") params) ≡ Ok request.detected
+  pub requested : requested_of (value_at (codes "R") params) ≡ Ok request.events.requested
+  pub detected : detected_of (value_at (codes "T") params) ≡ Ok request.events.detected
   pub signals : signals_of (value_at (codes "S") params) ≡ Ok request.signals
-  pub writable_requested : are_writable_requested request.requested ≡ true
-  pub writable_detected : are_writable_events request.detected ≡ true
+  pub writable_requested : are_writable_requested request.events.requested ≡ true
+  pub writable_detected : are_writable_events request.events.detected ≡ true
   pub writable_signals : are_writable_signals request.signals ≡ true
 
 -- an identifier is what stands there, and 1 to 32 hexadecimal digits

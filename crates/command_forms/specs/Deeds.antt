@@ -8,6 +8,8 @@ use Rattle.endpoint_names.specs.declared.table.Host.{Host}
 use Rattle.event_syntax.specs.Requested.{requested_of}
 use Rattle.event_syntax.specs.Detect.{detected_of}
 use Rattle.event_values.specs.Signals.{signals_of}
+use Rattle.event_requests.specs.declared.request.Request.{Request}
+use Rattle.event_requests.specs.Requests.{EventRequests}
 use Rattle.sdp_subset.specs.declared.session.Session.{Session}
 use Rattle.connections.specs.declared.connection.Creation.{Creation}
 use Rattle.connections.specs.declared.deletion.Deletion.{Deletion}
@@ -16,7 +18,6 @@ use Rattle.connections.specs.Options.{options_of, no_options}
 use Rattle.command_forms.specs.declared.forms.ConnectionDeed.{ConnectionDeed}
 use Rattle.command_forms.specs.declared.forms.ConnectionDeed.TheVariants as deeds
 use Rattle.command_forms.specs.declared.forms.Deed.{Deed}
-use Rattle.command_forms.specs.declared.forms.RequestForm.{RequestForm}
 use Rattle.command_forms.specs.declared.refused.Place.TheVariants.{Value, Description}
 use Rattle.command_forms.specs.declared.refused.Refused.{Refused}
 use Rattle.command_forms.specs.declared.verbs.Connecting.{Connecting}
@@ -28,26 +29,31 @@ use Rattle.command_forms.specs.Params.{value_at}
 use Rattle.command_forms.specs.Values.{said_at, entity_at, encoding_from, identifier_from, mode_from, handling_at}
 use Rattle.command_forms.specs.Values.{change_at, remote_of}
 
--- what is requested with this identifier, by Q, D, R, T and S in this order; absent, R, T and S are empty lists
-unfoldable pub request_of : List ℕ → List Param → Result RequestForm Refused
+-- what is asked for about events, by R and T in this order; absent, both are empty lists
+unfoldable pub events_of : List Param → Result EventRequests Refused
+events_of params = do
+  requested ← placed (Value letter_r) (requested_of (value_at (codes "R") params))
+  detected ← placed (Value letter_t) (detected_of (value_at (codes "T") params))
+  Ok (record { requested = requested; detected = detected })
+
+-- what is requested with this identifier, by Q, D, R, T and S in this order; absent, S is an empty list
+unfoldable pub request_of : List ℕ → List Param → Result Request Refused
 request_of value params = do
   identifier ← placed (Value letter_x) (identifier_from value)
   handling ← placed (Value letter_q) (handling_at (param_at (codes "Q") params))
   map ← placed (Value letter_d) (change_at (param_at (codes "D") params))
-  requested ← placed (Value letter_r) (requested_of (value_at (codes "R") params))
-  detected ← placed (Value letter_t) (detected_of (value_at (codes "T") params))
+  events ← events_of params
   signals ← placed (Value letter_s) (signals_of (value_at (codes "S") params))
   Ok (record {
     identifier = identifier;
-    requested = requested;
-    detected = detected;
+    events = events;
     signals = signals;
     handling = handling;
     map = map;
   })
 
 -- a request stands in a command exactly where X does (RFC 3435, 2.3.3)
-abbrev pub request_at : Option Param → List Param → Result (Option RequestForm) Refused
+abbrev pub request_at : Option Param → List Param → Result (Option Request) Refused
 request_at None params = Ok None
 request_at (Some param) params = request_of param.value params >>= λ request. Ok (Some request)
 

@@ -21,6 +21,8 @@ use Rattle.event_syntax.specs.declared.request.RequestedEvent.{RequestedEvent}
 use Rattle.event_syntax.specs.declared.request.Reaction.TheVariants.{Plain}
 use Rattle.event_values.specs.declared.signals.Setting.{Setting}
 use Rattle.event_values.specs.declared.signals.SignalRequest.{SignalRequest}
+use Rattle.event_requests.specs.declared.request.Request.{Request}
+use Rattle.event_requests.specs.Requests.{EventRequests, no_requests}
 use Rattle.sdp_subset.specs.declared.session.Session.{Session}
 use Rattle.connections.specs.declared.connection.Change.{Change}
 use Rattle.connections.specs.declared.connection.Creation.{Creation}
@@ -36,7 +38,6 @@ use Rattle.command_forms.specs.declared.forms.Audit.{Audit}
 use Rattle.command_forms.specs.declared.forms.ConnectionDeed.{ConnectionDeed}
 use Rattle.command_forms.specs.declared.forms.ConnectionDeed.TheVariants as deeds
 use Rattle.command_forms.specs.declared.forms.Deed.{Deed}
-use Rattle.command_forms.specs.declared.forms.RequestForm.{RequestForm}
 use Rattle.command_forms.specs.declared.forms.AuditTarget.{AuditTarget}
 use Rattle.command_forms.specs.declared.forms.AuditTarget.TheVariants as audits
 use Rattle.command_forms.specs.declared.forms.Target.{Target}
@@ -116,12 +117,15 @@ refused code = Some (Err code)
 abbrev pub handled : Notifying → Quarantined → Handling
 handled notifying quarantined = record { notifying = notifying; quarantined = quarantined }
 
+-- these entries of R and of T
+abbrev pub looking_for : List RequestedEvent → List Events → EventRequests
+looking_for requested detected = record { requested = requested; detected = detected }
+
 -- what is requested with this identifier, and nothing more
-abbrev pub only : List ℕ → RequestForm
+abbrev pub only : List ℕ → Request
 only identifier = record {
   identifier = identifier;
-  requested = [];
-  detected = [];
+  events = no_requests;
   signals = [];
   handling = handled Step Process;
   map = Keep;
@@ -136,7 +140,7 @@ abbrev pub nothing : Deed
 nothing = record { entity = None; encoding = None; connections = deeds.Keep; request = None }
 
 -- this is requested of these lines
-abbrev pub requests : Target → RequestForm → Reply
+abbrev pub requests : Target → Request → Reply
 requests target request = does_on target (record nothing { request = Some request })
 
 -- a request on these lines, with this identifier, and nothing more
@@ -149,10 +153,10 @@ abbrev pub request_for : List SignalRequest → Reply
 request_for signals = requests (One 1) (record (only (codes "1")) { signals = signals })
 
 abbrev pub request_at : List RequestedEvent → Reply
-request_at requested = requests (One 1) (record (only (codes "1")) { requested = requested })
+request_at requested = requests (One 1) (record (only (codes "1")) { events = looking_for requested [] })
 
 abbrev pub request_meanwhile : List Events → Reply
-request_meanwhile detected = requests (One 1) (record (only (codes "1")) { detected = detected })
+request_meanwhile detected = requests (One 1) (record (only (codes "1")) { events = looking_for [] detected })
 
 abbrev pub request_handling : Notifying → Quarantined → Reply
 request_handling notifying quarantined = requests (One 1) (record (only (codes "1")) { handling = handled notifying quarantined })

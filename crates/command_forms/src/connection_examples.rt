@@ -19,7 +19,7 @@ ghost use Rattle.connections.specs.declared.mode.Mode.TheVariants.{SendOnly, Sen
 ghost use Rattle.connections.specs.Options.{no_options};
 ghost use Rattle.connections.specs.Example.{asked as asking, asked_time};
 ghost use Rattle.command_forms.specs.declared.forms.ConnectionDeed.TheVariants as deeds;
-ghost use Rattle.command_forms.specs.Example.{command_on, refused, only, request, handled, does, asks};
+ghost use Rattle.command_forms.specs.Example.{command_on, refused, only, looking_for, request, handled, does, asks};
 ghost use Rattle.command_forms.specs.Example.{nothing, does_on, configure, create, modify, delete, create_with};
 ghost use Rattle.command_forms.specs.Example.{modify_with};
 ghost use Rattle.command_forms.specs.Example.{described, session, connects_on, connects, receiver, creates};
@@ -81,8 +81,7 @@ pub fn connections_are_created()
           });
           request = Some (record {
             identifier = codes "A7";
-            requested = does (One OffHook) Notify ∷ [];
-            detected = One OnHook ∷ [];
+            events = looking_for (does (One OffHook) Notify ∷ []) (One OnHook ∷ []);
             signals = asks DialTone Start ∷ [];
             handling = handled Loop Process;
             map = Replace (codes "xx");

@@ -2,10 +2,10 @@
 ghost use Rattle.std.specs.Prelude.{◌≡◌, codes};
 ghost use Rattle.mgcp_text.specs.Message.{param_at};
 ghost use Rattle.command_forms.specs.Refusing.{StopsAs};
-ghost use Rattle.command_forms.specs.Deeds.{request_of, request_at, creation_of, modification_of, deletion_by};
+ghost use Rattle.command_forms.specs.Deeds.{events_of, request_of, request_at, creation_of, modification_of, deletion_by};
 ghost use Rattle.command_forms.specs.Deeds.{deletion_of, connected_by, with_remote, deed_of};
 
-use crate::forms::{ConnectionDeed, Deed, RequestForm};
+use crate::forms::{ConnectionDeed, Deed};
 use crate::params::value_at;
 use crate::refused::Place::{Description, Value};
 use crate::refused::{Stop, placed};
@@ -16,27 +16,36 @@ use crate::values::{
 use crate::verbs::Connecting;
 use connections::{Change, Creation, Deletion, Options};
 use endpoint_names::Table;
+use event_requests::{EventRequest, Request};
 use event_syntax::{read_detect, read_events, read_signals};
 use mg_bytes::Identifier;
 use mgcp_text::{Param, param_at};
 use sdp_subset::Session;
 use std::alloc::Global;
 
+// What is asked for about events, by R and T.
+#[tactic(auto, unfolding(crate::specs::Deeds::events_of))]
+fn events_of(alloc: Global, params: &[Param<'_>]) -> Result<EventRequest, Stop>
+    ensures { StopsAs (events_of params.now) result }
+{
+    let requested = placed(Value(b'R'), read_events(alloc, value_at(b"R", params)))?;
+    let detected = placed(Value(b'T'), read_detect(value_at(b"T", params)))?;
+    Ok(EventRequest::of(alloc, requested, detected)?)
+}
+
 // What is requested with this identifier, by Q, D, R, T and S.
 #[tactic(auto, unfolding(crate::specs::Deeds::request_of))]
-fn request_of(alloc: Global, value: &[u8], params: &[Param<'_>]) -> Result<RequestForm, Stop>
+fn request_of(alloc: Global, value: &[u8], params: &[Param<'_>]) -> Result<Request, Stop>
     ensures { StopsAs (request_of value.now params.now) result }
 {
     let identifier = placed(Value(b'X'), identifier_from(value))?;
     let handling = placed(Value(b'Q'), handling_at(params))?;
     let map = placed(Value(b'D'), change_at(alloc, params))?;
-    let requested = placed(Value(b'R'), read_events(alloc, value_at(b"R", params)))?;
-    let detected = placed(Value(b'T'), read_detect(value_at(b"T", params)))?;
+    let events = events_of(alloc, params)?;
     let signals = placed(Value(b'S'), read_signals(value_at(b"S", params)))?;
-    Ok(RequestForm {
+    Ok(Request {
         identifier,
-        requested,
-        detected,
+        events,
         signals,
         handling,
         map,
@@ -44,7 +53,7 @@ fn request_of(alloc: Global, value: &[u8], params: &[Param<'_>]) -> Result<Reque
 }
 
 // The request, where X stands there.
-fn request_at(alloc: Global, params: &[Param<'_>]) -> Result<Option<RequestForm>, Stop>
+fn request_at(alloc: Global, params: &[Param<'_>]) -> Result<Option<Request>, Stop>
     ensures { StopsAs (request_at (param_at (codes "X") params.now) params.now) result }
 {
     let Some(param) = param_at(b"X", params) else {

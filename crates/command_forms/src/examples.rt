@@ -26,7 +26,7 @@ ghost use Rattle.command_forms.specs.Values.{change_at};
 ghost use Rattle.command_forms.specs.Deeds.{deed_of};
 ghost use Rattle.command_forms.specs.Order.{form_in};
 ghost use Rattle.command_forms.specs.Example.{gateway, reply_to, command_on, request_on, audit_on, request, audit, refused, bare_request, request_for, request_with, taken, asks, audit_of};
-ghost use Rattle.command_forms.specs.Example.{nothing, does_on, only, requests, request_at, request_meanwhile, request_handling, request_changing, handled, does};
+ghost use Rattle.command_forms.specs.Example.{nothing, does_on, only, requests, looking_for, request_at, request_meanwhile, request_handling, request_changing, handled, does};
 
 /// A request has an identifier as it was given, and may have signals, an entity and an encoding. What follows the
 /// parameters is ignored. A command without an identifier requests nothing.
@@ -68,8 +68,7 @@ pub fn requests_ask_for_events()
     ensures all { request_on (codes "*") (codes "S: L/dl\r\nT: L/hf\r\nR: L/hu(N)\r\nD: xx\r\nQ: loop\r\nX: A7\r\n")
         ≡ requests targets.All (record {
           identifier = codes "A7";
-          requested = does (One OnHook) Notify ∷ [];
-          detected = One Flash ∷ [];
+          events = looking_for (does (One OnHook) Notify ∷ []) (One Flash ∷ []);
           signals = asks DialTone Start ∷ [];
           handling = handled Loop Process;
           map = Replace (codes "xx");

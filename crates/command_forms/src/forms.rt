@@ -3,9 +3,8 @@ ghost use Rattle.std.specs.Prelude.{◌≡◌};
 ghost use Rattle.command_forms.specs.Meaning.{is_for};
 
 use connections::{Change, Creation, Deletion, Encoding};
-use digit_map::MapChange;
 use endpoint_names::Entity;
-use event_syntax::{DetectedEvents, Handling, RequestedEvents, SignalRequests};
+use event_requests::Request;
 use mg_bytes::Identifier;
 use mgcp_text::Bytes;
 
@@ -52,23 +51,6 @@ pub struct Audit<'m> {
     pub connection: Option<Identifier>,
 }
 
-/// What is requested of lines (RFC 3435, 2.3.3).
-#[derive(Drop)]
-pub struct RequestForm {
-    /// The identifier of the request as it was given (X).
-    pub identifier: Identifier,
-    /// The events that are asked for (R), none where R is empty or absent.
-    pub requested: RequestedEvents,
-    /// The events to look for while a notification isn't answered (T), none where T is empty or absent.
-    pub detected: DetectedEvents,
-    /// The signals that are asked for (S), none where S is empty or absent.
-    pub signals: SignalRequests,
-    /// How quarantined events are handled (Q): step and process where Q is absent.
-    pub handling: Handling,
-    /// What it does with the digit map (D).
-    pub map: MapChange,
-}
-
 /// What becomes of the connections of a line.
 #[derive(Drop)]
 pub enum ConnectionDeed {
@@ -95,8 +77,8 @@ pub struct Deed {
     pub encoding: Option<Encoding>,
     /// What becomes of its connections.
     pub connections: ConnectionDeed,
-    /// What is requested, where X stands in the command.
-    pub request: Option<RequestForm>,
+    /// What is requested (RFC 3435, 2.3.3), where X stands in the command.
+    pub request: Option<Request>,
 }
 
 /// What a command asks for. A new verb changes what a report or a deed holds, and adds no third.

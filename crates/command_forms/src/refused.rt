@@ -58,6 +58,16 @@ impl Stop {
     }
 }
 
+impl From<OutOfMemory> for Stop {
+    ghost use Rattle.command_forms.specs.declared.refused.Stop.TheVariants as stops;
+
+    ghost from_gives = { λ _ stop. stop ≡ stops.OutOfMemory };
+
+    fn from(_refused: OutOfMemory) -> Stop {
+        Stop::OutOfMemory
+    }
+}
+
 impl From<Stop> for CodeFault {
     ghost use Rattle.command_forms.specs.Refusing.{stop_fault};
 

@@ -30,7 +30,7 @@ use Rattle.restart.specs.declared.heard.Heard.TheVariants.{Nothing, PutOff, Redi
 use Rattle.restart.specs.Restarting.{is_serving, heard_of}
 use Rattle.plain_machine.specs.declared.due_item.StationDue.{StationDue}
 use Rattle.plain_machine.specs.declared.due_item.StationDue.TheVariants.{OfLine, Resend, Announce}
-use Rattle.plain_machine.specs.declared.line_deed.LineDeed.{LineDeed}
+use Rattle.command_forms.specs.declared.forms.Deed.{Deed}
 use Rattle.plain_machine.specs.declared.post.Post.{Post}
 use Rattle.plain_machine.specs.declared.response.Response.{Response}
 use Rattle.plain_machine.specs.declared.setup.Setup.{Setup}
@@ -231,7 +231,7 @@ module _ (A : ℕ → Type 0) (B : Type 0) where
   asked_awaits None line moment = tt
   asked_awaits (Some request) line moment = notifies_once.request line request moment
 
-  deed_flies : (setup : Setup) (sent : List Sent) (deed : LineDeed) (moment line : ℕ) (station : Station) → Flies sent station → FliesOn sent (deed_on setup deed moment line station)
+  deed_flies : (setup : Setup) (sent : List Sent) (deed : Deed) (moment line : ℕ) (station : Station) → Flies sent station → FliesOn sent (deed_on setup deed moment line station)
   unfolding deed_on
   deed_flies setup sent deed moment line station f =
       noted_flies setup sent line moment (with_connections deed (with_entity deed.entity station)) (asked_if deed.request station.line moment)

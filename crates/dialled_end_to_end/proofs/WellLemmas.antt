@@ -1,6 +1,6 @@
 -- Each command of a gateway's own reads as it was written: the notification of a line, or an announcement.
 use Rattle.std.proofs.Common.{◌≡◌, ℕ, ◌<◌, ◌≤◌, true, List, [], ◌∷◌, Option, Some, None, Ok, inl, inr, refl, arith}
-use Rattle.std.specs.Prelude.{◌⊎◌, All, IfSome, if◌then◌else◌, Bool, false, option_map}
+use Rattle.std.specs.Prelude.{◌⊎◌, All, IfSome, if◌then◌else◌, Bool, false}
 use Rattle.std.proofs.lemmas.List.Elements.{All-nil, All-cons, All-append}
 use Rattle.std.proofs.lemmas.Nat.{div-mul-add}
 use Rattle.std.specs.declared.net.socket_addr.SocketAddrV4.{SocketAddrV4}
@@ -48,7 +48,6 @@ use Rattle.plain_machine.specs.Effect.{Effect}
 use Rattle.plain_machine.specs.Acting.{acted_on}
 use Rattle.plain_machine.specs.Announcing.{announcement, announced, announced_by, announced_on, heard_on, replied}
 use Rattle.plain_machine.specs.Answering.{Transaction, executed, transacted_by, handled, took_all}
-use Rattle.plain_machine.specs.Commanding.{line_request, line_deed}
 use Rattle.plain_machine.specs.Event.{GatewayEvent, datagram, phone, tick}
 use Rattle.plain_machine.specs.Falling.{happened_on, own_happened}
 use Rattle.plain_machine.specs.Happening.{effect}
@@ -188,10 +187,10 @@ module _ (setup : Setup) (set_up : IsSetUp setup) where
         noted_well line moment _ (answered station.line moment) s.sound.some s.sound.few s.within s.sound.below (answered_done station.line moment s.sound.fine)
 
   deed_well : (said : Command) (confirms : KValue) (target : Target) (deed : Deed) → form_of said confirms setup.names ≡ Ok (Does target deed) → (line moment : ℕ) (station : Station)
-      → Stationed setup line station → Well (deed_on setup (line_deed deed) moment line station).sent
+      → Stationed setup line station → Well (deed_on setup deed moment line station).sent
   unfolding deed_on
   deed_well said confirms target deed is line moment station s =
-      noted_well line moment (with_connections (line_deed deed) (with_entity deed.entity station)) (asked_if (option_map line_request deed.request) station.line moment) s.sound.some s.sound.few s.within
+      noted_well line moment (with_connections deed (with_entity deed.entity station)) (asked_if deed.request station.line moment) s.sound.some s.sound.few s.within
       s.sound.below (asked_if_done said.params station.line deed.request moment (deed_has_values said confirms setup.names target deed is).request s.sound.fine)
 
   redirected_well : (agent : Entity) (line : ℕ) (station : Station) → Well (redirected_on agent line station).sent
@@ -209,7 +208,7 @@ module _ (setup : Setup) (set_up : IsSetUp setup) where
         from_sound line (acted_on setup line moment act station) s.within ((sound_turns setup set_up).act serving line moment act station s.sound).0
         (noted_well line moment station (phoned station.line act moment) s.sound.some s.sound.few s.within s.sound.below (phoned_done station.line act moment s.sound.fine));
     deed = λ said confirms target deed is line moment station s.
-        from_sound line (deed_on setup (line_deed deed) moment line station) s.within ((sound_turns setup set_up).deed said confirms target deed is line moment station s.sound).0
+        from_sound line (deed_on setup deed moment line station) s.within ((sound_turns setup set_up).deed said confirms target deed is line moment station s.sound).0
         (deed_well said confirms target deed is line moment station s);
     response = λ serving line moment response station read s.
         from_sound line (responded_on setup line moment response station) s.within ((sound_turns setup set_up).response serving line moment response station read s.sound).0

@@ -40,7 +40,6 @@ use Rattle.restart.specs.Restarting.{is_serving}
 use Rattle.plain_machine.specs.declared.due_item.StationDue.{StationDue}
 use Rattle.plain_machine.specs.declared.due_item.StationDue.TheVariants.{OfLine, Resend, Announce}
 use Rattle.plain_machine.specs.declared.due_item.DueItem.{DueItem}
-use Rattle.plain_machine.specs.declared.line_deed.LineDeed.{LineDeed}
 use Rattle.plain_machine.specs.declared.own.Own.{Own}
 use Rattle.plain_machine.specs.declared.response.Response.{Response}
 use Rattle.plain_machine.specs.declared.setup.Setup.{Setup}
@@ -50,7 +49,7 @@ use Rattle.plain_machine.specs.Acting.{acted_on, acted}
 use Rattle.plain_machine.specs.Announcing.{announcement, announced, announced_by, heard_by, heard_on, replied}
 use Rattle.plain_machine.specs.Answering.{line_of_name, transaction, executed, transacted_by, handled, took_all}
 use Rattle.plain_machine.specs.Arriving.{TextArrival, arrival, arrivals_at, arrivals_from, clock_after}
-use Rattle.plain_machine.specs.Commanding.{line_deed, done_by, commanded}
+use Rattle.plain_machine.specs.Commanding.{done_by, commanded}
 use Rattle.plain_machine.specs.Done.{Done, only_answer}
 use Rattle.plain_machine.specs.Event.{GatewayEvent, datagram, phone, tick}
 use Rattle.plain_machine.specs.Falling.{due_on, own_due, if_by, happened_on, own_happened, pass}
@@ -130,7 +129,7 @@ TurnKeeps G serving course sent turn = G serving (course ++ steps_in turn.sent) 
 pub record StationTurns (setup : Setup) (H : Response → Type 0) (G : Bool → List Step → List Sent → Station → Type 0) : Type 0 where
   pub act : (serving : Bool) (course : List Step) (sent : List Sent) (line moment : ℕ) (act : Act) (station : Station) → G serving course sent station
       → TurnKeeps G serving (course ++ acts act ∷ []) sent (acted_on setup line moment act station)
-  pub deed : (course : List Step) (sent : List Sent) (deed : LineDeed) (moment line : ℕ) (station : Station) → G true course sent station
+  pub deed : (course : List Step) (sent : List Sent) (deed : Deed) (moment line : ℕ) (station : Station) → G true course sent station
       → TurnKeeps G true (course ++ accepted deed.request) sent (deed_on setup deed moment line station)
   pub response : (serving : Bool) (course : List Step) (sent : List Sent) (line moment : ℕ) (response : Response) (station : Station) → H response → G serving course sent station
       → TurnKeeps G serving course sent (responded_on setup line moment response station)
@@ -352,7 +351,7 @@ module _ (setup : Setup) (H : Response → Type 0) (G : Bool → List Step → L
   none_accepted true request = refl
   none_accepted false request = refl
 
-  deed_holds : (endpoints : Endpoints) (course : List Step) (sent : List Sent) (target : Target) (more : List Param) (deed : LineDeed) (moment : ℕ) → serves endpoints ≡ true
+  deed_holds : (endpoints : Endpoints) (course : List Step) (sent : List Sent) (target : Target) (more : List Param) (deed : Deed) (moment : ℕ) → serves endpoints ≡ true
       → Holds course sent endpoints → GoesOn (course ++ accepted_by endpoints line target deed) sent (deed_done setup endpoints target more deed moment).told
   deed_holds endpoints course sent target more deed moment serving holds = by_refusal (refused_by endpoints target deed) where
     whole : Done
@@ -382,7 +381,7 @@ module _ (setup : Setup) (H : Response → Type 0) (G : Bool → List Step → L
         subst (λ (x : List Step). Holds ((course ++ x) ++ []) (sent ++ []) endpoints) (sym (none_accepted (is_for target line) (accepted deed.request)))
         (padded endpoints (course ++ []) sent (course_padded endpoints course sent holds))
 
-  target_holds : (endpoints : Endpoints) (course : List Step) (sent : List Sent) (target : Target) (deed : LineDeed) (moment : ℕ) → serves endpoints ≡ true → Holds course sent endpoints
+  target_holds : (endpoints : Endpoints) (course : List Step) (sent : List Sent) (target : Target) (deed : Deed) (moment : ℕ) → serves endpoints ≡ true → Holds course sent endpoints
       → GoesOn (course ++ accepted_for endpoints line target deed) sent (done_for setup endpoints target deed moment).told
   target_holds endpoints course sent (One n) deed moment serving holds = deed_holds endpoints course sent (One n) [] deed moment serving holds
   target_holds endpoints course sent All deed moment serving holds = deed_holds endpoints course sent All [] deed moment serving holds
@@ -396,7 +395,7 @@ module _ (setup : Setup) (H : Response → Type 0) (G : Bool → List Step → L
       → GoesOn (course ++ accepted_of endpoints line asks) sent (done_by asks setup endpoints moment id).told
   asks_hold endpoints course sent (Err code) moment id serving holds = padded endpoints (course ++ []) sent (course_padded endpoints course sent holds)
   asks_hold endpoints course sent (Ok (Reports target audit)) moment id serving holds = padded endpoints (course ++ []) sent (course_padded endpoints course sent holds)
-  asks_hold endpoints course sent (Ok (Does target deed)) moment id serving holds = target_holds endpoints course sent target (line_deed deed) moment (serving target deed refl) holds
+  asks_hold endpoints course sent (Ok (Does target deed)) moment id serving holds = target_holds endpoints course sent target deed moment (serving target deed refl) holds
 
   -- A text
 

@@ -22,7 +22,7 @@ use Rattle.restart.specs.declared.heard.Heard.TheVariants.{Nothing, PutOff, Redi
 use Rattle.plain_machine.specs.declared.due_item.StationDue.{StationDue}
 use Rattle.plain_machine.specs.declared.due_item.StationDue.TheVariants.{OfLine, Resend, Announce}
 use Rattle.plain_machine.specs.declared.due_item.DueItem.{DueItem}
-use Rattle.plain_machine.specs.declared.line_deed.LineDeed.{LineDeed}
+use Rattle.command_forms.specs.declared.forms.Deed.{Deed}
 use Rattle.plain_machine.specs.declared.post.Post.{Post}
 use Rattle.plain_machine.specs.declared.response.Response.{Response}
 use Rattle.plain_machine.specs.declared.setup.Setup.{Setup}
@@ -116,7 +116,7 @@ module _ (setup : Setup) (Q : Bool → List Step → LineState → Type 0) where
         noted_goes serving (course ++ acts act ∷ []) line moment station (phoned station.line act moment) (phoned_readable station.line act moment goes.readable)
         (calls.act serving course station.line act moment goes.holds)
 
-    pub deed_goes : (course : List Step) (deed : LineDeed) (moment line : ℕ) (station : Station) → Goes true course station
+    pub deed_goes : (course : List Step) (deed : Deed) (moment line : ℕ) (station : Station) → Goes true course station
         → TurnGoes true (course ++ accepted deed.request) (deed_on setup deed moment line station)
     unfolding deed_on
     deed_goes course deed moment line station goes = by_request deed.request where

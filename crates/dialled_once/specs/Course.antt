@@ -22,10 +22,9 @@ use Rattle.command_forms.specs.Order.{form_while}
 use Rattle.command_forms.specs.Params.{value_at}
 use Rattle.mg_line.specs.declared.phone.Act.{Act}
 use Rattle.event_requests.specs.declared.request.Request.{Request}
-use Rattle.plain_machine.specs.declared.line_deed.LineDeed.{LineDeed}
+use Rattle.command_forms.specs.declared.forms.Deed.{Deed}
 use Rattle.plain_machine.specs.declared.setup.Setup.{Setup}
 use Rattle.plain_machine.specs.Answering.{handled}
-use Rattle.plain_machine.specs.Commanding.{line_deed}
 use Rattle.plain_machine.specs.Event.{GatewayEvent, datagram, phone, tick}
 use Rattle.plain_machine.specs.Happening.{effect}
 use Rattle.plain_machine.specs.Machine.{Machine, Endpoints, opening, serves}
@@ -76,16 +75,16 @@ accepted None = []
 accepted (Some request) = accepts request ∷ []
 
 -- where the deed is for the line, and no line that it is for refuses it
-abbrev pub accepted_by : Endpoints → ℕ → Target → LineDeed → List Step
+abbrev pub accepted_by : Endpoints → ℕ → Target → Deed → List Step
 accepted_by endpoints line target deed =
     if is_for target line && is_none (refused_by endpoints target deed) then accepted deed.request else []
 
-abbrev pub accepted_there : Option ℕ → Endpoints → ℕ → LineDeed → List Step
+abbrev pub accepted_there : Option ℕ → Endpoints → ℕ → Deed → List Step
 accepted_there None endpoints line deed = []
 accepted_there (Some chosen) endpoints line deed = accepted_by endpoints line (One chosen) deed
 
 -- a deed for any one line is for that which is chosen
-abbrev pub accepted_for : Endpoints → ℕ → Target → LineDeed → List Step
+abbrev pub accepted_for : Endpoints → ℕ → Target → Deed → List Step
 accepted_for endpoints line (One other) deed = accepted_by endpoints line (One other) deed
 accepted_for endpoints line All deed = accepted_by endpoints line All deed
 accepted_for endpoints line Any deed = accepted_there (line_with_place endpoints) endpoints line deed
@@ -93,7 +92,7 @@ accepted_for endpoints line Any deed = accepted_there (line_with_place endpoints
 abbrev pub accepted_of : Endpoints → ℕ → Result Asks ℕ → List Step
 accepted_of endpoints line (Err code) = []
 accepted_of endpoints line (Ok (Reports target audit)) = []
-accepted_of endpoints line (Ok (Does target deed)) = accepted_for endpoints line target (line_deed deed)
+accepted_of endpoints line (Ok (Does target deed)) = accepted_for endpoints line target deed
 
 -- of a text that is a command which is executed: a repeat is accepted by no line
 abbrev pub accepted_at : Setup → Machine → ℕ → Outcome → List Step

@@ -9,19 +9,18 @@ ghost use Rattle.command_forms.specs.Order.{form_while_in};
 ghost use Rattle.plain_machine.specs.Requesting.{deed_done, line_with_place, done_there, done_for};
 ghost use Rattle.plain_machine.specs.Machine.{serves, station_at};
 ghost use Rattle.plain_machine.specs.Reporting.{line_report, names_of};
-ghost use Rattle.plain_machine.specs.Commanding.{reported, audited, answer_by, line_request, line_deed, done_by};
+ghost use Rattle.plain_machine.specs.Commanding.{reported, audited, answer_by, done_by};
 ghost use Rattle.gateway_stations.specs.Telling.{MayTell};
 ghost use Rattle.gateway_floor.specs.Tells.{Tells};
 
 use crate::reporting::{name_alone, names_of};
 use audits::{Endpoint, connection_report, endpoint_report, fitting};
-use command_forms::{Asks, Audit, AuditTarget, Deed, RequestForm, Target, form_while};
-use event_requests::{EventRequest, Request};
+use command_forms::{Asks, Audit, AuditTarget, Deed, Target, form_while};
 use gateway_floor::{Floor, deed_on_all, line_with_place, refused_by};
 use gateway_stations::{Context, answer_with};
 use mg_bytes::{CodeFault, OutOfMemory, ReturnCode};
 use mgcp_text::{Answer, Bytes, KValue, Message, Params, TransactionId};
-use plain_machine::{LineDeed, OutDatagram};
+use plain_machine::OutDatagram;
 use std::alloc::AllocError;
 
 // What is asked for of one line, or of one of its connections.
@@ -105,7 +104,7 @@ fn deed_done(
     moment: u64,
     lines: Target,
     more: Params<'static>,
-    deed: &LineDeed,
+    deed: &Deed,
     sent: &mut Vec<OutDatagram>,
 ) -> Result<Answer, OutOfMemory>
     requires may { MayTell context.setup.now moment }
@@ -127,7 +126,7 @@ fn done_there(
     context: Context<'_>,
     floor: &mut Floor,
     moment: u64,
-    deed: &LineDeed,
+    deed: &Deed,
     sent: &mut Vec<OutDatagram>,
 ) -> Result<Answer, OutOfMemory>
     requires { MayTell context.setup.now moment }
@@ -149,7 +148,7 @@ fn done_for(
     floor: &mut Floor,
     moment: u64,
     target: Target,
-    deed: &LineDeed,
+    deed: &Deed,
     sent: &mut Vec<OutDatagram>,
 ) -> Result<Answer, OutOfMemory>
     requires { MayTell context.setup.now moment }
@@ -164,41 +163,6 @@ fn done_for(
         Target::All => deed_done(context, floor, moment, target, none, deed, sent),
         Target::Any => done_there(context, floor, moment, deed, sent),
     }
-}
-
-// What a request asks of a line.
-fn line_request(context: Context<'_>, form: RequestForm) -> Result<Request, OutOfMemory>
-    ensures { IfOk result (λ request. request ≡ line_request form) }
-{
-    Ok(Request {
-        identifier: form.identifier,
-        events: EventRequest::of(context.alloc, form.requested, form.detected)?,
-        signals: form.signals,
-        handling: form.handling,
-        map: form.map,
-    })
-}
-
-// What a deed is on a line.
-fn line_deed(context: Context<'_>, deed: Deed) -> Result<LineDeed, OutOfMemory>
-    ensures { IfOk result (λ done. done ≡ line_deed deed) }
-{
-    let Deed {
-        entity,
-        encoding,
-        connections,
-        request,
-    } = deed;
-    let request = match request {
-        Some(form) => Some(line_request(context, form)?),
-        None => None,
-    };
-    Ok(LineDeed {
-        entity,
-        encoding,
-        connections,
-        request,
-    })
 }
 
 /// What a command does whose K was read: its answer, and behind what there is what lines send because of it.
@@ -228,9 +192,6 @@ pub(crate) fn commanded(
         Err(CodeFault::OutOfMemory) => Err(AllocError),
         Err(CodeFault::Code(code)) => Ok(Answer::plain(context.alloc, code)),
         Ok(Asks::Reports(target, audit)) => answer_to_audit(context, floor, id, target, &audit),
-        Ok(Asks::Does(target, deed)) => {
-            let deed = line_deed(context, deed)?;
-            done_for(context, floor, moment, target, &deed, sent)
-        }
+        Ok(Asks::Does(target, deed)) => done_for(context, floor, moment, target, &deed, sent),
     }
 }

@@ -6,7 +6,7 @@ use Rattle.std.proofs.lemmas.Bool.Decides.{nat_tests, Decides-eqb}
 use Rattle.mg_bytes.specs.Checks.{first_fault}
 use Rattle.command_forms.specs.declared.forms.Target.TheVariants.{One}
 use Rattle.command_forms.specs.Meaning.{is_for}
-use Rattle.plain_machine.specs.declared.line_deed.LineDeed.{LineDeed}
+use Rattle.command_forms.specs.declared.forms.Deed.{Deed}
 use Rattle.plain_machine.specs.declared.station.Station.{Station}
 use Rattle.plain_machine.specs.Effect.{Effect, silently, afterwards}
 use Rattle.plain_machine.specs.Message.{Sent}
@@ -50,17 +50,17 @@ one_meant line n (station ∷ more) from = by_number (line == n) refl (λ far. o
       behind (later line n from other)
       ∙ sym (ap (λ (place : ℕ). only line (slice_get (station ∷ more) place)) next)
 
-abbrev refused_in : ℕ → LineDeed → ℕ → List Station → Option ℕ
+abbrev refused_in : ℕ → Deed → ℕ → List Station → Option ℕ
 refused_in line deed n stations = first_fault (map (refusal_on (One line) deed) (enumerate_from n stations))
 
-none_refused : (line : ℕ) (deed : LineDeed) (n : ℕ) (stations : List Station) → line < n → refused_in line deed n stations ≡ None
+none_refused : (line : ℕ) (deed : Deed) (n : ℕ) (stations : List Station) → line < n → refused_in line deed n stations ≡ None
 none_refused line deed n [] less = refl
 none_refused line deed n (station ∷ more) less =
     ap (λ (b : Bool). first_fault ((if b then refusal_by deed station else None) ∷ map (refusal_on (One line) deed) (enumerate_from (n + 1) more)))
     (no_other line n less)
     ∙ none_refused line deed (n + 1) more (omega (arith, less))
 
-one_refused : (line : ℕ) (deed : LineDeed) (n : ℕ) (stations : List Station) → n ≤ line
+one_refused : (line : ℕ) (deed : Deed) (n : ℕ) (stations : List Station) → n ≤ line
     → refused_in line deed n stations ≡ option_and_then (refusal_by deed) (slice_get stations (line - n))
 one_refused line deed n [] from = refl
 one_refused line deed n (station ∷ more) from = by_number (line == n) refl (λ far. one_refused line deed (n + 1) more far) where
@@ -85,7 +85,7 @@ one_refused line deed n (station ∷ more) from = by_number (line == n) refl (λ
 
 -- Of the lines of a gateway
 
-pub refused_one : (endpoints : Endpoints) (line : ℕ) (deed : LineDeed) → refused_by endpoints (One line) deed ≡ option_and_then (refusal_by deed) (station_at endpoints line)
+pub refused_one : (endpoints : Endpoints) (line : ℕ) (deed : Deed) → refused_by endpoints (One line) deed ≡ option_and_then (refusal_by deed) (station_at endpoints line)
 unfolding refused_by
 refused_one endpoints line deed = by_zero (line == 0) refl where
   by_zero : (b : Bool) → (line == 0) ≡ b

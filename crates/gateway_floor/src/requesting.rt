@@ -8,13 +8,13 @@ ghost use Rattle.gateway_stations.specs.Telling.{MayTell};
 ghost use Rattle.gateway_floor.specs.Tells.{Tells};
 
 use crate::floor::Floor;
-use command_forms::Target;
+use command_forms::{Deed, Target};
 use gateway_stations::{Context, News, Occasion, deed_on, has_place, refusal_by};
 use mg_bytes::OutOfMemory;
-use plain_machine::{LineDeed, OutDatagram, Station};
+use plain_machine::{OutDatagram, Station};
 
 // The code with which a line refuses a deed, if that is for it.
-fn refusal_on(lines: Target, deed: &LineDeed, number: u16, station: &Station) -> Option<u16>
+fn refusal_on(lines: Target, deed: &Deed, number: u16, station: &Station) -> Option<u16>
     ensures { result ≡ refusal_on lines deed.now (number, station.now) }
 {
     if !lines.is_for(number) {
@@ -25,7 +25,7 @@ fn refusal_on(lines: Target, deed: &LineDeed, number: u16, station: &Station) ->
 
 // The code of the least line that refuses a deed, where it may be for several.
 #[tactic(auto, unfolding(plain_machine::specs::Requesting::refused_by))]
-fn refused_by_one_of(floor: &Floor, lines: Target, deed: &LineDeed) -> Option<u16>
+fn refused_by_one_of(floor: &Floor, lines: Target, deed: &Deed) -> Option<u16>
     ensures { result ≡ refused_by floor.now.endpoints lines deed.now }
 {
     let stations = floor.stations();
@@ -38,7 +38,7 @@ fn refused_by_one_of(floor: &Floor, lines: Target, deed: &LineDeed) -> Option<u1
 }
 
 /// The code of the least line that refuses a deed. It takes no memory.
-pub fn refused_by(floor: &Floor, lines: Target, deed: &LineDeed) -> Option<u16>
+pub fn refused_by(floor: &Floor, lines: Target, deed: &Deed) -> Option<u16>
     ensures { result ≡ refused_by floor.now.endpoints lines deed.now }
 {
     match lines {
@@ -56,7 +56,7 @@ fn deed_on_line(
     context: Context<'_>,
     floor: &mut Floor,
     occasion: Occasion,
-    deed: &LineDeed,
+    deed: &Deed,
     sent: &mut Vec<OutDatagram>,
 ) -> Result<News, OutOfMemory>
     requires { MayTell context.setup.now occasion.moment }
@@ -79,7 +79,7 @@ fn deed_on_each(
     floor: &mut Floor,
     moment: u64,
     lines: Target,
-    deed: &LineDeed,
+    deed: &Deed,
     sent: &mut Vec<OutDatagram>,
 ) -> Result<(), OutOfMemory>
     requires { MayTell context.setup.now moment }
@@ -104,7 +104,7 @@ pub fn deed_on_all(
     floor: &mut Floor,
     moment: u64,
     lines: Target,
-    deed: &LineDeed,
+    deed: &Deed,
     sent: &mut Vec<OutDatagram>,
 ) -> Result<News, OutOfMemory>
     requires { MayTell context.setup.now moment }

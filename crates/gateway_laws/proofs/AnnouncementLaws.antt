@@ -44,7 +44,7 @@ use Rattle.mg_line.specs.Answering.{answered}
 use Rattle.mg_line.specs.Falling.{fired}
 use Rattle.plain_machine.specs.declared.due_item.StationDue.TheVariants.{OfLine, Resend, Announce}
 use Rattle.plain_machine.specs.declared.due_item.DueItem.{DueItem}
-use Rattle.plain_machine.specs.declared.line_deed.LineDeed.{LineDeed}
+use Rattle.command_forms.specs.declared.forms.Deed.{Deed}
 use Rattle.plain_machine.specs.declared.own.Own.{Own}
 use Rattle.plain_machine.specs.declared.post.Post.{Post}
 use Rattle.plain_machine.specs.declared.response.Response.{Response}
@@ -61,7 +61,7 @@ use Rattle.transmission.specs.Texts.{texts_of}
 use Rattle.plain_machine.specs.Acting.{acted_on, acted}
 use Rattle.plain_machine.specs.Done.{Done}
 use Rattle.plain_machine.specs.Requesting.{refused_by, with_entity, with_connections, asked_if, deed_on, lines_meant, unless_refused, deed_done, line_with_place, done_there, done_for}
-use Rattle.plain_machine.specs.Commanding.{line_deed, done_by, commanded}
+use Rattle.plain_machine.specs.Commanding.{done_by, commanded}
 use Rattle.plain_machine.specs.Falling.{command_item, announcement_item, earlier, post_due, own_due, due_by, own_happened, happened_on, happened, go_on, passed, room, pass}
 use Rattle.plain_machine.specs.Responding.{response_with, responded_as, responded_on, own_responded, redirected_on, opened_on, lines_told, own_heard, responded}
 use Rattle.plain_machine.specs.Answering.{Transaction, executed, transacted_by, handled, took_all}
@@ -90,12 +90,12 @@ unless_own : (refusal : Option ℕ) (endpoints : Endpoints) (done : Done) → do
 unless_own None endpoints done same = same
 unless_own (Some code) endpoints done same = refl
 
-deed_own : (setup : Setup) (endpoints : Endpoints) (lines : Target) (more : List Param) (deed : LineDeed) (moment : ℕ)
+deed_own : (setup : Setup) (endpoints : Endpoints) (lines : Target) (more : List Param) (deed : Deed) (moment : ℕ)
     → (deed_done setup endpoints lines more deed moment).told.value.own ≡ endpoints.own
 deed_own setup endpoints lines more deed moment =
     unless_own (refused_by endpoints lines deed) endpoints _ (several_own (lines_meant endpoints lines) endpoints (deed_on setup deed moment))
 
-target_own : (setup : Setup) (endpoints : Endpoints) (target : Target) (deed : LineDeed) (moment : ℕ) → (done_for setup endpoints target deed moment).told.value.own ≡ endpoints.own
+target_own : (setup : Setup) (endpoints : Endpoints) (target : Target) (deed : Deed) (moment : ℕ) → (done_for setup endpoints target deed moment).told.value.own ≡ endpoints.own
 target_own setup endpoints (One line) deed moment = deed_own setup endpoints (One line) [] deed moment
 target_own setup endpoints AllLines deed moment = deed_own setup endpoints AllLines [] deed moment
 target_own setup endpoints Any deed moment = by_line (line_with_place endpoints) where
@@ -106,7 +106,7 @@ target_own setup endpoints Any deed moment = by_line (line_with_place endpoints)
 asks_own : (asks : Result Asks ℕ) (setup : Setup) (endpoints : Endpoints) (moment id : ℕ) → (done_by asks setup endpoints moment id).told.value.own ≡ endpoints.own
 asks_own (Err code) setup endpoints moment id = refl
 asks_own (Ok (Reports target audit)) setup endpoints moment id = refl
-asks_own (Ok (Does target deed)) setup endpoints moment id = target_own setup endpoints target (line_deed deed) moment
+asks_own (Ok (Does target deed)) setup endpoints moment id = target_own setup endpoints target deed moment
 
 pub deed_serves : (setup : Setup) (endpoints : Endpoints) (moment id : ℕ) (command : Command) (confirms : KValue)
     → serves (commanded setup endpoints moment id command confirms).told.value ≡ serves endpoints
@@ -333,7 +333,7 @@ pub act_begins_nothing : (setup : Setup) (line moment until : ℕ) (act : Act) (
 act_begins_nothing setup line moment until act station order waits =
     noted_begins_nothing setup line moment station (phoned station.line act moment) (phoned_waits station.line act moment (it_is_quiet line until station order waits).1).silent
 
-pub deed_begins_nothing : (setup : Setup) (deed : LineDeed) (line moment until : ℕ) (station : Station) → IsInOrder line station → station.post.restart ≡ Waiting until
+pub deed_begins_nothing : (setup : Setup) (deed : Deed) (line moment until : ℕ) (station : Station) → IsInOrder line station → station.post.restart ≡ Waiting until
     → BeginsNothing station (deed_on setup deed moment line station)
 unfolding deed_on
 deed_begins_nothing setup deed line moment until station order waits =

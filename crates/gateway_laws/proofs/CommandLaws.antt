@@ -6,7 +6,7 @@ use Rattle.mgcp_text.specs.declared.confirmation.KValue.{KValue}
 use Rattle.mgcp_text.specs.declared.message.Param.{Param}
 use Rattle.command_forms.specs.declared.forms.Asks.TheVariants.{Does}
 use Rattle.command_forms.specs.declared.forms.Deed.{Deed}
-use Rattle.command_forms.specs.declared.forms.RequestForm.{RequestForm}
+use Rattle.event_requests.specs.declared.request.Request.{Request}
 use Rattle.command_forms.specs.declared.forms.Target.{Target}
 use Rattle.command_forms.specs.Command.{Command}
 use Rattle.command_forms.specs.Codes.{HasValues}
@@ -39,7 +39,6 @@ use Rattle.plain_machine.specs.Notifying.{posted, with_notice, noted}
 use Rattle.plain_machine.specs.Machine.{own_posted, opening_station, opening}
 use Rattle.transmission.specs.Texts.{largest_datagram}
 use Rattle.plain_machine.specs.Requesting.{with_entity, with_connections, asked_if, deed_on}
-use Rattle.plain_machine.specs.Commanding.{line_request, line_deed}
 use Rattle.plain_machine.specs.Falling.{happened_on, own_happened}
 use Rattle.plain_machine.specs.Responding.{responded_as, responded_on, own_responded, redirected_on, opened_on}
 use Rattle.mg_line.specs.Opening.{opened}
@@ -188,18 +187,18 @@ opened_sound setup set_up agent line moment station s =
     noted_sound setup line moment (with_entity agent station) (opened station.line moment) set_up s.some s.few s.below (opened_done station.line moment s.fine) s.flight
 
 -- the line is asked where something is requested, and then its identifier is read
-pub asked_if_done : (params : List Param) (line : LineState) (form : Option RequestForm) (moment : ℕ) → IfSome form (HasValues params) → IsFine line
-    → IsDone (asked_if (option_map line_request form) line moment)
+pub asked_if_done : (params : List Param) (line : LineState) (request : Option Request) (moment : ℕ) → IfSome request (HasValues params) → IsFine line
+    → IsDone (asked_if request line moment)
 asked_if_done params line None moment has fine = record { line = fine; told = tt }
-asked_if_done params line (Some form) moment has fine =
-    asked_done line (line_request form) moment has.digits (read_change _ form.map has.map, requested_spelled form.requested has.writable_requested) fine.spelled
+asked_if_done params line (Some request) moment has fine =
+    asked_done line request moment has.digits (read_change _ request.map has.map, requested_spelled request.events.requested has.writable_requested) fine.spelled
 
 deed_sound : (setup : Setup) → IsSetUp setup → (command : Command) (confirms : KValue) (target : Target) (deed : Deed)
     → form_of command confirms setup.names ≡ Ok (Does target deed) → (line moment : ℕ) (station : Station) → Sound line station
-    → Good Sound IsOut line (deed_on setup (line_deed deed) moment line station)
+    → Good Sound IsOut line (deed_on setup deed moment line station)
 unfolding deed_on
 deed_sound setup set_up command confirms target deed is line moment station s =
-    noted_sound setup line moment (with_connections (line_deed deed) (with_entity deed.entity station)) (asked_if (option_map line_request deed.request) station.line moment) set_up s.some s.few s.below
+    noted_sound setup line moment (with_connections deed (with_entity deed.entity station)) (asked_if deed.request station.line moment) set_up s.some s.few s.below
     (asked_if_done command.params station.line deed.request moment (deed_has_values command confirms setup.names target deed is).request s.fine) s.flight
 
 pub sound_turns : (setup : Setup) → IsSetUp setup → Turns setup (Always Sound) IsOut

@@ -31,7 +31,7 @@ use Rattle.command_forms.specs.Command.{Command}
 use Rattle.command_forms.specs.Meaning.{is_for}
 use Rattle.command_forms.specs.Order.{form_while}
 use Rattle.mg_line.specs.Requesting.{refusal_of}
-use Rattle.plain_machine.specs.declared.line_deed.LineDeed.{LineDeed}
+use Rattle.command_forms.specs.declared.forms.Deed.{Deed}
 use Rattle.plain_machine.specs.declared.setup.Setup.{Setup}
 use Rattle.plain_machine.specs.declared.station.Station.{Station}
 use Rattle.plain_machine.specs.Effect.{Effect, silently}
@@ -40,7 +40,7 @@ use Rattle.plain_machine.specs.Answering.{Transaction, executed, refusing, comma
 use Rattle.plain_machine.specs.Done.{Done, only_answer}
 use Rattle.plain_machine.specs.Connecting.{deleted_shown, showing_what, done_code, connected}
 use Rattle.plain_machine.specs.Requesting.{encoding_with, refusal_by, refusal_on, refused_by, lines_meant, deed_on, deed_on_all, shown_of, answer_with, unless_refused, deed_done, has_place, line_with_place, done_there, done_for}
-use Rattle.plain_machine.specs.Commanding.{line_deed, done_by, commanded}
+use Rattle.plain_machine.specs.Commanding.{done_by, commanded}
 use Rattle.plain_machine.proofs.EffectLaws.{on_this}
 use Rattle.gateway_laws.proofs.FlightLaws.{line_stays}
 use Rattle.gateway_laws.proofs.StandingLemmas.{happenings, deed_connections}
@@ -56,7 +56,7 @@ done_is (Delete deletion) = inr refl
 abbrev Stays : Endpoints → Done → Type 0
 Stays endpoints done = done.answer.code ≢ 200 → done.answer.code ≢ 250 → done.told ≡ silently endpoints
 
-deed_stays : (setup : Setup) (endpoints : Endpoints) (lines : Target) (more : List Param) (deed : LineDeed) (moment : ℕ) → Stays endpoints (deed_done setup endpoints lines more deed moment)
+deed_stays : (setup : Setup) (endpoints : Endpoints) (lines : Target) (more : List Param) (deed : Deed) (moment : ℕ) → Stays endpoints (deed_done setup endpoints lines more deed moment)
 deed_stays setup endpoints lines more deed moment = by_refusal (refused_by endpoints lines deed) where
   by_refusal : (refusal : Option ℕ) → Stays endpoints (unless_refused refusal endpoints (record {
     told = deed_on_all setup endpoints lines deed moment;
@@ -69,7 +69,7 @@ deed_stays setup endpoints lines more deed moment = by_refusal (refused_by endpo
     by_code one two (inl is) = absurd (one is)
     by_code one two (inr is) = absurd (two is)
 
-target_stays : (setup : Setup) (endpoints : Endpoints) (target : Target) (deed : LineDeed) (moment : ℕ) → Stays endpoints (done_for setup endpoints target deed moment)
+target_stays : (setup : Setup) (endpoints : Endpoints) (target : Target) (deed : Deed) (moment : ℕ) → Stays endpoints (done_for setup endpoints target deed moment)
 target_stays setup endpoints (One line) deed moment = deed_stays setup endpoints (One line) [] deed moment
 target_stays setup endpoints All deed moment = deed_stays setup endpoints All [] deed moment
 target_stays setup endpoints Any deed moment = by_line (line_with_place endpoints) where
@@ -80,7 +80,7 @@ target_stays setup endpoints Any deed moment = by_line (line_with_place endpoint
 asks_stays : (asks : Result Asks ℕ) (setup : Setup) (endpoints : Endpoints) (moment id : ℕ) → Stays endpoints (done_by asks setup endpoints moment id)
 asks_stays (Err code) setup endpoints moment id = λ one two. refl
 asks_stays (Ok (Reports target audit)) setup endpoints moment id = λ one two. refl
-asks_stays (Ok (Does target deed)) setup endpoints moment id = target_stays setup endpoints target (line_deed deed) moment
+asks_stays (Ok (Does target deed)) setup endpoints moment id = target_stays setup endpoints target deed moment
 
 pub refused_stays : (setup : Setup) (endpoints : Endpoints) (moment id : ℕ) (command : Command) (confirms : KValue)
     → (commanded setup endpoints moment id command confirms).answer.code ≢ 200 → (commanded setup endpoints moment id command confirms).answer.code ≢ 250
@@ -159,7 +159,7 @@ one_deletion : (deletion : Deletion) (encoding : Encoding) (standing : Standing)
 unfolding after
 one_deletion deletion encoding standing = refl
 
-deleted_on : (setup : Setup) (deed : LineDeed) (deletion : Deletion) (moment line : ℕ) (station : Station) → deed.connections ≡ Delete deletion
+deleted_on : (setup : Setup) (deed : Deed) (deletion : Deletion) (moment line : ℕ) (station : Station) → deed.connections ≡ Delete deletion
     → (deed_on setup deed moment line station).value.connections ≡ left_of station.connections (deleted deletion station.connections)
 deleted_on setup deed deletion moment line station is =
     deed_connections setup deed moment line station
@@ -169,7 +169,7 @@ deleted_on setup deed deletion moment line station is =
 at_place : (a b : Standing) (place : ℕ) → a ≡ b → get_or a.places place None ≡ get_or b.places place None
 at_place a b place same = ap (λ (s : Standing). get_or s.places place None) same
 
-pub meant_is_emptied : (setup : Setup) (deed : LineDeed) (deletion : Deletion) (moment line place : ℕ) (station : Station) (connection : Connection) → deed.connections ≡ Delete deletion
+pub meant_is_emptied : (setup : Setup) (deed : Deed) (deletion : Deletion) (moment line place : ℕ) (station : Station) (connection : Connection) → deed.connections ≡ Delete deletion
     → refusal_by deed station ≡ None → get_or station.connections.places place None ≡ Some connection → is_meant deletion connection ≡ true
     → get_or (deed_on setup deed moment line station).value.connections.places place None ≡ None
 meant_is_emptied setup deed deletion moment line place station connection is fine here meant =
@@ -179,7 +179,7 @@ meant_is_emptied setup deed deletion moment line place station connection is fin
     at_place _ _ place (deleted_on setup deed deletion moment line station is) ∙ emptied deletion station.connections place none
     ∙ ap (without deletion) here ∙ (rw meant refl)
 
-pub others_are_kept : (setup : Setup) (deed : LineDeed) (deletion : Deletion) (moment line place : ℕ) (station : Station) (connection : Connection) → deed.connections ≡ Delete deletion
+pub others_are_kept : (setup : Setup) (deed : Deed) (deletion : Deletion) (moment line place : ℕ) (station : Station) (connection : Connection) → deed.connections ≡ Delete deletion
     → get_or station.connections.places place None ≡ Some connection → is_meant deletion connection ≡ false
     → get_or (deed_on setup deed moment line station).value.connections.places place None ≡ Some connection
 others_are_kept setup deed deletion moment line place station connection is here other =
@@ -189,7 +189,7 @@ others_are_kept setup deed deletion moment line place station connection is here
       by_left (inl kept) = kept ∙ here
       by_left (inr empty) = empty ∙ ap (without deletion) here ∙ (rw other refl)
 
-pub free_stays : (setup : Setup) (deed : LineDeed) (deletion : Deletion) (moment line place : ℕ) (station : Station) → deed.connections ≡ Delete deletion
+pub free_stays : (setup : Setup) (deed : Deed) (deletion : Deletion) (moment line place : ℕ) (station : Station) → deed.connections ≡ Delete deletion
     → get_or station.connections.places place None ≡ None → get_or (deed_on setup deed moment line station).value.connections.places place None ≡ None
 free_stays setup deed deletion moment line place station is here =
     at_place _ _ place (deleted_on setup deed deletion moment line station is) ∙ by_left (kept_or_emptied deletion station.connections place) where
@@ -228,7 +228,7 @@ front_some check checks code is = rw is refl
 front_none : (check : Option ℕ) (checks : List (Option ℕ)) → check ≡ None → first_fault (check ∷ checks) ≡ first_fault checks
 front_none check checks is = rw is refl
 
-least_refuses : (deed : LineDeed) (n place code : ℕ) (stations : List Station) (station : Station) → slice_get stations place ≡ Some station → refusal_by deed station ≡ Some code
+least_refuses : (deed : Deed) (n place code : ℕ) (stations : List Station) (station : Station) → slice_get stations place ≡ Some station → refusal_by deed station ≡ Some code
     → ((other : ℕ) (another : Station) → other < place → slice_get stations other ≡ Some another → refusal_by deed another ≡ None)
     → first_fault (map (refusal_on All deed) (enumerate_from n stations)) ≡ Some code
 least_refuses deed n place code [] station at refuses before = absurd (none-some station at)
@@ -239,7 +239,7 @@ least_refuses deed n (suc place) code (first ∷ stations) station at refuses be
     front_none (refusal_by deed first) (map (refusal_on All deed) (enumerate_from (n + 1) stations)) (before 0 first (omega arith) refl)
     ∙ least_refuses deed (n + 1) place code stations station at refuses (λ other another less there. before (suc other) another (omega (arith, less)) there)
 
-none_refuses : (deed : LineDeed) (n : ℕ) (stations : List Station) → ((place : ℕ) (station : Station) → slice_get stations place ≡ Some station → refusal_by deed station ≡ None)
+none_refuses : (deed : Deed) (n : ℕ) (stations : List Station) → ((place : ℕ) (station : Station) → slice_get stations place ≡ Some station → refusal_by deed station ≡ None)
     → first_fault (map (refusal_on All deed) (enumerate_from n stations)) ≡ None
 none_refuses deed n [] each = refl
 none_refuses deed n (first ∷ stations) each =
@@ -247,11 +247,11 @@ none_refuses deed n (first ∷ stations) each =
     ∙ none_refuses deed (n + 1) stations (λ place station at. each (suc place) station at)
 
 -- the deed where no line refuses it
-abbrev all_done : Setup → Endpoints → List Param → LineDeed → ℕ → Done
+abbrev all_done : Setup → Endpoints → List Param → Deed → ℕ → Done
 all_done setup endpoints more deed moment =
     record { told = deed_on_all setup endpoints All deed moment; answer = answer_with more deed (shown_of endpoints All deed) }
 
-pub least_decides : (setup : Setup) (endpoints : Endpoints) (more : List Param) (deed : LineDeed) (moment line code : ℕ) (station : Station) → station_at endpoints line ≡ Some station
+pub least_decides : (setup : Setup) (endpoints : Endpoints) (more : List Param) (deed : Deed) (moment line code : ℕ) (station : Station) → station_at endpoints line ≡ Some station
     → refusal_by deed station ≡ Some code
     → ((other : ℕ) (another : Station) → other < line → station_at endpoints other ≡ Some another → refusal_by deed another ≡ None)
     → deed_done setup endpoints All more deed moment ≡ only_answer endpoints (plain_code code)
@@ -264,7 +264,7 @@ least_decides setup endpoints more deed moment line code station at refuses befo
     (λ other another less there. before (1 + other) another (omega (arith, less, some)) (stands_at endpoints (1 + other) other another refl there)) in
     ap (λ (refusal : Option ℕ). unless_refused refusal endpoints (all_done setup endpoints more deed moment)) refused
 
-pub none_decides : (setup : Setup) (endpoints : Endpoints) (more : List Param) (deed : LineDeed) (moment : ℕ)
+pub none_decides : (setup : Setup) (endpoints : Endpoints) (more : List Param) (deed : Deed) (moment : ℕ)
     → ((line : ℕ) (station : Station) → station_at endpoints line ≡ Some station → refusal_by deed station ≡ None)
     → (deed_done setup endpoints All more deed moment).told ≡ deed_on_all setup endpoints All deed moment
 unfolding refused_by
@@ -356,7 +356,7 @@ inside [] place station at = absurd (none-some station at)
 inside (first ∷ more) zero station at = omega arith
 inside (first ∷ more) (suc place) station at = omega (arith, inside more place station at)
 
-pub done_on_each : (setup : Setup) (endpoints : Endpoints) (target : Target) (deed : LineDeed) (moment line : ℕ) (station : Station) → is_for target line ≡ true
+pub done_on_each : (setup : Setup) (endpoints : Endpoints) (target : Target) (deed : Deed) (moment line : ℕ) (station : Station) → is_for target line ≡ true
     → station_at endpoints line ≡ Some station → station_at (deed_on_all setup endpoints target deed moment).value line ≡ Some (deed_on setup deed moment line station).value
 done_on_each setup endpoints target deed moment line station for at =
     let is = is_at endpoints line station at in
@@ -364,7 +364,7 @@ done_on_each setup endpoints target deed moment line station for at =
     each_on (is_for target) 1 endpoints.stations endpoints (deed_on setup deed moment) line station for some
     (omega (arith, some, inside endpoints.stations (line - 1) station is.here)) at
 
-pub others_are_left : (setup : Setup) (endpoints : Endpoints) (target : Target) (deed : LineDeed) (moment line : ℕ) → is_for target line ≡ false
+pub others_are_left : (setup : Setup) (endpoints : Endpoints) (target : Target) (deed : Deed) (moment line : ℕ) → is_for target line ≡ false
     → station_at (deed_on_all setup endpoints target deed moment).value line ≡ station_at endpoints line
 others_are_left setup endpoints target deed moment line for =
     others_on (lines_meant endpoints target) endpoints (deed_on setup deed moment) line (passing_apart (is_for target) line 1 endpoints.stations for)

@@ -1,6 +1,6 @@
 -- What an EndpointConfiguration changes.
 use Rattle.std.proofs.Common.{◌≡◌, ℕ, ◌+◌, ◌≤◌, Bool, true, false, ◌||◌, not, List, [], ◌∷◌, ◌++◌, codes, Option, Some, None, Result, Ok, Err, inl, inr, refl, sym, ap, ◌∙◌, arith, ⊎_elim}
-use Rattle.std.specs.Prelude.{◌⊎◌, is_some, is_none, nat_lt, option_map}
+use Rattle.std.specs.Prelude.{◌⊎◌, is_some, is_none, nat_lt}
 use Rattle.std.specs.Char.{to_ascii_lowercase}
 use Rattle.std.specs.Option.{unwrap_or}
 use Rattle.std.specs.Str.{str_to_ascii_lowercase}
@@ -22,7 +22,7 @@ use Rattle.command_forms.specs.declared.forms.Asks.TheVariants.{Does}
 use Rattle.command_forms.specs.declared.forms.ConnectionDeed.{ConnectionDeed}
 use Rattle.command_forms.specs.declared.forms.ConnectionDeed.TheVariants.{Keep, Create, Modify, Delete}
 use Rattle.command_forms.specs.declared.forms.Deed.{Deed}
-use Rattle.command_forms.specs.declared.forms.RequestForm.{RequestForm}
+use Rattle.event_requests.specs.declared.request.Request.{Request}
 use Rattle.command_forms.specs.declared.forms.Target.{Target}
 use Rattle.command_forms.specs.declared.refused.Place.{Place}
 use Rattle.command_forms.specs.declared.refused.Place.TheVariants.{Line}
@@ -41,14 +41,12 @@ use Rattle.command_forms.specs.Values.{entity_at}
 use Rattle.command_forms.specs.Verbs.{row_of}
 use Rattle.command_forms.proofs.RefusedLemmas.{coded_ok}
 use Rattle.command_forms.proofs.FormLemmas.{name_first, asked_behind, row_is, deed_of_row, deed_has_values}
-use Rattle.plain_machine.specs.declared.line_deed.LineDeed.{LineDeed}
 use Rattle.plain_machine.specs.declared.setup.Setup.{Setup}
 use Rattle.plain_machine.specs.declared.station.Station.{Station}
 use Rattle.plain_machine.specs.Effect.{silently}
 use Rattle.plain_machine.specs.Notifying.{noted}
 use Rattle.plain_machine.specs.Connecting.{connected}
 use Rattle.plain_machine.specs.Requesting.{refusal_by, deed_on}
-use Rattle.plain_machine.specs.Commanding.{line_request, line_deed}
 
 -- A code that its row doesn't have stands nowhere
 
@@ -157,7 +155,7 @@ keeps_is (Create creation) e = absurd cc
 keeps_is (Modify call id change) e = absurd cc
 keeps_is (Delete deletion) e = absurd cc
 
-nothing_there : (request : Option RequestForm) → is_some request ≡ false → request ≡ None
+nothing_there : (request : Option Request) → is_some request ≡ false → request ≡ None
 nothing_there None e = refl
 nothing_there (Some request) e = absurd cc
 
@@ -194,13 +192,13 @@ encodes command confirms names target deed verb e = by_meant (meant command name
 
 -- What it does on a line
 
-abbrev only : Option Encoding → LineDeed
+abbrev only : Option Encoding → Deed
 only encoding = record { entity = None; encoding = encoding; connections = Keep; request = None }
 
-only_is : (deed : Deed) → OnlyEncodes deed → line_deed deed ≡ only deed.encoding
+only_is : (deed : Deed) → OnlyEncodes deed → deed ≡ only deed.encoding
 only_is deed is = by_parts deed.entity deed.connections deed.request is.entity is.connections is.request where
-  by_parts : (entity : Option Entity) (connections : ConnectionDeed) (request : Option RequestForm) → entity ≡ None → connections ≡ Keep → request ≡ None
-      → (record { entity = entity; encoding = deed.encoding; connections = connections; request = option_map line_request request }) ≡ only deed.encoding
+  by_parts : (entity : Option Entity) (connections : ConnectionDeed) (request : Option Request) → entity ≡ None → connections ≡ Keep → request ≡ None
+      → (record { entity = entity; encoding = deed.encoding; connections = connections; request = request }) ≡ only deed.encoding
   by_parts entity connections request one two three = rw (one, two, three) refl
 
 only_on : (setup : Setup) (encoding : Option Encoding) (moment line : ℕ) (station : Station)
@@ -214,12 +212,12 @@ only_refused encoding station = refl
 
 pub encoding_alone : (setup : Setup) (command : Command) (confirms : KValue) (target : Target) (deed : Deed) (moment line : ℕ) (station : Station) → command.verb ≡ Epcf
     → form_of command confirms setup.names ≡ Ok (Does target deed)
-    → deed_on setup (line_deed deed) moment line station ≡ silently (record station { encoding = unwrap_or deed.encoding station.encoding })
+    → deed_on setup deed moment line station ≡ silently (record station { encoding = unwrap_or deed.encoding station.encoding })
 encoding_alone setup command confirms target deed moment line station verb e =
-    ap (λ (d : LineDeed). deed_on setup d moment line station) (only_is deed (encodes command confirms setup.names target deed verb e))
+    ap (λ (d : Deed). deed_on setup d moment line station) (only_is deed (encodes command confirms setup.names target deed verb e))
     ∙ only_on setup deed.encoding moment line station
 
 pub encoding_taken : (setup : Setup) (command : Command) (confirms : KValue) (target : Target) (deed : Deed) (station : Station) → command.verb ≡ Epcf
-    → form_of command confirms setup.names ≡ Ok (Does target deed) → refusal_by (line_deed deed) station ≡ None
+    → form_of command confirms setup.names ≡ Ok (Does target deed) → refusal_by deed station ≡ None
 encoding_taken setup command confirms target deed station verb e =
-    ap (λ (d : LineDeed). refusal_by d station) (only_is deed (encodes command confirms setup.names target deed verb e)) ∙ only_refused deed.encoding station
+    ap (λ (d : Deed). refusal_by d station) (only_is deed (encodes command confirms setup.names target deed verb e)) ∙ only_refused deed.encoding station

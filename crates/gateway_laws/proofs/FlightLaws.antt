@@ -48,7 +48,7 @@ use Rattle.mg_line.specs.Laws.{AwaitsIfNotified}
 use Rattle.mg_line.proofs.OnceLemmas.{notifies_once}
 use Rattle.plain_machine.specs.declared.due_item.StationDue.{StationDue}
 use Rattle.plain_machine.specs.declared.due_item.StationDue.TheVariants.{OfLine, Resend, Announce}
-use Rattle.plain_machine.specs.declared.line_deed.LineDeed.{LineDeed}
+use Rattle.command_forms.specs.declared.forms.Deed.{Deed}
 use Rattle.plain_machine.specs.declared.own.Own.{Own}
 use Rattle.plain_machine.specs.declared.post.Post.{Post}
 use Rattle.plain_machine.specs.declared.response.Response.{Response}
@@ -63,7 +63,6 @@ use Rattle.plain_machine.specs.Notifying.{posted, notification, with_notice, not
 use Rattle.plain_machine.specs.Machine.{Endpoints, Machine, serves, opening_station, opening, station_at, turned_at, on_line, own_posted, with_own}
 use Rattle.plain_machine.specs.Acting.{acted_on, acted}
 use Rattle.plain_machine.specs.Requesting.{with_entity, with_connections, asked_if, deed_on}
-use Rattle.plain_machine.specs.Commanding.{line_deed}
 use Rattle.plain_machine.specs.Falling.{happened_on, own_happened, happened, pass}
 use Rattle.plain_machine.specs.Responding.{responded_as, responded_on, own_responded, redirected_on, opened_on, lines_told, own_heard, responded}
 use Rattle.plain_machine.specs.Happening.{effect}
@@ -275,7 +274,7 @@ asked_awaits : (request : Option Request) (line : LineState) (moment : ℕ) → 
 asked_awaits None line moment = tt
 asked_awaits (Some request) line moment = notifies_once.request line request moment
 
-deed_orders : (setup : Setup) (deed : LineDeed) (line moment : ℕ) (station : Station) → Orders true line station → Orders true line (deed_on setup deed moment line station).value
+deed_orders : (setup : Setup) (deed : Deed) (line moment : ℕ) (station : Station) → Orders true line station → Orders true line (deed_on setup deed moment line station).value
 unfolding deed_on
 deed_orders setup deed line moment station orders =
     noted_orders setup line moment (with_connections deed (with_entity deed.entity station)) (asked_if deed.request station.line moment)
@@ -389,7 +388,7 @@ ordering : (setup : Setup) → Turns setup Orders Any
 ordering setup = record {
   act = λ serving line moment act station orders. (acted_orders setup serving line moment act station orders, all_any _);
   deed = λ command confirms target deed is line moment station orders.
-      (deed_orders setup (line_deed deed) line moment station orders, all_any _);
+      (deed_orders setup deed line moment station orders, all_any _);
   response = λ serving line moment response station read orders. (responded_orders setup serving line moment response station orders, all_any _);
   happening = λ serving due line moment station orders. (happened_orders setup serving due line moment station orders, all_any _);
   redirecting = λ agent line station read orders. (redirected_orders agent line station orders, all_any _);
@@ -542,7 +541,7 @@ no_command_at_an_act setup line moment act station message waits pending =
     noted_begins_nothing setup line moment station (phoned station.line act moment)
     (phoned_waits station.line act moment (it_waits line station message waits pending)).silent
 
-pub no_command_at_a_deed : (setup : Setup) (deed : LineDeed) (line moment : ℕ) (station : Station) (message : InFlight) → Waits line station
+pub no_command_at_a_deed : (setup : Setup) (deed : Deed) (line moment : ℕ) (station : Station) (message : InFlight) → Waits line station
     → station.post.pending ≡ Some message → BeginsNothing station (deed_on setup deed moment line station)
 unfolding deed_on
 no_command_at_a_deed setup deed line moment station message waits pending =

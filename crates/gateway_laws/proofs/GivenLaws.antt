@@ -24,7 +24,7 @@ use Rattle.command_forms.specs.declared.forms.Target.TheVariants.{One, All, Any}
 use Rattle.restart.specs.declared.heard.Heard.{Heard}
 use Rattle.restart.specs.declared.heard.Heard.TheVariants.{Nothing, PutOff, Redirected, Answered}
 use Rattle.plain_machine.specs.declared.due_item.DueItem.{DueItem}
-use Rattle.plain_machine.specs.declared.line_deed.LineDeed.{LineDeed}
+use Rattle.command_forms.specs.declared.forms.Deed.{Deed}
 use Rattle.plain_machine.specs.declared.own.Own.{Own}
 use Rattle.plain_machine.specs.declared.response.Response.{Response}
 use Rattle.plain_machine.specs.declared.setup.Setup.{Setup}
@@ -122,7 +122,7 @@ pub pass_leaves : (setup : Setup) (endpoints : Endpoints) (moment other : ℕ) �
 unfolding pass
 pass_leaves setup endpoints moment other = passed_leaves (room endpoints moment) setup endpoints moment other
 
-kept_by : (setup : Setup) (deed : LineDeed) (moment line : ℕ) (station : Station) → deed.connections ≡ Keep → (deed_on setup deed moment line station).value.connections ≡ station.connections
+kept_by : (setup : Setup) (deed : Deed) (moment line : ℕ) (station : Station) → deed.connections ≡ Keep → (deed_on setup deed moment line station).value.connections ≡ station.connections
 unfolding after
 kept_by setup deed moment line station is =
     deed_connections setup deed moment line station ∙ ap (λ (d : ConnectionDeed). after station.connections (happenings d (encoding_with deed station))) is
@@ -131,7 +131,7 @@ kept_by setup deed moment line station is =
 abbrev Leaves : Endpoints → ℕ → Done → Type 0
 Leaves endpoints other done = standing_at done.told.value other ≡ standing_at endpoints other
 
-deed_leaves_on : (setup : Setup) (endpoints : Endpoints) (lines : Target) (more : List Param) (deed : LineDeed) (moment other : ℕ) → deed.connections ≡ Keep
+deed_leaves_on : (setup : Setup) (endpoints : Endpoints) (lines : Target) (more : List Param) (deed : Deed) (moment other : ℕ) → deed.connections ≡ Keep
     → Leaves endpoints other (deed_done setup endpoints lines more deed moment)
 deed_leaves_on setup endpoints lines more deed moment other is =
     by_refusal (refused_by endpoints lines deed) _ (several_same (lines_meant endpoints lines) endpoints other (deed_on setup deed moment) (λ line station. kept_by setup deed moment line station is)) where
@@ -139,7 +139,7 @@ deed_leaves_on setup endpoints lines more deed moment other is =
       by_refusal (Some code) done leaves = refl
       by_refusal None done leaves = leaves
 
-pub deed_leaves : (setup : Setup) (endpoints : Endpoints) (target : Target) (deed : LineDeed) (moment other : ℕ) → deed.connections ≡ Keep
+pub deed_leaves : (setup : Setup) (endpoints : Endpoints) (target : Target) (deed : Deed) (moment other : ℕ) → deed.connections ≡ Keep
     → standing_at (done_for setup endpoints target deed moment).told.value other ≡ standing_at endpoints other
 deed_leaves setup endpoints (One line) deed moment other is = deed_leaves_on setup endpoints (One line) [] deed moment other is
 deed_leaves setup endpoints All deed moment other is = deed_leaves_on setup endpoints All [] deed moment other is
@@ -163,7 +163,7 @@ created_given encoding creation standing request fine = by_made (created encodin
       let next = next_number encoding creation standing done is in
       (ap (λ (number : ℕ). id_param number ∷ []) next.0, next.1)
 
-pub number_given : (setup : Setup) (deed : LineDeed) (creation : Creation) (moment line : ℕ) (station : Station) → deed.connections ≡ Create creation → refusal_by deed station ≡ None
+pub number_given : (setup : Setup) (deed : Deed) (creation : Creation) (moment line : ℕ) (station : Station) → deed.connections ≡ Create creation → refusal_by deed station ≡ None
     → ((shown_by (connected_on deed station)).params ≡ id_param (station.connections.last + 1) ∷ [])
     × ((deed_on setup deed moment line station).value.connections.last ≡ station.connections.last + 1)
 number_given setup deed creation moment line station is fine =

@@ -66,10 +66,10 @@ use Rattle.command_forms.specs.declared.forms.ConnectionDeed.{ConnectionDeed}
 use Rattle.command_forms.specs.declared.forms.ConnectionDeed.TheVariants.{Keep, Create, Modify, Delete}
 use Rattle.endpoint_names.specs.declared.name.Pattern.TheVariants as patterns
 use Rattle.endpoint_names.specs.Name.{name_text}
-use Rattle.plain_machine.specs.declared.line_deed.LineDeed.{LineDeed}
+use Rattle.command_forms.specs.declared.forms.Deed.{Deed}
 use Rattle.plain_machine.specs.Connecting.{Shown, done_code}
 use Rattle.plain_machine.specs.Requesting.{encoding_with, refused_by, shown_on, shown_of, answer_with, unless_refused, deed_done, line_with_place, done_there, done_for}
-use Rattle.plain_machine.specs.Commanding.{reported, audited, answer_by, line_deed, done_by, commanded}
+use Rattle.plain_machine.specs.Commanding.{reported, audited, answer_by, done_by, commanded}
 use Rattle.gateway_laws.proofs.CommandLaws.{Goes, IsOut, Sound, OwnSound, sound_turns, sound_own_turns, opening_is_sound}
 use Rattle.gateway_laws.proofs.TurnLemmas.{Always, Holds, response_read, of_line, acted_goes, responded_goes, pass_goes, command_goes, handled_on_all, event_on_all}
 use Rattle.plain_machine.proofs.EffectLaws.{effect_lines, handled_lines}
@@ -258,7 +258,7 @@ shown_short code id params more body small one two few =
     let whole = length-append (ended (response_line code id) ++ flat_map text (params ++ more)) (body_text body) in
     omega (arith, head, middle, end, front, whole)
 
-answer_with_goes : (id : ℕ) (more : List Param) (deed : LineDeed) (shown : Shown) → IsId id → Params more 100 → IsShown shown → IsFit id (answer_with more deed shown)
+answer_with_goes : (id : ℕ) (more : List Param) (deed : Deed) (shown : Shown) → IsId id → Params more 100 → IsShown shown → IsFit id (answer_with more deed shown)
 answer_with_goes id more deed shown has one is =
     let both = params_both shown.params more 100 100 (is.each, is.params) one in
     record {
@@ -266,7 +266,7 @@ answer_with_goes id more deed shown has one is =
       short = shown_short (done_code deed.connections) id shown.params more shown.body has.1 (is.each, is.params) one is.body;
     }
 
-shown_of_is : (setup : Setup) (endpoints : Endpoints) (lines : Target) (deed : LineDeed) → IsSetUp setup → HasLines setup endpoints → IsShown (shown_of endpoints lines deed)
+shown_of_is : (setup : Setup) (endpoints : Endpoints) (lines : Target) (deed : Deed) → IsSetUp setup → HasLines setup endpoints → IsShown (shown_of endpoints lines deed)
 unfolding shown_of
 shown_of_is setup endpoints (One line) deed set_up has = by_station (station_at endpoints line) refl where
   by_station : (found : Option Station) → station_at endpoints line ≡ found → IsShown (shown_on found deed)
@@ -276,7 +276,7 @@ shown_of_is setup endpoints (One line) deed set_up has = by_station (station_at 
 shown_of_is setup endpoints AllLines deed set_up has = nothing_is
 shown_of_is setup endpoints AnyLine deed set_up has = nothing_is
 
-deed_answered : (setup : Setup) (endpoints : Endpoints) (lines : Target) (more : List Param) (deed : LineDeed) (moment id : ℕ) → IsSetUp setup → HasLines setup endpoints → IsId id
+deed_answered : (setup : Setup) (endpoints : Endpoints) (lines : Target) (more : List Param) (deed : Deed) (moment id : ℕ) → IsSetUp setup → HasLines setup endpoints → IsId id
     → Params more 100 → AnswerGoes id (deed_done setup endpoints lines more deed moment)
 deed_answered setup endpoints lines more deed moment id set_up places has one =
     unless_answered id endpoints (refused_by endpoints lines deed) _ has (refusal_code endpoints lines deed)
@@ -291,7 +291,7 @@ name_more setup line set_up few =
     let short = param_short (codes "Z") (name_text (patterns.One line) setup.names.domain) 72 (omega arith) (name_short line setup.names.domain few set_up.domain) in
     (rw fine refl, omega (arith, short, length-append (ended (param_line (name_of_line setup line))) []))
 
-target_answered : (setup : Setup) (endpoints : Endpoints) (target : Target) (deed : LineDeed) (moment id : ℕ) → IsSetUp setup → length endpoints.stations ≡ setup.names.lines
+target_answered : (setup : Setup) (endpoints : Endpoints) (target : Target) (deed : Deed) (moment id : ℕ) → IsSetUp setup → length endpoints.stations ≡ setup.names.lines
     → HasLines setup endpoints → IsId id → AnswerGoes id (done_for setup endpoints target deed moment)
 target_answered setup endpoints (One line) deed moment id set_up lines places has = deed_answered setup endpoints (One line) [] deed moment id set_up places has no_more
 target_answered setup endpoints AllLines deed moment id set_up lines places has = deed_answered setup endpoints AllLines [] deed moment id set_up places has no_more
@@ -308,7 +308,7 @@ form_answered : (asks : Result Asks ℕ) (setup : Setup) (m : Machine) (id : ℕ
 form_answered (Err code) setup m id fits has small = code_fits code id has (small code refl)
 form_answered (Ok (Reports target audit)) setup m id fits has small = audit_answered setup m id target audit fits has
 form_answered (Ok (Does target deed)) setup m id fits has small =
-    target_answered setup m.endpoints target (line_deed deed) m.now id fits.set_up fits.lines fits.places has
+    target_answered setup m.endpoints target deed m.now id fits.set_up fits.lines fits.places has
 
 small_name : (code : ℕ) → has_code name_codes code ≡ true → IsCode code
 small_name code has = grind (arith, nat_tests)

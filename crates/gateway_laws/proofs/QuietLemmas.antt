@@ -30,7 +30,7 @@ use Rattle.restart.specs.declared.heard.Heard.TheVariants.{Nothing, PutOff, Redi
 use Rattle.plain_machine.specs.declared.due_item.StationDue.{StationDue}
 use Rattle.plain_machine.specs.declared.due_item.StationDue.TheVariants.{OfLine, Resend, Announce}
 use Rattle.plain_machine.specs.declared.due_item.DueItem.{DueItem}
-use Rattle.plain_machine.specs.declared.line_deed.LineDeed.{LineDeed}
+use Rattle.command_forms.specs.declared.forms.Deed.{Deed}
 use Rattle.plain_machine.specs.declared.own.Own.{Own}
 use Rattle.plain_machine.specs.declared.post.Post.{Post}
 use Rattle.plain_machine.specs.declared.response.Response.{Response}
@@ -47,7 +47,7 @@ use Rattle.plain_machine.specs.Acting.{acted_on, acted}
 use Rattle.plain_machine.specs.Falling.{due_by, happened_on, own_happened, happened, go_on, passed, room, pass}
 use Rattle.plain_machine.specs.Done.{Done}
 use Rattle.plain_machine.specs.Requesting.{refused_by, with_entity, with_connections, asked_if, deed_on, lines_meant, unless_refused, deed_done, line_with_place, done_there, done_for}
-use Rattle.plain_machine.specs.Commanding.{line_deed, done_by}
+use Rattle.plain_machine.specs.Commanding.{done_by}
 use Rattle.transmission.specs.Acknowledging.{asks_for_acknowledgement}
 use Rattle.plain_machine.specs.Responding.{acknowledged, response_with, responded_as, responded_on, own_responded, redirected_on, opened_on, lines_told, own_heard, responded}
 use Rattle.plain_machine.specs.Answering.{transaction_of, heard_as}
@@ -107,7 +107,7 @@ own_happened_quiet (OfLine due) setup moment own = refl
 own_happened_quiet Resend setup moment own = resent_quiet setup 0 moment own.post
 own_happened_quiet Announce setup moment own = announced_quiet setup 0 moment own.post
 
-deed_on_quiet : (setup : Setup) (deed : LineDeed) (moment line : ℕ) (station : Station) → Quiet (deed_on setup deed moment line station).sent
+deed_on_quiet : (setup : Setup) (deed : Deed) (moment line : ℕ) (station : Station) → Quiet (deed_on setup deed moment line station).sent
 unfolding deed_on
 deed_on_quiet setup deed moment line station = noted_quiet setup line moment (with_connections deed (with_entity deed.entity station)) (asked_if deed.request station.line moment)
 
@@ -220,13 +220,13 @@ unless_quiet : (refusal : Option ℕ) (endpoints : Endpoints) (done : Done) → 
 unless_quiet None endpoints done quiet = quiet
 unless_quiet (Some code) endpoints done quiet = refl
 
-deed_quiet : (setup : Setup) (endpoints : Endpoints) (lines : Target) (more : List Param) (deed : LineDeed) (moment : ℕ)
+deed_quiet : (setup : Setup) (endpoints : Endpoints) (lines : Target) (more : List Param) (deed : Deed) (moment : ℕ)
     → Quiet (deed_done setup endpoints lines more deed moment).told.sent
 deed_quiet setup endpoints lines more deed moment =
     unless_quiet (refused_by endpoints lines deed) endpoints _
     (all_quiet (lines_meant endpoints lines) endpoints _ (deed_on_quiet setup deed moment))
 
-target_quiet : (setup : Setup) (endpoints : Endpoints) (target : Target) (deed : LineDeed) (moment : ℕ) → Quiet (done_for setup endpoints target deed moment).told.sent
+target_quiet : (setup : Setup) (endpoints : Endpoints) (target : Target) (deed : Deed) (moment : ℕ) → Quiet (done_for setup endpoints target deed moment).told.sent
 target_quiet setup endpoints (One line) deed moment = deed_quiet setup endpoints (One line) [] deed moment
 target_quiet setup endpoints All deed moment = deed_quiet setup endpoints All [] deed moment
 target_quiet setup endpoints Any deed moment = by_line (line_with_place endpoints) where
@@ -237,7 +237,7 @@ target_quiet setup endpoints Any deed moment = by_line (line_with_place endpoint
 done_quiet : (asks : Result Asks ℕ) (setup : Setup) (endpoints : Endpoints) (moment id : ℕ) → Quiet (done_by asks setup endpoints moment id).told.sent
 done_quiet (Err code) setup endpoints moment id = refl
 done_quiet (Ok (Reports target audit)) setup endpoints moment id = refl
-done_quiet (Ok (Does target deed)) setup endpoints moment id = target_quiet setup endpoints target (line_deed deed) moment
+done_quiet (Ok (Does target deed)) setup endpoints moment id = target_quiet setup endpoints target deed moment
 
 pub command_quiet : (setup : Setup) (m : Machine) (outcome : Outcome) → IfSome (transaction_of setup m outcome) (λ t. Quiet t.done.told.sent)
 command_quiet setup m no_header = tt

@@ -65,7 +65,6 @@ use Rattle.plain_machine.specs.Announcing.{announced, announced_by, heard_on, re
 use Rattle.plain_machine.specs.Notifying.{posted, with_notice, noted}
 use Rattle.plain_machine.specs.Machine.{port_of, opening_station, opening}
 use Rattle.plain_machine.specs.Requesting.{with_entity, with_connections, encoding_with, asked_if, deed_on}
-use Rattle.plain_machine.specs.Commanding.{line_deed}
 use Rattle.plain_machine.specs.Falling.{happened_on}
 use Rattle.plain_machine.specs.Reporting.{audited_endpoint}
 use Rattle.plain_machine.specs.Responding.{responded_as, responded_on, redirected_on, opened_on}
@@ -239,16 +238,16 @@ noted_shows setup line moment station done shows = record {
 }
 
 deed_shows : (setup : Setup) (command : Command) (confirms : KValue) (target : Target) (deed : Deed) → form_of command confirms setup.names ≡ Ok (Does target deed)
-    → (line moment : ℕ) (station : Station) → Shows line station → Shows line (deed_on setup (line_deed deed) moment line station).value
+    → (line moment : ℕ) (station : Station) → Shows line station → Shows line (deed_on setup deed moment line station).value
 unfolding deed_on
 deed_shows setup command confirms target deed is line moment station shows =
     let has = deed_has_values command confirms setup.names target deed is in
-    let becomes = with_connections (line_deed deed) (with_entity deed.entity station) in
+    let becomes = with_connections deed (with_entity deed.entity station) in
     record {
-      entity = subst IsNamed (sym (noted_entity setup line moment becomes (asked_if (line_deed deed).request station.line moment)))
+      entity = subst IsNamed (sym (noted_entity setup line moment becomes (asked_if deed.request station.line moment)))
           (given_named setup.names.table _ deed.entity station.post.entity has.entity shows.entity);
-      places = subst (λ (s : Standing). AllShow s.places) (sym (deed_connections setup (line_deed deed) moment line station))
-          (done_shows command.params command.body deed.connections (encoding_with (line_deed deed) station) station.connections has.connections shows.places);
+      places = subst (λ (s : Standing). AllShow s.places) (sym (deed_connections setup deed moment line station))
+          (done_shows command.params command.body deed.connections (encoding_with deed station) station.connections has.connections shows.places);
     }
 
 happened_shows : (setup : Setup) (due : StationDue) (line moment : ℕ) (station : Station) → Shows line station → Shows line (happened_on due setup line moment station).value

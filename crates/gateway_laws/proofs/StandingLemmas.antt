@@ -26,7 +26,7 @@ use Rattle.restart.specs.declared.heard.Heard.TheVariants.{Nothing, PutOff, Redi
 use Rattle.endpoint_names.specs.declared.entity.Entity.{Entity}
 use Rattle.plain_machine.specs.declared.due_item.StationDue.{StationDue}
 use Rattle.plain_machine.specs.declared.due_item.StationDue.TheVariants.{OfLine, Resend, Announce}
-use Rattle.plain_machine.specs.declared.line_deed.LineDeed.{LineDeed}
+use Rattle.command_forms.specs.declared.forms.Deed.{Deed}
 use Rattle.plain_machine.specs.declared.own.Own.{Own}
 use Rattle.plain_machine.specs.declared.response.Response.{Response}
 use Rattle.plain_machine.specs.declared.setup.Setup.{Setup}
@@ -38,7 +38,6 @@ use Rattle.plain_machine.specs.Notifying.{posted, with_notice, noted}
 use Rattle.plain_machine.specs.Machine.{serves, port_of, opening_station, opening, station_at}
 use Rattle.plain_machine.specs.Connecting.{Shown, showing, showing_what, created_shown, modified_shown, deleted_shown, connected}
 use Rattle.plain_machine.specs.Requesting.{with_entity, with_connections, encoding_with, asked_if, deed_on}
-use Rattle.plain_machine.specs.Commanding.{line_deed}
 use Rattle.plain_machine.specs.Falling.{happened_on}
 use Rattle.plain_machine.specs.Responding.{responded_as, responded_on, redirected_on, opened_on}
 use Rattle.plain_machine.specs.Lists.{machine_after}
@@ -77,7 +76,7 @@ noted_same setup line moment station done = by_notice done.notice where
   by_notice None = refl
   by_notice (Some notice) = refl
 
-pub deed_connections : (setup : Setup) (deed : LineDeed) (moment line : ℕ) (station : Station)
+pub deed_connections : (setup : Setup) (deed : Deed) (moment line : ℕ) (station : Station)
     → (deed_on setup deed moment line station).value.connections ≡ after station.connections (happenings deed.connections (encoding_with deed station))
 unfolding deed_on
 deed_connections setup deed moment line station =
@@ -137,8 +136,8 @@ pub connection_turns : (setup : Setup) (C : ℕ → Standing → Type 0) → Kee
 connection_turns setup C keeps = record {
   act = λ serving line moment act station holds. (subst (C line) (sym (noted_same setup line moment station (phoned station.line act moment))) holds, all_sent _);
   deed = λ command confirms target deed is line moment station holds. (
-    subst (C line) (sym (deed_connections setup (line_deed deed) moment line station))
-        (kept_after C keeps line station.connections (happenings deed.connections (encoding_with (line_deed deed) station)) holds),
+    subst (C line) (sym (deed_connections setup deed moment line station))
+        (kept_after C keeps line station.connections (happenings deed.connections (encoding_with deed station)) holds),
     all_sent _,
   );
   response = λ serving line moment response station read holds. (subst (C line) (sym (responded_same setup line moment response station)) holds, all_sent _);

@@ -53,9 +53,8 @@ use Rattle.transmission.specs.Texts.{texts_of}
 use Rattle.plain_machine.specs.Acting.{acted_on, acted}
 use Rattle.plain_machine.specs.Falling.{due_by, happened_on, own_happened, happened, go_on, passed, room, pass}
 use Rattle.plain_machine.specs.Done.{Done}
-use Rattle.plain_machine.specs.declared.line_deed.LineDeed.{LineDeed}
 use Rattle.plain_machine.specs.Requesting.{refused_by, deed_on, lines_meant, unless_refused, deed_done, line_with_place, done_there, done_for}
-use Rattle.plain_machine.specs.Commanding.{line_deed, done_by, commanded}
+use Rattle.plain_machine.specs.Commanding.{done_by, commanded}
 use Rattle.plain_machine.specs.Responding.{response_with, responded_on, own_responded, redirected_on, opened_on, on_all, lines_told, own_heard, responded}
 use Rattle.plain_machine.specs.Answering.{Transaction, executed, transacted_by, handled, took_all}
 use Rattle.plain_machine.specs.Happening.{effect}
@@ -151,7 +150,7 @@ Good P Q line turn = Gives (P line) Q turn
 pub record Turns (setup : Setup) (P : Bool → ℕ → Station → Type 0) (Q : Sent → Type 0) : Type 0 where
   pub act : (serving : Bool) (line moment : ℕ) (act : Act) (station : Station) → P serving line station → Good (P serving) Q line (acted_on setup line moment act station)
   pub deed : (command : Command) (confirms : KValue) (target : Target) (deed : Deed) → form_of command confirms setup.names ≡ Ok (Does target deed)
-      → (line moment : ℕ) (station : Station) → P true line station → Good (P true) Q line (deed_on setup (line_deed deed) moment line station)
+      → (line moment : ℕ) (station : Station) → P true line station → Good (P true) Q line (deed_on setup deed moment line station)
   pub response : (serving : Bool) (line moment : ℕ) (response : Response) (station : Station) → IsRead setup response → P serving line station
       → Good (P serving) Q line (responded_on setup line moment response station)
   pub happening : (serving : Bool) (due : StationDue) (line moment : ℕ) (station : Station) → P serving line station → Good (P serving) Q line (happened_on due setup line moment station)
@@ -381,16 +380,16 @@ module _ (setup : Setup) (P : Bool → ℕ → Station → Type 0) (R : Own → 
   unless_goes None endpoints done all goes = goes
   unless_goes (Some code) endpoints done all goes = stays endpoints all
 
-  abbrev DeedGoes : LineDeed → Type 0
+  abbrev DeedGoes : Deed → Type 0
   DeedGoes deed = (line moment : ℕ) (station : Station) → P true line station → Good (P true) Q line (deed_on setup deed moment line station)
 
-  deed_goes : (endpoints : Endpoints) (lines : Target) (more : List Param) (deed : LineDeed) (moment : ℕ) → serves endpoints ≡ true → Holds P R endpoints → DeedGoes deed
+  deed_goes : (endpoints : Endpoints) (lines : Target) (more : List Param) (deed : Deed) (moment : ℕ) → serves endpoints ≡ true → Holds P R endpoints → DeedGoes deed
       → DoneGoes (deed_done setup endpoints lines more deed moment)
   deed_goes endpoints lines more deed moment is all good =
       unless_goes (refused_by endpoints lines deed) endpoints _ all
       (several_go true (lines_meant endpoints lines) endpoints _ is all (λ line station. good line moment station))
 
-  target_goes : (endpoints : Endpoints) (target : Target) (deed : LineDeed) (moment : ℕ) → serves endpoints ≡ true → Holds P R endpoints → DeedGoes deed
+  target_goes : (endpoints : Endpoints) (target : Target) (deed : Deed) (moment : ℕ) → serves endpoints ≡ true → Holds P R endpoints → DeedGoes deed
       → DoneGoes (done_for setup endpoints target deed moment)
   target_goes endpoints (One line) deed moment is all good = deed_goes endpoints (One line) [] deed moment is all good
   target_goes endpoints AllLines deed moment is all good = deed_goes endpoints AllLines [] deed moment is all good
@@ -405,7 +404,7 @@ module _ (setup : Setup) (P : Bool → ℕ → Station → Type 0) (R : Own → 
   form_goes serving command confirms (Ok (Reports target audit)) is endpoints moment id same all = stays endpoints all
   form_goes false command confirms (Ok (Does target deed)) is endpoints moment id same all = absurd (while_none command confirms setup.names target deed is)
   form_goes true command confirms (Ok (Does target deed)) is endpoints moment id same all =
-      target_goes endpoints target (line_deed deed) moment same all (turns.deed command confirms target deed (while_taken true command confirms setup.names (Does target deed) is))
+      target_goes endpoints target deed moment same all (turns.deed command confirms target deed (while_taken true command confirms setup.names (Does target deed) is))
 
   pub command_goes : (command : Command) (confirms : KValue) (endpoints : Endpoints) (moment id : ℕ) → Holds P R endpoints
       → DoneGoes (commanded setup endpoints moment id command confirms)

@@ -19,7 +19,7 @@ ghost use Rattle.mg_line.specs.declared.due.LineDue.{LineDue};
 ghost use Rattle.mg_line.specs.declared.phone.Act.{Act};
 ghost use Rattle.plain_machine.specs.declared.due_item.StationDue.TheVariants.{OfLine, Resend, Announce};
 ghost use Rattle.plain_machine.specs.declared.due_item.DueItem.{DueItem};
-ghost use Rattle.plain_machine.specs.declared.line_deed.LineDeed.{LineDeed};
+ghost use Rattle.command_forms.specs.declared.forms.Deed.{Deed};
 ghost use Rattle.plain_machine.specs.declared.own.Own.{Own};
 ghost use Rattle.plain_machine.specs.declared.post.Post.{Post};
 ghost use Rattle.plain_machine.specs.declared.response.Response.{Response};
@@ -112,7 +112,7 @@ pub fn an_announcement_goes_on_until_it_is_answered()
 pub fn a_line_that_gave_up_waits_and_announces_itself()
     ensures act { (setup : Setup) (line moment until : ℕ) (act : Act) (station : Station) → IsInOrder line station →
         station.post.restart ≡ Waiting until → BeginsNothing station (acted_on setup line moment act station) }
-    ensures deed { (setup : Setup) (deed : LineDeed) (line moment until : ℕ) (station : Station) → IsInOrder line station →
+    ensures deed { (setup : Setup) (deed : Deed) (line moment until : ℕ) (station : Station) → IsInOrder line station →
         station.post.restart ≡ Waiting until → BeginsNothing station (deed_on setup deed moment line station) }
     ensures due { (setup : Setup) (due : LineDue) (line moment until : ℕ) (station : Station) → IsInOrder line station →
         station.post.restart ≡ Waiting until → BeginsNothing station (happened_on (OfLine due) setup line moment station) }

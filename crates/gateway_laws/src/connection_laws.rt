@@ -23,7 +23,6 @@ ghost use Rattle.command_forms.specs.Command.{Command};
 ghost use Rattle.command_forms.specs.Meaning.{is_for};
 ghost use Rattle.command_forms.specs.Order.{form_of};
 ghost use Rattle.plain_machine.specs.declared.due_item.DueItem.{DueItem};
-ghost use Rattle.plain_machine.specs.declared.line_deed.LineDeed.{LineDeed};
 ghost use Rattle.plain_machine.specs.declared.response.Response.{Response};
 ghost use Rattle.plain_machine.specs.declared.setup.Setup.{Setup};
 ghost use Rattle.plain_machine.specs.declared.station.Station.{Station};
@@ -39,7 +38,7 @@ ghost use Rattle.plain_machine.specs.Done.{only_answer};
 ghost use Rattle.plain_machine.specs.Requesting.{connected_on, refusal_by, shown_by, deed_on, deed_on_all, deed_done, done_for};
 ghost use Rattle.plain_machine.specs.Requesting.{has_place, line_with_place};
 ghost use Rattle.plain_machine.specs.Responding.{responded};
-ghost use Rattle.plain_machine.specs.Commanding.{line_deed, commanded};
+ghost use Rattle.plain_machine.specs.Commanding.{commanded};
 ghost use Rattle.plain_machine.specs.Lists.{plain, connections_of};
 ghost use Rattle.plain_machine.specs.Calls.{connection_at, port_at, standing_at, NumbersGoOn, IsOnLine};
 
@@ -67,7 +66,7 @@ pub fn nothing_else_changes_connections()
         standing_at (happened setup endpoints item).value other ≡ standing_at endpoints other }
     ensures pass { (setup : Setup) (endpoints : Endpoints) (moment other : ℕ) →
         standing_at (pass setup endpoints moment).value other ≡ standing_at endpoints other }
-    ensures deed { (setup : Setup) (endpoints : Endpoints) (target : Target) (deed : LineDeed) (moment other : ℕ) →
+    ensures deed { (setup : Setup) (endpoints : Endpoints) (target : Target) (deed : Deed) (moment other : ℕ) →
         deed.connections ≡ deeds.Keep →
         standing_at (done_for setup endpoints target deed moment).told.value other ≡ standing_at endpoints other }
 {}
@@ -98,7 +97,7 @@ pub fn a_number_is_never_given_twice_on_a_line()
 /// line: that is answered, and is the last one from then on. And no last number ever gets less: at an act, a text of a
 /// datagram or all of them, a thing that falls due or all that does.
 pub fn a_number_is_given_once_within_an_event_too()
-    ensures given { (setup : Setup) (deed : LineDeed) (creation : Creation) (moment line : ℕ) (station : Station) →
+    ensures given { (setup : Setup) (deed : Deed) (creation : Creation) (moment line : ℕ) (station : Station) →
         deed.connections ≡ deeds.Create creation → refusal_by deed station ≡ None →
         ((shown_by (connected_on deed station)).params ≡ id_param (station.connections.last + 1) ∷ [])
         × ((deed_on setup deed moment line station).value.connections.last ≡ station.connections.last + 1) }
@@ -134,15 +133,15 @@ pub fn what_is_refused_changes_no_line()
 
 /// A deletion that the line doesn't refuse empties the places of the connections that it means, and no others.
 pub fn a_deletion_empties_what_it_means()
-    ensures meant { (setup : Setup) (deed : LineDeed) (deletion : Deletion) (moment line place : ℕ) (station : Station)
+    ensures meant { (setup : Setup) (deed : Deed) (deletion : Deletion) (moment line place : ℕ) (station : Station)
         (connection : Connection) → deed.connections ≡ deeds.Delete deletion → refusal_by deed station ≡ None →
         get_or station.connections.places place None ≡ Some connection → is_meant deletion connection ≡ true →
         get_or (deed_on setup deed moment line station).value.connections.places place None ≡ None }
-    ensures others { (setup : Setup) (deed : LineDeed) (deletion : Deletion) (moment line place : ℕ) (station : Station)
+    ensures others { (setup : Setup) (deed : Deed) (deletion : Deletion) (moment line place : ℕ) (station : Station)
         (connection : Connection) → deed.connections ≡ deeds.Delete deletion →
         get_or station.connections.places place None ≡ Some connection → is_meant deletion connection ≡ false →
         get_or (deed_on setup deed moment line station).value.connections.places place None ≡ Some connection }
-    ensures free { (setup : Setup) (deed : LineDeed) (deletion : Deletion) (moment line place : ℕ) (station : Station) →
+    ensures free { (setup : Setup) (deed : Deed) (deletion : Deletion) (moment line place : ℕ) (station : Station) →
         deed.connections ≡ deeds.Delete deletion → get_or station.connections.places place None ≡ None →
         get_or (deed_on setup deed moment line station).value.connections.places place None ≡ None }
 {}
@@ -153,33 +152,33 @@ pub fn an_endpoint_configuration_gives_an_encoding()
     ensures alone { (setup : Setup) (command : Command) (confirms : KValue) (target : Target) (deed : Deed)
         (moment line : ℕ) (station : Station) → command.verb ≡ Epcf →
         form_of command confirms setup.names ≡ Ok (Does target deed) →
-        deed_on setup (line_deed deed) moment line station
+        deed_on setup deed moment line station
         ≡ silently (record station { encoding = unwrap_or deed.encoding station.encoding }) }
     ensures taken { (setup : Setup) (command : Command) (confirms : KValue) (target : Target) (deed : Deed)
         (station : Station) → command.verb ≡ Epcf → form_of command confirms setup.names ≡ Ok (Does target deed) →
-        refusal_by (line_deed deed) station ≡ None }
+        refusal_by deed station ≡ None }
 {}
 
 /// Of a deed on all lines the least line that refuses it gives the code, and then nothing is done. Where none refuses, it is
 /// done.
 pub fn the_least_line_that_refuses_decides()
-    ensures refuses { (setup : Setup) (endpoints : Endpoints) (more : List Param) (deed : LineDeed) (moment line code : ℕ)
+    ensures refuses { (setup : Setup) (endpoints : Endpoints) (more : List Param) (deed : Deed) (moment line code : ℕ)
         (station : Station) → station_at endpoints line ≡ Some station → refusal_by deed station ≡ Some code →
         ((other : ℕ) (another : Station) → other < line → station_at endpoints other ≡ Some another →
         refusal_by deed another ≡ None) →
         deed_done setup endpoints All more deed moment ≡ only_answer endpoints (plain_code code) }
-    ensures fine { (setup : Setup) (endpoints : Endpoints) (more : List Param) (deed : LineDeed) (moment : ℕ) →
+    ensures fine { (setup : Setup) (endpoints : Endpoints) (more : List Param) (deed : Deed) (moment : ℕ) →
         ((line : ℕ) (station : Station) → station_at endpoints line ≡ Some station → refusal_by deed station ≡ None) →
         (deed_done setup endpoints All more deed moment).told ≡ deed_on_all setup endpoints All deed moment }
 {}
 
 /// A deed that is done is done once on each line that it is for, by what the line was, and leaves every other line as it is.
 pub fn a_deed_is_done_on_its_lines()
-    ensures each { (setup : Setup) (endpoints : Endpoints) (target : Target) (deed : LineDeed) (moment line : ℕ)
+    ensures each { (setup : Setup) (endpoints : Endpoints) (target : Target) (deed : Deed) (moment line : ℕ)
         (station : Station) → is_for target line ≡ true → station_at endpoints line ≡ Some station →
         station_at (deed_on_all setup endpoints target deed moment).value line
         ≡ Some (deed_on setup deed moment line station).value }
-    ensures others { (setup : Setup) (endpoints : Endpoints) (target : Target) (deed : LineDeed) (moment line : ℕ) →
+    ensures others { (setup : Setup) (endpoints : Endpoints) (target : Target) (deed : Deed) (moment line : ℕ) →
         is_for target line ≡ false →
         station_at (deed_on_all setup endpoints target deed moment).value line ≡ station_at endpoints line }
 {}

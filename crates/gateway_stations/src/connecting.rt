@@ -11,11 +11,11 @@ ghost use Rattle.plain_machine.specs.Requesting.{encoding_with, connected_on, wi
 ghost use Rattle.gateway_stations.specs.News.{shown_as, connected_as};
 
 use crate::context::Context;
-use command_forms::ConnectionDeed;
+use command_forms::{ConnectionDeed, Deed};
 use connections::{Change, Connections, Created, Creation, Deletion, Encoding, write_number};
 use mg_bytes::{CodeFault, Identifier, OutOfMemory, ReturnCode, Text};
 use mgcp_text::{Answer, Bytes, Param, Params};
-use plain_machine::{LineDeed, Station};
+use plain_machine::Station;
 use sdp_subset::{Session, write_sdp};
 
 /// What there is to be told of the connections of a line.
@@ -101,7 +101,7 @@ fn deleted(deletion: &Deletion, connections: &mut Connections) -> Result<News, u
 }
 
 // The encoding that a station has for a deed: one that is given counts already.
-fn encoding_with(deed: &LineDeed, station: &Station) -> Encoding
+fn encoding_with(deed: &Deed, station: &Station) -> Encoding
     ensures { result ≡ encoding_with deed.now station.now }
 {
     match deed.encoding {
@@ -132,7 +132,7 @@ fn connected(
 
 /// The code with which the connections of a station refuse a deed. It takes no memory.
 #[tactic(auto, unfolding(plain_machine::specs::Connecting::connected))]
-pub(crate) fn connections_refuse(deed: &LineDeed, station: &Station) -> Option<u16>
+pub(crate) fn connections_refuse(deed: &Deed, station: &Station) -> Option<u16>
     ensures { result ≡ result_err (connected_on deed.now station.now) }
 {
     if let ConnectionDeed::Keep = deed.connections {
@@ -147,7 +147,7 @@ pub(crate) fn connections_refuse(deed: &LineDeed, station: &Station) -> Option<u
 
 /// A deed on the connections of a station, with the encoding that is given: what there is to be told of them. What they
 /// refuse leaves them as they are. It takes no memory.
-pub(crate) fn connect(deed: &LineDeed, station: &mut Station) -> News
+pub(crate) fn connect(deed: &Deed, station: &mut Station) -> News
     ensures station { station.new ≡ with_connections deed.now station.old }
     ensures news { shown_as result ≡ shown_by (connected_on deed.now station.old) }
 {
@@ -238,7 +238,7 @@ fn done_code(deed: &ConnectionDeed) -> u16
 pub fn answer_with(
     context: Context<'_>,
     more: Params<'static>,
-    deed: &LineDeed,
+    deed: &Deed,
     news: &News,
 ) -> Result<Answer, OutOfMemory>
     requires { list_all is_writable_param more ≡ true }

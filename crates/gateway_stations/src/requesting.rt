@@ -11,12 +11,13 @@ use crate::connecting::{News, connect, connections_refuse};
 use crate::context::Context;
 use crate::notifying::tell;
 use crate::posting::{Occasion, redirect};
+use command_forms::Deed;
 use connections::Connection;
 use mg_bytes::OutOfMemory;
-use plain_machine::{LineDeed, OutDatagram, Station};
+use plain_machine::{OutDatagram, Station};
 
 /// The code with which a line refuses a deed, by its connections first.
-pub fn refusal_by(deed: &LineDeed, station: &Station) -> Option<u16>
+pub fn refusal_by(deed: &Deed, station: &Station) -> Option<u16>
     ensures { result ≡ refusal_by deed.now station.now }
 {
     if let Some(code) = connections_refuse(deed, station) {
@@ -35,7 +36,7 @@ pub fn deed_on(
     context: Context<'_>,
     occasion: Occasion,
     station: &mut Station,
-    deed: &LineDeed,
+    deed: &Deed,
     sent: &mut Vec<OutDatagram>,
 ) -> Result<News, OutOfMemory>
     requires line { IsLine occasion.line }

@@ -18,13 +18,12 @@ use Rattle.command_forms.specs.declared.forms.Deed.{Deed}
 use Rattle.command_forms.specs.declared.forms.Target.{Target}
 use Rattle.command_forms.specs.declared.forms.Target.TheVariants.{One}
 use Rattle.restart.specs.Restarting.{is_serving}
-use Rattle.plain_machine.specs.declared.line_deed.LineDeed.{LineDeed}
 use Rattle.plain_machine.specs.declared.own.Own.{Own}
 use Rattle.plain_machine.specs.declared.setup.Setup.{Setup}
 use Rattle.plain_machine.specs.declared.station.Station.{Station}
 use Rattle.plain_machine.specs.Effect.{Effect, silently}
 use Rattle.plain_machine.specs.Answering.{line_of_name}
-use Rattle.plain_machine.specs.Commanding.{audited, answer_by, line_deed, done_by, commanded}
+use Rattle.plain_machine.specs.Commanding.{audited, answer_by, done_by, commanded}
 use Rattle.plain_machine.specs.Done.{Done, only_answer}
 use Rattle.plain_machine.specs.Machine.{Endpoints, serves, station_at}
 use Rattle.plain_machine.specs.Message.{Sent}
@@ -53,7 +52,7 @@ if_turned true turn found = refl
 if_turned false turn found = refl
 
 -- where none refuses it, a deed is each line's turn that it is for
-done_turns : (setup : Setup) (endpoints : Endpoints) (target : Target) (deed : LineDeed) (moment line : ℕ) → NoneRefuses endpoints target deed
+done_turns : (setup : Setup) (endpoints : Endpoints) (target : Target) (deed : Deed) (moment line : ℕ) → NoneRefuses endpoints target deed
     → LineTurns line endpoints (turn_if (is_for target line) (deed_on setup deed moment line)) (deed_done setup endpoints target [] deed moment).told
 done_turns setup endpoints target deed moment line none = record {
   station = done_station setup endpoints target [] deed moment line none
@@ -71,13 +70,13 @@ apart_from line other apart = by_test (line == other) refl where
   by_test false e = refl
   by_test true e = absurd (apart (sym ((Decides-eqb line other).0 e)))
 
-not_meant : (endpoints : Endpoints) (deed : LineDeed) (line other : ℕ) → other ≢ line → refusal_at endpoints (One line) deed other ≡ None
+not_meant : (endpoints : Endpoints) (deed : Deed) (line other : ℕ) → other ≢ line → refusal_at endpoints (One line) deed other ≡ None
 not_meant endpoints deed line other apart = by_station (station_at endpoints other) where
   by_station : (found : Option Station) → option_and_then (λ (s : Station). refusal_on (One line) deed (other, s)) found ≡ None
   by_station None = refl
   by_station (Some station) = ap (λ (b : Bool). if b then refusal_by deed station else None) (apart_from line other apart)
 
-abbrev one_refused : (endpoints : Endpoints) (deed : LineDeed) (line code : ℕ) → refusal_at endpoints (One line) deed line ≡ Some code → IsRefused endpoints (One line) deed
+abbrev one_refused : (endpoints : Endpoints) (deed : Deed) (line code : ℕ) → refusal_at endpoints (One line) deed line ≡ Some code → IsRefused endpoints (One line) deed
 one_refused endpoints deed line code is = record {
   line = line;
   code = code;
@@ -85,7 +84,7 @@ one_refused endpoints deed line code is = record {
   least = λ other less. not_meant endpoints deed line other (λ same. omega (arith, same, less));
 }
 
-none_refuses : (endpoints : Endpoints) (deed : LineDeed) (line : ℕ) → refusal_at endpoints (One line) deed line ≡ None → NoneRefuses endpoints (One line) deed
+none_refuses : (endpoints : Endpoints) (deed : Deed) (line : ℕ) → refusal_at endpoints (One line) deed line ≡ None → NoneRefuses endpoints (One line) deed
 none_refuses endpoints deed line none other = by_test (other == line) refl where
   by_test : (b : Bool) → (other == line) ≡ b → refusal_at endpoints (One line) deed other ≡ None
   by_test true e = ap (refusal_at endpoints (One line) deed) ((Decides-eqb other line).0 e) ∙ none
@@ -97,7 +96,7 @@ audit_of_one audits.All line e = absurd cc
 
 module _ (setup : Setup) (line : ℕ) (one other : Endpoints) (alike : AreAlike line one other) where
   -- a deed on the line
-  deed_alike : (deed : LineDeed) (moment : ℕ)
+  deed_alike : (deed : Deed) (moment : ℕ)
       → DoneAlike line (deed_done setup one (One line) [] deed moment) (deed_done setup other (One line) [] deed moment)
   unfolding shown_of
   deed_alike deed moment = by_refusal (refusal_at one (One line) deed line) refl same where
@@ -140,7 +139,7 @@ module _ (setup : Setup) (line : ℕ) (one other : Endpoints) (alike : AreAlike 
       (sym (audit_of_one target line (reports target audit refl))) (report_alike id audit)
   asks_alike (Ok (Does target deed)) moment id reports does =
       subst (λ (t : Target). DoneAlike line (done_by (Ok (Does t deed)) setup one moment id) (done_by (Ok (Does t deed)) setup other moment id))
-      (sym (does target deed refl)) (deed_alike (line_deed deed) moment)
+      (sym (does target deed refl)) (deed_alike deed moment)
 
   -- a command whose name is of no line asks for nothing, and one whose name is of the line asks for it
   pub command_alike : (moment id : ℕ) (command : Command) (confirms : KValue)
@@ -162,7 +161,7 @@ module _ (setup : Setup) (line : ℕ) (one other : Endpoints) (alike : AreAlike 
 -- Another line
 
 module _ (setup : Setup) (line n : ℕ) (apart : (n == line) ≡ false) (one other : Endpoints) (alike : AreAlike line one other) where
-  deed_elsewhere : (deed : LineDeed) (moment : ℕ) → ToldAlike line (deed_done setup one (One n) [] deed moment).told (silently other)
+  deed_elsewhere : (deed : Deed) (moment : ℕ) → ToldAlike line (deed_done setup one (One n) [] deed moment).told (silently other)
   deed_elsewhere deed moment = by_refusal (refused_or_not one (One n) deed) where
     by_refusal : IsRefused one (One n) deed ⊎ NoneRefuses one (One n) deed → ToldAlike line (deed_done setup one (One n) [] deed moment).told (silently other)
     by_refusal (inl refused) =
@@ -181,7 +180,7 @@ module _ (setup : Setup) (line n : ℕ) (apart : (n == line) ≡ false) (one oth
   asks_elsewhere (Ok (Reports target audit)) moment id does = nothing_told line one other alike
   asks_elsewhere (Ok (Does target deed)) moment id does =
       subst (λ (t : Target). ToldAlike line (done_by (Ok (Does t deed)) setup one moment id).told (silently other))
-      (sym (does target deed refl)) (deed_elsewhere (line_deed deed) moment)
+      (sym (does target deed refl)) (deed_elsewhere deed moment)
 
   pub command_elsewhere : (moment id : ℕ) (command : Command) (confirms : KValue) → line_of_name setup command.name ≡ Some n
       → ToldAlike line (commanded setup one moment id command confirms).told (silently other)

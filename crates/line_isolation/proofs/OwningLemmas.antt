@@ -21,7 +21,7 @@ use Rattle.restart.specs.declared.heard.Heard.TheVariants.{Nothing, PutOff, Redi
 use Rattle.plain_machine.specs.declared.due_item.StationDue.{StationDue}
 use Rattle.plain_machine.specs.declared.due_item.StationDue.TheVariants.{OfLine, Resend, Announce}
 use Rattle.plain_machine.specs.declared.due_item.DueItem.{DueItem}
-use Rattle.plain_machine.specs.declared.line_deed.LineDeed.{LineDeed}
+use Rattle.command_forms.specs.declared.forms.Deed.{Deed}
 use Rattle.plain_machine.specs.declared.own.Own.{Own}
 use Rattle.plain_machine.specs.declared.post.Post.{Post}
 use Rattle.plain_machine.specs.declared.response.Response.{Response}
@@ -105,7 +105,7 @@ own_happened_owned Announce setup moment own = announced_owned setup 0 moment ow
 pub acted_owned : (setup : Setup) (line moment : ℕ) (act : Act) (station : Station) → OwnedBy line (acted_on setup line moment act station).sent
 acted_owned setup line moment act station = noted_owned setup line moment station (phoned station.line act moment)
 
-pub deed_owned : (setup : Setup) (deed : LineDeed) (moment line : ℕ) (station : Station) → OwnedBy line (deed_on setup deed moment line station).sent
+pub deed_owned : (setup : Setup) (deed : Deed) (moment line : ℕ) (station : Station) → OwnedBy line (deed_on setup deed moment line station).sent
 unfolding deed_on
 deed_owned setup deed moment line station =
     noted_owned setup line moment (with_connections deed (with_entity deed.entity station)) (asked_if deed.request station.line moment)

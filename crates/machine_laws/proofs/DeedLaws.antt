@@ -23,12 +23,11 @@ use Rattle.command_forms.specs.declared.forms.ConnectionDeed.TheVariants.{Keep}
 use Rattle.command_forms.specs.declared.forms.Deed.{Deed}
 use Rattle.command_forms.specs.declared.forms.Target.{Target}
 use Rattle.command_forms.specs.declared.forms.Target.TheVariants.{One, All as AllLines, Any as AnyLine}
-use Rattle.plain_machine.specs.declared.line_deed.LineDeed.{LineDeed}
 use Rattle.plain_machine.specs.declared.setup.Setup.{Setup}
 use Rattle.plain_machine.specs.declared.station.Station.{Station}
 use Rattle.plain_machine.specs.Effect.{silently}
 use Rattle.plain_machine.specs.Connecting.{Shown, nothing_shown, done_code, connected}
-use Rattle.plain_machine.specs.Commanding.{line_deed, done_by, commanded}
+use Rattle.plain_machine.specs.Commanding.{done_by, commanded}
 use Rattle.plain_machine.specs.Done.{Done, only_answer}
 use Rattle.plain_machine.specs.Event.{GatewayEvent}
 use Rattle.plain_machine.specs.Lists.{plain}
@@ -42,7 +41,7 @@ use Rattle.machine_laws.specs.Refusals.{refusal_at, IsRefused, NoneRefuses}
 use Rattle.machine_laws.proofs.LineLemmas.{own_stays, not_among, among_from, none_stays, sent_from_each, passing_from, place_of, all_there}
 
 -- what a deed does and is answered where no line refuses it
-abbrev done_whole : Setup → Endpoints → Target → List Param → LineDeed → ℕ → Done
+abbrev done_whole : Setup → Endpoints → Target → List Param → Deed → ℕ → Done
 done_whole setup endpoints lines more deed moment = record {
   told = deed_on_all setup endpoints lines deed moment;
   answer = answer_with more deed (shown_of endpoints lines deed);
@@ -50,22 +49,22 @@ done_whole setup endpoints lines more deed moment = record {
 
 -- The first line that refuses
 
-abbrev refusal_in : Target → LineDeed → ℕ → List Station → ℕ → Option ℕ
+abbrev refusal_in : Target → Deed → ℕ → List Station → ℕ → Option ℕ
 refusal_in lines deed n stations place = option_and_then (λ (station : Station). refusal_on lines deed (n + place, station)) (slice_get stations place)
 
-abbrev first_in : Target → LineDeed → ℕ → List Station → Option ℕ
+abbrev first_in : Target → Deed → ℕ → List Station → Option ℕ
 first_in lines deed n stations = first_fault (map (refusal_on lines deed) (enumerate_from n stations))
 
-shifted : (lines : Target) (deed : LineDeed) (n : ℕ) (first : Station) (stations : List Station) (place : ℕ)
+shifted : (lines : Target) (deed : Deed) (n : ℕ) (first : Station) (stations : List Station) (place : ℕ)
     → refusal_in lines deed n (first ∷ stations) (suc place) ≡ refusal_in lines deed (n + 1) stations place
 shifted lines deed n first stations place =
     let same : n + suc place ≡ n + 1 + place = omega arith in
     ap (λ (x : ℕ). option_and_then (λ (station : Station). refusal_on lines deed (x, station)) (slice_get stations place)) same
 
-at_front : (lines : Target) (deed : LineDeed) (n : ℕ) (first : Station) (stations : List Station) → refusal_in lines deed n (first ∷ stations) 0 ≡ refusal_on lines deed (n, first)
+at_front : (lines : Target) (deed : Deed) (n : ℕ) (first : Station) (stations : List Station) → refusal_in lines deed n (first ∷ stations) 0 ≡ refusal_on lines deed (n, first)
 at_front lines deed n first stations = let same : n + 0 ≡ n = omega arith in ap (λ (x : ℕ). refusal_on lines deed (x, first)) same
 
-first_refuses : (lines : Target) (deed : LineDeed) (n : ℕ) (stations : List Station) (place code : ℕ) → refusal_in lines deed n stations place ≡ Some code
+first_refuses : (lines : Target) (deed : Deed) (n : ℕ) (stations : List Station) (place code : ℕ) → refusal_in lines deed n stations place ≡ Some code
     → ((before : ℕ) → before < place → refusal_in lines deed n stations before ≡ None) → first_in lines deed n stations ≡ Some code
 first_refuses lines deed n [] place code refuses none = absurd (none-some code refuses)
 first_refuses lines deed n (first ∷ stations) zero code refuses none =
@@ -75,14 +74,14 @@ first_refuses lines deed n (first ∷ stations) (suc place) code refuses none =
     ∙ first_refuses lines deed (n + 1) stations place code (sym (shifted lines deed n first stations place) ∙ refuses)
     (λ before less. sym (shifted lines deed n first stations before) ∙ none (suc before) (omega (arith, less)))
 
-none_refuses : (lines : Target) (deed : LineDeed) (n : ℕ) (stations : List Station) → ((place : ℕ) → refusal_in lines deed n stations place ≡ None) → first_in lines deed n stations ≡ None
+none_refuses : (lines : Target) (deed : Deed) (n : ℕ) (stations : List Station) → ((place : ℕ) → refusal_in lines deed n stations place ≡ None) → first_in lines deed n stations ≡ None
 none_refuses lines deed n [] none = refl
 none_refuses lines deed n (first ∷ stations) none =
     ap (λ (x : Option ℕ). first_fault (x ∷ map (refusal_on lines deed) (enumerate_from (n + 1) stations))) (sym (at_front lines deed n first stations) ∙ none 0)
     ∙ none_refuses lines deed (n + 1) stations (λ place. sym (shifted lines deed n first stations place) ∙ none (suc place))
 
 -- a line is at its place
-line_at : (endpoints : Endpoints) (lines : Target) (deed : LineDeed) (place : ℕ) → refusal_at endpoints lines deed (1 + place) ≡ refusal_in lines deed 1 endpoints.stations place
+line_at : (endpoints : Endpoints) (lines : Target) (deed : Deed) (place : ℕ) → refusal_at endpoints lines deed (1 + place) ≡ refusal_in lines deed 1 endpoints.stations place
 line_at endpoints lines deed place = by_zero (1 + place == 0) refl where
   by_zero : (b : Bool) → (1 + place == 0) ≡ b
       → option_and_then (λ (station : Station). refusal_on lines deed (1 + place, station)) (if b then None else slice_get endpoints.stations (1 + place - 1))
@@ -92,7 +91,7 @@ line_at endpoints lines deed place = by_zero (1 + place == 0) refl where
       let same : 1 + place - 1 ≡ place = omega arith in
       ap (λ (x : ℕ). option_and_then (λ (station : Station). refusal_on lines deed (1 + place, station)) (slice_get endpoints.stations x)) same
 
-least_refuses : (endpoints : Endpoints) (lines : Target) (deed : LineDeed) (line code : ℕ) → refusal_at endpoints lines deed line ≡ Some code
+least_refuses : (endpoints : Endpoints) (lines : Target) (deed : Deed) (line code : ℕ) → refusal_at endpoints lines deed line ≡ Some code
     → ((other : ℕ) → other < line → refusal_at endpoints lines deed other ≡ None) → refused_by endpoints lines deed ≡ Some code
 unfolding refused_by
 least_refuses endpoints lines deed zero code refuses none = absurd (none-some code refuses)
@@ -102,7 +101,7 @@ least_refuses endpoints lines deed (suc place) code refuses none =
     (sym (line_at endpoints lines deed place) ∙ ap (refusal_at endpoints lines deed) (sym same) ∙ refuses)
     (λ before less. sym (line_at endpoints lines deed before) ∙ none (1 + before) (omega (arith, less)))
 
-pub refused_deed : (setup : Setup) (endpoints : Endpoints) (lines : Target) (more : List Param) (deed : LineDeed) (moment : ℕ) (refused : IsRefused endpoints lines deed)
+pub refused_deed : (setup : Setup) (endpoints : Endpoints) (lines : Target) (more : List Param) (deed : Deed) (moment : ℕ) (refused : IsRefused endpoints lines deed)
     → deed_done setup endpoints lines more deed moment ≡ only_answer endpoints (plain_code refused.code)
 refused_deed setup endpoints lines more deed moment refused =
     ap (λ (x : Option ℕ). unless_refused x endpoints (done_whole setup endpoints lines more deed moment))
@@ -110,10 +109,10 @@ refused_deed setup endpoints lines more deed moment refused =
 
 -- Either a line refuses or none does
 
-abbrev NoneBelow : Endpoints → Target → LineDeed → ℕ → Type 0
+abbrev NoneBelow : Endpoints → Target → Deed → ℕ → Type 0
 NoneBelow endpoints lines deed n = (line : ℕ) → line < n → refusal_at endpoints lines deed line ≡ None
 
-refused_below : (endpoints : Endpoints) (lines : Target) (deed : LineDeed) (n : ℕ) → IsRefused endpoints lines deed ⊎ NoneBelow endpoints lines deed n
+refused_below : (endpoints : Endpoints) (lines : Target) (deed : Deed) (n : ℕ) → IsRefused endpoints lines deed ⊎ NoneBelow endpoints lines deed n
 refused_below endpoints lines deed zero = inr (λ line less. absurd (omega (arith, less)))
 refused_below endpoints lines deed (suc n) = by_rest (refused_below endpoints lines deed n) where
   by_this : (found : Option ℕ) → refusal_at endpoints lines deed n ≡ found → NoneBelow endpoints lines deed n
@@ -133,14 +132,14 @@ refused_below endpoints lines deed (suc n) = by_rest (refused_below endpoints li
   by_rest (inr none) = by_this (refusal_at endpoints lines deed n) refl none
 
 -- there is no line behind the last
-none_behind : (endpoints : Endpoints) (lines : Target) (deed : LineDeed) → NoneBelow endpoints lines deed (1 + length endpoints.stations) → NoneRefuses endpoints lines deed
+none_behind : (endpoints : Endpoints) (lines : Target) (deed : Deed) → NoneBelow endpoints lines deed (1 + length endpoints.stations) → NoneRefuses endpoints lines deed
 none_behind endpoints lines deed none line = by_station (station_at endpoints line) refl where
   by_station : (found : Option Station) → station_at endpoints line ≡ found → option_and_then (λ (station : Station). refusal_on lines deed (line, station)) found ≡ None
   by_station None at = refl
   by_station (Some station) at =
       ap (option_and_then (λ (station : Station). refusal_on lines deed (line, station))) (sym at) ∙ none line (place_of endpoints line station at).1
 
-pub refused_or_not : (endpoints : Endpoints) (lines : Target) (deed : LineDeed) → IsRefused endpoints lines deed ⊎ NoneRefuses endpoints lines deed
+pub refused_or_not : (endpoints : Endpoints) (lines : Target) (deed : Deed) → IsRefused endpoints lines deed ⊎ NoneRefuses endpoints lines deed
 refused_or_not endpoints lines deed = by_all (refused_below endpoints lines deed (1 + length endpoints.stations)) where
   by_all : IsRefused endpoints lines deed ⊎ NoneBelow endpoints lines deed (1 + length endpoints.stations) → IsRefused endpoints lines deed ⊎ NoneRefuses endpoints lines deed
   by_all (inl refused) = inl refused
@@ -148,22 +147,22 @@ refused_or_not endpoints lines deed = by_all (refused_below endpoints lines deed
 
 -- None refuses
 
-none_of_all : (endpoints : Endpoints) (lines : Target) (deed : LineDeed) → NoneRefuses endpoints lines deed → refused_by endpoints lines deed ≡ None
+none_of_all : (endpoints : Endpoints) (lines : Target) (deed : Deed) → NoneRefuses endpoints lines deed → refused_by endpoints lines deed ≡ None
 unfolding refused_by
 none_of_all endpoints lines deed none = none_refuses lines deed 1 endpoints.stations (λ place. sym (line_at endpoints lines deed place) ∙ none (1 + place))
 
-all_done : (setup : Setup) (endpoints : Endpoints) (lines : Target) (more : List Param) (deed : LineDeed) (moment : ℕ) → NoneRefuses endpoints lines deed
+all_done : (setup : Setup) (endpoints : Endpoints) (lines : Target) (more : List Param) (deed : Deed) (moment : ℕ) → NoneRefuses endpoints lines deed
     → deed_done setup endpoints lines more deed moment ≡ done_whole setup endpoints lines more deed moment
 all_done setup endpoints lines more deed moment none =
     ap (λ (x : Option ℕ). unless_refused x endpoints (done_whole setup endpoints lines more deed moment))
     (none_of_all endpoints lines deed none)
 
-pub done_answer : (setup : Setup) (endpoints : Endpoints) (lines : Target) (more : List Param) (deed : LineDeed) (moment : ℕ) → NoneRefuses endpoints lines deed
+pub done_answer : (setup : Setup) (endpoints : Endpoints) (lines : Target) (more : List Param) (deed : Deed) (moment : ℕ) → NoneRefuses endpoints lines deed
     → (deed_done setup endpoints lines more deed moment).answer ≡ answer_with more deed (shown_of endpoints lines deed)
 done_answer setup endpoints lines more deed moment none = ap (λ (x : Done). x.answer) (all_done setup endpoints lines more deed moment none)
 
 -- where connections stay there is nothing to be told
-none_shown : (endpoints : Endpoints) (lines : Target) (deed : LineDeed) → deed.connections ≡ Keep → shown_of endpoints lines deed ≡ nothing_shown
+none_shown : (endpoints : Endpoints) (lines : Target) (deed : Deed) → deed.connections ≡ Keep → shown_of endpoints lines deed ≡ nothing_shown
 unfolding shown_of connected
 none_shown endpoints AllLines deed keeps = refl
 none_shown endpoints AnyLine deed keeps = refl
@@ -173,7 +172,7 @@ none_shown endpoints (One line) deed keeps = by_station (station_at endpoints li
   by_station (Some station) =
       ap (λ (connections : ConnectionDeed). shown_by (connected connections (encoding_with deed station) station.connections)) keeps
 
-pub done_keeping : (setup : Setup) (endpoints : Endpoints) (lines : Target) (deed : LineDeed) (moment : ℕ) → NoneRefuses endpoints lines deed → deed.connections ≡ Keep
+pub done_keeping : (setup : Setup) (endpoints : Endpoints) (lines : Target) (deed : Deed) (moment : ℕ) → NoneRefuses endpoints lines deed → deed.connections ≡ Keep
     → (deed_done setup endpoints lines [] deed moment).answer ≡ plain_code 200
 done_keeping setup endpoints lines deed moment none keeps =
     done_answer setup endpoints lines [] deed moment none
@@ -186,7 +185,7 @@ apart_from_passing p n line stations fails k d within same =
     let both : true ≡ false = sym passes ∙ sym (ap p same) ∙ fails in
     absurd cc
 
-deed_station : (setup : Setup) (endpoints : Endpoints) (lines : Target) (deed : LineDeed) (moment line : ℕ)
+deed_station : (setup : Setup) (endpoints : Endpoints) (lines : Target) (deed : Deed) (moment line : ℕ)
     → station_at (deed_on_all setup endpoints lines deed moment).value line
     ≡ option_map (λ (station : Station). if is_for lines line then (deed_on setup deed moment line station).value else station) (station_at endpoints line)
 deed_station setup endpoints lines deed moment line = by_station (station_at endpoints line) refl where
@@ -205,13 +204,13 @@ deed_station setup endpoints lines deed moment line = by_station (station_at end
   by_station None at = none_stays (lines_meant endpoints lines) endpoints (deed_on setup deed moment) line at
   by_station (Some station) at = by_test station (is_for lines line) refl at
 
-pub done_station : (setup : Setup) (endpoints : Endpoints) (lines : Target) (more : List Param) (deed : LineDeed) (moment line : ℕ) → NoneRefuses endpoints lines deed
+pub done_station : (setup : Setup) (endpoints : Endpoints) (lines : Target) (more : List Param) (deed : Deed) (moment line : ℕ) → NoneRefuses endpoints lines deed
     → station_at (deed_done setup endpoints lines more deed moment).told.value line
     ≡ option_map (λ (station : Station). if is_for lines line then (deed_on setup deed moment line station).value else station) (station_at endpoints line)
 done_station setup endpoints lines more deed moment line none =
     ap (λ (x : Done). station_at x.told.value line) (all_done setup endpoints lines more deed moment none) ∙ deed_station setup endpoints lines deed moment line
 
-pub done_sent : (setup : Setup) (endpoints : Endpoints) (lines : Target) (more : List Param) (deed : LineDeed) (moment : ℕ) → NoneRefuses endpoints lines deed
+pub done_sent : (setup : Setup) (endpoints : Endpoints) (lines : Target) (more : List Param) (deed : Deed) (moment : ℕ) → NoneRefuses endpoints lines deed
     → (deed_done setup endpoints lines more deed moment).told.sent
     ≡ flat_map (λ (one : ℕ × Station). (deed_on setup deed moment one.0 one.1).sent) (filter (λ (one : ℕ × Station). is_for lines one.0) (numbered endpoints))
 done_sent setup endpoints lines more deed moment none =
@@ -220,7 +219,7 @@ done_sent setup endpoints lines more deed moment none =
 
 -- One line
 
-pub one_line_alone : (setup : Setup) (endpoints : Endpoints) (more : List Param) (deed : LineDeed) (moment line other : ℕ) → other ≢ line
+pub one_line_alone : (setup : Setup) (endpoints : Endpoints) (more : List Param) (deed : Deed) (moment line other : ℕ) → other ≢ line
     → station_at (deed_done setup endpoints (One line) more deed moment).told.value other ≡ station_at endpoints other
 one_line_alone setup endpoints more deed moment line other apart = by_refusal (refused_by endpoints (One line) deed) where
   not_meant : is_for (One line) other ≡ false
@@ -236,7 +235,7 @@ one_line_alone setup endpoints more deed moment line other apart = by_refusal (r
       not_among (lines_meant endpoints (One line)) endpoints (deed_on setup deed moment) other (apart_from_passing (is_for (One line)) 1 other endpoints.stations not_meant)
   by_refusal (Some code) = refl
 
-pub own_alone : (setup : Setup) (endpoints : Endpoints) (lines : Target) (more : List Param) (deed : LineDeed) (moment : ℕ)
+pub own_alone : (setup : Setup) (endpoints : Endpoints) (lines : Target) (more : List Param) (deed : Deed) (moment : ℕ)
     → (deed_done setup endpoints lines more deed moment).told.value.own ≡ endpoints.own
 own_alone setup endpoints lines more deed moment = by_refusal (refused_by endpoints lines deed) where
   by_refusal : (refusal : Option ℕ)
@@ -248,24 +247,24 @@ own_alone setup endpoints lines more deed moment = by_refusal (refused_by endpoi
 
 pub deed_of_command : (setup : Setup) (endpoints : Endpoints) (moment id : ℕ) (command : Command) (confirms : KValue) (lines : Target) (deed : Deed)
     → form_while (serves endpoints) command confirms setup.names ≡ Ok (Does lines deed)
-    → commanded setup endpoints moment id command confirms ≡ done_for setup endpoints lines (line_deed deed) moment
+    → commanded setup endpoints moment id command confirms ≡ done_for setup endpoints lines deed moment
 deed_of_command setup endpoints moment id command confirms lines deed is = ap (λ (x : Result Asks ℕ). done_by x setup endpoints moment id) is
 
 -- for which lines a deed is
 
-pub deed_on_one : (setup : Setup) (endpoints : Endpoints) (deed : LineDeed) (moment line : ℕ)
+pub deed_on_one : (setup : Setup) (endpoints : Endpoints) (deed : Deed) (moment line : ℕ)
     → done_for setup endpoints (One line) deed moment ≡ deed_done setup endpoints (One line) [] deed moment
 deed_on_one setup endpoints deed moment line = refl
 
-pub deed_on_each : (setup : Setup) (endpoints : Endpoints) (deed : LineDeed) (moment : ℕ)
+pub deed_on_each : (setup : Setup) (endpoints : Endpoints) (deed : Deed) (moment : ℕ)
     → done_for setup endpoints AllLines deed moment ≡ deed_done setup endpoints AllLines [] deed moment
 deed_on_each setup endpoints deed moment = refl
 
-pub deed_on_any : (setup : Setup) (endpoints : Endpoints) (deed : LineDeed) (moment line : ℕ) → line_with_place endpoints ≡ Some line
+pub deed_on_any : (setup : Setup) (endpoints : Endpoints) (deed : Deed) (moment line : ℕ) → line_with_place endpoints ≡ Some line
     → done_for setup endpoints AnyLine deed moment ≡ deed_done setup endpoints (One line) (name_of_line setup line ∷ []) deed moment
 deed_on_any setup endpoints deed moment line is = ap (λ (found : Option ℕ). done_there found setup endpoints deed moment) is
 
-pub deed_on_no_line : (setup : Setup) (endpoints : Endpoints) (deed : LineDeed) (moment : ℕ) → line_with_place endpoints ≡ None
+pub deed_on_no_line : (setup : Setup) (endpoints : Endpoints) (deed : Deed) (moment : ℕ) → line_with_place endpoints ≡ None
     → done_for setup endpoints AnyLine deed moment ≡ only_answer endpoints (plain_code 410)
 deed_on_no_line setup endpoints deed moment is = ap (λ (found : Option ℕ). done_there found setup endpoints deed moment) is
 

@@ -1,7 +1,7 @@
 -- What a gateway sends of its own: the commands of each line, and of the gateway itself, under ids of their own, and again for
 -- less than 20,000 ms.
 use Rattle.std.proofs.Common.{◌≡◌, ◌≢◌, ℕ, ◌≤◌, true, List, [], ◌∷◌, ◌++◌, Option, Some, None, Ok, inl, inr, refl, ap, subst, arith}
-use Rattle.std.specs.Prelude.{◌⊎◌, IfSome, option_map}
+use Rattle.std.specs.Prelude.{◌⊎◌, IfSome}
 use Rattle.std.specs.Option.{unwrap_or}
 use Rattle.mgcp_text.specs.declared.confirmation.KValue.{KValue}
 use Rattle.mgcp_text.specs.declared.message.Verb.TheVariants.{Ntfy}
@@ -41,7 +41,6 @@ use Rattle.plain_machine.specs.Announcing.{announced_on, heard_on, replied}
 use Rattle.plain_machine.specs.Notifying.{posted, notification, with_notice, noted}
 use Rattle.plain_machine.specs.Machine.{own_posted}
 use Rattle.plain_machine.specs.Requesting.{with_entity, with_connections, asked_if, deed_on}
-use Rattle.plain_machine.specs.Commanding.{line_request, line_deed}
 use Rattle.plain_machine.specs.Falling.{due_on, own_due, happened_on, own_happened, post_due}
 use Rattle.plain_machine.specs.Responding.{responded_as, responded_on, own_responded, redirected_on, opened_on}
 use Rattle.gateway_laws.proofs.CommandLaws.{Sound, OwnSound, sound_turns, sound_own_turns, noted_sound, responded_sound, own_responded_sound, asked_if_done}
@@ -218,11 +217,11 @@ opened_good setup until set_up log agent line station logged s =
 
 deed_good : (setup : Setup) (until : ℕ) → IsSetUp setup → (command : Command) (confirms : KValue) (target : Target) (deed : Deed)
     → form_of command confirms setup.names ≡ Ok (Does target deed) → (log : List Begun) (line : ℕ) (station : Station) → Logged until log → Stationed until log line station
-    → GoodTurn until log line (deed_on setup (line_deed deed) until line station)
+    → GoodTurn until log line (deed_on setup deed until line station)
 unfolding deed_on
 deed_good setup until set_up command confirms target deed is log line station logged s =
     let with' = entity_stands until log line station deed.entity s in
-    noted_good setup until set_up log line until (with_connections (line_deed deed) (with_entity deed.entity station)) (asked_if (option_map line_request deed.request) station.line until) (omega arith) logged
+    noted_good setup until set_up log line until (with_connections deed (with_entity deed.entity station)) (asked_if deed.request station.line until) (omega arith) logged
     (record { sound = record { some = with'.sound.some; few = with'.sound.few; below = with'.sound.below; fine = with'.sound.fine; flight = with'.sound.flight }; post = with'.post })
     (asked_if_done command.params station.line deed.request until (deed_has_values command confirms setup.names target deed is).request s.sound.fine)
 

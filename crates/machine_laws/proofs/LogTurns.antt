@@ -20,7 +20,6 @@ use Rattle.mg_line.specs.declared.phone.Act.{Act}
 use Rattle.restart.specs.declared.heard.Heard.{Heard}
 use Rattle.restart.specs.declared.heard.Heard.TheVariants.{Nothing, PutOff, Redirected, Answered}
 use Rattle.plain_machine.specs.declared.due_item.DueItem.{DueItem}
-use Rattle.plain_machine.specs.declared.line_deed.LineDeed.{LineDeed}
 use Rattle.plain_machine.specs.declared.own.Own.{Own as Itself}
 use Rattle.plain_machine.specs.declared.response.Response.{Response}
 use Rattle.plain_machine.specs.declared.setup.Setup.{Setup}
@@ -34,7 +33,7 @@ use Rattle.plain_machine.specs.Acting.{acted_on, acted}
 use Rattle.plain_machine.specs.Falling.{due_on, own_due, first_due, due_by, own_happened, happened_on, happened, go_on, passed, room, pass}
 use Rattle.plain_machine.specs.Done.{Done}
 use Rattle.plain_machine.specs.Requesting.{refused_by, deed_on, lines_meant, unless_refused, deed_done, line_with_place, done_there, done_for}
-use Rattle.plain_machine.specs.Commanding.{line_deed, done_by, commanded}
+use Rattle.plain_machine.specs.Commanding.{done_by, commanded}
 use Rattle.plain_machine.specs.Responding.{responded_on, own_responded, redirected_on, opened_on, on_all, lines_told, own_heard, responded}
 use Rattle.gateway_laws.proofs.AllLemmas.{OnAll}
 use Rattle.gateway_laws.proofs.TurnLemmas.{of_line}
@@ -81,7 +80,7 @@ OwnGood R Q L log turn = EffectKeeps R Q L log 0 turn
 pub record LogTurns (setup : Setup) (until : ℕ) (P : List Begun → ℕ → Station → Type 0) (R : List Begun → Itself → Type 0) (Q : List Begun → Sent → Type 0) (L : List Begun → Type 0) : Type 0 where
   pub act : (log : List Begun) (line : ℕ) (act : Act) (station : Station) → L log → P log line station → Good P Q L log line (acted_on setup line until act station)
   pub deed : (command : Command) (confirms : KValue) (target : Target) (deed : Deed) → form_of command confirms setup.names ≡ Ok (Does target deed)
-      → (log : List Begun) (line : ℕ) (station : Station) → L log → P log line station → Good P Q L log line (deed_on setup (line_deed deed) until line station)
+      → (log : List Begun) (line : ℕ) (station : Station) → L log → P log line station → Good P Q L log line (deed_on setup deed until line station)
   pub response : (log : List Begun) (line : ℕ) (response : Response) (station : Station) → L log → P log line station → Good P Q L log line (responded_on setup line until response station)
   pub happening : (log : List Begun) (line : ℕ) (item : DueItem) (station : Station) → L log → P log line station → due_on (line, station) ≡ Some item → item.moment ≤ until
       → Good P Q L log line (happened_on item.due setup line item.moment station)
@@ -253,15 +252,15 @@ module _ (setup : Setup) (until : ℕ) (P : List Begun → ℕ → Station → T
   unless_goes log None endpoints done s goes = goes
   unless_goes log (Some code) endpoints done s goes = stays log endpoints s
 
-  abbrev DeedGoes : LineDeed → Type 0
+  abbrev DeedGoes : Deed → Type 0
   DeedGoes deed = (log : List Begun) (line : ℕ) → LineGoes log line (deed_on setup deed until line)
 
-  deed_goes : (log : List Begun) (endpoints : Endpoints) (lines : Target) (more : List Param) (deed : LineDeed) → Stands log endpoints → DeedGoes deed
+  deed_goes : (log : List Begun) (endpoints : Endpoints) (lines : Target) (more : List Param) (deed : Deed) → Stands log endpoints → DeedGoes deed
       → Goes log (deed_done setup endpoints lines more deed until).told
   deed_goes log endpoints lines more deed s good =
       unless_goes log (refused_by endpoints lines deed) endpoints _ s (several_go (lines_meant endpoints lines) log endpoints (deed_on setup deed until) s good)
 
-  target_goes : (log : List Begun) (endpoints : Endpoints) (target : Target) (deed : LineDeed) → Stands log endpoints → DeedGoes deed → Goes log (done_for setup endpoints target deed until).told
+  target_goes : (log : List Begun) (endpoints : Endpoints) (target : Target) (deed : Deed) → Stands log endpoints → DeedGoes deed → Goes log (done_for setup endpoints target deed until).told
   target_goes log endpoints (One line) deed s good = deed_goes log endpoints (One line) [] deed s good
   target_goes log endpoints AllLines deed s good = deed_goes log endpoints AllLines [] deed s good
   target_goes log endpoints AnyLine deed s good = by_line (line_with_place endpoints) where
@@ -275,7 +274,7 @@ module _ (setup : Setup) (until : ℕ) (P : List Begun → ℕ → Station → T
   form_goes serving command confirms (Ok (Reports target audit)) is log endpoints id s = stays log endpoints s
   form_goes false command confirms (Ok (Does target deed)) is log endpoints id s = absurd (while_none command confirms setup.names target deed is)
   form_goes true command confirms (Ok (Does target deed)) is log endpoints id s =
-      target_goes log endpoints target (line_deed deed) s
+      target_goes log endpoints target deed s
       (λ log line station holds has. turns.deed command confirms target deed (while_taken true command confirms setup.names (Does target deed) is) log line station holds has)
 
   pub command_goes : (command : Command) (confirms : KValue) (log : List Begun) (endpoints : Endpoints) (id : ℕ) → Stands log endpoints

@@ -13,12 +13,12 @@ use Rattle.command_forms.specs.declared.forms.Asks.{Asks}
 use Rattle.command_forms.specs.declared.forms.Asks.TheVariants.{Reports, Does}
 use Rattle.command_forms.specs.declared.forms.Target.{Target}
 use Rattle.command_forms.specs.declared.forms.Target.TheVariants.{One, All as AllLines, Any as AnyLine}
-use Rattle.plain_machine.specs.declared.line_deed.LineDeed.{LineDeed}
+use Rattle.command_forms.specs.declared.forms.Deed.{Deed}
 use Rattle.plain_machine.specs.declared.setup.Setup.{Setup}
 use Rattle.plain_machine.specs.declared.station.Station.{Station}
 use Rattle.plain_machine.specs.Effect.{Effect}
 use Rattle.plain_machine.specs.Answering.{Transaction, reply, response_to, command_with, executed}
-use Rattle.plain_machine.specs.Commanding.{line_deed, done_by, commanded}
+use Rattle.plain_machine.specs.Commanding.{done_by, commanded}
 use Rattle.plain_machine.specs.Machine.{serves, Endpoints, Machine}
 use Rattle.plain_machine.specs.Message.{answer, own_of, Sent}
 use Rattle.plain_machine.specs.Reporting.{name_of_line}
@@ -76,12 +76,12 @@ in_order p n (first ∷ stations) turn each = by_test (p n) (in_order p (n + 1) 
   by_test true order = before_them n (turn n first).sent _ (each n first) order
   by_test false order = record { from = lower n _ order.from; pairs = order.pairs }
 
-deeds_in_order : (setup : Setup) (endpoints : Endpoints) (lines : Target) (deed : LineDeed) (moment : ℕ) → InOrder 1 (deed_on_all setup endpoints lines deed moment).sent
+deeds_in_order : (setup : Setup) (endpoints : Endpoints) (lines : Target) (deed : Deed) (moment : ℕ) → InOrder 1 (deed_on_all setup endpoints lines deed moment).sent
 deeds_in_order setup endpoints lines deed moment =
     subst (InOrder 1) (sym (sent_from_each (is_for lines) 1 endpoints.stations endpoints (deed_on setup deed moment) (all_there endpoints)))
     (in_order (is_for lines) 1 endpoints.stations (deed_on setup deed moment) (λ line station. deed_once setup deed moment line station))
 
-deed_in_order : (setup : Setup) (endpoints : Endpoints) (lines : Target) (more : List Param) (deed : LineDeed) (moment : ℕ)
+deed_in_order : (setup : Setup) (endpoints : Endpoints) (lines : Target) (more : List Param) (deed : Deed) (moment : ℕ)
     → InOrder 1 (deed_done setup endpoints lines more deed moment).told.sent
 deed_in_order setup endpoints lines more deed moment = by_refusal (refused_by endpoints lines deed) where
   by_refusal : (refusal : Option ℕ)
@@ -90,7 +90,7 @@ deed_in_order setup endpoints lines more deed moment = by_refusal (refused_by en
   by_refusal None = deeds_in_order setup endpoints lines deed moment
   by_refusal (Some code) = nothing 1
 
-for_in_order : (setup : Setup) (endpoints : Endpoints) (target : Target) (deed : LineDeed) (moment : ℕ) → InOrder 1 (done_for setup endpoints target deed moment).told.sent
+for_in_order : (setup : Setup) (endpoints : Endpoints) (target : Target) (deed : Deed) (moment : ℕ) → InOrder 1 (done_for setup endpoints target deed moment).told.sent
 for_in_order setup endpoints (One line) deed moment = deed_in_order setup endpoints (One line) [] deed moment
 for_in_order setup endpoints AllLines deed moment = deed_in_order setup endpoints AllLines [] deed moment
 for_in_order setup endpoints AnyLine deed moment = by_line (line_with_place endpoints) where
@@ -101,7 +101,7 @@ for_in_order setup endpoints AnyLine deed moment = by_line (line_with_place endp
 done_in_order : (asks : Result Asks ℕ) (setup : Setup) (endpoints : Endpoints) (moment id : ℕ) → InOrder 1 (done_by asks setup endpoints moment id).told.sent
 done_in_order (Err code) setup endpoints moment id = nothing 1
 done_in_order (Ok (Reports target audit)) setup endpoints moment id = nothing 1
-done_in_order (Ok (Does target deed)) setup endpoints moment id = for_in_order setup endpoints target (line_deed deed) moment
+done_in_order (Ok (Does target deed)) setup endpoints moment id = for_in_order setup endpoints target deed moment
 
 pub command_own : (setup : Setup) (endpoints : Endpoints) (moment id : ℕ) (command : Command) (confirms : KValue)
     → All IsOfALine (commanded setup endpoints moment id command confirms).told.sent

@@ -11,7 +11,7 @@ use Rattle.mg_line.specs.Acting.{phoned}
 use Rattle.mg_line.specs.Answering.{answered}
 use Rattle.plain_machine.specs.declared.due_item.StationDue.{StationDue}
 use Rattle.plain_machine.specs.declared.due_item.StationDue.TheVariants.{OfLine, Resend, Announce}
-use Rattle.plain_machine.specs.declared.line_deed.LineDeed.{LineDeed}
+use Rattle.command_forms.specs.declared.forms.Deed.{Deed}
 use Rattle.plain_machine.specs.declared.own.Own.{Own}
 use Rattle.plain_machine.specs.declared.post.Post.{Post}
 use Rattle.plain_machine.specs.declared.setup.Setup.{Setup}
@@ -29,7 +29,6 @@ use Rattle.plain_machine.specs.Notifying.{posted, with_notice, noted}
 use Rattle.plain_machine.specs.Falling.{happened_on, own_happened}
 use Rattle.plain_machine.specs.Machine.{Endpoints, own_posted}
 use Rattle.plain_machine.specs.Posting.{repeated_as, resent_by, resent_on}
-use Rattle.plain_machine.specs.Commanding.{line_deed}
 use Rattle.plain_machine.specs.Requesting.{with_entity, with_connections, asked_if, deed_on}
 use Rattle.plain_machine.specs.Responding.{responded_as, responded_on, own_responded, redirected_on, opened_on}
 use Rattle.gateway_laws.proofs.AllLemmas.{OnAll}
@@ -61,7 +60,7 @@ noted_none setup line moment station done = by_notice done.notice where
   by_notice None = All-nil NoAck
   by_notice (Some notice) = All-cons NoAck _ [] refl (All-nil NoAck)
 
-deed_none : (setup : Setup) (deed : LineDeed) (moment line : ℕ) (station : Station) → All NoAck (deed_on setup deed moment line station).sent
+deed_none : (setup : Setup) (deed : Deed) (moment line : ℕ) (station : Station) → All NoAck (deed_on setup deed moment line station).sent
 unfolding deed_on
 deed_none setup deed moment line station = noted_none setup line moment (with_connections deed (with_entity deed.entity station)) (asked_if deed.request station.line moment)
 
@@ -133,7 +132,7 @@ none_own_turns setup = record {
 pub none_turns : (setup : Setup) → Turns setup Any NoAck
 none_turns setup = record {
   act = λ serving line moment act station any. (tt, noted_none setup line moment station (phoned station.line act moment));
-  deed = λ command confirms target deed is line moment station any. (tt, deed_none setup (line_deed deed) moment line station);
+  deed = λ command confirms target deed is line moment station any. (tt, deed_none setup deed moment line station);
   response = λ serving line moment response station read any. (tt, responded_none setup line moment response station);
   happening = λ serving due line moment station any. (tt, happened_none due setup line moment station);
   redirecting = λ agent line station read any. (tt, redirected_none agent line station);
@@ -154,6 +153,6 @@ noted_once setup line moment station done = by_notice done.notice where
   by_notice None = silent refl
   by_notice (Some notice) = once _ refl refl
 
-pub deed_once : (setup : Setup) (deed : LineDeed) (moment line : ℕ) (station : Station) → OnceAtMost line (deed_on setup deed moment line station).sent
+pub deed_once : (setup : Setup) (deed : Deed) (moment line : ℕ) (station : Station) → OnceAtMost line (deed_on setup deed moment line station).sent
 unfolding deed_on
 deed_once setup deed moment line station = noted_once setup line moment (with_connections deed (with_entity deed.entity station)) (asked_if deed.request station.line moment)

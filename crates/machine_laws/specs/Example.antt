@@ -4,7 +4,7 @@ use Rattle.std.specs.declared.net.socket_addr.SocketAddrV4.{SocketAddrV4}
 use Rattle.command_forms.specs.declared.forms.ConnectionDeed.TheVariants as deeds
 use Rattle.mg_line.specs.declared.phone.Act.TheVariants as acts
 use Rattle.mg_line.specs.Story.{requests, with_signals}
-use Rattle.plain_machine.specs.declared.line_deed.LineDeed.{LineDeed}
+use Rattle.command_forms.specs.declared.forms.Deed.{Deed}
 use Rattle.plain_machine.specs.Arriving.{arrival}
 use Rattle.plain_machine.specs.Event.{phone}
 use Rattle.plain_machine.specs.Example.{agent, machine_then, own_at}
@@ -17,7 +17,7 @@ abbrev pub saying : SocketAddrV4 → ℕ → List ℕ → Sent
 saying to moment text = record { to = to; moment = moment; owner = of_none; said = again text }
 
 -- a deed that asks for these signals
-abbrev pub signalling : List ℕ → LineDeed
+abbrev pub signalling : List ℕ → Deed
 signalling signals = record {
   entity = None;
   encoding = None;

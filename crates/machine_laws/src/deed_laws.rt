@@ -15,11 +15,10 @@ ghost use Rattle.command_forms.specs.declared.forms.ConnectionDeed.TheVariants.{
 ghost use Rattle.command_forms.specs.declared.forms.Deed.{Deed};
 ghost use Rattle.command_forms.specs.declared.forms.Target.{Target};
 ghost use Rattle.command_forms.specs.declared.forms.Target.TheVariants.{One, All, Any};
-ghost use Rattle.plain_machine.specs.declared.line_deed.LineDeed.{LineDeed};
 ghost use Rattle.plain_machine.specs.declared.setup.Setup.{Setup};
 ghost use Rattle.plain_machine.specs.declared.station.Station.{Station};
 ghost use Rattle.plain_machine.specs.Effect.{silently};
-ghost use Rattle.plain_machine.specs.Commanding.{line_deed, commanded};
+ghost use Rattle.plain_machine.specs.Commanding.{commanded};
 ghost use Rattle.plain_machine.specs.Done.{only_answer};
 ghost use Rattle.plain_machine.specs.Event.{GatewayEvent};
 ghost use Rattle.plain_machine.specs.Lists.{plain};
@@ -33,29 +32,29 @@ ghost use Rattle.machine_laws.specs.Refusals.{IsRefused, NoneRefuses};
 pub fn a_command_does_its_deed()
     ensures deed { (setup : Setup) (endpoints : Endpoints) (moment id : ℕ) (command : Command) (confirms : KValue)
         (lines : Target) (deed : Deed) → form_while (serves endpoints) command confirms setup.names ≡ Ok (Does lines deed) →
-        commanded setup endpoints moment id command confirms ≡ done_for setup endpoints lines (line_deed deed) moment }
-    ensures one { (setup : Setup) (endpoints : Endpoints) (deed : LineDeed) (moment line : ℕ) →
+        commanded setup endpoints moment id command confirms ≡ done_for setup endpoints lines deed moment }
+    ensures one { (setup : Setup) (endpoints : Endpoints) (deed : Deed) (moment line : ℕ) →
         done_for setup endpoints (One line) deed moment ≡ deed_done setup endpoints (One line) [] deed moment }
-    ensures all { (setup : Setup) (endpoints : Endpoints) (deed : LineDeed) (moment : ℕ) →
+    ensures all { (setup : Setup) (endpoints : Endpoints) (deed : Deed) (moment : ℕ) →
         done_for setup endpoints All deed moment ≡ deed_done setup endpoints All [] deed moment }
-    ensures any { (setup : Setup) (endpoints : Endpoints) (deed : LineDeed) (moment line : ℕ) →
+    ensures any { (setup : Setup) (endpoints : Endpoints) (deed : Deed) (moment line : ℕ) →
         line_with_place endpoints ≡ Some line → done_for setup endpoints Any deed moment
         ≡ deed_done setup endpoints (One line) (name_of_line setup line ∷ []) deed moment }
-    ensures none { (setup : Setup) (endpoints : Endpoints) (deed : LineDeed) (moment : ℕ) →
+    ensures none { (setup : Setup) (endpoints : Endpoints) (deed : Deed) (moment : ℕ) →
         line_with_place endpoints ≡ None →
         done_for setup endpoints Any deed moment ≡ only_answer endpoints (plain_code 410) }
 {}
 
 /// Either a line refuses a deed, or none does.
 pub fn a_deed_is_refused_or_not()
-    ensures { (endpoints : Endpoints) (lines : Target) (deed : LineDeed) →
+    ensures { (endpoints : Endpoints) (lines : Target) (deed : Deed) →
         IsRefused endpoints lines deed ⊎ NoneRefuses endpoints lines deed }
 {}
 
 /// Where a line refuses a deed, the answer is the code of the least line that refuses, nothing is done and nothing is
 /// sent.
 pub fn a_deed_that_a_line_refuses_is_not_done()
-    ensures { (setup : Setup) (endpoints : Endpoints) (lines : Target) (more : List Param) (deed : LineDeed)
+    ensures { (setup : Setup) (endpoints : Endpoints) (lines : Target) (more : List Param) (deed : Deed)
         (moment : ℕ) (refused : IsRefused endpoints lines deed) →
         deed_done setup endpoints lines more deed moment ≡ only_answer endpoints (plain_code refused.code) }
 {}
@@ -64,20 +63,20 @@ pub fn a_deed_that_a_line_refuses_is_not_done()
 /// parameters; where connections stay and there are none of these, it is 200 alone. The deed is done on each line that
 /// it is for and on no other; what these lines send goes out in the order of their numbers.
 pub fn a_deed_that_no_line_refuses_is_done_on_each()
-    ensures answer { (setup : Setup) (endpoints : Endpoints) (lines : Target) (more : List Param) (deed : LineDeed)
+    ensures answer { (setup : Setup) (endpoints : Endpoints) (lines : Target) (more : List Param) (deed : Deed)
         (moment : ℕ) → NoneRefuses endpoints lines deed →
         (deed_done setup endpoints lines more deed moment).answer
         ≡ answer_with more deed (shown_of endpoints lines deed) }
-    ensures keeping { (setup : Setup) (endpoints : Endpoints) (lines : Target) (deed : LineDeed) (moment : ℕ) →
+    ensures keeping { (setup : Setup) (endpoints : Endpoints) (lines : Target) (deed : Deed) (moment : ℕ) →
         NoneRefuses endpoints lines deed → deed.connections ≡ Keep →
         (deed_done setup endpoints lines [] deed moment).answer ≡ plain_code 200 }
-    ensures station { (setup : Setup) (endpoints : Endpoints) (lines : Target) (more : List Param) (deed : LineDeed)
+    ensures station { (setup : Setup) (endpoints : Endpoints) (lines : Target) (more : List Param) (deed : Deed)
         (moment line : ℕ) → NoneRefuses endpoints lines deed →
         station_at (deed_done setup endpoints lines more deed moment).told.value line
         ≡ option_map (λ (station : Station).
         if is_for lines line then (deed_on setup deed moment line station).value else station)
         (station_at endpoints line) }
-    ensures sent { (setup : Setup) (endpoints : Endpoints) (lines : Target) (more : List Param) (deed : LineDeed)
+    ensures sent { (setup : Setup) (endpoints : Endpoints) (lines : Target) (more : List Param) (deed : Deed)
         (moment : ℕ) → NoneRefuses endpoints lines deed →
         (deed_done setup endpoints lines more deed moment).told.sent
         ≡ flat_map (λ (one : ℕ × Station). (deed_on setup deed moment one.0 one.1).sent)
@@ -87,11 +86,11 @@ pub fn a_deed_that_no_line_refuses_is_done_on_each()
 /// A deed on one line changes that line alone, be it done or refused; and no deed changes what the gateway keeps for
 /// itself.
 pub fn a_deed_on_one_line_changes_that_line_alone()
-    ensures others { (setup : Setup) (endpoints : Endpoints) (more : List Param) (deed : LineDeed)
+    ensures others { (setup : Setup) (endpoints : Endpoints) (more : List Param) (deed : Deed)
         (moment line other : ℕ) → other ≢ line →
         station_at (deed_done setup endpoints (One line) more deed moment).told.value other
         ≡ station_at endpoints other }
-    ensures own { (setup : Setup) (endpoints : Endpoints) (lines : Target) (more : List Param) (deed : LineDeed)
+    ensures own { (setup : Setup) (endpoints : Endpoints) (lines : Target) (more : List Param) (deed : Deed)
         (moment : ℕ) → (deed_done setup endpoints lines more deed moment).told.value.own ≡ endpoints.own }
 {}
 

@@ -29,9 +29,9 @@ use Rattle.restart.specs.declared.heard.Heard.TheVariants.{Nothing, PutOff, Redi
 use Rattle.plain_machine.specs.declared.response.Response.{Response}
 use Rattle.plain_machine.specs.declared.due_item.DueItem.{DueItem}
 use Rattle.plain_machine.specs.Done.{Done}
-use Rattle.plain_machine.specs.declared.line_deed.LineDeed.{LineDeed}
+use Rattle.command_forms.specs.declared.forms.Deed.{Deed}
 use Rattle.plain_machine.specs.Requesting.{refused_by, lines_meant, unless_refused, deed_done, line_with_place, done_there, done_for}
-use Rattle.plain_machine.specs.Commanding.{line_deed, done_by}
+use Rattle.plain_machine.specs.Commanding.{done_by}
 use Rattle.command_forms.specs.declared.forms.Asks.{Asks}
 use Rattle.command_forms.specs.declared.forms.Asks.TheVariants.{Reports, Does}
 use Rattle.command_forms.specs.declared.forms.Target.{Target}
@@ -95,12 +95,12 @@ asked_lines : (refusal : Option ℕ) (endpoints : Endpoints) (done : Done) → l
 asked_lines None endpoints done same = same
 asked_lines (Some code) endpoints done same = refl
 
-deed_lines : (setup : Setup) (endpoints : Endpoints) (lines : Target) (more : List Param) (deed : LineDeed) (moment : ℕ)
+deed_lines : (setup : Setup) (endpoints : Endpoints) (lines : Target) (more : List Param) (deed : Deed) (moment : ℕ)
     → lines_in (deed_done setup endpoints lines more deed moment).told.value ≡ lines_in endpoints
 deed_lines setup endpoints lines more deed moment =
     asked_lines (refused_by endpoints lines deed) endpoints _ (several_lines (lines_meant endpoints lines) endpoints _)
 
-target_lines : (setup : Setup) (endpoints : Endpoints) (target : Target) (deed : LineDeed) (moment : ℕ)
+target_lines : (setup : Setup) (endpoints : Endpoints) (target : Target) (deed : Deed) (moment : ℕ)
     → lines_in (done_for setup endpoints target deed moment).told.value ≡ lines_in endpoints
 target_lines setup endpoints (One line) deed moment = deed_lines setup endpoints (One line) [] deed moment
 target_lines setup endpoints All deed moment = deed_lines setup endpoints All [] deed moment
@@ -112,7 +112,7 @@ target_lines setup endpoints Any deed moment = by_line (line_with_place endpoint
 done_lines : (asks : Result Asks ℕ) (setup : Setup) (endpoints : Endpoints) (moment id : ℕ) → lines_in (done_by asks setup endpoints moment id).told.value ≡ lines_in endpoints
 done_lines (Err code) setup endpoints moment id = refl
 done_lines (Ok (Reports target audit)) setup endpoints moment id = refl
-done_lines (Ok (Does target deed)) setup endpoints moment id = target_lines setup endpoints target (line_deed deed) moment
+done_lines (Ok (Does target deed)) setup endpoints moment id = target_lines setup endpoints target deed moment
 
 handled_keeps : (setup : Setup) (m : Machine) (source : SocketAddrV4) (outcome : Outcome) → Keeps m (handled setup m source outcome)
 unfolding handled

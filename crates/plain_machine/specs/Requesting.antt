@@ -19,7 +19,7 @@ use Rattle.mg_line.specs.Line.{LineState, LineDone}
 use Rattle.mg_line.specs.Requesting.{refusal_of, asked}
 use Rattle.plain_machine.specs.declared.setup.Setup.{Setup}
 use Rattle.plain_machine.specs.declared.station.Station.{Station}
-use Rattle.plain_machine.specs.declared.line_deed.LineDeed.{LineDeed}
+use Rattle.command_forms.specs.declared.forms.Deed.{Deed}
 use Rattle.plain_machine.specs.Effect.{Effect}
 use Rattle.plain_machine.specs.Notifying.{noted}
 use Rattle.plain_machine.specs.Machine.{Endpoints, station_at, on_lines, numbered}
@@ -28,25 +28,25 @@ use Rattle.plain_machine.specs.Reporting.{name_of_line}
 use Rattle.plain_machine.specs.Connecting.{Shown, nothing_shown, done_code, connected}
 
 -- what becomes of the connections of a line; an encoding that is given counts already (RFC 3435, 2.3.2)
-abbrev pub encoding_with : LineDeed → Station → Encoding
+abbrev pub encoding_with : Deed → Station → Encoding
 encoding_with deed station = unwrap_or deed.encoding station.encoding
 
-abbrev pub connected_on : LineDeed → Station → Result (Left Shown) ℕ
+abbrev pub connected_on : Deed → Station → Result (Left Shown) ℕ
 connected_on deed station = connected deed.connections (encoding_with deed station) station.connections
 
 -- whether the lines refuse it
 
 -- the code with which a line refuses it, by its connections first; where nothing is requested no request is refused
-abbrev pub refusal_by : LineDeed → Station → Option ℕ
+abbrev pub refusal_by : Deed → Station → Option ℕ
 refusal_by deed station = first_fault (result_err (connected_on deed station)
     ∷ option_and_then (refusal_of station.line) deed.request ∷ [])
 
 -- if it is for that line
-abbrev pub refusal_on : Target → LineDeed → ℕ × Station → Option ℕ
+abbrev pub refusal_on : Target → Deed → ℕ × Station → Option ℕ
 refusal_on lines deed one = if is_for lines one.0 then refusal_by deed one.1 else None
 
 -- the code of the least line that refuses it
-unfoldable pub refused_by : Endpoints → Target → LineDeed → Option ℕ
+unfoldable pub refused_by : Endpoints → Target → Deed → Option ℕ
 refused_by endpoints lines deed = first_fault (map (refusal_on lines deed) (numbered endpoints))
 
 -- the numbers of the lines that it is for
@@ -61,7 +61,7 @@ with_entity entity station =
     record station { post = record station.post { entity = unwrap_or entity station.post.entity } }
 
 -- and so is an encoding; then come the connections
-abbrev pub with_connections : LineDeed → Station → Station
+abbrev pub with_connections : Deed → Station → Station
 with_connections deed station = record station {
   encoding = encoding_with deed station;
   connections = left_by station.connections (connected_on deed station);
@@ -74,12 +74,12 @@ asked_if (Some request) line moment = asked line request moment
 
 -- the deed on a station at this moment: entity and encoding, then connections, then the request; what its line has to tell
 -- goes to the entity that it now has
-unfoldable pub deed_on : Setup → LineDeed → ℕ → ℕ → Station → Effect Station
+unfoldable pub deed_on : Setup → Deed → ℕ → ℕ → Station → Effect Station
 deed_on setup deed moment line station =
     noted setup line moment (with_connections deed (with_entity deed.entity station)) (asked_if deed.request station.line moment)
 
 -- on each line that it is for, in the order of their numbers
-abbrev pub deed_on_all : Setup → Endpoints → Target → LineDeed → ℕ → Effect Endpoints
+abbrev pub deed_on_all : Setup → Endpoints → Target → Deed → ℕ → Effect Endpoints
 deed_on_all setup endpoints lines deed moment = on_lines (lines_meant endpoints lines) endpoints (deed_on setup deed moment)
 
 -- what it is answered
@@ -88,18 +88,18 @@ abbrev pub shown_by : Result (Left Shown) ℕ → Shown
 shown_by (Ok done) = done.answer
 shown_by (Err code) = nothing_shown
 
-abbrev pub shown_on : Option Station → LineDeed → Shown
+abbrev pub shown_on : Option Station → Deed → Shown
 shown_on None deed = nothing_shown
 shown_on (Some station) deed = shown_by (connected_on deed station)
 
 -- of one line what is to be told of its connections; of all lines, of which no connection is named, nothing
-unfoldable pub shown_of : Endpoints → Target → LineDeed → Shown
+unfoldable pub shown_of : Endpoints → Target → Deed → Shown
 shown_of endpoints (One line) deed = shown_on (station_at endpoints line) deed
 shown_of endpoints All deed = nothing_shown
 shown_of endpoints Any deed = nothing_shown
 
 -- with these further parameters
-abbrev pub answer_with : List Param → LineDeed → Shown → Answer
+abbrev pub answer_with : List Param → Deed → Shown → Answer
 answer_with more deed shown =
     record { code = done_code deed.connections; params = shown.params ++ more; body = shown.body }
 
@@ -108,7 +108,7 @@ unless_refused None endpoints done = done
 unless_refused (Some code) endpoints done = only_answer endpoints (plain_code code)
 
 -- a deed at this moment: the code of the least line that refuses it, and then nothing is done; else it is done on each
-abbrev pub deed_done : Setup → Endpoints → Target → List Param → LineDeed → ℕ → Done
+abbrev pub deed_done : Setup → Endpoints → Target → List Param → Deed → ℕ → Done
 deed_done setup endpoints lines more deed moment =
     unless_refused (refused_by endpoints lines deed) endpoints (record {
       told = deed_on_all setup endpoints lines deed moment;
@@ -125,13 +125,13 @@ unfoldable pub line_with_place : Endpoints → Option ℕ
 line_with_place endpoints = option_map (λ one. one.0) (find has_place (numbered endpoints))
 
 -- it is named in the answer (RFC 3435, 2.3.5: SpecificEndpointId)
-abbrev pub done_there : Option ℕ → Setup → Endpoints → LineDeed → ℕ → Done
+abbrev pub done_there : Option ℕ → Setup → Endpoints → Deed → ℕ → Done
 done_there None setup endpoints deed moment = only_answer endpoints (plain_code 410)
 done_there (Some line) setup endpoints deed moment =
     deed_done setup endpoints (One line) (name_of_line setup line ∷ []) deed moment
 
 -- a deed for such lines at this moment
-abbrev pub done_for : Setup → Endpoints → Target → LineDeed → ℕ → Done
+abbrev pub done_for : Setup → Endpoints → Target → Deed → ℕ → Done
 done_for setup endpoints (One line) deed moment = deed_done setup endpoints (One line) [] deed moment
 done_for setup endpoints All deed moment = deed_done setup endpoints All [] deed moment
 done_for setup endpoints Any deed moment = done_there (line_with_place endpoints) setup endpoints deed moment

@@ -4,7 +4,7 @@ use command_forms::{Asks, AuditTarget, ConnectionDeed, Deed, Target, form};
 use connections::{CodecChoice, Deletion, Mode, Options, encoding_text, mode_text, write_options};
 use digit_map::MapChange;
 use endpoint_names::{Names, Pattern, Table};
-use event_syntax::{write_detect, write_events, write_handling, write_signals};
+use event_syntax::{write_handling, write_signals};
 use mg_bytes::{Identifier, Text, put_decimal};
 use mgcp_text::{Message, TextFault, read_k, read_message};
 use sdp_subset::Session;
@@ -28,12 +28,12 @@ fn request_text(alloc: Global, deed: &Deed) -> io::Result<String> {
     put_line(
         &mut out,
         b"R:",
-        write_events(alloc, request.requested.as_slice())?.as_bytes(),
+        request.events.write_requested(alloc)?.as_bytes(),
     )?;
     put_line(
         &mut out,
         b"T:",
-        write_detect(alloc, request.detected.as_slice())?.as_bytes(),
+        request.events.write_detected(alloc)?.as_bytes(),
     )?;
     put_line(
         &mut out,
