@@ -2,6 +2,7 @@ pub mod StepLemmas
 pub mod RefusedLemmas
 pub mod OptionCodes
 pub mod ValueCodes
+pub mod EventLemmas
 pub mod CodeLemmas
 pub mod FormLemmas
 pub mod RestartLemmas

@@ -23,13 +23,17 @@ use mgcp_text::{Param, param_at};
 use sdp_subset::Session;
 use std::alloc::Global;
 
-// What is asked for about events, by R and T.
+// What is asked for about events, by R and T. An absent or empty T isn't read, and takes no room.
 #[tactic(auto, unfolding(crate::specs::Deeds::events_of))]
 fn events_of(alloc: Global, params: &[Param<'_>]) -> Result<EventRequest, Stop>
     ensures { StopsAs (events_of params.now) result }
 {
     let requested = placed(Value(b'R'), read_events(alloc, value_at(b"R", params)))?;
-    let detected = placed(Value(b'T'), read_detect(value_at(b"T", params)))?;
+    let value = value_at(b"T", params);
+    if value.is_empty() {
+        return Ok(EventRequest::requesting(alloc, requested)?);
+    }
+    let detected = placed(Value(b'T'), read_detect(value))?;
     Ok(EventRequest::of(alloc, requested, detected)?)
 }
 

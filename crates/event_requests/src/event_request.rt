@@ -40,7 +40,7 @@ impl Model for EventRequest {
 }
 
 impl EventRequest {
-    ghost use Rattle.std.specs.Prelude.{◌≡◌, IfOk};
+    ghost use Rattle.std.specs.Prelude.{◌≡◌, [], IfOk};
     ghost use Rattle.event_requests.specs.Requests.{no_requests, with_embedded};
     ghost use Rattle.event_requests.specs.Choice.{is_requested, is_kept};
     ghost use Rattle.event_requests.specs.Maps.{lacks_map};
@@ -61,6 +61,16 @@ impl EventRequest {
         }
     }
 
+    /// The R of a command that has no T. An error is for want of memory only.
+    pub fn requesting(alloc: Global, requested: RequestedEvents) -> Result<Self, OutOfMemory>
+        ensures { IfOk result (λ request. request ≡ record { requested = requested; detected = [] }) }
+    {
+        Ok(EventRequest {
+            requested: source_of(alloc, requested)?,
+            detected: Detected::Nothing,
+        })
+    }
+
     /// The R and the T of a command. An error is for want of memory only.
     pub fn of(
         alloc: Global,
@@ -70,7 +80,7 @@ impl EventRequest {
         ensures { IfOk result (λ request. request ≡ record { requested = requested; detected = detected }) }
     {
         Ok(EventRequest {
-            requested: Requested::Command(Rc::new(alloc, requested)?),
+            requested: source_of(alloc, requested)?,
             detected: Detected::Command(Rc::new(alloc, detected)?),
         })
     }
@@ -163,6 +173,16 @@ impl EventRequest {
             Detected::Command(entries) => write_detect(alloc, entries.as_slice()),
         }
     }
+}
+
+// The R of a command: one without entries takes no memory.
+fn source_of(alloc: Global, entries: RequestedEvents) -> Result<Requested, OutOfMemory>
+    ensures { IfOk result (λ source. requested_in source ≡ entries) }
+{
+    if entries.as_slice().is_empty() {
+        return Ok(Requested::Nothing);
+    }
+    Ok(Requested::Command(Rc::new(alloc, entries)?))
 }
 
 // What shares the entries of R.
