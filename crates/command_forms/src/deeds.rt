@@ -5,6 +5,7 @@ ghost use Rattle.command_forms.specs.Refusing.{StopsAs};
 ghost use Rattle.command_forms.specs.Deeds.{events_of, request_of, request_at, creation_of, modification_of, deletion_by};
 ghost use Rattle.command_forms.specs.Deeds.{deletion_of, connected_by, with_remote, deed_of};
 
+use crate::boxed_deed::BoxedDeed;
 use crate::forms::{ConnectionDeed, Deed};
 use crate::params::value_at;
 use crate::refused::Place::{Description, Value};
@@ -158,7 +159,7 @@ pub(crate) fn deed_of(
     params: &[Param<'_>],
     text: &[u8],
     table: &Table,
-) -> Result<Deed, Stop>
+) -> Result<BoxedDeed, Stop>
     ensures { StopsAs (deed_of connecting params.now text.now table.now) result }
 {
     let entity = placed(Value(b'N'), entity_at(table, params))?;
@@ -166,10 +167,11 @@ pub(crate) fn deed_of(
     let connections = connected_by(connecting, params)?;
     let request = request_at(alloc, params)?;
     let remote = placed(Description, remote_of(text))?;
-    Ok(Deed {
+    let deed = Deed {
         entity,
         encoding,
         connections: with_remote(remote, connections),
         request,
-    })
+    };
+    Ok(BoxedDeed::new(alloc, deed)?)
 }

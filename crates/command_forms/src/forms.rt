@@ -2,6 +2,7 @@
 ghost use Rattle.std.specs.Prelude.{◌≡◌};
 ghost use Rattle.command_forms.specs.Meaning.{is_for};
 
+use crate::boxed_deed::BoxedDeed;
 use connections::{Change, Creation, Deletion, Encoding};
 use endpoint_names::Entity;
 use event_requests::Request;
@@ -81,7 +82,8 @@ pub struct Deed {
     pub request: Option<Request>,
 }
 
-/// What a command asks for. A new verb changes what a report or a deed holds, and adds no third.
+/// What a command asks for. A new verb changes what a report or a deed holds, and adds no third. An audit keeps no room for
+/// a deed.
 #[derive(Drop)]
 pub enum Asks<'m> {
     /// A report of these lines, or of a connection of one, which changes nothing: AuditEndpoint and AuditConnection
@@ -89,5 +91,5 @@ pub enum Asks<'m> {
     Reports(AuditTarget, Audit<'m>),
     /// A deed on these lines: EndpointConfiguration, NotificationRequest, CreateConnection, ModifyConnection and
     /// DeleteConnection (RFC 3435, 2.3.2, 2.3.3, 2.3.5 to 2.3.7 and 2.3.9).
-    Does(Target, Deed),
+    Does(Target, BoxedDeed),
 }

@@ -5,10 +5,11 @@
 //! judges the verb and the name, `asked` the rest, and `form` is one behind the other. `form_while` is the same of a
 //! gateway that may not serve yet, and then takes audits alone. Each check says its return code and what it looks at: for
 //! people `explained` says what of a refused command is at fault, and `explain` puts it into words. Nothing here knows a
-//! line: what a line refuses is judged above. Only the reading of what is requested and the words for people take memory.
+//! line: what a line refuses is judged above. Only a deed and the words for people take memory.
 #![tactic(auto)]
 
 pub mod audit_examples;
+mod boxed_deed;
 pub mod checking_examples;
 pub mod code_examples;
 pub mod connection_examples;
@@ -25,6 +26,7 @@ pub mod restart_examples;
 mod values;
 mod verbs;
 
+pub use crate::boxed_deed::BoxedDeed;
 pub use crate::forms::{Asks, Audit, AuditTarget, ConnectionDeed, Deed, Target};
 pub use crate::meaning::meant;
 pub use crate::reading::{asked, explained, form, form_while};

@@ -102,7 +102,7 @@ fn asked_for<'m>(
 /// where a deletion has I without it, and for X where R, S, D, T or Q stand there without it; 510 for a K that can't be
 /// read; then the values of N (539), B (539), C (510), I (510), M (517), L (541, and else 535), X (510), Q (508), D
 /// (510, and 502 for a map that is too large), R, T and S; and 509 for a description that can't be read, where the verb
-/// takes one. It takes memory to read what is requested, and without it answers `OutOfMemory`.
+/// takes one. A deed takes memory, and without it the answer is `OutOfMemory`.
 #[tactic(auto, unfolding(crate::specs::Order::asked))]
 pub fn asked<'m>(
     alloc: Global,

@@ -192,6 +192,8 @@ pub(crate) fn commanded(
         Err(CodeFault::OutOfMemory) => Err(AllocError),
         Err(CodeFault::Code(code)) => Ok(Answer::plain(context.alloc, code)),
         Ok(Asks::Reports(target, audit)) => answer_to_audit(context, floor, id, target, &audit),
-        Ok(Asks::Does(target, deed)) => done_for(context, floor, moment, target, &deed, sent),
+        Ok(Asks::Does(target, boxed)) => {
+            done_for(context, floor, moment, target, boxed.deed(), sent)
+        }
     }
 }

@@ -147,8 +147,8 @@ fn becomes_text(alloc: Global, deed: &Deed) -> io::Result<String> {
 // What a call gives of what a command asks for: by default the lines that it is for.
 fn asks_text(alloc: Global, call: &str, asks: &Asks<'_>) -> io::Result<String> {
     let pattern = match asks {
-        Asks::Does(_, deed) if call == "asks" => return request_text(alloc, deed),
-        Asks::Does(_, deed) if call == "becomes" => return becomes_text(alloc, deed),
+        Asks::Does(_, boxed) if call == "asks" => return request_text(alloc, boxed.deed()),
+        Asks::Does(_, boxed) if call == "becomes" => return becomes_text(alloc, boxed.deed()),
         Asks::Reports(AuditTarget::One(line), _) => Pattern::One(*line),
         Asks::Reports(AuditTarget::All, _) => Pattern::All,
         Asks::Does(Target::One(line), _) => Pattern::One(*line),
