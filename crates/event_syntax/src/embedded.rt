@@ -1,5 +1,5 @@
 //! Embedded requests: what stands in the parentheses of E.
-ghost use Rattle.std.specs.Prelude.{◌≡◌, ◌≤◌, length};
+ghost use Rattle.std.specs.Prelude.{◌≡◌};
 ghost use Rattle.event_cuts.specs.Cuts.{entries};
 ghost use Rattle.event_cuts.specs.Faults.{each, each_up_to};
 ghost use Rattle.event_syntax.specs.Detect.{most_events};
@@ -31,24 +31,26 @@ fn embedded_event(entry: &[u8]) -> Result<EmbeddedEvent, u16>
     }
 }
 
-fn each_event(value: &[u8]) -> Result<EmbeddedEvents, u16>
-    requires { length (entries value.now) ≤ most_events }
-    ensures { result ≡ each embedded_event (entries value.now) }
+fn each_event(alloc: Global, value: &[u8]) -> Result<EmbeddedEvents, CodeFault>
+    ensures { Gives (each embedded_event (entries value.now)) result }
 {
-    let mut events = EmbeddedEvents::new();
+    let mut events = EmbeddedEvents::new(alloc);
     for entry in entries(value) {
-        events.push(embedded_event(entry)?);
+        match embedded_event(entry) {
+            Ok(event) => events.push(event)?,
+            Err(code) => return Err(CodeFault::Code(code)),
+        }
     }
     Ok(events)
 }
 
-fn events_in(value: &[u8]) -> Result<EmbeddedEvents, u16>
-    ensures { result ≡ each_up_to most_events embedded_event (entries value.now) }
+fn events_in(alloc: Global, value: &[u8]) -> Result<EmbeddedEvents, CodeFault>
+    ensures { Gives (each_up_to most_events embedded_event (entries value.now)) result }
 {
     if !has_at_most(value, MOST_EVENTS) {
-        return Err(ReturnCode::InsufficientResources.number());
+        return Err(CodeFault::of(ReturnCode::InsufficientResources));
     }
-    each_event(value)
+    each_event(alloc, value)
 }
 
 // A request with the part of this name.
@@ -61,7 +63,7 @@ fn with_part_named(
     ensures { Gives (with_part_named request name.now value.now) result }
 {
     if same_no_case(name, b"R") {
-        let events = events_in(value).map_err(CodeFault::Code)?;
+        let events = events_in(alloc, value)?;
         Ok(EmbeddedRequest { events, ..request })
     } else if same_no_case(name, b"S") {
         let signals = signals_in(value).map_err(CodeFault::Code)?;
@@ -99,7 +101,7 @@ pub(crate) fn embedded_in(alloc: Global, inside: &[u8]) -> Result<EmbeddedReques
     ensures { Gives (embedded_in inside.now) result }
 {
     let mut request = EmbeddedRequest {
-        events: EmbeddedEvents::new(),
+        events: EmbeddedEvents::new(alloc),
         signals: SignalRequests::new(),
         map: None,
     };

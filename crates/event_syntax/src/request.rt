@@ -1,9 +1,8 @@
 //! What R holds (RFC 3435, 2.3.3): events with what is done at them, and requests embedded in these.
-use crate::detect::MOST_EVENTS;
 use crate::events::Events;
 use digit_map::MapText;
 use event_values::SignalRequests;
-use mg_bytes::{Few, OutOfMemory};
+use mg_bytes::{OutOfMemory, Sequence};
 use std::alloc::Global;
 use std::marker::Model;
 use std::rc::Rc;
@@ -30,25 +29,8 @@ pub struct EmbeddedEvent {
     pub keep: bool,
 }
 
-// What stands in a place that has no entry yet.
-impl Default for EmbeddedEvent {
-    ghost use Rattle.std.specs.Prelude.{◌≡◌, false};
-    ghost use Rattle.event_syntax.specs.declared.events.Events.TheVariants.{AllOfLine};
-    ghost use Rattle.event_syntax.specs.declared.request.Action.TheVariants.{Notify};
-
-    ghost is_default = { λ entry. entry ≡ record { events = AllOfLine; action = Notify; keep = false } };
-
-    fn default() -> Self {
-        EmbeddedEvent {
-            events: Events::AllOfLine,
-            action: Action::Notify,
-            keep: false,
-        }
-    }
-}
-
-/// The entries of R in an embedded request, at most `MOST_EVENTS`.
-pub type EmbeddedEvents = Few<EmbeddedEvent, MOST_EVENTS>;
+/// The entries of R in an embedded request, at most `MOST_EVENTS`, with room for those that are there.
+pub type EmbeddedEvents = Sequence<EmbeddedEvent>;
 
 /// What stands in the parentheses of E: an R, an S, and a digit map where one is given.
 #[derive(Drop)]
@@ -120,23 +102,5 @@ pub struct RequestedEvent {
     pub keep: bool,
 }
 
-// What stands in a place that has no entry yet.
-impl Default for RequestedEvent {
-    ghost use Rattle.std.specs.Prelude.{◌≡◌, false};
-    ghost use Rattle.event_syntax.specs.declared.events.Events.TheVariants.{AllOfLine};
-    ghost use Rattle.event_syntax.specs.declared.request.Action.TheVariants.{Notify};
-    ghost use Rattle.event_syntax.specs.declared.request.Reaction.TheVariants.{Plain};
-
-    ghost is_default = { λ entry. entry ≡ record { events = AllOfLine; reaction = Plain Notify; keep = false } };
-
-    fn default() -> Self {
-        RequestedEvent {
-            events: Events::AllOfLine,
-            reaction: Reaction::Plain(Action::Notify),
-            keep: false,
-        }
-    }
-}
-
-/// The entries of R, at most `MOST_EVENTS`.
-pub type RequestedEvents = Few<RequestedEvent, MOST_EVENTS>;
+/// The entries of R, at most `MOST_EVENTS`, with room for those that are there.
+pub type RequestedEvents = Sequence<RequestedEvent>;

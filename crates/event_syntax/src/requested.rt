@@ -1,12 +1,11 @@
 //! The events that are requested: the value of R (RFC 3435, 2.3.3).
-ghost use Rattle.std.specs.Prelude.{◌≡◌, ◌≤◌, length, true, IfOk};
+ghost use Rattle.std.specs.Prelude.{◌≡◌, true, IfOk};
 ghost use Rattle.mg_bytes.specs.CodeFault.{AnswersAs};
 ghost use Rattle.event_cuts.specs.Cuts.{entries};
 ghost use Rattle.event_cuts.specs.Faults.{each};
 ghost use Rattle.event_syntax.specs.Actions.{deed_seen};
 ghost use Rattle.event_syntax.specs.Embedding.{embedded_in, Gives};
 ghost use Rattle.event_syntax.specs.Requested.{reaction_of, requested, requested_in, requested_of, are_writable_requested};
-ghost use Rattle.event_syntax.specs.Detect.{most_events};
 
 use crate::detect::MOST_EVENTS;
 use crate::embedded::embedded_in;
@@ -50,12 +49,11 @@ fn requested(alloc: Global, entry: &[u8]) -> Result<RequestedEvent, CodeFault>
 }
 
 fn each_requested(alloc: Global, value: &[u8]) -> Result<RequestedEvents, CodeFault>
-    requires { length (entries value.now) ≤ most_events }
     ensures { Gives (each requested (entries value.now)) result }
 {
-    let mut list = RequestedEvents::new();
+    let mut list = RequestedEvents::new(alloc);
     for entry in entries(value) {
-        list.push(requested(alloc, entry)?);
+        list.push(requested(alloc, entry)?)?;
     }
     Ok(list)
 }
