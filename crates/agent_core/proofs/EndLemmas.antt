@@ -20,10 +20,10 @@ use Rattle.agent_core.specs.declared.packet.End.TheVariants.{GatewayEnd, AgentEn
 use Rattle.agent_core.specs.declared.packet.Posted.{Posted}
 use Rattle.agent_core.specs.declared.step.StepRefusal.{StepRefusal}
 use Rattle.agent_core.specs.declared.step.StepRefusal.TheVariants.{OutOfMemory, TickTooFar, ClockBack, NoSuchLine, PhoneState, NoMoreIds, BadCommand, NoSuchPacket, PacketTooOld}
-use Rattle.agent_core.specs.Issuing.{IssueRefusal, no_more_ids, bad_command, issue_refusal}
-use Rattle.agent_core.specs.Hearing.{AgentEvent, issues, hears, agent_effect, agent_refusal, issue_refused, hearing_refusal, plain_agent}
+use Rattle.call_agent.specs.Issuing.{IssueRefusal, no_more_ids, bad_command, issue_refusal}
+use Rattle.call_agent.specs.Hearing.{AgentEvent, issues, hears, agent_effect, agent_refusal, issue_refused, hearing_refusal, plain_agent}
 use Rattle.agent_core.specs.World.{World, issuing, dialling, ticking, delivering, WorldRefusal, packet_too_old, agent_of, gateway_address, posted_as, to_gateway, to_agent, delivered_from, delivered, delivery_refusal, oldest_packet, agent_refused, gateway_refused, gateway_in, now_in, step_refusal, went}
-use Rattle.agent_core.specs.AgentStands.{AgentState, AgentStands, AgentTook, AgentStays, IssueEnds}
+use Rattle.call_agent.specs.AgentStands.{AgentState, AgentStands, AgentTook, AgentStays, IssueEnds}
 use Rattle.agent_core.specs.WorldStands.{WorldState, Keeps, Leaves, StepEnds}
 use Rattle.agent_core.specs.WorldWork.{EndStops, IssueStops, Goes, Remains, Ends, HandsOver, WantsMemory}
 

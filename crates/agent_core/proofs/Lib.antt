@@ -1,10 +1,3 @@
-pub mod EventLemmas
-pub mod AgentStands
-pub mod FlightTable
-pub mod TellingLemmas
-pub mod PassLemmas
-pub mod HearingLemmas
-pub mod StandLemmas
 pub mod EndLemmas
 pub mod PostLemmas
 pub mod DeliveryLemmas

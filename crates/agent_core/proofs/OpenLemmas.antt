@@ -5,9 +5,9 @@ use Rattle.plain_machine.specs.declared.setup.Setup.{Setup}
 use Rattle.plain_machine.specs.declared.config.ConfigFault.{ConfigFault}
 use Rattle.gateway_core.specs.GatewayState.{GatewayState}
 use Rattle.gateway_core.specs.Stands.{Opens}
-use Rattle.agent_core.specs.declared.setup.AgentSetup.{AgentSetup}
+use Rattle.call_agent.specs.declared.setup.AgentSetup.{AgentSetup}
 use Rattle.agent_core.specs.World.{agent_of, gateway_address, world_after, steps_are_taken}
-use Rattle.agent_core.specs.AgentStands.{AgentStands}
+use Rattle.call_agent.specs.AgentStands.{AgentStands}
 use Rattle.agent_core.specs.WorldStands.{WorldState, WorldOpens}
 
 -- a gateway that opens, an agent that opens, and no packets

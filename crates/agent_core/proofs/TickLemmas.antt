@@ -13,9 +13,9 @@ use Rattle.gateway_core.specs.Stands.{Stands, Took}
 use Rattle.agent_core.specs.declared.packet.End.{End}
 use Rattle.agent_core.specs.declared.packet.End.TheVariants.{GatewayEnd, AgentEnd}
 use Rattle.agent_core.specs.declared.step.StepRefusal.{StepRefusal}
-use Rattle.agent_core.specs.Hearing.{hears}
+use Rattle.call_agent.specs.Hearing.{hears}
 use Rattle.agent_core.specs.World.{ticking, gateway_address, gateway_refused, gateway_in, to_gateway, to_agent, step_refusal, went}
-use Rattle.agent_core.specs.AgentStands.{AgentTook}
+use Rattle.call_agent.specs.AgentStands.{AgentTook}
 use Rattle.agent_core.specs.WorldStands.{WorldState, Keeps}
 use Rattle.agent_core.specs.WorldWork.{EndStops, Goes}
 use Rattle.agent_core.specs.WorldTicks.{GatewayTicks, AgentTicks}

@@ -1,15 +1,4 @@
-pub mod Growing
-pub mod Agent
-pub mod Issuing
-pub mod Flying
-pub mod Flights
-pub mod Responding
-pub mod Taking
-pub mod Hearing
 pub mod World
-pub mod AgentAlike
-pub mod State
-pub mod AgentStands
 pub mod StepRefusal
 pub mod WorldStands
 pub mod WorldWork

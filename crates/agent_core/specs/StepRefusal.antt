@@ -2,8 +2,8 @@
 use Rattle.std.specs.Prelude.{ℕ, List, codes}
 use Rattle.plain_machine.specs.declared.refusal.Refusal.{Refusal}
 use Rattle.plain_machine.specs.declared.refusal.Refusal.TheVariants as refusals
-use Rattle.agent_core.specs.declared.issuing.IssueFault.{IssueFault}
-use Rattle.agent_core.specs.declared.issuing.IssueFault.TheVariants as faults
+use Rattle.call_agent.specs.declared.issuing.IssueFault.{IssueFault}
+use Rattle.call_agent.specs.declared.issuing.IssueFault.TheVariants as faults
 use Rattle.agent_core.specs.declared.step.StepRefusal.{StepRefusal}
 use Rattle.agent_core.specs.declared.step.StepRefusal.TheVariants.{OutOfMemory, TickTooFar, ClockBack, NoSuchLine, PhoneState, NoMoreIds, BadCommand, NoSuchPacket, PacketTooOld}
 

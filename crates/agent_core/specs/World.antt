@@ -13,13 +13,13 @@ use Rattle.plain_machine.specs.Packing.{put_out}
 use Rattle.plain_machine.specs.Happening.{effect}
 use Rattle.plain_machine.specs.Refusing.{refusal_of}
 use Rattle.plain_machine.specs.Lists.{plain}
-use Rattle.agent_core.specs.declared.setup.AgentSetup.{AgentSetup}
+use Rattle.call_agent.specs.declared.setup.AgentSetup.{AgentSetup}
 use Rattle.agent_core.specs.declared.packet.End.{End}
 use Rattle.agent_core.specs.declared.packet.End.TheVariants.{GatewayEnd as gateway_end, AgentEnd as agent_end}
 use Rattle.agent_core.specs.declared.packet.Packet.{Packet}
 use Rattle.agent_core.specs.declared.packet.Posted.{Posted}
-use Rattle.agent_core.specs.Agent.{AgentMachine}
-use Rattle.agent_core.specs.Hearing.{AgentEvent, issues, hears, AgentRefusal, agent_effect, agent_refusal, plain_agent}
+use Rattle.call_agent.specs.Agent.{AgentMachine}
+use Rattle.call_agent.specs.Hearing.{AgentEvent, issues, hears, AgentRefusal, agent_effect, agent_refusal, plain_agent}
 
 -- the address of the gateway: its media address, with the port of gateways (RFC 3435, 3.5)
 abbrev pub gateway_address : Setup → SocketAddrV4

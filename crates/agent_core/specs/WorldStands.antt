@@ -11,11 +11,11 @@ use Rattle.agent_core.specs.declared.step.Step.TheVariants as steps
 use Rattle.agent_core.specs.declared.step.StepRefusal.{StepRefusal}
 use Rattle.agent_core.specs.declared.step.StepRefusal.TheVariants.{OutOfMemory, TickTooFar, ClockBack, NoSuchLine, PhoneState, NoMoreIds, BadCommand, NoSuchPacket, PacketTooOld}
 use Rattle.agent_core.specs.declared.step.WorldStopped.{WorldStopped}
-use Rattle.agent_core.specs.Issuing.{no_more_ids, bad_command}
-use Rattle.agent_core.specs.Hearing.{as_event, as_issue}
+use Rattle.call_agent.specs.Issuing.{no_more_ids, bad_command}
+use Rattle.call_agent.specs.Hearing.{as_event, as_issue}
 use Rattle.agent_core.specs.World.{World, WorldStep, issuing, dialling, ticking, delivering, WorldRefusal, by_gateway, by_agent, no_such_packet, packet_too_old, agent_of, world_opening, plain_world, steps_are_taken, step_refusal}
 use Rattle.agent_core.specs.StepRefusal.{of_event}
-use Rattle.agent_core.specs.AgentStands.{AgentState, AgentStands}
+use Rattle.call_agent.specs.AgentStands.{AgentState, AgentStands}
 
 -- both ends, all packets, and whether it is spent: memory was refused
 pub record WorldState : Type 0 where

@@ -1,7 +1,7 @@
 -- What a tick does to the ends of a world, one after the other.
 use Rattle.std.specs.Prelude.{◌≡◌, ℕ}
 use Rattle.plain_machine.specs.Event.{tick}
-use Rattle.agent_core.specs.Hearing.{hears}
+use Rattle.call_agent.specs.Hearing.{hears}
 use Rattle.agent_core.specs.World.{World, to_gateway, to_agent}
 use Rattle.agent_core.specs.WorldStands.{WorldState, Keeps}
 

@@ -3,7 +3,7 @@ use Rattle.std.specs.Prelude.{◌≡◌, ◌⊎◌, ℕ, slice_get, Option, Some
 use Rattle.plain_machine.specs.declared.refusal.Refusal.{Refusal}
 use Rattle.agent_core.specs.declared.step.StepRefusal.{StepRefusal}
 use Rattle.agent_core.specs.declared.step.StepRefusal.TheVariants.{OutOfMemory, NoMoreIds, BadCommand}
-use Rattle.agent_core.specs.Issuing.{IssueRefusal, no_more_ids, bad_command}
+use Rattle.call_agent.specs.Issuing.{IssueRefusal, no_more_ids, bad_command}
 use Rattle.agent_core.specs.declared.packet.End.{End}
 use Rattle.agent_core.specs.declared.packet.Posted.{Posted}
 use Rattle.agent_core.specs.World.{World, WorldStep, step_refusal, went, delivered_from}

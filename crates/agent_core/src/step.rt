@@ -3,7 +3,7 @@
 ghost use Rattle.std.specs.Prelude.{◌≡◌};
 ghost use Rattle.agent_core.specs.StepRefusal.{of_event, of_issue};
 
-use crate::issuing::IssueFault;
+use call_agent::IssueFault;
 use gateway_core::Refusal;
 use mg_bytes::OutOfMemory;
 use mg_line::Act;

@@ -14,10 +14,10 @@ ghost use Rattle.plain_machine.specs.Event.{GatewayEvent, tick};
 ghost use Rattle.plain_machine.specs.Refusing.{refusal_of};
 ghost use Rattle.plain_machine.specs.Lists.{plain};
 
-use crate::agent::Agent;
 use crate::ends::{Sent, at_agent, at_gateway, gateway_address, issued_by, post};
 use crate::packet::{End, Packet, Posted};
 use crate::step::{Step, StepRefusal, WorldStopped};
+use call_agent::Agent;
 use gateway_core::{Config, ConfigFault, Event, Gateway};
 use mg_bytes::Text;
 use mg_line::Act;

@@ -22,7 +22,7 @@ use Rattle.dialled_once.specs.Dialled.{done_in, told_along, IsAskedForAll, IsTol
 use Rattle.dialled_once.specs.Keeping.{happened_in}
 use Rattle.dialled_once.proofs.KeepingLemmas.{happened_both}
 use Rattle.dialled_once.proofs.OverLists.{course_told}
-use Rattle.agent_core.specs.Agent.{observed_on}
+use Rattle.call_agent.specs.Agent.{observed_on}
 use Rattle.agent_core.specs.World.{World, WorldStep, agent_in, gateway_in, plain_world, steps_are_taken, world_opening}
 use Rattle.world_laws.specs.Reached.{Reached, own_in, taken_in}
 use Rattle.world_laws.proofs.LinkLaws.{taken_as_sent}

@@ -16,7 +16,7 @@ use Rattle.agent_core.specs.declared.packet.End.{End}
 use Rattle.agent_core.specs.declared.packet.End.TheVariants.{AgentEnd as agent_end, GatewayEnd as gateway_end}
 use Rattle.agent_core.specs.declared.packet.Packet.{Packet}
 use Rattle.agent_core.specs.declared.packet.Posted.{Posted}
-use Rattle.agent_core.specs.Hearing.{AgentEvent, issues, hears}
+use Rattle.call_agent.specs.Hearing.{AgentEvent, issues, hears}
 use Rattle.agent_core.specs.World.{World, WorldStep, issuing, dialling, ticking, delivering, delivered, delivered_from, gateway_address, to_agent, to_gateway, went}
 use Rattle.world_laws.specs.Reached.{Reached, added_by, as_arrival, executed_with, executed_of, reached, heard_in, taken_in}
 use Rattle.world_laws.proofs.LinkLaws.{heard_more}

@@ -15,7 +15,7 @@ use Rattle.line_isolation.specs.Belonging.{of_line}
 use Rattle.dialled_once.specs.Course.{course_of}
 use Rattle.dialled_once.specs.Dialled.{done_in}
 use Rattle.dialled_once.specs.Keeping.{happened_in}
-use Rattle.agent_core.specs.Agent.{observed_on}
+use Rattle.call_agent.specs.Agent.{observed_on}
 use Rattle.agent_core.specs.World.{World, WorldStep, issuing, dialling, ticking, delivering, agent_in, gateway_in, plain_world}
 use Rattle.world_laws.specs.Reached.{Reached, taken_in}
 use Rattle.world_laws.specs.Example.{seconds}

@@ -12,7 +12,7 @@ ghost use Rattle.line_isolation.specs.Belonging.{of_line};
 ghost use Rattle.dialled_once.specs.Course.{course_from, course_of};
 ghost use Rattle.dialled_once.specs.Dialled.{IsAskedForAll, done_in};
 ghost use Rattle.dialled_once.specs.Keeping.{happened_in};
-ghost use Rattle.agent_core.specs.Agent.{observed_on};
+ghost use Rattle.call_agent.specs.Agent.{observed_on};
 ghost use Rattle.agent_core.specs.World.{WorldStep, agent_in, gateway_in, plain_world, steps_are_taken, world_opening};
 ghost use Rattle.world_laws.specs.Reached.{own_in, taken_in};
 ghost use Rattle.dialled_end_to_end.specs.GivenUp.{has_given_up};

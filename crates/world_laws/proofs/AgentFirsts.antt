@@ -26,15 +26,15 @@ use Rattle.transmission.specs.Texts.{texts_of}
 use Rattle.plain_machine.specs.Arriving.{arrival}
 use Rattle.plain_machine.specs.Transactions.{asked_as}
 use Rattle.gateway_laws.proofs.TransactionLaws.{one_more}
-use Rattle.agent_core.specs.Hearing.{AgentEvent, agent_effect, handled, handled_as, hears, issues, took_all}
-use Rattle.agent_core.specs.declared.setup.AgentSetup.{AgentSetup}
-use Rattle.agent_core.specs.declared.taking.Taken.{Taken}
-use Rattle.agent_core.specs.Agent.{AgentMachine, nothing_taken}
-use Rattle.agent_core.specs.Taking.{GatewayCommand, answer_to, command_of, transacted_by, with_taken}
+use Rattle.call_agent.specs.Hearing.{AgentEvent, agent_effect, handled, handled_as, hears, issues, took_all}
+use Rattle.call_agent.specs.declared.setup.AgentSetup.{AgentSetup}
+use Rattle.call_agent.specs.declared.taking.Taken.{Taken}
+use Rattle.call_agent.specs.Agent.{AgentMachine, nothing_taken}
+use Rattle.call_agent.specs.Taking.{GatewayCommand, answer_to, command_of, transacted_by, with_taken}
 use Rattle.event_values.specs.declared.observed.Observed.{Observed}
 use Rattle.world_laws.specs.Reached.{Reached, added_by, as_arrival, executed_with, reached, reached_as, taken_with}
-use Rattle.agent_core.specs.Responding.{replied, responded, responded_to}
-use Rattle.agent_core.specs.Flying.{has_id}
+use Rattle.call_agent.specs.Responding.{replied, responded, responded_to}
+use Rattle.call_agent.specs.Flying.{has_id}
 use Rattle.world_laws.proofs.ReachedLaws.{executed_is}
 use Rattle.history.proofs.BareLaws.{bare_kind, kind_bare, firsts_bare}
 use Rattle.world_laws.proofs.LinkLaws.{arrives_with}

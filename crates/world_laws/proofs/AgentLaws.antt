@@ -46,15 +46,15 @@ use Rattle.machine_laws.proofs.FlightLemmas.{IsSame}
 use Rattle.machine_laws.proofs.TellsLemmas.{tells_on}
 use Rattle.machine_laws.specs.Saying.{Carries, IsAnswerTo, Begun, OneOf, Tells, is_command_as}
 use Rattle.transmission.specs.Transacting.{message_to}
-use Rattle.agent_core.specs.declared.setup.AgentSetup.{AgentSetup}
-use Rattle.agent_core.specs.Agent.{AgentEffect, AgentMachine, agent_opening}
-use Rattle.agent_core.specs.Hearing.{AgentEvent, agent_after, agent_effect, agent_refusal, event_refused, issue_refused, handled, handled_as, hears, issued_from, issued_with, issues, took_all}
-use Rattle.agent_core.specs.Flying.{Flown, first_flight, flown_on, fly_on, if_due, pass, passed, sooner, with_flight, without_flight}
-use Rattle.agent_core.specs.Taking.{GatewayCommand, answer_to, code_for, command_of, transacted_by}
-use Rattle.agent_core.specs.Issuing.{IssueRefusal, bad_command, command_text, greatest_id, is_good, issue_refusal, issued, no_more_ids}
-use Rattle.agent_core.specs.Responding.{replied, responded, responded_to}
-use Rattle.agent_core.specs.Flying.{has_id}
-use Rattle.agent_core.proofs.EventLemmas.{agent_clock, tick_forward}
+use Rattle.call_agent.specs.declared.setup.AgentSetup.{AgentSetup}
+use Rattle.call_agent.specs.Agent.{AgentEffect, AgentMachine, agent_opening}
+use Rattle.call_agent.specs.Hearing.{AgentEvent, agent_after, agent_effect, agent_refusal, event_refused, issue_refused, handled, handled_as, hears, issued_from, issued_with, issues, took_all}
+use Rattle.call_agent.specs.Flying.{Flown, first_flight, flown_on, fly_on, if_due, pass, passed, sooner, with_flight, without_flight}
+use Rattle.call_agent.specs.Taking.{GatewayCommand, answer_to, code_for, command_of, transacted_by}
+use Rattle.call_agent.specs.Issuing.{IssueRefusal, bad_command, command_text, greatest_id, is_good, issue_refusal, issued, no_more_ids}
+use Rattle.call_agent.specs.Responding.{replied, responded, responded_to}
+use Rattle.call_agent.specs.Flying.{has_id}
+use Rattle.call_agent.proofs.EventLemmas.{agent_clock, tick_forward}
 
 -- a text that goes out
 abbrev pub Goes : List ℕ → Type 0

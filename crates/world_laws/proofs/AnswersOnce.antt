@@ -18,14 +18,14 @@ use Rattle.outbound.proofs.LifeLaws.{repeat_same, reply_same}
 use Rattle.plain_machine.specs.Event.{datagram, phone, tick}
 use Rattle.transmission.specs.Texts.{texts_of}
 use Rattle.machine_laws.proofs.EachLemmas.{Each, all_from_each, each_push, each_weaker}
-use Rattle.agent_core.specs.Hearing.{AgentEvent, agent_after, agent_effect, handled, handled_as, hears, issues, took_all}
-use Rattle.agent_core.specs.declared.setup.AgentSetup.{AgentSetup}
-use Rattle.agent_core.specs.Agent.{AgentMachine, FinalAnswer, agent_opening}
-use Rattle.agent_core.specs.Taking.{GatewayCommand, command_of, transacted_by}
-use Rattle.agent_core.specs.Issuing.{command_text}
-use Rattle.agent_core.specs.Flying.{first_flight, flown_on, fly_on, if_due, pass, passed, with_flight, without_flight}
-use Rattle.agent_core.specs.Responding.{replied, responded, responded_to}
-use Rattle.agent_core.specs.Flying.{has_id}
+use Rattle.call_agent.specs.Hearing.{AgentEvent, agent_after, agent_effect, handled, handled_as, hears, issues, took_all}
+use Rattle.call_agent.specs.declared.setup.AgentSetup.{AgentSetup}
+use Rattle.call_agent.specs.Agent.{AgentMachine, FinalAnswer, agent_opening}
+use Rattle.call_agent.specs.Taking.{GatewayCommand, command_of, transacted_by}
+use Rattle.call_agent.specs.Issuing.{command_text}
+use Rattle.call_agent.specs.Flying.{first_flight, flown_on, fly_on, if_due, pass, passed, with_flight, without_flight}
+use Rattle.call_agent.specs.Responding.{replied, responded, responded_to}
+use Rattle.call_agent.specs.Flying.{has_id}
 use Rattle.world_laws.proofs.AgentLaws.{with_each, without_each, first_is, due_is}
 
 abbrev pub Apart : List InFlight → Type 0

@@ -13,12 +13,12 @@ use Rattle.outbound.specs.Flight.{InFlight, reply_by, reply_of, heard}
 use Rattle.outbound.proofs.LifeLaws.{reply_same}
 use Rattle.plain_machine.specs.Event.{datagram, phone, tick}
 use Rattle.transmission.specs.Texts.{texts_of}
-use Rattle.agent_core.specs.declared.setup.AgentSetup.{AgentSetup}
-use Rattle.agent_core.specs.Agent.{AgentMachine, FinalAnswer, agent_opening, answer_for}
-use Rattle.agent_core.specs.Flying.{has_id}
-use Rattle.agent_core.specs.Taking.{GatewayCommand, command_of, transacted_by}
-use Rattle.agent_core.specs.Responding.{replied, responded, responded_to}
-use Rattle.agent_core.specs.Hearing.{AgentEvent, agent_after, agent_effect, handled, handled_as, hears, issues, plain_agent, took_all}
+use Rattle.call_agent.specs.declared.setup.AgentSetup.{AgentSetup}
+use Rattle.call_agent.specs.Agent.{AgentMachine, FinalAnswer, agent_opening, answer_for}
+use Rattle.call_agent.specs.Flying.{has_id}
+use Rattle.call_agent.specs.Taking.{GatewayCommand, command_of, transacted_by}
+use Rattle.call_agent.specs.Responding.{replied, responded, responded_to}
+use Rattle.call_agent.specs.Hearing.{AgentEvent, agent_after, agent_effect, handled, handled_as, hears, issues, plain_agent, took_all}
 use Rattle.world_laws.specs.Landing.{is_final, landing_by, landing_as, landing_in, landing_with, landing_from}
 
 -- what is found has the id

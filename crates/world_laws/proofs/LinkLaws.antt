@@ -38,19 +38,19 @@ use Rattle.machine_laws.proofs.GatewayEvents.{EventGoes, GatewayHolds, event_hol
 use Rattle.machine_laws.proofs.PostLogs.{Logged, WasBegun}
 use Rattle.machine_laws.proofs.TellsLemmas.{AreAnswers, IsAnsweredBy, IsCommand, final_answers}
 use Rattle.machine_laws.specs.Saying.{HasNumbersLeft, Begun, OneOf, Tells, begun_at, begun_in}
-use Rattle.agent_core.specs.Hearing.{AgentEvent, agent_after, agent_effect, agent_refusal, handled, handled_as, heard_with, hears, issued_with, issues, took_all}
-use Rattle.agent_core.specs.declared.setup.AgentSetup.{AgentSetup}
-use Rattle.agent_core.specs.Agent.{AgentMachine, FinalAnswer, agent_opening}
+use Rattle.call_agent.specs.Hearing.{AgentEvent, agent_after, agent_effect, agent_refusal, handled, handled_as, heard_with, hears, issued_with, issues, took_all}
+use Rattle.call_agent.specs.declared.setup.AgentSetup.{AgentSetup}
+use Rattle.call_agent.specs.Agent.{AgentMachine, FinalAnswer, agent_opening}
 use Rattle.agent_core.specs.declared.packet.End.{End}
 use Rattle.agent_core.specs.declared.packet.Packet.{Packet}
 use Rattle.agent_core.specs.declared.packet.Posted.{Posted}
 use Rattle.agent_core.specs.declared.packet.End.TheVariants.{AgentEnd as agent_end, GatewayEnd as gateway_end}
 use Rattle.agent_core.specs.World.{World, WorldStep, agent_in, agent_of, delivered, delivered_from, delivering, delivery_refusal, dialling, gateway_address, gateway_in, issuing, now_in, plain_world, posted_as, step_refusal, steps_are_taken, ticking, to_agent, to_gateway, went, world_after, world_opening}
-use Rattle.agent_core.specs.Taking.{GatewayCommand, command_of, transacted_by}
+use Rattle.call_agent.specs.Taking.{GatewayCommand, command_of, transacted_by}
 use Rattle.world_laws.specs.Reached.{Reached, heard_in, issued_in, own_in, reached, taken_in}
-use Rattle.agent_core.specs.Responding.{replied, responded, responded_to}
-use Rattle.agent_core.specs.Flying.{has_id}
-use Rattle.agent_core.proofs.EventLemmas.{agent_clock, after_on}
+use Rattle.call_agent.specs.Responding.{replied, responded, responded_to}
+use Rattle.call_agent.specs.Flying.{has_id}
+use Rattle.call_agent.proofs.EventLemmas.{agent_clock, after_on}
 use Rattle.world_laws.proofs.AgentLaws.{Goes, Holds, AgentGoesOn, event_on, alone, never, tick_taken}
 use Rattle.world_laws.proofs.ReachedLaws.{executed_each, executed_apart}
 use Rattle.world_laws.proofs.WorldLaws.{Holding, hold_on, packed_hold, Came, Comes, Sound, Sends, Posts, texts_came, agent_commands, agent_answers, step_sound, opening_sound, same_issued, arrived_on, gateway_alone, not_late, gateway_taken, agent_taken, tick_is}

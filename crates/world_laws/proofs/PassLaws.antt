@@ -9,10 +9,10 @@ use Rattle.outbound.specs.Flight.{InFlight, repeat_of, repeated}
 use Rattle.outbound.proofs.LifeLaws.{repeat_same}
 use Rattle.machine_laws.specs.Saying.{OneOf}
 use Rattle.machine_laws.proofs.EachLemmas.{Each, one_of_each, one_to}
-use Rattle.agent_core.specs.declared.setup.AgentSetup.{AgentSetup}
-use Rattle.agent_core.specs.Agent.{agent_opening}
-use Rattle.agent_core.specs.Flying.{Flown, flown, flown_on, afterwards, fly_on, if_due, first_flight, sooner, passed, pass, with_flight, without_flight}
-use Rattle.agent_core.specs.Hearing.{AgentEvent, plain_agent}
+use Rattle.call_agent.specs.declared.setup.AgentSetup.{AgentSetup}
+use Rattle.call_agent.specs.Agent.{agent_opening}
+use Rattle.call_agent.specs.Flying.{Flown, flown, flown_on, afterwards, fly_on, if_due, first_flight, sooner, passed, pass, with_flight, without_flight}
+use Rattle.call_agent.specs.Hearing.{AgentEvent, plain_agent}
 use Rattle.world_laws.proofs.AnswersOnce.{Apart, apart_with, apart_without, events_on, opening_single}
 
 -- so many things are left to fall due of a command: its repeats, and its end

@@ -19,16 +19,16 @@ use Rattle.plain_machine.specs.declared.setup.Setup.{Setup}
 use Rattle.machine_laws.proofs.EachLemmas.{all_from_each, any_from_one, each_weaker, is_none-None, one_from_any, one_mapped, one_unmapped, one_weaker}
 use Rattle.machine_laws.proofs.TellsLemmas.{IsAnsweredBy}
 use Rattle.machine_laws.specs.Saying.{OneOf}
-use Rattle.agent_core.specs.Hearing.{AgentEvent, agent_after, agent_effect, hears, issues}
-use Rattle.agent_core.specs.Taking.{with_taken}
-use Rattle.agent_core.specs.Agent.{nothing_taken, AgentMachine, FinalAnswer, agent_opening}
+use Rattle.call_agent.specs.Hearing.{AgentEvent, agent_after, agent_effect, hears, issues}
+use Rattle.call_agent.specs.Taking.{with_taken}
+use Rattle.call_agent.specs.Agent.{nothing_taken, AgentMachine, FinalAnswer, agent_opening}
 use Rattle.agent_core.specs.declared.packet.End.{End}
 use Rattle.agent_core.specs.declared.packet.Packet.{Packet}
 use Rattle.agent_core.specs.declared.packet.Posted.{Posted}
 use Rattle.agent_core.specs.declared.packet.End.TheVariants.{AgentEnd as agent_end, GatewayEnd as gateway_end}
 use Rattle.agent_core.specs.World.{World, WorldStep, agent_in, agent_of, delivered, delivered_from, delivering, dialling, gateway_address, gateway_in, issuing, plain_world, step_refusal, steps_are_taken, ticking, to_agent, to_gateway, went, world_after, world_opening}
 use Rattle.world_laws.specs.Reached.{Reached, executed_in, heard_in, key_kept, key_reached, reached, taken_in, taken_with}
-use Rattle.agent_core.proofs.EventLemmas.{after_on}
+use Rattle.call_agent.proofs.EventLemmas.{after_on}
 use Rattle.world_laws.proofs.AgentLaws.{alone}
 use Rattle.world_laws.proofs.ReachedLaws.{executed_is}
 use Rattle.world_laws.proofs.WorldLaws.{step_sound}

@@ -15,10 +15,10 @@ use Rattle.plain_machine.specs.Answering.{line_meant}
 use Rattle.plain_machine.specs.Setup.{IsSetUp}
 use Rattle.plain_machine.specs.declared.setup.Setup.{Setup}
 use Rattle.machine_laws.proofs.EachLemmas.{Each, each_both}
-use Rattle.agent_core.specs.declared.setup.AgentSetup.{AgentSetup}
-use Rattle.agent_core.specs.declared.taking.Taken.{Taken}
-use Rattle.agent_core.specs.Agent.{observed_on}
-use Rattle.agent_core.specs.Taking.{command_of, taken_of, taken_on, with_taken}
+use Rattle.call_agent.specs.declared.setup.AgentSetup.{AgentSetup}
+use Rattle.call_agent.specs.declared.taking.Taken.{Taken}
+use Rattle.call_agent.specs.Agent.{observed_on}
+use Rattle.call_agent.specs.Taking.{command_of, taken_of, taken_on, with_taken}
 use Rattle.agent_core.specs.World.{WorldStep, agent_in, agent_of, plain_world, steps_are_taken, world_opening}
 use Rattle.world_laws.specs.Reached.{Reached, taken_in, taken_of_command, taken_with, told_of}
 use Rattle.world_laws.proofs.TakenLaws.{taken_is}

@@ -30,15 +30,15 @@ use Rattle.plain_machine.specs.declared.setup.Setup.{Setup}
 use Rattle.machine_laws.proofs.EachLemmas.{Each, all_from_each, any_from_one, each_at, each_both, each_mapped, each_unflat, each_unmapped, each_weaker, one_before, one_of_each, one_to, one_weaker, is_none-None}
 use Rattle.machine_laws.proofs.TellsLemmas.{AreAnswers, IsCommand, tells_on}
 use Rattle.machine_laws.specs.Saying.{Carries, IsAnswerTo, Begun, OneOf, Tells, is_command_as}
-use Rattle.agent_core.specs.Hearing.{AgentEvent, AgentRefusal, agent_after, agent_effect, agent_refusal, hears, issued_from, issued_with, issues}
-use Rattle.agent_core.specs.Agent.{AgentMachine, agent_opening}
+use Rattle.call_agent.specs.Hearing.{AgentEvent, AgentRefusal, agent_after, agent_effect, agent_refusal, hears, issued_from, issued_with, issues}
+use Rattle.call_agent.specs.Agent.{AgentMachine, agent_opening}
 use Rattle.agent_core.specs.declared.packet.End.{End}
 use Rattle.agent_core.specs.declared.packet.Packet.{Packet}
 use Rattle.agent_core.specs.declared.packet.Posted.{Posted}
 use Rattle.agent_core.specs.declared.packet.End.TheVariants.{AgentEnd as agent_end, GatewayEnd as gateway_end}
 use Rattle.agent_core.specs.World.{World, WorldStep, agent_in, agent_of, agent_refused, delivered, delivered_from, delivering, delivery_refusal, dialling, gateway_address, gateway_in, gateway_refused, issuing, now_in, packet_too_old, plain_world, posted_as, step_refusal, steps_are_taken, ticking, to_agent, to_gateway, went, world_after, world_opening}
 use Rattle.world_laws.specs.Reached.{Reached, executed_in, issued_in, reached, reached_as}
-use Rattle.agent_core.proofs.EventLemmas.{agent_clock, after_on, forward}
+use Rattle.call_agent.proofs.EventLemmas.{agent_clock, after_on, forward}
 use Rattle.world_laws.proofs.AgentLaws.{Goes, Speaks, WasIssued, Fine, Holds, AgentGoesOn, event_on, opening_holds, issued_more, alone, never, tick_taken}
 use Rattle.history.specs.declared.entry.KeptFirst.{KeptFirst}
 use Rattle.history.specs.Kept.{firsts_in}

@@ -7,9 +7,9 @@ use Rattle.plain_machine.specs.declared.setup.Setup.{Setup}
 use Rattle.plain_machine.specs.Event.{datagram, tick}
 use Rattle.plain_machine.specs.Example.{two_lines, other_agent}
 use Rattle.transmission.specs.declared.output.OutDatagram.{OutDatagram}
-use Rattle.agent_core.specs.declared.setup.AgentSetup.{AgentSetup}
-use Rattle.agent_core.specs.Agent.{AgentMachine, FinalAnswer, agent_opening, answer_for, observed_on}
-use Rattle.agent_core.specs.Hearing.{AgentEvent, issues, hears, AgentRefusal, agent_effect, agent_refusal, plain_agent}
+use Rattle.call_agent.specs.declared.setup.AgentSetup.{AgentSetup}
+use Rattle.call_agent.specs.Agent.{AgentMachine, FinalAnswer, agent_opening, answer_for, observed_on}
+use Rattle.call_agent.specs.Hearing.{AgentEvent, issues, hears, AgentRefusal, agent_effect, agent_refusal, plain_agent}
 use Rattle.world_laws.specs.Landing.{landing_from}
 use Rattle.agent_core.specs.World.{World, WorldStep, issuing, dialling, ticking, delivering, WorldRefusal, agent_of, plain_world, agent_in, step_refusal, gateway_address}
 

@@ -6,10 +6,10 @@ use Rattle.mgcp_text.specs.Reading.{Outcome, message, no_header, bad_version, ba
 use Rattle.outbound.specs.Flight.{InFlight}
 use Rattle.plain_machine.specs.Event.{datagram, phone, tick}
 use Rattle.transmission.specs.Texts.{texts_of}
-use Rattle.agent_core.specs.declared.setup.AgentSetup.{AgentSetup}
-use Rattle.agent_core.specs.Agent.{AgentMachine, FinalAnswer}
-use Rattle.agent_core.specs.Flying.{has_id}
-use Rattle.agent_core.specs.Hearing.{AgentEvent, issues, hears, agent_effect, handled}
+use Rattle.call_agent.specs.declared.setup.AgentSetup.{AgentSetup}
+use Rattle.call_agent.specs.Agent.{AgentMachine, FinalAnswer}
+use Rattle.call_agent.specs.Flying.{has_id}
+use Rattle.call_agent.specs.Hearing.{AgentEvent, issues, hears, agent_effect, handled}
 
 -- the return code is that of a final response
 abbrev pub is_final : ℕ → Bool

@@ -12,11 +12,11 @@ use Rattle.plain_machine.specs.Lists.{sent_of}
 use Rattle.plain_machine.specs.Transactions.{Asked, asked}
 use Rattle.machine_laws.specs.Saying.{Begun, begun_in}
 use Rattle.event_values.specs.declared.observed.Observed.{Observed}
-use Rattle.agent_core.specs.declared.setup.AgentSetup.{AgentSetup}
-use Rattle.agent_core.specs.declared.taking.Taken.{Taken}
-use Rattle.agent_core.specs.Agent.{agent_opening}
-use Rattle.agent_core.specs.Taking.{GatewayCommand, command_of}
-use Rattle.agent_core.specs.Hearing.{issued_from, heard_with}
+use Rattle.call_agent.specs.declared.setup.AgentSetup.{AgentSetup}
+use Rattle.call_agent.specs.declared.taking.Taken.{Taken}
+use Rattle.call_agent.specs.Agent.{agent_opening}
+use Rattle.call_agent.specs.Taking.{GatewayCommand, command_of}
+use Rattle.call_agent.specs.Hearing.{issued_from, heard_with}
 use Rattle.agent_core.specs.World.{World, agent_of}
 
 -- a command that arrived, and what its text was read as

@@ -4,7 +4,7 @@
 //! a world stands and runs. And the worked examples of both.
 //!
 //! Nothing here runs: each law is a function without a body, whose clauses are proved for every setup and every list of
-//! events or steps. `specs/` has what the laws speak of beside the words of `agent_core`.
+//! events or steps. `specs/` has what the laws speak of beside the words of `call_agent` and `agent_core`.
 #![tactic(auto)]
 
 pub mod examples;

@@ -6,12 +6,12 @@ ghost use Rattle.std.specs.Prelude.{◌≡◌, ◌++◌, codes, [], ◌∷◌, N
 ghost use Rattle.plain_machine.specs.Event.{tick};
 ghost use Rattle.plain_machine.specs.Example.{two_lines, other_agent};
 ghost use Rattle.transmission.specs.Transacting.{message_to};
-ghost use Rattle.agent_core.specs.declared.issuing.IssueFault.TheVariants as faults;
-ghost use Rattle.agent_core.specs.Agent.{answer_for};
-ghost use Rattle.agent_core.specs.Issuing.{bad_command, issue_fault_number};
-ghost use Rattle.agent_core.specs.Flying.{pass};
-ghost use Rattle.agent_core.specs.Hearing.{issues, hears, as_issue};
-ghost use Rattle.agent_core.specs.State.{answer_in};
+ghost use Rattle.call_agent.specs.declared.issuing.IssueFault.TheVariants as faults;
+ghost use Rattle.call_agent.specs.Agent.{answer_for};
+ghost use Rattle.call_agent.specs.Issuing.{bad_command, issue_fault_number};
+ghost use Rattle.call_agent.specs.Flying.{pass};
+ghost use Rattle.call_agent.specs.Hearing.{issues, hears, as_issue};
+ghost use Rattle.call_agent.specs.State.{answer_in};
 ghost use Rattle.agent_core.specs.World.{gateway_address};
 ghost use Rattle.world_laws.specs.Example.{audit_by_agent, agent_refuses, agent_sends, agent_posts, agent_then, seconds_of_agent, from_gateway, from_elsewhere};
 

@@ -8,9 +8,9 @@ ghost use Rattle.history.specs.Looking.{full};
 ghost use Rattle.plain_machine.specs.Event.{tick};
 ghost use Rattle.plain_machine.specs.Example.{other_agent};
 ghost use Rattle.transmission.specs.Transacting.{message_to};
-ghost use Rattle.agent_core.specs.Agent.{observed_on, idle};
-ghost use Rattle.agent_core.specs.Taking.{transacted_by};
-ghost use Rattle.agent_core.specs.Hearing.{hears};
+ghost use Rattle.call_agent.specs.Agent.{observed_on, idle};
+ghost use Rattle.call_agent.specs.Taking.{transacted_by};
+ghost use Rattle.call_agent.specs.Hearing.{hears};
 ghost use Rattle.world_laws.specs.Example.{agent_sends, agent_posts, agent_then, seconds_of_agent, from_gateway, from_elsewhere, said, ntfy, lifted_at, by_verb, told_then};
 
 /// Of the verbs a gateway's notification alone tells an agent something; all but that and an announcement is 504.

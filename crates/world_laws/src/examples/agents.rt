@@ -7,9 +7,9 @@ ghost use Rattle.mg_line.specs.declared.phone.Act.TheVariants as acts;
 ghost use Rattle.event_values.specs.declared.observed.Observed.TheVariants.{Happened};
 ghost use Rattle.plain_machine.specs.declared.refusal.Refusal.TheVariants as refusals;
 ghost use Rattle.plain_machine.specs.Event.{phone, tick};
-ghost use Rattle.agent_core.specs.Agent.{answer_for, observed_on};
-ghost use Rattle.agent_core.specs.Issuing.{no_more_ids, bad_command};
-ghost use Rattle.agent_core.specs.Hearing.{issues, hears, as_event, as_issue, plain_agent};
+ghost use Rattle.call_agent.specs.Agent.{answer_for, observed_on};
+ghost use Rattle.call_agent.specs.Issuing.{no_more_ids, bad_command};
+ghost use Rattle.call_agent.specs.Hearing.{issues, hears, as_event, as_issue, plain_agent};
 ghost use Rattle.world_laws.specs.Example.{agent_from, audit_by_agent, agent_refuses, agent_sends, seconds_of_agent, from_gateway};
 
 /// The greatest id is issued, and after it none.

@@ -4,7 +4,7 @@
 ghost use Rattle.std.specs.Prelude.{◌≡◌, ◌++◌, codes, [], ◌∷◌, true, false, map};
 ghost use Rattle.mg_line.specs.declared.phone.Act.TheVariants as acts;
 ghost use Rattle.plain_machine.specs.Event.{phone, tick};
-ghost use Rattle.agent_core.specs.Hearing.{hears};
+ghost use Rattle.call_agent.specs.Hearing.{hears};
 ghost use Rattle.world_laws.specs.Landing.{is_final, landing_from};
 ghost use Rattle.world_laws.specs.Example.{agent_from, agent_then, audit_by_agent, from_elsewhere, from_gateway, landings_then, ntfy, seconds_of_agent};
 

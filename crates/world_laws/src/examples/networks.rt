@@ -11,9 +11,9 @@ ghost use Rattle.event_values.specs.declared.observed.Observed.TheVariants.{Happ
 ghost use Rattle.plain_machine.specs.Example.{two_lines, agent, local_host, other_host, other_agent};
 ghost use Rattle.agent_core.specs.declared.packet.End.TheVariants.{GatewayEnd, AgentEnd};
 ghost use Rattle.agent_core.specs.declared.step.Step.TheVariants as steps;
-ghost use Rattle.agent_core.specs.Agent.{observed_on};
-ghost use Rattle.agent_core.specs.Issuing.{bad_command};
-ghost use Rattle.agent_core.specs.Hearing.{as_issue};
+ghost use Rattle.call_agent.specs.Agent.{observed_on};
+ghost use Rattle.call_agent.specs.Issuing.{bad_command};
+ghost use Rattle.call_agent.specs.Hearing.{as_issue};
 ghost use Rattle.agent_core.specs.World.{world_opening, steps_are_taken, gateway_address, agent_of, gateway_in, delivered_from, issuing, dialling, ticking, delivering, by_agent};
 ghost use Rattle.agent_core.specs.WorldStands.{step_of, steps_before};
 ghost use Rattle.world_laws.specs.Example.{world, agent_after_steps, texts_in, texts_with, shared_address, code_in, refused_after, announced, audits};

@@ -6,14 +6,14 @@ ghost use Rattle.plain_machine.specs.declared.config.ConfigFault.TheVariants as 
 ghost use Rattle.plain_machine.specs.declared.refusal.Refusal.TheVariants as refusals;
 ghost use Rattle.plain_machine.specs.Event.{tick};
 ghost use Rattle.plain_machine.specs.Example.{two_lines};
-ghost use Rattle.agent_core.specs.declared.issuing.IssueFault.TheVariants as faults;
+ghost use Rattle.call_agent.specs.declared.issuing.IssueFault.TheVariants as faults;
 ghost use Rattle.agent_core.specs.declared.step.StepRefusal.TheVariants.{OutOfMemory, TickTooFar, ClockBack, NoSuchLine, PhoneState, NoMoreIds, BadCommand, NoSuchPacket, PacketTooOld};
-ghost use Rattle.agent_core.specs.Agent.{agent_opening};
-ghost use Rattle.agent_core.specs.Issuing.{no_more_ids, bad_command};
-ghost use Rattle.agent_core.specs.Hearing.{hears, as_event, as_issue};
+ghost use Rattle.call_agent.specs.Agent.{agent_opening};
+ghost use Rattle.call_agent.specs.Issuing.{no_more_ids, bad_command};
+ghost use Rattle.call_agent.specs.Hearing.{hears, as_event, as_issue};
 ghost use Rattle.agent_core.specs.World.{by_gateway, by_agent, no_such_packet, packet_too_old};
 ghost use Rattle.agent_core.specs.StepRefusal.{step_refusal_number, step_refusal_name, of_event, of_issue};
-ghost use Rattle.agent_core.specs.AgentStands.{agent_takes, IssueEnds};
+ghost use Rattle.call_agent.specs.AgentStands.{agent_takes, IssueEnds};
 ghost use Rattle.agent_core.specs.WorldStands.{StepEnds, Leaves, WorldOpens};
 ghost use Rattle.world_laws.specs.Example.{agent_from, audit_by_agent};
 

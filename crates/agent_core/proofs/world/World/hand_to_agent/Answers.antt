@@ -4,8 +4,8 @@ use Rattle.std.proofs.lemmas.Option.{slice_get-get_or}
 use Rattle.std.specs.declared.net.socket_addr.SocketAddrV4.{SocketAddrV4}
 use Rattle.plain_machine.specs.Event.{datagram}
 use Rattle.transmission.specs.Packing.{same_address}
-use Rattle.agent_core.specs.Hearing.{hears}
-use Rattle.agent_core.specs.AgentStands.{AgentTook}
+use Rattle.call_agent.specs.Hearing.{hears}
+use Rattle.call_agent.specs.AgentStands.{AgentTook}
 use Rattle.agent_core.specs.WorldStands.{WorldState}
 use Rattle.agent_core.proofs.EndLemmas.{gave_agent, agent_wants}
 use Rattle.agent_core.proofs.PostLemmas.{post_ok}

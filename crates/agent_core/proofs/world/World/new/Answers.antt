@@ -1,6 +1,6 @@
 use Rattle.std.proofs.Common.{refl, ap, ◌∙◌}
 use Rattle.std.specs.declared.net.socket_addr.SocketAddrV4.{SocketAddrV4}
-use Rattle.agent_core.specs.declared.setup.AgentSetup.{AgentSetup}
+use Rattle.call_agent.specs.declared.setup.AgentSetup.{AgentSetup}
 use Rattle.agent_core.proofs.OpenLemmas.{world_opens, made_for}
 use Rattle.agent_core.proofs.world.World.new.Goals as goal
 

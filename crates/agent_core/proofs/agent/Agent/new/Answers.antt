@@ -1,6 +1,0 @@
-use Rattle.std.proofs.Common.{refl}
-use Rattle.agent_core.proofs.StandLemmas.{stands_for_none}
-use Rattle.agent_core.proofs.agent.Agent.new.Goals as goal
-
-pub returns-clause-stands : goal.returns-clause-stands
-returns-clause-stands c = stands_for_none _ (rw (c.none.ensures, c.new.ensures, c.in_ok-told.ensures, c.new-2.ensures) refl)

@@ -1,6 +1,0 @@
-use Rattle.std.proofs.Common.{refl}
-use Rattle.agent_core.proofs.StandLemmas.{stepped}
-use Rattle.agent_core.proofs.agent.Agent.step.Goals as goal
-
-pub returns-clause-ok : goal.returns-clause-ok
-returns-clause-ok c = rw (← c.self.view_is) (stepped _ _ _ c.step_state.result refl c.step_state.ensures.ends c.step_state.ensures.ok)

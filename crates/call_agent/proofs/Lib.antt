@@ -1,0 +1,7 @@
+pub mod EventLemmas
+pub mod AgentStands
+pub mod FlightTable
+pub mod TellingLemmas
+pub mod PassLemmas
+pub mod HearingLemmas
+pub mod StandLemmas

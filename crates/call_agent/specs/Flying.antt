@@ -1,0 +1,66 @@
+-- What falls due of an agent's commands in flight: each is sent again, or given up (RFC 3435, 3.5.3 and 4.3).
+use Rattle.std.specs.Prelude.{ℕ, ◌*◌, ◌==◌, zero, suc, nat_le, if◌then◌else◌, Bool, List, [], ◌∷◌, ◌++◌, length, Option, Some, None}
+use Rattle.outbound.specs.declared.repeat.Repeat.{Repeat}
+use Rattle.outbound.specs.declared.repeat.Repeat.TheVariants.{Sent, GivenUp}
+use Rattle.outbound.specs.Flight.{InFlight, repeat_of, repeated}
+use Rattle.transmission.specs.declared.output.OutDatagram.{OutDatagram}
+use Rattle.transmission.specs.Transacting.{message_to}
+use Rattle.call_agent.specs.Agent.{AgentMachine, AgentEffect}
+
+abbrev pub has_id : ℕ → InFlight → Bool
+has_id id flight = flight.id == id
+
+abbrev pub sooner : InFlight → Option InFlight → Option InFlight
+sooner flight None = Some flight
+sooner flight (Some other) = if nat_le flight.due other.due then Some flight else Some other
+
+-- the flight of which something falls due first; of several at one moment that of the least id, which stands first
+unfoldable pub first_flight : List InFlight → Option InFlight
+first_flight [] = None
+first_flight (flight ∷ flights) = sooner flight (first_flight flights)
+
+abbrev pub if_due : ℕ → Option InFlight → Option InFlight
+if_due moment None = None
+if_due moment (Some flight) = if nat_le flight.due moment then Some flight else None
+
+-- the flights with this one in the place of that with its id
+unfoldable pub with_flight : InFlight → List InFlight → List InFlight
+with_flight new [] = []
+with_flight new (flight ∷ flights) = if flight.id == new.id then new ∷ flights else flight ∷ with_flight new flights
+
+unfoldable pub without_flight : ℕ → List InFlight → List InFlight
+without_flight id [] = []
+without_flight id (flight ∷ flights) = if flight.id == id then flights else flight ∷ without_flight id flights
+
+-- flights, and what was sent of them
+pub record Flown : Type 0 where
+  pub flights : List InFlight
+  pub sent : List OutDatagram
+
+abbrev pub flown : List InFlight → List OutDatagram → Flown
+flown flights sent = record { flights = flights; sent = sent }
+
+-- a command goes out once more, at its own moment, or it is given up
+abbrev pub flown_on : Repeat → List InFlight → InFlight → Flown
+flown_on Sent flights flight =
+    flown (with_flight (repeated flight flight.due) flights) (message_to flight.to flight.due flight.text ∷ [])
+flown_on GivenUp flights flight = flown (without_flight flight.id flights) []
+
+abbrev pub afterwards : Flown → (List InFlight → Flown) → Flown
+afterwards first next = flown (next first.flights).flights (first.sent ++ (next first.flights).sent)
+
+abbrev pub fly_on : Option InFlight → List InFlight → (List InFlight → Flown) → Flown
+fly_on None flights next = flown flights []
+fly_on (Some flight) flights next = afterwards (flown_on (repeat_of flight flight.due) flights flight) next
+
+unfoldable pub passed : ℕ → List InFlight → ℕ → Flown
+passed zero flights moment = flown flights []
+passed (suc most) flights moment = fly_on (if_due moment (first_flight flights)) flights (λ next. passed most next moment)
+
+-- all that falls due up to a moment, the first first. Of a flight 8 things at most fall due: seven repeats, and its end.
+unfoldable pub pass : List InFlight → ℕ → Flown
+pass flights moment = passed (8 * length flights) flights moment
+
+-- the clock is set after all that fell due
+abbrev pub ticked : AgentMachine → ℕ → Flown → AgentEffect
+ticked m moment passed = record { machine = record m { now = moment; flights = passed.flights }; sent = passed.sent }

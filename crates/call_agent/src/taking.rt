@@ -1,0 +1,189 @@
+//! How an agent takes the commands of a gateway (RFC 3435, 2.3.4, 2.3.12 and 3.5.1).
+ghost use Rattle.std.specs.Prelude.{◌≡◌, ◌≤◌, [], fold, IfOk, OnOk, OnErr};
+ghost use Rattle.std.specs.List.{cons_option};
+ghost use Rattle.mgcp_text.specs.Message.{params_in};
+ghost use Rattle.mgcp_text.specs.Confirmation.{k_of};
+ghost use Rattle.endpoint_names.specs.Name.{name_of};
+ghost use Rattle.transmission.specs.Confirming.{spans_of};
+ghost use Rattle.plain_machine.specs.Answering.{line_meant};
+ghost use Rattle.machine_laws.specs.Notified.{observed_with};
+ghost use Rattle.call_agent.specs.Taking.{code_for, taken_on, taken_of, with_taken, executed, transacted};
+ghost use Rattle.call_agent.specs.State.{kept_in, Does};
+
+use crate::state::{Context, State};
+use crate::told::Told;
+use endpoint_names::{Pattern, read_name};
+use event_values::{Observed, read_observed};
+use history::IdSpan;
+use mg_bytes::{CodeFault, OutOfMemory, ReturnCode, Sequence};
+use mgcp_text::{Answer, Message, Param, Verb, param_at, read_k};
+use plain_machine::OutDatagram;
+use std::alloc::{AllocError, Global};
+use transmission::{Origin, answer, is_new, spans_of};
+
+/// What a notification of a line tells.
+#[derive(Drop)]
+pub struct Taken {
+    pub line: u16,
+    pub observed: Sequence<Observed>,
+}
+
+// The return code that answers a command of the gateway's: notifications and announcements are taken, and no other command is
+// for an agent.
+fn code_for(verb: Verb) -> u16
+    ensures value { result ≡ code_for verb }
+    ensures three_digits { result ≤ 999 }
+{
+    match verb {
+        Verb::Ntfy | Verb::Rsip => ReturnCode::Executed.number(),
+        Verb::Epcf
+        | Verb::Rqnt
+        | Verb::Crcx
+        | Verb::Mdcx
+        | Verb::Dlcx
+        | Verb::Auep
+        | Verb::Aucx
+        | Verb::Other => ReturnCode::UnsupportedCommand.number(),
+    }
+}
+
+// What the first O tells; nothing where there is none, or one that can't be read.
+fn observed_with(alloc: Global, params: &[Param<'_>]) -> Result<Sequence<Observed>, OutOfMemory>
+    ensures { IfOk result (λ observed. observed ≡ observed_with params.now) }
+{
+    let Some(param) = param_at(b"O", params) else {
+        return Ok(Sequence::new(alloc));
+    };
+    match read_observed(alloc, param.value.as_slice()) {
+        Ok(observed) => Ok(observed),
+        Err(CodeFault::Code(_)) => Ok(Sequence::new(alloc)),
+        Err(CodeFault::OutOfMemory) => Err(AllocError),
+    }
+}
+
+// What a command tells of a line: a notification of one line does.
+fn taken_of(
+    context: Context<'_>,
+    verb: Verb,
+    name: &[u8],
+    params: &[Param<'_>],
+) -> Result<Option<Taken>, OutOfMemory>
+    ensures { IfOk result (λ taken. cons_option taken [] ≡ taken_of context.entry.setup.now verb name.now params.now) }
+{
+    match verb {
+        Verb::Ntfy => taken_on(context, name, params),
+        Verb::Epcf
+        | Verb::Rqnt
+        | Verb::Crcx
+        | Verb::Mdcx
+        | Verb::Dlcx
+        | Verb::Auep
+        | Verb::Aucx
+        | Verb::Rsip
+        | Verb::Other => Ok(None),
+    }
+}
+
+// What a notification tells of its line; that of no line is taken for none.
+fn taken_on(
+    context: Context<'_>,
+    name: &[u8],
+    params: &[Param<'_>],
+) -> Result<Option<Taken>, OutOfMemory>
+    ensures { IfOk result (λ taken. cons_option taken []
+        ≡ taken_on (line_meant (name_of name.now context.entry.setup.now.domain context.entry.setup.now.lines)) params.now) }
+{
+    match read_name(name, context.setup.domain.as_bytes(), context.setup.lines) {
+        Ok(Pattern::One(line)) => {
+            let observed = observed_with(context.alloc, params)?;
+            Ok(Some(Taken { line, observed }))
+        }
+        Ok(Pattern::All | Pattern::Any) | Err(_) => Ok(None),
+    }
+}
+
+// This is told, if there is anything.
+fn tell(told: &mut Told, taken: Option<Taken>) -> Result<(), OutOfMemory>
+    ensures ok { OnOk result (told.new ≡ record told.old { is = fold with_taken told.old.is (cons_option taken []) }) }
+    ensures err { OnErr result (told.new ≡ told.old) }
+{
+    let Some(Taken { line, observed }) = taken else {
+        return Ok(());
+    };
+    told.tell(line, observed)?;
+    Ok(())
+}
+
+// A first is taken and answered: what it tells is taken, what it confirms and its answer are kept, and its answer goes to where
+// it came from.
+fn execute(
+    context: Context<'_>,
+    state: &mut State,
+    origin: Origin,
+    confirms: Sequence<IdSpan>,
+    code: u16,
+    taken: Option<Taken>,
+    out: &mut Vec<OutDatagram>,
+) -> Result<(), OutOfMemory>
+    requires { code ≤ 999 }
+    ensures { Does result (executed (kept_in state.old) origin.source
+        (record { id = origin.id; confirms = confirms; code = code; taken = cons_option taken [] }))
+        state.old state.new out.old.items out.new.items }
+{
+    tell(&mut state.told, taken)?;
+    let given = Answer::plain(context.alloc, code);
+    answer(
+        context.alloc,
+        &mut state.history,
+        origin,
+        state.clock,
+        confirms,
+        &given,
+        out,
+    )?;
+    Ok(())
+}
+
+/// A command that can't be read past its id is answered by this code.
+pub(crate) fn refuse(
+    context: Context<'_>,
+    state: &mut State,
+    origin: Origin,
+    code: u16,
+    out: &mut Vec<OutDatagram>,
+) -> Result<(), OutOfMemory>
+    requires { code ≤ 999 }
+    ensures { Does result (transacted (kept_in state.old) origin.source
+        (record { id = origin.id; confirms = []; code = code; taken = [] })) state.old state.new out.old.items out.new.items }
+{
+    if !is_new(context.alloc, &state.history, origin, state.clock, out)? {
+        return Ok(());
+    }
+    let confirms = Sequence::new(context.alloc);
+    execute(context, state, origin, confirms, code, None, out)
+}
+
+/// A command of the gateway's: what can be read is taken the first time that it comes, and a repeat gets the stored answer.
+pub(crate) fn take_command(
+    context: Context<'_>,
+    state: &mut State,
+    origin: Origin,
+    verb: Verb,
+    name: &[u8],
+    said: &Message<'_>,
+    out: &mut Vec<OutDatagram>,
+) -> Result<(), OutOfMemory>
+    ensures { Does result (transacted (kept_in state.old) origin.source (record {
+      id = origin.id;
+      confirms = spans_of (k_of (params_in said.now));
+      code = code_for verb;
+      taken = taken_of context.entry.setup.now verb name.now (params_in said.now);
+    })) state.old state.new out.old.items out.new.items }
+{
+    if !is_new(context.alloc, &state.history, origin, state.clock, out)? {
+        return Ok(());
+    }
+    let confirms = spans_of(context.alloc, &read_k(context.alloc, said)?)?;
+    let taken = taken_of(context, verb, name, said.params())?;
+    execute(context, state, origin, confirms, code_for(verb), taken, out)
+}
