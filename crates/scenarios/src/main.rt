@@ -1,25 +1,14 @@
-//! Plays tales of the program, of its gateway and of a call agent, of the kinds that the files' first lines say.
+//! Plays tales of the program and of its gateway, of the kinds that the files' first lines say.
 //!
 //! - `stories`: scripts of the program, with what is printed beside what causes it.
 //! - `values`: a row a call of the program: its name, its values, and what it answers.
 //! - `refused`: scripts at a gateway beside a twin, for a run in which memory is refused.
-//! - `memory`: a gateway that takes events in one run, or over a wire in memory, which plays a plan and fails where that says
-//!   so.
-//! - `sockets`: one that is served over a UDP socket, with the call agent's in the same process.
-//! - `worlds`: a gateway and a call agent, and a bad network between both.
-//! - `agents`: a call agent alone.
+//! - `sockets`: a gateway that is served over a UDP socket, with the call agent's in the same process.
 //! - `streams`: an input whose streams give and take little at a time, and fail.
 //!
 //! What is told otherwise than it happens is printed under its title. `docs/TALES.md` says how tales are written.
 #![tactic(auto)]
 
-mod agents;
-mod forms;
-mod gateways;
-mod given;
-mod memory;
-mod outputs;
-mod planned;
 mod played;
 mod refused;
 mod runs;
@@ -29,20 +18,16 @@ mod streams;
 mod titles;
 mod twins;
 mod values;
-mod worlds;
 mod written;
 
-use crate::agents::AgentTale;
-use crate::memory::MemoryTale;
 use crate::streams::StreamTale;
 use crate::values::Values;
-use crate::worlds::WorldTale;
 use std::io;
 use std::net::Net;
 use std::process::ExitCode;
 use tales::{Count, Kinds, play};
 
-// The kinds of tales that have a gateway or a call agent.
+// The kinds of tales that need the program, or a part of it.
 struct Scenarios;
 
 impl Kinds for Scenarios {
@@ -55,10 +40,7 @@ impl Kinds for Scenarios {
             "stories" => stories::told(rt, text)?,
             "values" => tales::told::<Values, R>(rt, text)?,
             "refused" => refused::told(rt, text)?,
-            "memory" => tales::told::<MemoryTale, R>(rt, text)?,
             "sockets" => sockets::told(rt, text)?,
-            "worlds" => tales::told::<WorldTale, R>(rt, text)?,
-            "agents" => tales::told::<AgentTale, R>(rt, text)?,
             "streams" => tales::told::<StreamTale, R>(rt, text)?,
             _ => return Ok(None),
         }))

@@ -1,11 +1,10 @@
 //! All events of a script in one run, which goes on at its place where it was refused memory.
-use crate::outputs::datagram_at;
-use crate::twins::{are_same, event_of, scene_again, stepped};
+use crate::twins::{are_same, event_of, is_same_datagram, scene_again, stepped};
 use gateway_core::{Event, Gateway, Outputs, Refusal};
 use rgw_play::Step;
 use std::alloc::Global;
 use std::io;
-use tales::again;
+use tales::{again, item_at};
 
 // The events of steps, and what a gateway gives to each.
 #[derive(Drop)]
@@ -82,14 +81,10 @@ fn are_same_lists(one: &[Outputs], other: &[Outputs]) -> bool {
         return false;
     }
     for place in 0..count {
-        let (Some(datagram), Some(twin)) = (datagram_at(one, place), datagram_at(other, place))
-        else {
+        let (Some(datagram), Some(twin)) = (item_at(one, place), item_at(other, place)) else {
             return false;
         };
-        if datagram.to != twin.to
-            || datagram.moment != twin.moment
-            || datagram.bytes.as_bytes() != twin.bytes.as_bytes()
-        {
+        if !is_same_datagram(datagram, twin) {
             return false;
         }
     }

@@ -6,14 +6,14 @@
 //! - `AUEP 1200 aaln/1@~¶  200 1200 OK¶` an answer;
 //! - `200 7 OK¶  none` nothing;
 //! - `''  fault: 1 not received, 0 not sent` nothing is sent, so the turn is a fault; so many the socket has counted so far.
-use crate::gateways::usual_gateway;
+use crate::twins::scene_of;
 use gateway_core::{DATAGRAM_ROOM, Gateway};
 use rgw_play::UdpWire;
 use std::alloc::Global;
 use std::io;
 use std::net::{Ipv4Addr, Net, SocketAddrV4, UdpSocket};
 use std::time::Duration;
-use tales::{Count, bytes_of, in_full, said};
+use tales::{Count, SETTINGS, bytes_of, in_full, said};
 
 // For how long each socket waits for a datagram, in ms. What was sent on the loopback is there at once.
 const LONGEST_WAIT: u64 = 200;
@@ -24,6 +24,14 @@ struct Ends {
     gateway: Box<Gateway>,
     wire: UdpWire,
     agent: UdpSocket,
+}
+
+// The gateway of the usual settings, to which nothing came yet.
+fn usual_gateway(alloc: Global) -> io::Result<Box<Gateway>> {
+    match scene_of(alloc, SETTINGS.as_bytes())? {
+        Some(scene) => Ok(scene.gateway),
+        None => Err(io::Error::from(io::ErrorKind::InvalidInput)),
+    }
 }
 
 // Both ends, each at a free port of this host.

@@ -6,12 +6,11 @@
 //! - `interrupted  2 commands, 1 refused  ..` each call of the reader but every second is interrupted, from the first on;
 //! - `read 1-32  read fault  ''` each of these calls of the reader fails in its turn, alone;
 //! - `write 2  write fault  line 1\s` this call of the writer fails, and all behind it.
-use crate::forms::{range_in, unless_told};
 use rgw_cli::Ending;
 use rgw_play::{PlayFault, Played, play};
 use std::alloc::Global;
 use std::io::{self, Read, Write};
-use tales::{SETTINGS, Tale, bytes_of, no_such_row, refused};
+use tales::{SETTINGS, Tale, bytes_of, no_such_row, range_in, refused, unless_told};
 
 // What is wrong with the streams.
 #[derive(Clone, Copy)]

@@ -3,7 +3,7 @@
 //! Where the gateway is refused memory it must be as the twin still is: in what can be read of it, and in what it does
 //! next, be that the same event or another.
 use connections::Connection;
-use gateway_core::{Event, Gateway, Outputs, Refusal};
+use gateway_core::{Event, Gateway, OutDatagram, Outputs, Refusal};
 use rgw_play::{PlayFault, Scene, Step, judge};
 use std::alloc::Global;
 use std::io;
@@ -119,16 +119,20 @@ pub fn stepped(gateway: &mut Gateway, event: Event<'_>) -> Result<Outputs, Refus
     outcome
 }
 
+/// Whether both go at the same moment to the same address, with the same bytes.
+pub fn is_same_datagram(one: &OutDatagram, other: &OutDatagram) -> bool {
+    one.to == other.to
+        && one.moment == other.moment
+        && one.bytes.as_bytes() == other.bytes.as_bytes()
+}
+
 fn are_same_outputs(one: &Outputs, other: &Outputs) -> bool {
     let (one, other) = (one.as_slice(), other.as_slice());
     if one.len() != other.len() {
         return false;
     }
     for (datagram, twin) in one.iter().zip(other) {
-        if datagram.to != twin.to
-            || datagram.moment != twin.moment
-            || datagram.bytes.as_bytes() != twin.bytes.as_bytes()
-        {
+        if !is_same_datagram(datagram, twin) {
             return false;
         }
     }

@@ -1,6 +1,7 @@
 //! What a row gives, as it is told.
 use crate::again::refused;
 use crate::row::{Row, unread};
+use crate::texts::{bytes_of, or_none, said};
 use mg_bytes::CodeFault;
 use std::alloc::Global;
 use std::io;
@@ -11,6 +12,33 @@ pub fn unless_said(alloc: Global, given: &str, wanted: &str) -> io::Result<Optio
         return Ok(None);
     }
     Ok(Some(given.to_string(alloc)?))
+}
+
+/// A number as `1500`, or `none` where there is none, unless a row says it.
+pub fn unless_number(
+    alloc: Global,
+    number: Option<u64>,
+    wanted: &str,
+) -> io::Result<Option<String>> {
+    let given = or_none(alloc, number)?;
+    unless_said(alloc, given.as_str(), wanted)
+}
+
+/// What is given unless a row says just that: this head, and these bytes behind it.
+pub fn unless_told(
+    alloc: Global,
+    head: &str,
+    bytes: &[u8],
+    wanted: &str,
+) -> io::Result<Option<String>> {
+    let told = bytes_of(alloc, wanted)?;
+    match told.as_slice().strip_prefix(head.as_bytes()) {
+        Some(rest) if rest == bytes => Ok(None),
+        _ => {
+            let text = said(alloc, bytes)?;
+            Ok(Some(format!(in alloc; "{head}{text}")?))
+        }
+    }
 }
 
 /// What a row gives where that isn't what is left of it, whatever blanks stand before both.

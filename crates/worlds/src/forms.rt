@@ -1,27 +1,13 @@
-//! What rows of several kinds have in common: numbers, commands that are issued, acts, refusals, and what is told.
+//! What rows of several kinds have in common: refusals, commands that are issued, acts, addresses, and what an agent tells.
 use agent_core::Agent;
 use event_values::write_observed;
-use mg_bytes::{Text, decimal};
+use mg_bytes::Text;
 use mg_line::Act;
 use rgw_play::{ScriptLine, Step, line_in};
 use std::alloc::Global;
 use std::io;
 use std::net::SocketAddrV4;
-use tales::{bytes_of, no_such_row, said, unless_said};
-
-/// The number that words say; 0 where they say none.
-pub fn number_in(words: &str) -> u64 {
-    decimal(words.as_bytes()).unwrap_or(0)
-}
-
-/// The first and the last of the numbers that are written, as `1-4096` or `7`; nothing where it says something else.
-pub fn range_in(words: &str) -> Option<(u32, u32)> {
-    let (first, last) = words.split_once('-').unwrap_or((words, words));
-    let (Ok(first), Ok(last)) = (first.parse::<u32>(), last.parse::<u32>()) else {
-        return None;
-    };
-    Some((first, last))
-}
+use tales::{bytes_of, no_such_row, unless_said, unless_told};
 
 /// A command that is issued: its verb, its endpoint's name, and the bytes behind its line.
 #[derive(Drop)]
@@ -45,21 +31,15 @@ const REFUSALS: [&str; 10] = [
     "3 BadCommand",
 ];
 
-fn is_refusal(field: &str) -> bool {
-    for refusal in &REFUSALS {
-        if *refusal == field {
-            return true;
-        }
-    }
-    false
-}
-
 /// The fields of a row, and the refusal that is its last, or nothing.
 pub fn with_refusal(fields: &str) -> (&str, &str) {
-    match fields.rsplit_once("  ") {
-        Some((rest, last)) if is_refusal(last) => (rest, last),
-        _ => (fields, ""),
+    let (rest, last) = fields.rsplit_once("  ").unwrap_or((fields, ""));
+    for refusal in &REFUSALS {
+        if *refusal == last {
+            return (rest, last);
+        }
     }
+    (fields, "")
 }
 
 /// A refusal unless a row says it.
@@ -70,12 +50,6 @@ pub fn unless_refused(
     wanted: &str,
 ) -> io::Result<Option<String>> {
     let given = format!(in alloc; "{number} {name}")?;
-    unless_said(alloc, given.as_str(), wanted)
-}
-
-/// A number unless a row says it.
-pub fn unless_number(alloc: Global, number: u64, wanted: &str) -> io::Result<Option<String>> {
-    let given = format!(in alloc; "{number}")?;
     unless_said(alloc, given.as_str(), wanted)
 }
 
@@ -109,22 +83,6 @@ pub fn address_in(alloc: Global, address: &str) -> io::Result<Option<SocketAddrV
         Some(ScriptLine::From { source }) => Ok(Some(source)),
         _ => Ok(None),
     }
-}
-
-/// What is given unless a row says just that: this head, and these bytes behind it.
-pub fn unless_told(
-    alloc: Global,
-    head: &str,
-    bytes: &[u8],
-    wanted: &str,
-) -> io::Result<Option<String>> {
-    let mut given = Vec::from_slice(alloc, head.as_bytes())?;
-    given.extend_from_slice(bytes)?;
-    let wanted = bytes_of(alloc, wanted)?;
-    if given.as_slice() == wanted.as_slice() {
-        return Ok(None);
-    }
-    Ok(Some(said(alloc, &given)?))
 }
 
 /// `1  200  200 1 OK¶` or `1  none`: the answer to the command with this id.

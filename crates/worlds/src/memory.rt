@@ -12,15 +12,16 @@
 //! - `sent 200 1200 OK¶` the next datagram that was handed to the wire, which goes to the agent; `sent none`;
 //! - `due 501` when something falls due next; `due none`;
 //! - `hook 1 off` the telephone of a line.
-use crate::forms::{number_in, range_in};
-use crate::gateways::{agent_address, due, hook, usual_gateway};
-use crate::outputs::is_just;
+use crate::gateways::{agent_address, hook, usual_gateway};
+use crate::outputs::is_just_200;
 use crate::planned::{event_of, planned_in};
 use gateway_core::{Event, Gateway, Outputs, Served, Wire};
 use memory_wire::{MemoryWire, Planned};
 use std::alloc::Global;
 use std::{io, mem};
-use tales::{Tale, no_such_row, refused, said, unless_said};
+use tales::{
+    Tale, no_such_row, number_in, range_in, refused, unless_number, unless_said, unless_told,
+};
 
 /// A gateway, and the wire over which it is served.
 #[derive(Drop)]
@@ -99,17 +100,16 @@ impl MemoryTale {
 
     // Whether an audit with this id at this moment is answered by 200.
     fn is_answered(&mut self, alloc: Global, id: u32, moment: u64) -> io::Result<bool> {
+        if self.gateway.step(Event::Tick { moment }).is_err() {
+            return Err(refused());
+        }
         let audit = format!(in alloc; "AUEP {id} aaln/1@rgw.example.net MGCP 1.0\r\n")?;
-        let answer = format!(in alloc; "200 {id} OK\r\n")?;
         let event = Event::Datagram {
             source: agent_address(),
             bytes: audit.as_bytes(),
         };
-        if self.gateway.step(Event::Tick { moment }).is_err() {
-            return Err(refused());
-        }
         match self.gateway.step(event) {
-            Ok(outputs) => Ok(is_just(&outputs, agent_address(), answer.as_bytes())),
+            Ok(outputs) => is_just_200(alloc, &outputs, agent_address(), id),
             Err(_) => Err(refused()),
         }
     }
@@ -137,8 +137,7 @@ impl MemoryTale {
         if datagram.to != agent_address() {
             return Ok(Some("one to another address".to_string(alloc)?));
         }
-        let bytes = said(alloc, datagram.bytes.as_bytes())?;
-        let unlike = unless_said(alloc, bytes.as_str(), wanted)?;
+        let unlike = unless_told(alloc, "", datagram.bytes.as_bytes(), wanted)?;
         self.told = self.told.wrapping_add(1);
         Ok(unlike)
     }
@@ -180,7 +179,7 @@ impl Tale for MemoryTale {
             "run" => return self.run(alloc, rest),
             "audits" => return self.audits(alloc, rest),
             "sent" => return self.sent(alloc, rest),
-            "due" => return due(alloc, self.gateway.next_due(), rest),
+            "due" => return unless_number(alloc, self.gateway.next_due(), rest),
             "hook" => return hook(alloc, &self.gateway, rest),
             _ => return no_such_row(alloc),
         }

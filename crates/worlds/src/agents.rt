@@ -14,18 +14,18 @@
 //! - `due 500` when something falls due next; `due none`;
 //! - `answers 1  200  200 1 OK¶` the answer to the command with this id; `answers 2  none`;
 //! - `taken 1  L/hd,D/5` what notifications of a line told; `taken 2  none`.
-use crate::forms::{
-    act_in, address_in, answers, command_in, range_in, taken, unless_number, unless_refused,
-    unless_told, with_refusal,
-};
-use crate::gateways::{agent_address, due, gateway_address};
-use crate::outputs::{datagram_at, is_just};
+use crate::forms::{act_in, address_in, answers, command_in, taken, unless_refused, with_refusal};
+use crate::gateways::{agent_address, gateway_address};
+use crate::outputs::is_just_200;
 use agent_core::{Agent, IssueFault, Issued};
 use gateway_core::{Event, Outputs, Refusal};
 use mg_bytes::{Sequence, Text};
 use std::alloc::Global;
 use std::io;
-use tales::{Tale, bytes_of, no_such_row, refused, unless_said};
+use tales::{
+    Tale, bytes_of, item_at, no_such_row, range_in, refused, unless_number, unless_said,
+    unless_told,
+};
 
 /// An agent, and what it sent.
 #[derive(Drop)]
@@ -169,7 +169,7 @@ impl AgentTale {
 
     // The next datagram, as a row says it.
     fn sends(&mut self, alloc: Global, wanted: &str) -> io::Result<Option<String>> {
-        let Some(datagram) = datagram_at(&self.sent, self.told) else {
+        let Some(datagram) = item_at(self.sent.as_slice(), self.told) else {
             return unless_said(alloc, "none", wanted);
         };
         let (moment, to) = (datagram.moment, datagram.to);
@@ -182,13 +182,12 @@ impl AgentTale {
     // Whether an announcement with this id is answered by 200.
     fn is_answered(&mut self, alloc: Global, id: u32) -> io::Result<bool> {
         let text = format!(in alloc; "RSIP {id} *@rgw.example.net MGCP 1.0\r\nRM: restart\r\n")?;
-        let answer = format!(in alloc; "200 {id} OK\r\n")?;
         let event = Event::Datagram {
             source: gateway_address(),
             bytes: text.as_bytes(),
         };
         match self.agent.step(event) {
-            Ok(outputs) => Ok(is_just(&outputs, gateway_address(), answer.as_bytes())),
+            Ok(outputs) => is_just_200(alloc, &outputs, gateway_address(), id),
             Err(_) => Err(refused()),
         }
     }
@@ -223,14 +222,14 @@ impl Tale for AgentTale {
         match word {
             "agent" => self.open(alloc, rest),
             "issue" => self.issue(alloc, rest),
-            "issued" => unless_number(alloc, u64::from(self.issued), rest),
+            "issued" => unless_number(alloc, Some(u64::from(self.issued)), rest),
             "hears" => self.hears(alloc, rest),
             "phone" => self.phone(alloc, rest),
             "tick" => self.tick(alloc, rest),
             "at" => self.at(alloc, rest),
             "sends" => self.sends(alloc, rest),
             "firsts" => self.firsts(alloc, rest),
-            "due" => due(alloc, self.agent.next_due(), rest),
+            "due" => unless_number(alloc, self.agent.next_due(), rest),
             "answers" => answers(alloc, &self.agent, rest),
             "taken" => taken(alloc, &self.agent, rest),
             _ => no_such_row(alloc),

@@ -1,15 +1,17 @@
-//! The gateway that is called or served, its configuration, the addresses of both ends, and what rows ask of a gateway.
-use crate::twins::scene_of;
+//! The gateway that tales are about, its configuration, the addresses of both ends, and what rows ask of a gateway.
 use gateway_core::{Config, Gateway, NamedAddress};
 use mg_bytes::{OutOfMemory, Sequence, Text};
 use mg_line::Hook;
 use std::alloc::Global;
 use std::io;
 use std::net::{Ipv4Addr, SocketAddrV4};
-use tales::{SETTINGS, no_such_row, unless_said};
+use tales::{no_such_row, refused, unless_said};
 
 /// The entity that a gateway reports to where a tale says no other.
 pub const ENTITY: &str = "ca@ca.example.net";
+
+/// How many lines it has there.
+pub const LINES: u32 = 16;
 
 /// The address that the call agent has, and to which the gateway's own messages go.
 pub fn agent_address() -> SocketAddrV4 {
@@ -19,14 +21,6 @@ pub fn agent_address() -> SocketAddrV4 {
 /// The address that the gateway has, for an agent.
 pub fn gateway_address() -> SocketAddrV4 {
     SocketAddrV4::new(Ipv4Addr::LOCALHOST, 2427)
-}
-
-/// The gateway of the usual settings, to which nothing came yet.
-pub fn usual_gateway(alloc: Global) -> io::Result<Box<Gateway>> {
-    match scene_of(alloc, SETTINGS.as_bytes())? {
-        Some(scene) => Ok(scene.gateway),
-        None => Err(io::Error::from(io::ErrorKind::InvalidInput)),
-    }
 }
 
 fn owned(alloc: Global, bytes: &[u8]) -> Result<Text, OutOfMemory> {
@@ -51,13 +45,14 @@ pub fn config_with(alloc: Global, lines: u32, entity: &[u8]) -> Result<Config, O
     })
 }
 
-/// `1500`, `none`: when something falls due next.
-pub fn due(alloc: Global, next: Option<u64>, wanted: &str) -> io::Result<Option<String>> {
-    let given = match next {
-        Some(moment) => format!(in alloc; "{moment}")?,
-        None => "none".to_string(alloc)?,
-    };
-    unless_said(alloc, given.as_str(), wanted)
+/// The gateway of the usual settings, to which nothing came yet. It stands in a box, since a check pays for all that a value
+/// holds inline at each step of a function that has one.
+pub fn usual_gateway(alloc: Global) -> io::Result<Box<Gateway>> {
+    let config = config_with(alloc, LINES, ENTITY.as_bytes())?;
+    match Gateway::new(alloc, config) {
+        Ok(gateway) => Ok(Box::new(alloc, gateway)?),
+        Err(_) => Err(refused()),
+    }
 }
 
 /// `1 off`: the telephone of a line.

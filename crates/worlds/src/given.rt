@@ -68,8 +68,5 @@ pub fn given_in(alloc: Global, word: &str, words: &str) -> io::Result<Option<Giv
 pub fn world_of(alloc: Global, lines: u32, entity: &[u8]) -> Result<Box<World>, ConfigFault> {
     let config = config_with(alloc, lines, entity)?;
     let world = World::new(alloc, config)?;
-    match Box::new(alloc, world) {
-        Ok(world) => Ok(world),
-        Err(_) => Err(ConfigFault::OutOfMemory),
-    }
+    Box::new(alloc, world).ok().ok_or(ConfigFault::OutOfMemory)
 }

@@ -9,15 +9,15 @@
 //! - `answers 1  200  200 1 OK¶` the answer to the command with this id; `answers 2  none`;
 //! - `taken 1  L/hd,D/5` what notifications of a line told; `taken 2  none`;
 //! - `hook 1 off` the telephone of a line; `now 1000` the moment that it is.
-use crate::forms::{answers, taken, unless_number, unless_refused, unless_told, with_refusal};
-use crate::gateways::{ENTITY, hook};
+use crate::forms::{answers, taken, unless_refused, with_refusal};
+use crate::gateways::{ENTITY, LINES, hook};
 use crate::given::{Given, given_in, world_of};
 use agent_core::{Step, StepRefusal, World, WorldStopped, world_run};
 use gateway_core::ConfigFault;
 use mg_bytes::Text;
 use std::alloc::Global;
 use std::io;
-use tales::{Tale, again, bytes_of, no_such_row, refused, unless_said};
+use tales::{Tale, again, bytes_of, no_such_row, refused, unless_number, unless_said, unless_told};
 
 /// A world, and what it was given.
 #[derive(Drop)]
@@ -130,11 +130,11 @@ impl WorldTale {
 impl Tale for WorldTale {
     fn begin(alloc: Global) -> io::Result<WorldTale> {
         let entity = Text::of(bytes_of(alloc, ENTITY)?);
-        let Ok(world) = world_of(alloc, 16, entity.as_bytes()) else {
+        let Ok(world) = world_of(alloc, LINES, entity.as_bytes()) else {
             return Err(refused());
         };
         Ok(WorldTale {
-            lines: 16,
+            lines: LINES,
             entity,
             given: Vec::new(alloc),
             world,
@@ -154,7 +154,7 @@ impl Tale for WorldTale {
             "answers" => answers(alloc, self.world.agent(), rest),
             "taken" => taken(alloc, self.world.agent(), rest),
             "hook" => hook(alloc, self.world.gateway(), rest),
-            "now" => unless_number(alloc, self.world.gateway().now(), rest),
+            "now" => unless_number(alloc, Some(self.world.gateway().now()), rest),
             _ => self.step(alloc, word, rest),
         }
     }

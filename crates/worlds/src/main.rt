@@ -1,0 +1,49 @@
+//! Plays tales of a gateway over a wire in memory, of a call agent, and of both, of the kinds that the files' first lines
+//! say. No program is in them.
+//!
+//! - `memory`: a gateway that takes events in one run, or over a wire in memory, which plays a plan and fails where that says
+//!   so.
+//! - `agents`: a call agent alone.
+//! - `worlds`: a gateway and a call agent, and a bad network between both.
+//!
+//! What is told otherwise than it happens is printed under its title. `docs/TALES.md` says how tales are written.
+#![tactic(auto)]
+
+mod agents;
+mod forms;
+mod gateways;
+mod given;
+mod memory;
+mod outputs;
+mod planned;
+mod worlds;
+
+use crate::agents::AgentTale;
+use crate::memory::MemoryTale;
+use crate::worlds::WorldTale;
+use std::io;
+use std::net::Net;
+use std::process::ExitCode;
+use tales::{Count, Kinds, play, told};
+
+// The kinds of tales of one end in memory, or of both.
+struct Ends;
+
+impl Kinds for Ends {
+    fn told<R: AllocGlobal + Net + Print>(
+        rt: &R,
+        kind: &str,
+        text: &str,
+    ) -> io::Result<Option<Count>> {
+        Ok(Some(match kind {
+            "memory" => told::<MemoryTale, R>(rt, text)?,
+            "agents" => told::<AgentTale, R>(rt, text)?,
+            "worlds" => told::<WorldTale, R>(rt, text)?,
+            _ => return Ok(None),
+        }))
+    }
+}
+
+fn main(rt: HostRuntime) -> io::Result<ExitCode> {
+    play::<Ends, HostRuntime>(&rt)
+}
