@@ -7,8 +7,7 @@
 //! - `falls 36` so many are due, each behind the one before, and are cleared;
 //! - `keep` and `back`: the table as it was once.
 use crate::keeping::Thing;
-use crate::texts::{number_text, text_of};
-use mg_bytes::put_decimal;
+use crate::texts::number_text;
 use std::alloc::Global;
 use std::io;
 use tales::{Row, unread};
@@ -47,20 +46,13 @@ fn least_text(alloc: Global, due: &Due) -> io::Result<String> {
     let Some(entry) = due.least() else {
         return Ok("-".to_string(alloc)?);
     };
-    let mut out = Vec::new(alloc);
-    put_decimal(alloc, &mut out, entry.moment)?;
-    out.push(b' ')?;
-    put_decimal(alloc, &mut out, u64::from(entry.line))?;
-    match entry.kind {
-        Kind::Timer => out.extend_from_slice(b" T")?,
-        Kind::Signal(place) => {
-            out.extend_from_slice(b" signal ")?;
-            put_decimal(alloc, &mut out, u64::from(place))?;
-        }
-        Kind::Message => out.extend_from_slice(b" message")?,
-        Kind::Announcement => out.extend_from_slice(b" announcement")?,
-    }
-    text_of(alloc, &out)
+    let (moment, line) = (entry.moment, entry.line);
+    Ok(match entry.kind {
+        Kind::Timer => format!(in alloc; "{moment} {line} T")?,
+        Kind::Signal(place) => format!(in alloc; "{moment} {line} signal {place}")?,
+        Kind::Message => format!(in alloc; "{moment} {line} message")?,
+        Kind::Announcement => format!(in alloc; "{moment} {line} announcement")?,
+    })
 }
 
 // How many fall due one behind the other, of so many at most; these are cleared.

@@ -1,5 +1,5 @@
 //! Events as rows spell them.
-use crate::texts::text_of;
+use crate::texts::words_of;
 use event_syntax::{Observed, read_observed, write_observed};
 use std::alloc::Global;
 use std::io;
@@ -13,5 +13,6 @@ pub fn observed_of(alloc: Global, text: &str) -> io::Result<Observed> {
 
 /// Events as O spells them.
 pub fn spelled(alloc: Global, events: &[Observed]) -> io::Result<String> {
-    text_of(alloc, write_observed(alloc, events)?.as_bytes())
+    let text = write_observed(alloc, events)?;
+    Ok(words_of(text.as_bytes()).to_string(alloc)?)
 }

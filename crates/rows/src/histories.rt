@@ -13,15 +13,12 @@ use history::{History, IdSpan, Look};
 use mg_bytes::{Sequence, Text, decimal};
 use std::alloc::Global;
 use std::io;
-use tales::{Row, Tale, again, unless_left, unread};
+use tales::{Row, Tale, again, range_in, unless_left, unread};
 
 // `7` or `1-4096`.
 fn ids_of(text: &str) -> io::Result<IdSpan> {
-    let (first, last) = text.split_once('-').unwrap_or((text, text));
-    Ok(IdSpan {
-        first: first.parse::<u32>().ok().ok_or(unread())?,
-        last: last.parse::<u32>().ok().ok_or(unread())?,
-    })
+    let (first, last) = range_in(text).ok_or(unread())?;
+    Ok(IdSpan { first, last })
 }
 
 // `at 1000` or `every 10`: the number behind this word.

@@ -14,10 +14,10 @@
 mod asked;
 
 use crate::keeping::Thing;
-use crate::texts::{text_of, unless_fields};
+use crate::texts::{unless_fields, words_of};
 use asked::{change_of, creation_of, deletion_of, identifier_in};
-use connections::{Connections, Encoding, mode_text, read_encoding};
-use mg_bytes::{CodeFault, put_decimal};
+use connections::{Audited, Connections, Created, Encoding, mode_text, read_encoding};
+use mg_bytes::CodeFault;
 use sdp_subset::write_sdp;
 use std::alloc::Global;
 use std::io;
@@ -25,9 +25,33 @@ use std::net::Ipv4Addr;
 use tales::{Row, code_text, unread};
 
 // Lines as fields.
-fn fields_of(alloc: Global, lines: &[u8]) -> Result<String, CodeFault> {
-    let text = String::from_utf8_lossy(alloc, lines)?;
-    Ok(text.as_str().trim_end().replace(alloc, "\r\n", "  ")?)
+fn fields_of(alloc: Global, lines: &str) -> Result<String, CodeFault> {
+    Ok(lines.trim_end().replace(alloc, "\r\n", "  ")?)
+}
+
+// What can be read of a connection, and its description.
+fn audited_text(alloc: Global, audited: &Audited) -> Result<String, CodeFault> {
+    let description = write_sdp(alloc, &audited.description)?;
+    let (call, mode) = (
+        audited.connection.call.as_slice(),
+        mode_text(audited.connection.mode),
+    );
+    let known = match &audited.connection.remote {
+        Some(_) => "known",
+        None => "unknown",
+    };
+    let (call, mode) = (words_of(call), words_of(mode));
+    let lines = words_of(description.as_bytes());
+    let text = format!(in alloc; "C {call}\r\nM {mode}\r\nRTP {known}\r\n{lines}")?;
+    fields_of(alloc, text.as_str())
+}
+
+// The number of a connection, and its description.
+fn created_text(alloc: Global, created: &Created) -> Result<String, CodeFault> {
+    let description = write_sdp(alloc, &created.description)?;
+    let lines = words_of(description.as_bytes());
+    let text = format!(in alloc; "I {}\r\n{lines}", created.number)?;
+    fields_of(alloc, text.as_str())
 }
 
 /// The connections of a line, its encoding, and the last answer.
@@ -40,39 +64,29 @@ pub struct ConnectionsTale {
 
 impl ConnectionsTale {
     fn create(&mut self, alloc: Global, fields: &str) -> Result<String, CodeFault> {
-        let created = self
-            .line
-            .create(self.encoding, creation_of(alloc, fields)?)?;
-        let mut out = Vec::new(alloc);
-        out.extend_from_slice(b"I ")?;
-        put_decimal(alloc, &mut out, u64::from(created.number))?;
-        out.extend_from_slice(b"\r\n")?;
-        out.extend_from_slice(write_sdp(alloc, &created.description)?.as_bytes())?;
-        fields_of(alloc, &out)
+        let creation = creation_of(alloc, fields)?;
+        match self.line.create(self.encoding, creation) {
+            Ok(created) => created_text(alloc, &created),
+            Err(fault) => Err(fault),
+        }
     }
 
     fn modify(&mut self, alloc: Global, fields: &str) -> Result<String, CodeFault> {
         let (call, id) = (identifier_in(fields, "C: ")?, identifier_in(fields, "I: ")?);
         let change = change_of(alloc, fields)?;
         match self.line.modify(self.encoding, &call, &id, change)? {
-            Some(description) => fields_of(alloc, write_sdp(alloc, &description)?.as_bytes()),
+            Some(description) => {
+                fields_of(alloc, words_of(write_sdp(alloc, &description)?.as_bytes()))
+            }
             None => Ok("-".to_string(alloc)?),
         }
     }
 
     fn audit(&self, alloc: Global, fields: &str) -> Result<String, CodeFault> {
-        let audited = self.line.audit(&identifier_in(fields, "I: ")?)?;
-        let mut out = Vec::new(alloc);
-        out.extend_from_slice(b"C ")?;
-        out.extend_from_slice(audited.connection.call.as_slice())?;
-        out.extend_from_slice(b"\r\nM ")?;
-        out.extend_from_slice(mode_text(audited.connection.mode))?;
-        match &audited.connection.remote {
-            Some(_) => out.extend_from_slice(b"\r\nRTP known\r\n")?,
-            None => out.extend_from_slice(b"\r\nRTP unknown\r\n")?,
+        match self.line.audit(&identifier_in(fields, "I: ")?) {
+            Ok(audited) => audited_text(alloc, &audited),
+            Err(fault) => Err(fault),
         }
-        out.extend_from_slice(write_sdp(alloc, &audited.description)?.as_bytes())?;
-        fields_of(alloc, &out)
     }
 
     // What a command is answered, as rows say it, or its return code.
@@ -103,15 +117,15 @@ impl ConnectionsTale {
     }
 
     fn places(&self, alloc: Global) -> io::Result<String> {
-        let mut out = Vec::new(alloc);
+        let mut out = String::new(alloc);
         for held in self.line.list() {
-            out.push(b' ')?;
-            match held {
-                Some(connection) => put_decimal(alloc, &mut out, u64::from(connection.number))?,
-                None => out.push(b'0')?,
-            }
+            let number = match held {
+                Some(connection) => connection.number,
+                None => 0,
+            };
+            write!(out, " {number}")?;
         }
-        text_of(alloc, &out)
+        Ok(out)
     }
 }
 

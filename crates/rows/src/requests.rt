@@ -8,9 +8,9 @@
 //! - `after L/hd  S L/dl  D (1|2)` the request that is embedded at this event takes effect: its S, and its D or `-`.
 use crate::events::observed_of;
 use crate::line::parameters::events_of;
-use crate::texts::{judged, text_of};
+use crate::texts::{judged, words_of};
 use event_requests::{Decision, Doing, EventRequest, decide};
-use event_syntax::{Action, Embedding, write_signals};
+use event_syntax::{Action, Embedding, Observed, write_signals};
 use mg_packages::event_of;
 use std::alloc::Global;
 use std::io;
@@ -26,40 +26,50 @@ fn decision_text(alloc: Global, decision: Decision<'_>) -> io::Result<String> {
         Doing::Embed(_) => "embed",
         Doing::AccumulateAndEmbed(_) => "accumulate,embed",
     };
-    let mut text = done.to_string(alloc)?;
-    if decision.keep {
-        text.push_str(",keep")?;
+    let keep = if decision.keep { ",keep" } else { "" };
+    Ok(format!(in alloc; "{done}{keep}")?)
+}
+
+// What a request says of an event that occurs: `at` it, or `keeps`.
+fn answer_at(
+    alloc: Global,
+    request: &EventRequest,
+    word: &str,
+    event: Observed,
+) -> io::Result<String> {
+    match word {
+        "at" => decision_text(alloc, decide(request, event)),
+        "keeps" => judged(alloc, request.is_kept(event)),
+        _ => Err(unread()),
     }
-    Ok(text)
 }
 
 /// What a request says to a question: `at L/hd`, `requested L/hd`, `keeps L/hd` or `lacks map`.
 pub fn answer(alloc: Global, request: &EventRequest, question: &str) -> io::Result<String> {
+    match question {
+        "lacks map" => return judged(alloc, request.lacks_map(false)),
+        "lacks map with D" => return judged(alloc, request.lacks_map(true)),
+        _ => {}
+    }
     let (word, event) = question.split_once(' ').unwrap_or((question, ""));
-    let is_so = match word {
-        "at" => return decision_text(alloc, decide(request, observed_of(alloc, event)?)),
-        "keeps" => request.is_kept(observed_of(alloc, event)?),
-        "requested" => request.is_requested(event_of(event.as_bytes()).ok().ok_or(unread())?),
-        "lacks" if event == "map" => request.lacks_map(false),
-        "lacks" if event == "map with D" => request.lacks_map(true),
-        _ => return Err(unread()),
-    };
-    judged(alloc, is_so)
+    if word != "requested" {
+        return answer_at(alloc, request, word, observed_of(alloc, event)?);
+    }
+    match event_of(event.as_bytes()) {
+        Ok(event) => judged(alloc, request.is_requested(event)),
+        Err(_) => Err(unread()),
+    }
 }
 
 // The S and the D of an embedded request.
 fn embedding_text(alloc: Global, embedding: &Embedding) -> io::Result<String> {
     let request = embedding.request();
     let signals = write_signals(alloc, request.signals.as_slice())?;
-    let mut out = Vec::new(alloc);
-    out.extend_from_slice(b"S ")?;
-    out.extend_from_slice(signals.as_bytes())?;
-    out.extend_from_slice(b"  D ")?;
-    match &request.map {
-        Some(map) => out.extend_from_slice(map.as_bytes())?,
-        None => out.push(b'-')?,
-    }
-    text_of(alloc, &out)
+    let map = match &request.map {
+        Some(map) => words_of(map.as_bytes()),
+        None => "-",
+    };
+    Ok(format!(in alloc; "S {}  D {map}", words_of(signals.as_bytes()))?)
 }
 
 /// What is asked for.

@@ -5,9 +5,8 @@
 //! - `due 181000 L/rg` the earliest end; `due -` no time ends any;
 //! - `active  L/rg 181000  L/vmwi -` the active signals with their ends; `active` there is none;
 //! - `refused on  L/dl  402` the return code with which an S is refused on hook; `-` where it isn't.
-use crate::texts::{number_text, text_of};
+use crate::texts::{number_text, words_of};
 use event_syntax::read_signals;
-use mg_bytes::put_decimal;
 use mg_packages::{Hook, signal_name, signal_of};
 use signals::{SignalSet, refused};
 use std::alloc::Global;
@@ -27,26 +26,20 @@ fn due_text(alloc: Global, set: &SignalSet) -> io::Result<String> {
     let Some((moment, signal)) = set.next_due() else {
         return Ok("-".to_string(alloc)?);
     };
-    let mut out = Vec::new(alloc);
-    put_decimal(alloc, &mut out, moment)?;
-    out.push(b' ')?;
-    out.extend_from_slice(signal_name(signal))?;
-    text_of(alloc, &out)
+    Ok(format!(in alloc; "{moment} {}", words_of(signal_name(signal)))?)
 }
 
 // The active signals, a field each.
 fn active_text(alloc: Global, set: &SignalSet) -> io::Result<String> {
-    let mut out = Vec::new(alloc);
+    let mut out = String::new(alloc);
     for active in set.list().as_slice() {
-        out.extend_from_slice(b"  ")?;
-        out.extend_from_slice(signal_name(active.signal))?;
-        out.push(b' ')?;
+        let name = words_of(signal_name(active.signal));
         match active.end {
-            Some(end) => put_decimal(alloc, &mut out, end)?,
-            None => out.push(b'-')?,
+            Some(end) => write!(out, "  {name} {end}")?,
+            None => write!(out, "  {name} -")?,
         }
     }
-    text_of(alloc, &out)
+    Ok(out)
 }
 
 // `on  L/dl`: the return code of this S in this state of the hook.

@@ -3,9 +3,9 @@ use std::alloc::Global;
 use std::io;
 use tales::{Row, yes_or_no};
 
-/// Bytes as a text.
-pub fn text_of(alloc: Global, bytes: &[u8]) -> io::Result<String> {
-    Ok(String::from_utf8_lossy(alloc, bytes)?)
+/// Bytes of ASCII as words, as they stand in a text that is formed.
+pub fn words_of(bytes: &[u8]) -> &str {
+    str::from_utf8(bytes).unwrap_or("")
 }
 
 /// A number as a text.

@@ -1,7 +1,6 @@
 //! What can be read of a line, as rows say it.
-use crate::texts::text_of;
+use crate::texts::words_of;
 use event_syntax::{write_handling, write_observed};
-use mg_bytes::put_decimal;
 use mg_line::{Line, LineDue, Notice};
 use mg_packages::{Hook, signal_name};
 use std::alloc::Global;
@@ -9,74 +8,59 @@ use std::io;
 
 /// A notification, where there is one: its X, a blank and its O.
 pub fn told(alloc: Global, notice: Option<&Notice>) -> io::Result<String> {
-    let mut out = Vec::new(alloc);
-    if let Some(notice) = notice {
-        out.extend_from_slice(b"tells ")?;
-        out.extend_from_slice(notice.identifier().as_slice())?;
-        out.push(b' ')?;
-        out.extend_from_slice(write_observed(alloc, notice.observed())?.as_bytes())?;
-    }
-    text_of(alloc, &out)
-}
-
-// A field: its name, and what it says.
-fn put_field(out: &mut Vec<u8>, name: &[u8], said: &[u8]) -> io::Result<()> {
-    out.extend_from_slice(b"  ")?;
-    out.extend_from_slice(name)?;
-    Ok(out.extend_from_slice(said)?)
+    let Some(notice) = notice else {
+        return Ok(String::new(alloc));
+    };
+    let observed = write_observed(alloc, notice.observed())?;
+    let (name, events) = (notice.identifier().as_slice(), observed.as_bytes());
+    Ok(format!(in alloc; "tells {} {}", words_of(name), words_of(events))?)
 }
 
 // The moment at which something falls due, and what it is.
-fn put_due(alloc: Global, out: &mut Vec<u8>, line: &Line) -> io::Result<()> {
-    let Some((moment, due)) = line.due() else {
-        return Ok(out.extend_from_slice(b"due -")?);
-    };
-    out.extend_from_slice(b"due ")?;
-    put_decimal(alloc, out, moment)?;
-    out.push(b' ')?;
-    match due {
-        LineDue::DigitTimer => out.push(b'T')?,
-        LineDue::SignalEnd(signal) => out.extend_from_slice(signal_name(signal))?,
+fn put_due(out: &mut String, line: &Line) -> io::Result<()> {
+    match line.due() {
+        Some((moment, LineDue::DigitTimer)) => write!(out, "due {moment} T")?,
+        Some((moment, LineDue::SignalEnd(signal))) => {
+            write!(out, "due {moment} {}", words_of(signal_name(signal)))?
+        }
+        None => out.push_str("due -")?,
     }
     Ok(())
 }
 
 // What is asked for, and what happened.
-fn put_kept(alloc: Global, out: &mut Vec<u8>, line: &Line) -> io::Result<()> {
-    put_field(out, b"X ", line.identifier().as_slice())?;
-    put_field(
+fn put_kept(alloc: Global, out: &mut String, line: &Line) -> io::Result<()> {
+    let handling = write_handling(alloc, line.handling())?;
+    let observed = write_observed(alloc, line.accumulated())?;
+    let map = match line.digit_map() {
+        Some(map) => words_of(map.as_bytes()),
+        None => "-",
+    };
+    let hook = match line.hook() {
+        Hook::OffHook => "off",
+        Hook::OnHook => "on",
+    };
+    let (name, handling) = (
+        words_of(line.identifier().as_slice()),
+        words_of(handling.as_bytes()),
+    );
+    write!(
         out,
-        b"Q ",
-        write_handling(alloc, line.handling())?.as_bytes(),
+        "  X {name}  Q {handling}  D {map}  hook {hook}  lost {}",
+        line.lost()
     )?;
-    match line.digit_map() {
-        Some(map) => put_field(out, b"D ", map.as_bytes())?,
-        None => put_field(out, b"D ", b"-")?,
-    }
-    match line.hook() {
-        Hook::OffHook => put_field(out, b"hook ", b"off")?,
-        Hook::OnHook => put_field(out, b"hook ", b"on")?,
-    }
-    put_field(out, b"lost ", b"")?;
-    put_decimal(alloc, out, line.lost())?;
-    put_field(out, b"accumulated ", b"")?;
-    put_decimal(alloc, out, line.accumulated().len() as u64)?;
-    put_field(
-        out,
-        b"O ",
-        write_observed(alloc, line.accumulated())?.as_bytes(),
-    )
+    let (count, events) = (line.accumulated().len(), words_of(observed.as_bytes()));
+    Ok(write!(out, "  accumulated {count}  O {events}")?)
 }
 
 /// What a line is, a field each.
 pub fn state_of(alloc: Global, line: &Line) -> io::Result<String> {
-    let mut out = Vec::new(alloc);
-    put_due(alloc, &mut out, line)?;
-    out.extend_from_slice(b"  signals")?;
+    let mut out = String::new(alloc);
+    put_due(&mut out, line)?;
+    out.push_str("  signals")?;
     for active in line.signals().as_slice() {
-        out.push(b' ')?;
-        out.extend_from_slice(signal_name(active.signal))?;
+        write!(out, " {}", words_of(signal_name(active.signal)))?;
     }
     put_kept(alloc, &mut out, line)?;
-    text_of(alloc, &out)
+    Ok(out)
 }

@@ -1,147 +1,132 @@
 //! Calls about what commands ask for, on a gateway of 16 lines that knows no host.
+use crate::texts::words_of;
 use crate::values::names::{DOMAIN, pattern_text};
 use command_forms::{Asks, AuditTarget, ConnectionDeed, Deed, Target, form};
 use connections::{CodecChoice, Deletion, Mode, Options, encoding_text, mode_text, write_options};
 use digit_map::MapChange;
 use endpoint_names::{Names, Pattern, Table};
+use event_requests::Request;
 use event_syntax::{write_handling, write_signals};
-use mg_bytes::{Identifier, Text, put_decimal};
+use mg_bytes::{Identifier, OutOfMemory, Text};
 use mgcp_text::{Message, TextFault, read_k, read_message};
 use sdp_subset::Session;
 use std::alloc::Global;
 use std::io;
 use tales::{code_text, refused, said};
 
-fn put_line(out: &mut Vec<u8>, code: &[u8], value: &[u8]) -> io::Result<()> {
-    out.extend_from_slice(code)?;
-    out.extend_from_slice(value)?;
-    Ok(out.extend_from_slice(b"\r\n")?)
+fn put_line(out: &mut String, code: &str, value: &[u8]) -> io::Result<()> {
+    Ok(write!(out, "{code}{}\r\n", words_of(value))?)
+}
+
+fn put_text(out: &mut String, code: &str, value: Result<Text, OutOfMemory>) -> io::Result<()> {
+    put_line(out, code, value?.as_bytes())
 }
 
 // The parameters of a request as they are written again; D only where the digit map doesn't stay.
+fn put_request(alloc: Global, out: &mut String, request: &Request) -> io::Result<()> {
+    put_line(out, "X:", request.identifier.as_slice())?;
+    put_text(out, "R:", request.events.write_requested(alloc))?;
+    put_text(out, "T:", request.events.write_detected(alloc))?;
+    put_text(out, "S:", write_signals(alloc, request.signals.as_slice()))?;
+    put_text(out, "Q:", write_handling(alloc, request.handling))?;
+    match &request.map {
+        MapChange::Keep => Ok(()),
+        MapChange::Remove => put_line(out, "D:", b""),
+        MapChange::Replace(map) => put_line(out, "D:", map.as_bytes()),
+    }
+}
+
 fn request_text(alloc: Global, deed: &Deed) -> io::Result<String> {
     let Some(request) = &deed.request else {
         return Ok("no request".to_string(alloc)?);
     };
-    let mut out = Vec::new(alloc);
-    put_line(&mut out, b"X:", request.identifier.as_slice())?;
-    put_line(
-        &mut out,
-        b"R:",
-        request.events.write_requested(alloc)?.as_bytes(),
-    )?;
-    put_line(
-        &mut out,
-        b"T:",
-        request.events.write_detected(alloc)?.as_bytes(),
-    )?;
-    put_line(
-        &mut out,
-        b"S:",
-        write_signals(alloc, request.signals.as_slice())?.as_bytes(),
-    )?;
-    put_line(
-        &mut out,
-        b"Q:",
-        write_handling(alloc, request.handling)?.as_bytes(),
-    )?;
-    match &request.map {
-        MapChange::Keep => {}
-        MapChange::Remove => put_line(&mut out, b"D:", b"")?,
-        MapChange::Replace(map) => put_line(&mut out, b"D:", map.as_bytes())?,
-    }
-    said(alloc, &out)
+    let mut out = String::new(alloc);
+    put_request(alloc, &mut out, request)?;
+    said(alloc, out.as_bytes())
 }
 
 // What becomes of connections, with the call and the identifier of one, each where it is named.
 fn put_named(
-    out: &mut Vec<u8>,
-    becomes: &[u8],
+    out: &mut String,
+    becomes: &str,
     call: &Identifier,
     id: Option<&Identifier>,
 ) -> io::Result<()> {
-    out.extend_from_slice(becomes)?;
-    put_line(out, b"C:", call.as_slice())?;
+    out.push_str(becomes)?;
+    put_line(out, "C:", call.as_slice())?;
     match id {
-        Some(id) => put_line(out, b"I:", id.as_slice()),
+        Some(id) => put_line(out, "I:", id.as_slice()),
         None => Ok(()),
     }
 }
 
-fn put_options(alloc: Global, out: &mut Vec<u8>, options: Options) -> io::Result<()> {
+fn put_options(alloc: Global, out: &mut String, options: Options) -> io::Result<()> {
     let time = options.packet_time;
     match options.codecs {
-        CodecChoice::These(codecs) => {
-            put_line(out, b"L:", write_options(alloc, codecs, time)?.as_bytes())
-        }
-        CodecChoice::ByEncoding => {
-            out.extend_from_slice(b"L:p:")?;
-            put_decimal(alloc, out, u64::from(time))?;
-            put_line(out, b"", b"")
-        }
-        CodecChoice::NoneKnown => put_line(out, b"L:", b"none"),
+        CodecChoice::These(codecs) => put_text(out, "L:", write_options(alloc, codecs, time)),
+        CodecChoice::ByEncoding => Ok(write!(out, "L:p:{time}\r\n")?),
+        CodecChoice::NoneKnown => put_line(out, "L:", b"none"),
     }
 }
 
 // The port and the payload types of a remote description.
-fn put_session(alloc: Global, out: &mut Vec<u8>, session: &Session) -> io::Result<()> {
-    out.extend_from_slice(b"RTP:")?;
-    put_decimal(alloc, out, u64::from(session.port))?;
+fn put_session(out: &mut String, session: &Session) -> io::Result<()> {
+    write!(out, "RTP:{}", session.port)?;
     for payload in session.payloads.as_slice() {
-        out.push(b' ')?;
-        put_decimal(alloc, out, u64::from(*payload))?;
+        write!(out, " {payload}")?;
     }
-    put_line(out, b"", b"")
+    Ok(out.push_str("\r\n")?)
 }
 
 // The M, the L and the remote description of a connection, each where it is given.
 fn put_given(
     alloc: Global,
-    out: &mut Vec<u8>,
+    out: &mut String,
     mode: Option<Mode>,
     options: Option<Options>,
     remote: &Option<Session>,
 ) -> io::Result<()> {
     if let Some(mode) = mode {
-        put_line(out, b"M:", mode_text(mode))?;
+        put_line(out, "M:", mode_text(mode))?;
     }
     if let Some(options) = options {
         put_options(alloc, out, options)?;
     }
     match remote {
-        Some(session) => put_session(alloc, out, session),
+        Some(session) => put_session(out, session),
         None => Ok(()),
     }
 }
 
 // What becomes of the connections of a line.
-fn put_connections(alloc: Global, out: &mut Vec<u8>, deed: &ConnectionDeed) -> io::Result<()> {
+fn put_connections(alloc: Global, out: &mut String, deed: &ConnectionDeed) -> io::Result<()> {
     match deed {
-        ConnectionDeed::Keep => Ok(out.extend_from_slice(b"keep ")?),
+        ConnectionDeed::Keep => Ok(out.push_str("keep ")?),
         ConnectionDeed::Create(new) => {
-            put_named(out, b"create ", &new.call, None)?;
+            put_named(out, "create ", &new.call, None)?;
             put_given(alloc, out, Some(new.mode), Some(new.options), &new.remote)
         }
         ConnectionDeed::Modify { call, id, change } => {
-            put_named(out, b"modify ", call, Some(id))?;
+            put_named(out, "modify ", call, Some(id))?;
             put_given(alloc, out, change.mode, change.options, &change.remote)
         }
-        ConnectionDeed::Delete(Deletion::All) => Ok(out.extend_from_slice(b"delete ")?),
-        ConnectionDeed::Delete(Deletion::OfCall(call)) => put_named(out, b"delete ", call, None),
+        ConnectionDeed::Delete(Deletion::All) => Ok(out.push_str("delete ")?),
+        ConnectionDeed::Delete(Deletion::OfCall(call)) => put_named(out, "delete ", call, None),
         ConnectionDeed::Delete(Deletion::One(call, id)) => {
-            put_named(out, b"delete ", call, Some(id))
+            put_named(out, "delete ", call, Some(id))
         }
     }
 }
 
 // What a deed does to connections, and the encoding that it gives.
 fn becomes_text(alloc: Global, deed: &Deed) -> io::Result<String> {
-    let mut out = Vec::new(alloc);
+    let mut out = String::new(alloc);
     put_connections(alloc, &mut out, &deed.connections)?;
     if let Some(encoding) = deed.encoding {
-        put_line(&mut out, b"B:", encoding_text(encoding))?;
+        put_line(&mut out, "B:", encoding_text(encoding))?;
     }
-    said(alloc, out.as_slice().strip_suffix(b" ").unwrap_or(&out))
+    let told = out.as_str();
+    said(alloc, told.strip_suffix(" ").unwrap_or(told).as_bytes())
 }
 
 // What a call gives of what a command asks for: by default the lines that it is for.

@@ -71,6 +71,13 @@ fn said<M: Matcher>(
     Ok((said, matcher.critical()))
 }
 
+// Whether copies of matchers of the other kinds say the same before any letter.
+fn are_copies_alike(alloc: Global, map: &MapText) -> Result<bool, OutOfMemory> {
+    let slow = SlowMap::start(alloc, map)?.try_copy()?;
+    let compiled = Compiled::start(alloc, map)?.try_copy()?;
+    Ok(slow.critical() == compiled.critical())
+}
+
 // Whether matchers of the other kinds say the same, and their copies before any letter.
 fn others_say(
     alloc: Global,
@@ -80,10 +87,8 @@ fn others_say(
 ) -> Result<bool, OutOfMemory>
     requires { length letters.now ≤ most_letters }
 {
-    let slow = SlowMap::start(alloc, map)?.try_copy()?;
-    let compiled = Compiled::start(alloc, map)?.try_copy()?;
     Ok(
-        slow.critical() == compiled.critical()
+        are_copies_alike(alloc, map)?
             && said::<SlowMap>(alloc, map, letters)? == expected
             && said::<Compiled>(alloc, map, letters)? == expected,
     )

@@ -11,13 +11,12 @@ use tales::{refused, said};
 
 fn fault_text(alloc: Global, fault: &TextFault) -> io::Result<String> {
     let number = fault.number();
-    let (words, id) = match fault {
+    Ok(match fault {
         TextFault::OutOfMemory => return Err(refused()),
-        TextFault::NoHeader => return Ok(format!(in alloc; "{number} no header")?),
-        TextFault::BadVersion { id } => ("bad version", id),
-        TextFault::BadBody { id } => ("bad body", id),
-    };
-    Ok(format!(in alloc; "{number} {words} {}", id.number())?)
+        TextFault::NoHeader => format!(in alloc; "{number} no header")?,
+        TextFault::BadVersion { id } => format!(in alloc; "{number} bad version {}", id.number())?,
+        TextFault::BadBody { id } => format!(in alloc; "{number} bad body {}", id.number())?,
+    })
 }
 
 fn kind_of(alloc: Global, message: &Message<'_>) -> io::Result<String> {
@@ -83,19 +82,23 @@ fn answered(alloc: Global, value: &[u8]) -> io::Result<String> {
     )
 }
 
-// What a call gives of a message, if there is such a call.
-fn of_message(alloc: Global, call: &str, text: &[u8]) -> Option<io::Result<String>> {
-    let message = match read_message(alloc, text) {
-        Ok(message) => message,
-        Err(TextFault::OutOfMemory) => return Some(Err(refused())),
-        Err(_) => return None,
-    };
+// What a call gives of a message; nothing where there is no such call.
+fn of_message(alloc: Global, call: &str, message: &Message<'_>) -> Option<io::Result<String>> {
     Some(match call {
-        "written message" => again(alloc, &message),
+        "written message" => again(alloc, message),
         "parameters" => number_text(alloc, message.params().len() as u64),
-        "confirms" => confirmed(alloc, &message),
-        _ => first(alloc, &message, call.strip_prefix("first ")?),
+        "confirms" => confirmed(alloc, message),
+        _ => first(alloc, message, call.strip_prefix("first ")?),
     })
+}
+
+// The same of a text, where that is a message.
+fn of_text(alloc: Global, call: &str, text: &[u8]) -> Option<io::Result<String>> {
+    match read_message(alloc, text) {
+        Ok(message) => of_message(alloc, call, &message),
+        Err(TextFault::OutOfMemory) => Some(Err(refused())),
+        Err(_) => None,
+    }
 }
 
 /// What a call gives; nothing where there is no such call here, and where it is about a message that can't be read.
@@ -103,6 +106,6 @@ pub fn answer(alloc: Global, call: &str, value: &[u8]) -> Option<io::Result<Stri
     match call {
         "message" => Some(kind(alloc, value)),
         "answer" => Some(answered(alloc, value)),
-        _ => of_message(alloc, call, value),
+        _ => of_text(alloc, call, value),
     }
 }
