@@ -17,11 +17,10 @@ fn key_of(line: &str) -> &str {
 fn changed<'a>(usual: &'a str, changes: &'a str) -> &'a str {
     let key = key_of(usual);
     for change in changes.lines() {
-        if change.strip_prefix("no ") == Some(key) {
-            return "";
-        }
-        if key_of(change) == key {
-            return change;
+        match change.strip_prefix("no ") {
+            Some(name) if name == key => return "",
+            _ if key_of(change) == key => return change,
+            _ => {}
         }
     }
     usual
@@ -30,39 +29,56 @@ fn changed<'a>(usual: &'a str, changes: &'a str) -> &'a str {
 // Whether a change is a further line, of a key that the usual settings don't have.
 fn is_further(change: &str) -> bool {
     let key = key_of(change);
-    key != "no" && SETTINGS.lines().all(|usual| key_of(usual) != key)
+    for usual in SETTINGS.lines() {
+        if key_of(usual) == key {
+            return false;
+        }
+    }
+    key != "no"
 }
 
 fn put_setting(alloc: Global, out: &mut String, line: &str) -> io::Result<()> {
-    out.push_str(value_of(alloc, line)?.as_str())?;
-    Ok(out.push_str("\n")?)
+    let line = value_of(alloc, line)?;
+    Ok(writeln!(out, "{line}")?)
 }
 
-// The settings with a story's changes. Further lines stand at their end, among the names.
+// The usual settings with a story's changes.
 fn put_settings(alloc: Global, out: &mut String, changes: &str) -> io::Result<()> {
     for usual in SETTINGS.lines() {
         put_setting(alloc, out, changed(usual, changes))?;
     }
-    for further in changes.lines().filter(|change| is_further(change)) {
-        put_setting(alloc, out, further)?;
+    Ok(())
+}
+
+// Further lines, which stand at the end of the settings, among the names.
+fn put_further(alloc: Global, out: &mut String, changes: &str) -> io::Result<()> {
+    for change in changes.lines() {
+        if is_further(change) {
+            put_setting(alloc, out, change)?;
+        }
     }
     Ok(())
 }
 
-// Up to Ready: the gateway's announcement is answered, and the clock is at 1,000 ms.
-const READY: &str = "tick 1\nfrom 127.0.0.1:2727\n200 1 OK\n--\nat 1000\n";
+// What stands before a script.
+const SCRIPT: &str = "%%\n";
+
+// The same up to Ready: the gateway's announcement is answered, and the clock is at 1,000 ms.
+const READY: &str = "%%\ntick 1\nfrom 127.0.0.1:2727\n200 1 OK\n--\nat 1000\n";
 
 /// The program's input: the settings, and the script behind what comes before it; without a script the settings alone.
 pub fn input_of(alloc: Global, story: &Story) -> io::Result<String> {
     let mut input = String::new(alloc);
     put_settings(alloc, &mut input, story.changes.as_str())?;
-    if !story.is_at_opening {
-        input.push_str("%%\n")?;
-        input.push_str(READY)?;
-    } else if !story.script.is_empty() {
-        input.push_str("%%\n")?;
-    }
-    input.push_str(story.script.as_str())?;
+    put_further(alloc, &mut input, story.changes.as_str())?;
+    let before = if !story.is_at_opening {
+        READY
+    } else if story.script.is_empty() {
+        ""
+    } else {
+        SCRIPT
+    };
+    write!(input, "{before}{}", story.script)?;
     Ok(input)
 }
 
@@ -79,12 +95,10 @@ pub fn words_of(alloc: Global, line: &str) -> io::Result<Vec<String>> {
 }
 
 // What the program says on standard error, and its exit status, where that isn't 0.
-fn put_ending(alloc: Global, out: &mut Vec<u8>, ending: Ending) -> io::Result<()> {
-    let said = format!(in alloc; "{ending}")?;
-    out.extend_from_slice(said.as_bytes())?;
+fn put_ending(out: &mut Vec<u8>, ending: Ending) -> io::Result<()> {
     match ending.status() {
-        0 => Ok(()),
-        status => writeln!(out, "status {status}"),
+        0 => write!(out, "{ending}"),
+        status => writeln!(out, "{ending}status {status}"),
     }
 }
 
@@ -116,7 +130,7 @@ fn told_of(
     mut printed: Vec<u8>,
     ending: Ending,
 ) -> io::Result<Vec<u8>> {
-    put_ending(alloc, &mut printed, ending)?;
+    put_ending(&mut printed, ending)?;
     if story.is_at_opening {
         return Ok(printed);
     }
@@ -135,11 +149,10 @@ pub fn simulated(alloc: Global, story: &Story) -> io::Result<Vec<u8>> {
 /// What the program with these words prints of a story.
 pub fn printed_by<R: AllocGlobal + Net>(rt: &R, story: &Story, words: &str) -> io::Result<Vec<u8>> {
     let alloc = rt.alloc();
+    let task = asked(alloc, Ok(words_of(alloc, words)?));
     let input = input_of(alloc, story)?;
     let mut reader = input.as_bytes();
     let mut printed = Vec::new(alloc);
-    let words = words_of(alloc, words)?;
-    let task = asked(alloc, Ok(words));
     let ending = perform(rt, task, &mut reader, &mut printed);
     told_of(alloc, story, printed, ending)
 }

@@ -12,7 +12,7 @@ use crate::runs::runs_alike;
 use crate::titles::Pieces;
 use crate::twins::{Played, Twins, are_events, event_of, scene_again, scene_of};
 use crate::written::read_story;
-use gateway_core::{Event, Refusal};
+use gateway_core::Refusal;
 use rgw_play::Step;
 use std::alloc::Global;
 use std::io;
@@ -75,15 +75,18 @@ fn refused_at(
     Ok(None)
 }
 
-// What differs at an event.
+// What differs at a step.
 fn differing_at(
     alloc: Global,
     input: &[u8],
     twins: &mut Twins,
-    event: Event<'_>,
+    step: &Step,
     next: Next<'_>,
     place: usize,
 ) -> io::Result<Option<&'static str>> {
+    let Some(event) = event_of(step, twins.gateway.now()) else {
+        return Ok(Some("it is no event"));
+    };
     let mut given = twins.gateway.step(event);
     if let Err(Refusal::OutOfMemory) = given {
         if let Some(said) = refused_at(alloc, input, twins, next, place)? {
@@ -97,21 +100,6 @@ fn differing_at(
     Ok(Some("the gateway and its twin part"))
 }
 
-// What differs at a step.
-fn differing_step(
-    alloc: Global,
-    input: &[u8],
-    twins: &mut Twins,
-    step: &Step,
-    next: Next<'_>,
-    place: usize,
-) -> io::Result<Option<&'static str>> {
-    match event_of(step, twins.gateway.now()) {
-        Some(event) => differing_at(alloc, input, twins, event, next, place),
-        None => Ok(Some("it is no event")),
-    }
-}
-
 // The first of these steps at which something differs, counted from 1, and what.
 fn differing_among(
     alloc: Global,
@@ -121,7 +109,7 @@ fn differing_among(
     next: Next<'_>,
 ) -> io::Result<Option<(usize, &'static str)>> {
     for (place, step) in steps.iter().enumerate() {
-        if let Some(said) = differing_step(alloc, input, twins, step, next, place)? {
+        if let Some(said) = differing_at(alloc, input, twins, step, next, place)? {
             return Ok(Some((place.wrapping_add(1), said)));
         }
     }

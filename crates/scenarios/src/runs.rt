@@ -21,6 +21,17 @@ fn room<'s>(alloc: Global, count: usize) -> io::Result<Given<'s>> {
     })
 }
 
+impl<'s> Given<'s> {
+    // A gateway takes this event.
+    fn take(&mut self, gateway: &mut Gateway, event: Event<'s>) -> io::Result<()> {
+        self.events.push(event)?;
+        if let Ok(outputs) = stepped(gateway, event) {
+            self.outputs.push(outputs)?;
+        }
+        Ok(())
+    }
+}
+
 // The events of steps, which a gateway takes one by one.
 fn one_by_one<'s>(
     alloc: Global,
@@ -30,10 +41,7 @@ fn one_by_one<'s>(
     let mut given = again!(room(alloc, steps.len()))?;
     for step in steps {
         if let Some(event) = event_of(step, gateway.now()) {
-            given.events.push(event)?;
-            if let Ok(outputs) = stepped(gateway, event) {
-                given.outputs.push(outputs)?;
-            }
+            given.take(gateway, event)?;
         }
     }
     Ok(given)

@@ -38,11 +38,11 @@ fn usual_gateway(alloc: Global) -> io::Result<Box<Gateway>> {
 fn both_ends<R: AllocGlobal + Net>(rt: &R) -> io::Result<Ends> {
     let any = SocketAddrV4::new(Ipv4Addr::LOCALHOST, 0);
     let wait = Duration::from_millis(LONGEST_WAIT);
-    let gateway = usual_gateway(rt.alloc())?;
     let wire = UdpWire::bind(rt, any, wait)?;
     let agent = UdpSocket::bind(rt, any)?;
     agent.set_read_timeout(Some(wait))?;
     agent.connect(wire.address()?)?;
+    let gateway = usual_gateway(rt.alloc())?;
     Ok(Ends {
         gateway,
         wire,

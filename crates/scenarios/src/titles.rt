@@ -20,17 +20,28 @@ fn lines_of<'a>(pieces: &'a [Piece], name: &str) -> &'a str {
     "no such piece\n"
 }
 
+// Lines with a value in each place that this mark has.
+fn with_value(alloc: Global, lines: &str, mark: usize, value: &str) -> io::Result<String> {
+    let mark = format!(in alloc; "{{{mark}}}")?;
+    Ok(lines.replace(alloc, mark.as_str(), value)?)
+}
+
 // What `do` puts in: the lines of a name, with a value in each place `{1}`, `{2}` and so on.
 fn put_done(alloc: Global, pieces: &[Piece], out: &mut String, call: &str) -> io::Result<()> {
     let mut words = call.split('|');
     let name = words.next().unwrap_or("").trim();
     let mut text = lines_of(pieces, name).to_string(alloc)?;
     for (place, word) in words.enumerate() {
-        let mark = format!(in alloc; "{{{}}}", place.wrapping_add(1))?;
-        text = text.replace(alloc, mark.as_str(), word.trim())?;
+        text = with_value(alloc, text.as_str(), place.wrapping_add(1), word.trim())?;
     }
-    out.push_str(text.as_str())?;
-    Ok(())
+    Ok(out.push_str(text.as_str())?)
+}
+
+// Puts in lines with this number in each place `{n}`.
+fn put_numbered(alloc: Global, out: &mut String, lines: &str, number: u64) -> io::Result<()> {
+    let number = format!(in alloc; "{number}")?;
+    let lines = lines.replace(alloc, "{n}", number.as_str())?;
+    Ok(out.push_str(lines.as_str())?)
 }
 
 // What `each` puts in: the lines of a name for each number from one to another, which is `{n}`.
@@ -39,24 +50,27 @@ fn put_each(alloc: Global, pieces: &[Piece], out: &mut String, call: &str) -> io
     let (last, name) = rest.split_once(' ').unwrap_or((rest, ""));
     let lines = lines_of(pieces, name);
     for number in number_in(first)..=number_in(last) {
-        let number = format!(in alloc; "{number}")?;
-        out.push_str(lines.replace(alloc, "{n}", number.as_str())?.as_str())?;
+        put_numbered(alloc, out, lines, number)?;
     }
     Ok(())
+}
+
+// A line, or what it puts in.
+fn put_expanded(alloc: Global, pieces: &[Piece], out: &mut String, line: &str) -> io::Result<()> {
+    if let Some(call) = line.strip_prefix("do ") {
+        return put_done(alloc, pieces, out, call);
+    }
+    if let Some(call) = line.strip_prefix("each ") {
+        return put_each(alloc, pieces, out, call);
+    }
+    Ok(writeln!(out, "{line}")?)
 }
 
 // The lines with all that they put in.
 fn expanded(alloc: Global, pieces: &[Piece], lines: &str) -> io::Result<String> {
     let mut out = String::new(alloc);
     for line in lines.lines() {
-        if let Some(call) = line.strip_prefix("do ") {
-            put_done(alloc, pieces, &mut out, call)?;
-        } else if let Some(call) = line.strip_prefix("each ") {
-            put_each(alloc, pieces, &mut out, call)?;
-        } else {
-            out.push_str(line)?;
-            out.push_str("\n")?;
-        }
+        put_expanded(alloc, pieces, &mut out, line)?;
     }
     Ok(out)
 }

@@ -31,8 +31,7 @@ enum Place {
 }
 
 fn put_line(out: &mut String, line: &str) -> io::Result<()> {
-    out.push_str(line)?;
-    Ok(out.push_str("\n")?)
+    Ok(writeln!(out, "{line}")?)
 }
 
 // The first words of a line that is printed, where it is no datagram.

@@ -44,13 +44,13 @@ fn is_at_once(outcome: Result<(), WorldStopped>) -> bool {
 impl WorldTale {
     // Another world becomes what this one was before memory was refused. It was one, so nothing but memory can fail.
     fn renew(&mut self, alloc: Global) -> io::Result<()> {
-        let Ok(mut world) = world_of(alloc, self.lines, self.entity.as_bytes()) else {
-            return Err(refused());
-        };
         let mut steps = Vec::with_capacity(alloc, self.given.len())?;
         for given in &self.given {
             steps.push(given.step())?;
         }
+        let Ok(mut world) = world_of(alloc, self.lines, self.entity.as_bytes()) else {
+            return Err(refused());
+        };
         if world_run(&mut world, &steps).is_err() {
             return Err(refused());
         }
