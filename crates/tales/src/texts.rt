@@ -43,6 +43,18 @@ fn short_form(piece: &str) -> Option<(u8, &str)> {
     }
 }
 
+// Puts what stands behind a `\`: the byte that its short form is, and what follows it.
+fn put_short(out: &mut Vec<u8>, piece: &str) -> io::Result<()> {
+    let rest = match short_form(piece) {
+        Some((byte, rest)) => {
+            out.push(byte)?;
+            rest
+        }
+        None => piece,
+    };
+    Ok(out.extend_from_slice(rest.as_bytes())?)
+}
+
 /// A value as its bytes: `''` is nothing, `\s` a blank, `\t` a tab, `\n` a line end, `¶` one of two bytes, and `\xff` the
 /// byte with these hexadecimal digits.
 pub fn bytes_of(alloc: Global, field: &str) -> io::Result<Vec<u8>> {
@@ -52,14 +64,7 @@ pub fn bytes_of(alloc: Global, field: &str) -> io::Result<Vec<u8>> {
     let mut pieces = text.as_str().split('\\');
     out.extend_from_slice(pieces.next().unwrap_or("").as_bytes())?;
     for piece in pieces {
-        let rest = match short_form(piece) {
-            Some((byte, rest)) => {
-                out.push(byte)?;
-                rest
-            }
-            None => piece,
-        };
-        out.extend_from_slice(rest.as_bytes())?;
+        put_short(&mut out, piece)?;
     }
     Ok(out)
 }
@@ -69,9 +74,9 @@ pub fn said(alloc: Global, bytes: &[u8]) -> io::Result<String> {
     if bytes.is_empty() {
         return Ok("''".to_string(alloc)?);
     }
-    let text = String::from_utf8_lossy(alloc, bytes)?;
-    let text = text.replace(alloc, "\r\n", "¶")?;
-    let text = text.replace(alloc, "\t", "\\t")?;
+    let mut text = String::from_utf8_lossy(alloc, bytes)?;
+    text = text.replace(alloc, "\r\n", "¶")?;
+    text = text.replace(alloc, "\t", "\\t")?;
     Ok(text.replace(alloc, "\n", "\\n")?)
 }
 
