@@ -28,7 +28,7 @@ use Rattle.timers.proofs.OrderLemmas.{kind_total, kind_exact}
 use Rattle.timers.proofs.LeastLemmas.{least_of-none}
 use Rattle.timers.proofs.TableLaws.{moment_of-with_moment, moment_of-with_other, moment_of-without, moment_of-without_other}
 use Rattle.gateway_floor.specs.Saving.{manned}
-use Rattle.gateway_floor.specs.DueTable.{place_of, signal_at, kind_of, due_of, item_of, cleared, entered, moment_if, InStep}
+use Rattle.gateway_floor.specs.DueTable.{place_of, signal_at, kind_of, due_of, item_of, cleared, entered, moment_if, Has, Renews, InStep}
 
 neither : (b : Bool) → b ≡ true → b ≡ false → ⊥
 neither b t f = cc
@@ -113,33 +113,39 @@ entered_here line kind (Some item) table none = by_kind (is_eq (kind_cmp kind (k
       (apart_kind line kind (kind_of item.due) (other_kind kind (kind_of item.due) e))
       ∙ none kind
 
--- the table with what was first taken out, and what is first put in
-pub table_renewed : (line : ℕ) (was was' is is' : Option DueItem) (table mid end : Table) → mid ≡ cleared line was table → was ≡ was' → end ≡ entered line is mid → is ≡ is'
-    → end ≡ entered line is' (cleared line was' table)
-table_renewed line was was' is is' table mid end out before into after =
-    into ∙ ap (λ (first : Option DueItem). entered line first mid) after ∙ ap (entered line is') (out ∙ ap (λ (first : Option DueItem). cleared line first table) before)
+-- what was first of a line is taken out, and what is first is put in
+pub put_anew : (line : ℕ) (was is : Option DueItem) (table mid end : Table) → Has table line was → mid ≡ cleared line was table → end ≡ entered line is mid
+    → Renews line is table end
+put_anew line was is table mid end had out into =
+    let whole : end ≡ entered line is (cleared line was table) = into ∙ ap (entered line is) out in
+    record {
+      here = λ kind. ap (λ (t : Table). moment_of t line kind) whole
+          ∙ entered_here line kind is (cleared line was table) (λ k. cleared_here line k was table had);
+      elsewhere = λ other kind apart. ap (λ (t : Table). moment_of t other kind) whole
+          ∙ entered_elsewhere line other kind is (cleared line was table) apart
+          ∙ cleared_elsewhere line other kind was table apart;
+    }
+
+-- what is first of a line is what it was
+pub left_alone : (line : ℕ) (was is : Option DueItem) (table : Table) → Has table line was → was ≡ is → Renews line is table table
+left_alone line was is table had same = record {
+  here = λ kind. had kind ∙ ap (moment_if kind) same;
+  elsewhere = λ other kind apart. refl;
+}
 
 -- each line has in the table what it has of these
 abbrev Moments : Table → (ℕ → Option DueItem) → Type 0
 Moments table firsts = (line : ℕ) (kind : Kind) → moment_of table line kind ≡ moment_if kind (firsts line)
 
-renewed : (table : Table) (line : ℕ) (was is : Option DueItem) (before after : ℕ → Option DueItem) → Moments table before
-    → was ≡ before line → is ≡ after line → ((other : ℕ) → other ≢ line → after other ≡ before other)
-    → Moments (entered line is (cleared line was table)) after
-renewed table line was is before after had was_is is_is elsewhere = λ other kind. by_line other kind (other == line) refl where
-  by_line : (other : ℕ) (kind : Kind) (b : Bool) → (other == line) ≡ b
-      → moment_of (entered line is (cleared line was table)) other kind ≡ moment_if kind (after other)
+renewed : (table table' : Table) (line : ℕ) (is : Option DueItem) (before after : ℕ → Option DueItem) → Moments table before → Renews line is table table'
+    → is ≡ after line → ((other : ℕ) → other ≢ line → after other ≡ before other) → Moments table' after
+renewed table table' line is before after had renews is_is elsewhere = λ other kind. by_line other kind (other == line) refl where
+  by_line : (other : ℕ) (kind : Kind) (b : Bool) → (other == line) ≡ b → moment_of table' other kind ≡ moment_if kind (after other)
   by_line other kind true e =
-      subst (λ (l : ℕ). moment_of (entered line is (cleared line was table)) l kind ≡ moment_if kind (after l)) (sym (eqb-true other line e))
-      (entered_here line kind is (cleared line was table)
-      (λ k. cleared_here line k was table (λ j. had line j ∙ ap (moment_if j) (sym was_is)))
-      ∙ ap (moment_if kind) is_is)
+      subst (λ (l : ℕ). moment_of table' l kind ≡ moment_if kind (after l)) (sym (eqb-true other line e)) (renews.here kind ∙ ap (moment_if kind) is_is)
   by_line other kind false e =
       let apart : other ≢ line = λ same. neither (other == line) (eq-eqb other line same) e in
-      entered_elsewhere line other kind is (cleared line was table) apart
-      ∙ cleared_elsewhere line other kind was table apart
-      ∙ had other kind
-      ∙ ap (moment_if kind) (sym (elsewhere other apart))
+      renews.elsewhere other kind apart ∙ had other kind ∙ ap (moment_if kind) (sym (elsewhere other apart))
 
 -- What falls due on the lines, where one station or the gateway itself becomes another
 
@@ -188,17 +194,21 @@ got_there [] place station other inside = absurd (omega (arith, inside))
 got_there (one ∷ more) zero station other inside = refl
 got_there (one ∷ more) (suc place) station other inside = got_there more place station other (omega (arith, inside))
 
+-- what the table has of the line of a station
+pub had_there : (stations : List Station) (own : Own) (place line : ℕ) (was : Station) (first : Option DueItem) (state : DueState) → InStep (manned stations own) state
+    → line ≡ place + 1 → place < length stations → was ≡ get_or stations place was → first ≡ due_on (line, was) → Has state.table line first
+had_there stations own place line was first state step same inside had falls =
+    λ kind. step.moments line kind ∙ ap (moment_if kind) (sym (falls ∙ due_there stations own place line was same inside had))
+
 -- one station becomes another
-pub station_in_step : (stations : List Station) (own : Own) (place line : ℕ) (was is : Station) (state state' : DueState) → InStep (manned stations own) state
-    → line ≡ place + 1 → place < length stations → was ≡ get_or stations place was → state'.lines ≡ state.lines
-    → state'.table ≡ entered line (due_on (line, is)) (cleared line (due_on (line, was)) state.table) → InStep (manned (slice_set stations place is) own) state'
-station_in_step stations own place line was is state state' step same inside had lines table = record {
+pub station_in_step : (stations : List Station) (own : Own) (place line : ℕ) (is : Station) (first : Option DueItem) (state state' : DueState)
+    → InStep (manned stations own) state → line ≡ place + 1 → place < length stations → first ≡ due_on (line, is) → state'.lines ≡ state.lines
+    → Renews line first state.table state'.table → InStep (manned (slice_set stations place is) own) state'
+station_in_step stations own place line is first state state' step same inside falls lines renews = record {
   lines = lines ∙ step.lines ∙ sym (set_length stations place is);
-  moments = subst (λ (t : Table). Moments t (due_at (manned (slice_set stations place is) own))) (sym table)
-      (renewed state.table line (due_on (line, was)) (due_on (line, is)) (due_at (manned stations own)) (due_at (manned (slice_set stations place is) own)) step.moments
-      (due_there stations own place line was same inside had)
-      (due_there (slice_set stations place is) own place line is same (omega (arith, inside, set_length stations place is)) (sym (got_there stations place is is inside)))
-      (due_elsewhere stations own place line is same));
+  moments = renewed state.table state'.table line first (due_at (manned stations own)) (due_at (manned (slice_set stations place is) own)) step.moments renews
+      (falls ∙ due_there (slice_set stations place is) own place line is same (omega (arith, inside, set_length stations place is)) (sym (got_there stations place is is inside)))
+      (due_elsewhere stations own place line is same);
 }
 
 own_elsewhere : (stations : List Station) (own becomes : Own) (other : ℕ) → other ≢ 0 → due_at (manned stations becomes) other ≡ due_at (manned stations own) other
@@ -210,14 +220,18 @@ own_elsewhere stations own becomes other some = by_zero (other == 0) refl where
   by_zero true e = absurd (some (eqb-true other 0 e))
   by_zero false e = refl
 
+-- what the table has of the gateway itself
+pub own_had : (stations : List Station) (own : Own) (first : Option DueItem) (state : DueState) → InStep (manned stations own) state → first ≡ own_due own
+    → Has state.table 0 first
+own_had stations own first state step falls = λ kind. step.moments 0 kind ∙ ap (moment_if kind) (sym falls)
+
 -- what the gateway keeps for itself becomes another
-pub own_in_step : (stations : List Station) (own becomes : Own) (state state' : DueState) → InStep (manned stations own) state → state'.lines ≡ state.lines
-    → state'.table ≡ entered 0 (own_due becomes) (cleared 0 (own_due own) state.table) → InStep (manned stations becomes) state'
-own_in_step stations own becomes state state' step lines table = record {
+pub own_in_step : (stations : List Station) (own becomes : Own) (first : Option DueItem) (state state' : DueState) → InStep (manned stations own) state
+    → first ≡ own_due becomes → state'.lines ≡ state.lines → Renews 0 first state.table state'.table → InStep (manned stations becomes) state'
+own_in_step stations own becomes first state state' step falls lines renews = record {
   lines = lines ∙ step.lines;
-  moments = subst (λ (t : Table). Moments t (due_at (manned stations becomes))) (sym table)
-      (renewed state.table 0 (own_due own) (own_due becomes) (due_at (manned stations own)) (due_at (manned stations becomes)) step.moments refl refl
-      (own_elsewhere stations own becomes));
+  moments = renewed state.table state'.table 0 first (due_at (manned stations own)) (due_at (manned stations becomes)) step.moments renews falls
+      (own_elsewhere stations own becomes);
 }
 
 -- The table at the opening, line after line
@@ -252,11 +266,11 @@ filled_more : (endpoints : Endpoints) (line : ℕ) (state state' : DueState) →
     → state'.table ≡ entered line (due_at endpoints line) state.table → IsFilled (line + 1) endpoints state'
 filled_more endpoints line state state' filled lines table = record {
   lines = lines ∙ filled.lines;
-  moments = subst (λ (t : Table). Moments t (due_before (line + 1) endpoints)) (sym table)
-      (renewed state.table line None (due_at endpoints line) (due_before line endpoints) (due_before (line + 1) endpoints) filled.moments
-      (sym (ap (λ (b : Bool). if b then due_at endpoints line else None) (not_before line)))
+  moments = renewed state.table state'.table line (due_at endpoints line) (due_before line endpoints) (due_before (line + 1) endpoints) filled.moments
+      (put_anew line None (due_at endpoints line) state.table state.table state'.table
+      (λ kind. filled.moments line kind ∙ ap (λ (b : Bool). moment_if kind (if b then due_at endpoints line else None)) (not_before line)) refl table)
       (sym (ap (λ (b : Bool). if b then due_at endpoints line else None) (is_before line)))
-      (λ other apart. ap (λ (b : Bool). if b then due_at endpoints other else None) (before_next line other apart)));
+      (λ other apart. ap (λ (b : Bool). if b then due_at endpoints other else None) (before_next line other apart));
 }
 
 -- that of the gateway itself is put into a table with nothing

@@ -1,5 +1,5 @@
 -- The table of due moments: of each line, and of the gateway itself, which is line 0, what falls due first.
-use Rattle.std.specs.Prelude.{◌≡◌, ℕ, if◌then◌else◌, Option, Some, None, unwrap_or, slice_get, length}
+use Rattle.std.specs.Prelude.{◌≡◌, ◌≢◌, ℕ, if◌then◌else◌, Option, Some, None, unwrap_or, slice_get, length}
 use Rattle.std.specs.Ordering.{is_eq}
 use Rattle.mg_packages.specs.declared.signal.TheConstants.{SIGNALS}
 use Rattle.mg_packages.specs.declared.signal.Signal.{Signal}
@@ -62,6 +62,15 @@ entered line (Some item) table = with_moment table line (kind_of item.due) item.
 abbrev pub moment_if : Kind → Option DueItem → Option ℕ
 moment_if kind None = None
 moment_if kind (Some item) = if is_eq (kind_cmp kind (kind_of item.due)) then Some item.moment else None
+
+-- of this line the table has what falls due first, and nothing else
+abbrev pub Has : Table → ℕ → Option DueItem → Type 0
+Has table line first = (kind : Kind) → moment_of table line kind ≡ moment_if kind first
+
+-- so it is of this line now, and the table has of the others what it had
+pub record Renews (line : ℕ) (first : Option DueItem) (table table' : Table) : Type 0 where
+  pub here : Has table' line first
+  pub elsewhere : (other : ℕ) (kind : Kind) → other ≢ line → moment_of table' other kind ≡ moment_of table other kind
 
 -- the table has a place for each line, and of each what falls due first, and nothing else
 pub record InStep (endpoints : Endpoints) (state : DueState) : Type 0 where

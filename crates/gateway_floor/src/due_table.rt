@@ -1,9 +1,9 @@
 //! What falls due, in the words of the table of due moments (`timers`): of each line, and of the gateway itself, which is
 //! line 0, the table has what falls due first.
-ghost use Rattle.std.specs.Prelude.{◌≡◌, ◌<◌, ◌≤◌, option_map, IfSome};
+ghost use Rattle.std.specs.Prelude.{◌≡◌, ◌↔◌, ◌<◌, ◌≤◌, option_map, IsTrue, IfSome};
 ghost use Rattle.timers.specs.Order.{signal_place};
 ghost use Rattle.timers.specs.Table.{least_of, IsLeast};
-ghost use Rattle.gateway_floor.specs.DueTable.{place_of, signal_at, kind_of, due_of, item_of, cleared, entered};
+ghost use Rattle.gateway_floor.specs.DueTable.{place_of, signal_at, kind_of, due_of, item_of, cleared, entered, Has, Renews};
 
 use mg_line::LineDue;
 use mg_packages::{SIGNALS, Signal};
@@ -75,8 +75,8 @@ pub(crate) fn first_in(table: &Due) -> Option<DueItem>
     }
 }
 
-/// What fell due first of a line is taken out of the table.
-pub(crate) fn clear(table: &mut Due, line: u16, was: Option<DueItem>)
+// What fell due first of a line is taken out of the table.
+fn clear(table: &mut Due, line: u16, was: Option<DueItem>)
     requires { line ≤ table.old.lines }
     ensures table { table.new.table ≡ cleared line was table.old.table }
     ensures lines { table.new.lines ≡ table.old.lines }
@@ -97,4 +97,37 @@ pub(crate) fn enter(table: &mut Due, line: u16, is: Option<DueItem>)
         None => {}
         Some(item) => table.set(line, kind_of(item.due), item.moment),
     }
+}
+
+// Whether the same falls due at the same moment.
+fn is_same_item(one: DueItem, other: DueItem) -> bool
+    ensures { IsTrue result ↔ (one ≡ other) }
+{
+    one.moment == other.moment && one.line == other.line && one.due == other.due
+}
+
+// Whether it is the same that falls due first, or nothing does.
+fn is_same(was: Option<DueItem>, is: Option<DueItem>) -> bool
+    ensures { IsTrue result ↔ (was ≡ is) }
+{
+    match (was, is) {
+        (None, None) => true,
+        (Some(was), Some(is)) => is_same_item(was, is),
+        (None, Some(_)) | (Some(_), None) => false,
+    }
+}
+
+/// What falls due first of a line was this, as the table has it, and is that now. Where it is the same, the table is left
+/// alone.
+pub(crate) fn renew(table: &mut Due, line: u16, was: Option<DueItem>, is: Option<DueItem>)
+    requires within { line ≤ table.old.lines }
+    requires had { Has table.old.table line was }
+    ensures table { Renews line is table.old.table table.new.table }
+    ensures lines { table.new.lines ≡ table.old.lines }
+{
+    if is_same(was, is) {
+        return;
+    }
+    clear(table, line, was);
+    enter(table, line, is);
 }

@@ -14,7 +14,7 @@ ghost use Rattle.gateway_floor.specs.Changing.{StationChanges, OwnChanges, Keeps
 ghost use Rattle.gateway_floor.specs.Saving.{manned};
 ghost use Rattle.gateway_floor.specs.DueTable.{InStep};
 
-use crate::due_table::{clear, enter, first_in};
+use crate::due_table::{enter, first_in, renew};
 use gateway_stations::{due_on, post_due};
 use mg_bytes::OutOfMemory;
 use mg_line::Act;
@@ -107,10 +107,9 @@ impl Timed {
         let station = &self.stations[place];
         let line = place as u16 + 1;
         let was = due_on(line, station);
-        clear(&mut self.due, line, was);
         let result = change(&mut self.stations[place], with);
         let is = due_on(line, &self.stations[place]);
-        enter(&mut self.due, line, is);
+        renew(&mut self.due, line, was, is);
         result
     }
 
@@ -126,10 +125,9 @@ impl Timed {
         ensures { OwnChanges F.FnOnce change self.old with.old result self.new with.new }
     {
         let was = post_due(0, &self.own.post);
-        clear(&mut self.due, 0, was);
         let result = change(&mut self.own, with);
         let is = post_due(0, &self.own.post);
-        enter(&mut self.due, 0, is);
+        renew(&mut self.due, 0, was, is);
         result
     }
 
@@ -141,9 +139,8 @@ impl Timed {
         let before = &self.stations[place];
         let line = place as u16 + 1;
         let was = due_on(line, before);
-        clear(&mut self.due, line, was);
         let is = due_on(line, &station);
-        enter(&mut self.due, line, is);
+        renew(&mut self.due, line, was, is);
         self.stations[place] = station;
     }
 
@@ -153,9 +150,8 @@ impl Timed {
         ensures { self.new ≡ with_own self.old own }
     {
         let was = post_due(0, &self.own.post);
-        clear(&mut self.due, 0, was);
         let is = post_due(0, &own.post);
-        enter(&mut self.due, 0, is);
+        renew(&mut self.due, 0, was, is);
         self.own = own;
     }
 
@@ -169,10 +165,9 @@ impl Timed {
     {
         let place = usize::from(line) - 1;
         let was = due_on(line, &self.stations[place]);
-        clear(&mut self.due, line, was);
         pass_over_on(&mut self.stations[place], act);
         let is = due_on(line, &self.stations[place]);
-        enter(&mut self.due, line, is);
+        renew(&mut self.due, line, was, is);
     }
 }
 

@@ -4,7 +4,7 @@ use Rattle.plain_machine.specs.declared.station.Station.{Station}
 use Rattle.plain_machine.specs.Falling.{due_on}
 use Rattle.plain_machine.specs.Machine.{Endpoints}
 use Rattle.plain_machine.specs.Setup.{most_lines}
-use Rattle.gateway_floor.proofs.DueLemmas.{set_length, got_there, station_in_step, table_renewed}
+use Rattle.gateway_floor.proofs.DueLemmas.{set_length, got_there, had_there, station_in_step}
 use Rattle.gateway_floor.proofs.timed.Timed.change.Goals as goal
 
 pub overflow_cast-line : goal.overflow_cast-line
@@ -19,20 +19,24 @@ overflow_add-line g c =
     let inside : c.args.place < length c.self.inside.stations.items = rw (← c.self.view_is) at c.requires.within in
     omega (arith, few, inside)
 
+pub renew-requires-clause-had : goal.renew-requires-clause-had
+renew-requires-clause-had g c =
+    let inside : c.args.place < length c.self.inside.stations.items = rw (← c.self.view_is) at c.requires.within in
+    had_there c.self.inside.stations.items c.self.inside.own c.args.place (c.args.place + 1) c.index-station.result.now c.due_on-was.result c.self.inside.due
+    c.self.invariant.due refl inside c.index-station.ensures c.due_on-was.ensures
+
 pub invariant_of-self : goal.invariant_of-self
 invariant_of-self g c =
     let inside : c.args.place < length c.self.inside.stations.items = rw (← c.self.view_is) at c.requires.within in
     record {
       few = rw (set_length c.self.inside.stations.items c.args.place c.change-result.new.arg2) c.self.invariant.few;
       id = c.self.invariant.id;
-      due = station_in_step c.self.inside.stations.items c.self.inside.own c.args.place (c.args.place + 1) c.index-station.result.now c.change-result.new.arg2 c.self.inside.due c.enter.new.table
-          c.self.invariant.due refl inside c.index-station.ensures (c.enter.ensures.lines ∙ c.clear.ensures.lines)
-          (table_renewed (c.args.place + 1) c.due_on-was.result (due_on (c.args.place + 1, c.index-station.result.now)) c.due_on-is.result (due_on (c.args.place + 1, c.change-result.new.arg2))
-          c.self.inside.due.table c.clear.new.table.table c.enter.new.table.table c.clear.ensures.table
-          c.due_on-was.ensures c.enter.ensures.table
+      due = station_in_step c.self.inside.stations.items c.self.inside.own c.args.place (c.args.place + 1) c.change-result.new.arg2 c.due_on-is.result c.self.inside.due c.renew.new.table
+          c.self.invariant.due refl inside
           (c.due_on-is.ensures
           ∙ ap (λ (s : Station). due_on (c.args.place + 1, s))
-          (c.index.ensures ∙ got_there c.self.inside.stations.items c.args.place c.change-result.new.arg2 c.index.result.now inside)));
+          (c.index.ensures ∙ got_there c.self.inside.stations.items c.args.place c.change-result.new.arg2 c.index.result.now inside))
+          c.renew.ensures.lines c.renew.ensures.table;
     }
 
 pub returns : goal.returns

@@ -1,17 +1,17 @@
-use Rattle.std.proofs.Common.{◌∙◌, refl, ap}
-use Rattle.plain_machine.specs.Falling.{own_due}
+use Rattle.std.proofs.Common.{refl, ap}
 use Rattle.plain_machine.specs.Machine.{Endpoints, with_own}
-use Rattle.gateway_floor.proofs.DueLemmas.{own_in_step, table_renewed}
+use Rattle.gateway_floor.proofs.DueLemmas.{own_had, own_in_step}
 use Rattle.gateway_floor.proofs.timed.Timed.change_own.Goals as goal
+
+pub renew-requires-clause-had : goal.renew-requires-clause-had
+renew-requires-clause-had g c = own_had c.self.inside.stations.items c.self.inside.own c.post_due-was.result c.self.inside.due c.self.invariant.due c.post_due-was.ensures
 
 pub invariant_of-self : goal.invariant_of-self
 invariant_of-self g c = record {
   few = c.self.invariant.few;
   id = c.requires.keeps _ _ _ _ _ c.self.invariant.id c.change-result.ensures;
-  due = own_in_step c.self.inside.stations.items c.self.inside.own c.change-result.new.arg2 c.self.inside.due c.enter.new.table c.self.invariant.due
-      (c.enter.ensures.lines ∙ c.clear.ensures.lines)
-      (table_renewed 0 c.post_due-was.result (own_due c.self.inside.own) c.post_due-is.result (own_due c.change-result.new.arg2)
-      c.self.inside.due.table c.clear.new.table.table c.enter.new.table.table c.clear.ensures.table c.post_due-was.ensures c.enter.ensures.table c.post_due-is.ensures);
+  due = own_in_step c.self.inside.stations.items c.self.inside.own c.change-result.new.arg2 c.post_due-is.result c.self.inside.due c.renew.new.table c.self.invariant.due
+      c.post_due-is.ensures c.renew.ensures.lines c.renew.ensures.table;
 }
 
 pub returns : goal.returns

@@ -1,7 +1,6 @@
-use Rattle.std.proofs.Common.{arith, ◌≤◌, ◌<◌, ◌+◌, ◌∙◌, length, refl}
-use Rattle.plain_machine.specs.Falling.{due_on}
+use Rattle.std.proofs.Common.{arith, ◌≤◌, ◌<◌, ◌+◌, length, refl}
 use Rattle.plain_machine.specs.Setup.{most_lines}
-use Rattle.gateway_floor.proofs.DueLemmas.{set_length, station_in_step, table_renewed}
+use Rattle.gateway_floor.proofs.DueLemmas.{set_length, had_there, station_in_step}
 use Rattle.gateway_floor.proofs.timed.Timed.exchange.Goals as goal
 
 pub overflow_cast-line : goal.overflow_cast-line
@@ -16,14 +15,18 @@ overflow_add-line c =
     let inside : c.args.place < length c.self.inside.stations.items = rw (← c.self.view_is) at c.requires in
     omega (arith, few, inside)
 
+pub renew-requires-clause-had : goal.renew-requires-clause-had
+renew-requires-clause-had c =
+    let inside : c.args.place < length c.self.inside.stations.items = rw (← c.self.view_is) at c.requires in
+    had_there c.self.inside.stations.items c.self.inside.own c.args.place (c.args.place + 1) c.index-before.result.now c.due_on-was.result c.self.inside.due
+    c.self.invariant.due refl inside c.index-before.ensures c.due_on-was.ensures
+
 pub invariant_of-self : goal.invariant_of-self
 invariant_of-self c =
     let inside : c.args.place < length c.self.inside.stations.items = rw (← c.self.view_is) at c.requires in
     record {
       few = rw (set_length c.self.inside.stations.items c.args.place c.args.station) c.self.invariant.few;
       id = c.self.invariant.id;
-      due = station_in_step c.self.inside.stations.items c.self.inside.own c.args.place (c.args.place + 1) c.index-before.result.now c.args.station c.self.inside.due c.enter.new.table
-          c.self.invariant.due refl inside c.index-before.ensures (c.enter.ensures.lines ∙ c.clear.ensures.lines)
-          (table_renewed (c.args.place + 1) c.due_on-was.result (due_on (c.args.place + 1, c.index-before.result.now)) c.due_on-is.result (due_on (c.args.place + 1, c.args.station))
-          c.self.inside.due.table c.clear.new.table.table c.enter.new.table.table c.clear.ensures.table c.due_on-was.ensures c.enter.ensures.table c.due_on-is.ensures);
+      due = station_in_step c.self.inside.stations.items c.self.inside.own c.args.place (c.args.place + 1) c.args.station c.due_on-is.result c.self.inside.due c.renew.new.table
+          c.self.invariant.due refl inside c.due_on-is.ensures c.renew.ensures.lines c.renew.ensures.table;
     }

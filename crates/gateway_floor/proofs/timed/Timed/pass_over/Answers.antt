@@ -3,8 +3,18 @@ use Rattle.plain_machine.specs.declared.station.Station.{Station}
 use Rattle.plain_machine.specs.Machine.{Endpoints}
 use Rattle.plain_machine.specs.Falling.{due_on}
 use Rattle.gateway_floor.proofs.FloorLemmas.{is_there, passes_over}
-use Rattle.gateway_floor.proofs.DueLemmas.{set_length, got_there, station_in_step, table_renewed}
+use Rattle.gateway_floor.proofs.DueLemmas.{set_length, got_there, had_there, station_in_step}
 use Rattle.gateway_floor.proofs.timed.Timed.pass_over.Goals as goal
+
+pub renew-requires-clause-had : goal.renew-requires-clause-had
+renew-requires-clause-had c =
+    let from : c.from-place.result ≡ c.args.line = c.from-place.ensures in
+    let some : 1 ≤ c.args.line = c.requires.line.some in
+    let within : c.args.line - 1 < length c.self.inside.stations.items = rw (← c.self.view_is) at c.requires.within in
+    let inside : c.from-place.result - 1 < length c.self.inside.stations.items = omega (arith, from, within) in
+    let same : c.args.line ≡ c.from-place.result - 1 + 1 = omega (arith, from, some) in
+    had_there c.self.inside.stations.items c.self.inside.own (c.from-place.result - 1) c.args.line c.index.result.now c.due_on-was.result c.self.inside.due
+    c.self.invariant.due same inside c.index.ensures c.due_on-was.ensures
 
 pub invariant_of-self : goal.invariant_of-self
 invariant_of-self c =
@@ -18,12 +28,10 @@ invariant_of-self c =
     let same : c.args.line ≡ c.from-place.result - 1 + 1 = omega (arith, from, some) in record {
       few = rw (set_length stations place is) c.self.invariant.few;
       id = c.self.invariant.id;
-      due = station_in_step stations c.self.inside.own place c.args.line c.index.result.now is c.self.inside.due c.enter.new.table c.self.invariant.due
-          same inside c.index.ensures (c.enter.ensures.lines ∙ c.clear.ensures.lines)
-          (table_renewed c.args.line c.due_on-was.result _ c.due_on-is.result _ c.self.inside.due.table c.clear.new.table.table _
-          c.clear.ensures.table c.due_on-was.ensures c.enter.ensures.table
+      due = station_in_step stations c.self.inside.own place c.args.line is c.due_on-is.result c.self.inside.due c.renew.new.table c.self.invariant.due same inside
           (c.due_on-is.ensures
-          ∙ ap (λ (s : Station). due_on (c.args.line, s)) (c.index-2.ensures ∙ got_there stations place is c.index-2.result.now inside)));
+          ∙ ap (λ (s : Station). due_on (c.args.line, s)) (c.index-2.ensures ∙ got_there stations place is c.index-2.result.now inside))
+          c.renew.ensures.lines c.renew.ensures.table;
     }
 
 pub returns-clause-acted : goal.returns-clause-acted
