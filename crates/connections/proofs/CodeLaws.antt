@@ -1,5 +1,5 @@
 -- The codes of refusals have three digits.
-use Rattle.std.proofs.Common.{◌≡◌, ℕ, ◌+◌, ◌≤◌, Bool, true, false, ◌||◌, not, nat_lt, List, [], ◌∷◌, get_or, map, Option, Some, None, is_some, refl, sym, subst, arith}
+use Rattle.std.proofs.Common.{◌≡◌, ℕ, ◌+◌, ◌≤◌, Bool, true, false, ◌||◌, not, nat_lt, List, [], ◌∷◌, get_or, map, Option, Some, None, is_some, refl, sym, ap, subst, arith}
 use Rattle.std.specs.Prelude.{Result, Ok, Err, ⊤}
 use Rattle.std.specs.List.{list_any}
 use Rattle.mg_bytes.specs.Checks.{unless, first_fault, checked, given}
@@ -174,3 +174,12 @@ audit_answers id standing = answers_as (audited id standing) (audited_small id s
 pub code_of : {A : Type 0} (said : Result A ℕ) (code : ℕ) → Err code ≡ said → AnswersAs said (answer_of said)
     → (said ≡ Err code) × (code ≤ 999)
 code_of said code is answers = (sym is, (subst (λ (r : Result _ ℕ). AnswersAs r (answer_of r)) (sym is) answers).1)
+
+-- the code of a command that was planned
+pub refused_code : {A : Type 0} (made : Result (Left A) ℕ) (code : ℕ) → Err code ≡ made → AnswersAs (answered_by made) (answer_of (answered_by made))
+    → (answered_by made ≡ Err code) × (code ≤ 999)
+refused_code made code is answers = code_of (answered_by made) code (ap (λ (r : Result (Left _) ℕ). answered_by r) is) answers
+
+pub refused_deletion_code : (made : Result Standing ℕ) (code : ℕ) → Err code ≡ made → AnswersAs (whether made) (answer_of (whether made))
+    → (whether made ≡ Err code) × (code ≤ 999)
+refused_deletion_code made code is answers = code_of (whether made) code (ap whether is) answers

@@ -1,35 +1,56 @@
 -- Places that are emptied one after the other.
-use Rattle.std.proofs.Common.{◌≡◌, ℕ, zero, suc, ◌<◌, ◌≤◌, List, [], ◌∷◌, map, length, get_or, refl, sym, ap, arith}
-use Rattle.std.specs.Prelude.{set}
+use Rattle.std.proofs.Common.{◌≡◌, ℕ, zero, suc, ◌+◌, ◌≤◌, Bool, true, false, List, [], ◌∷◌, map, length, get_or, take, Option, None, refl, ap, arith, add-one}
+use Rattle.std.specs.Prelude.{set, if◌then◌else◌}
+use Rattle.connections.specs.declared.connection.Connection.{Connection}
+use Rattle.connections.specs.declared.deletion.Deletion.{Deletion}
+use Rattle.connections.specs.Planning.{emptied}
+use Rattle.connections.specs.Standing.{is_emptied, without}
 
--- the list with the function at its first n places
-abbrev pub made_up_to : {A : Type 0} → ℕ → (A → A) → List A → List A
-made_up_to zero f xs = xs
-made_up_to (suc n) f [] = []
-made_up_to (suc n) f (x ∷ xs) = f x ∷ made_up_to n f xs
+abbrev before : Bool → Option Connection → List (Option Connection) → List (Option Connection)
+before is held others = (if is then None else held) ∷ others
 
-pub made_here : {A : Type 0} (n : ℕ) (f : A → A) (xs : List A) (d : A) → get_or (made_up_to n f xs) n d ≡ get_or xs n d
-made_here zero f xs d = refl
-made_here (suc n) f [] d = refl
-made_here (suc n) f (x ∷ xs) d = made_here n f xs d
+next_empty : (n : ℕ) (those : List Bool) (places : List (Option Connection)) → get_or those n false ≡ true
+    → set (emptied (take n those) places) n None ≡ emptied (take (suc n) those) places
+next_empty n [] places is = absurd cc
+next_empty zero (b ∷ more) [] is = refl
+next_empty zero (b ∷ more) (held ∷ others) is = rw is refl
+next_empty (suc n) (b ∷ more) [] is = refl
+next_empty (suc n) (b ∷ more) (held ∷ others) is = ap (before b held) (next_empty n more others is)
 
-pub made_more : {A : Type 0} (n : ℕ) (f : A → A) (xs : List A) (d : A) → n < length xs → set (made_up_to n f xs) n (f (get_or xs n d)) ≡ made_up_to (suc n) f xs
-made_more n f [] d few = absurd (omega arith)
-made_more zero f (x ∷ xs) d few = refl
-made_more (suc n) f (x ∷ xs) d few = ap (λ ys. f x ∷ ys) (made_more n f xs d (omega arith))
+next_same : (n : ℕ) (those : List Bool) (places : List (Option Connection)) → get_or those n false ≡ false
+    → emptied (take n those) places ≡ emptied (take (suc n) those) places
+next_same zero [] places isnt = refl
+next_same (suc n) [] places isnt = refl
+next_same zero (b ∷ more) [] isnt = refl
+next_same zero (b ∷ more) (held ∷ others) isnt = rw isnt refl
+next_same (suc n) (b ∷ more) [] isnt = refl
+next_same (suc n) (b ∷ more) (held ∷ others) isnt = ap (before b held) (next_same n more others isnt)
 
-pub made_kept : {A : Type 0} (n : ℕ) (f : A → A) (xs : List A) (d : A) → n < length xs → f (get_or xs n d) ≡ get_or xs n d → made_up_to n f xs ≡ made_up_to (suc n) f xs
-made_kept n f [] d few same = absurd (omega arith)
-made_kept zero f (x ∷ xs) d few same = ap (λ y. y ∷ xs) (sym same)
-made_kept (suc n) f (x ∷ xs) d few same = ap (λ ys. f x ∷ ys) (made_kept n f xs d (omega arith) same)
+-- one more place is emptied, or left
+pub emptied_next : (n : ℕ) (those : List Bool) (places : List (Option Connection)) → get_or those n false ≡ true
+    → set (emptied (take n those) places) n None ≡ emptied (take (n + 1) those) places
+emptied_next n those places is = rw add-one (next_empty n those places is)
 
-pub made_all : {A : Type 0} (n : ℕ) (f : A → A) (xs : List A) → length xs ≤ n → made_up_to n f xs ≡ map f xs
-made_all zero f [] all = refl
-made_all zero f (x ∷ xs) all = absurd (omega arith)
-made_all (suc n) f [] all = refl
-made_all (suc n) f (x ∷ xs) all = ap (λ ys. f x ∷ ys) (made_all n f xs (omega arith))
+pub emptied_same : (n : ℕ) (those : List Bool) (places : List (Option Connection)) → get_or those n false ≡ false
+    → emptied (take n those) places ≡ emptied (take (n + 1) those) places
+emptied_same n those places isnt = rw add-one (next_same n those places isnt)
 
-pub length-made : {A : Type 0} (n : ℕ) (f : A → A) (xs : List A) → length (made_up_to n f xs) ≡ length xs
-length-made zero f xs = refl
-length-made (suc n) f [] = refl
-length-made (suc n) f (x ∷ xs) = ap suc (length-made n f xs)
+-- no more than there are
+pub emptied_all : (n : ℕ) (those : List Bool) (places : List (Option Connection)) → length places ≤ n
+    → emptied (take n those) places ≡ emptied those places
+emptied_all zero [] [] all = refl
+emptied_all zero (b ∷ more) [] all = refl
+emptied_all zero those (held ∷ others) all = absurd (omega arith)
+emptied_all (suc n) [] places all = refl
+emptied_all (suc n) (b ∷ more) [] all = refl
+emptied_all (suc n) (b ∷ more) (held ∷ others) all = ap (before b held) (emptied_all n more others (omega arith))
+
+pub length-emptied : (those : List Bool) (places : List (Option Connection)) → length (emptied those places) ≡ length places
+length-emptied [] places = refl
+length-emptied (b ∷ more) [] = refl
+length-emptied (b ∷ more) (held ∷ others) = ap suc (length-emptied more others)
+
+-- the places whose connections are meant
+pub emptied_meant : (deletion : Deletion) (places : List (Option Connection)) → emptied (map (is_emptied deletion) places) places ≡ map (without deletion) places
+emptied_meant deletion [] = refl
+emptied_meant deletion (held ∷ others) = ap (λ (rest : List (Option Connection)). without deletion held ∷ rest) (emptied_meant deletion others)

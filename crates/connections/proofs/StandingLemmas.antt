@@ -1,29 +1,29 @@
--- What stands after a deletion, and what an audit tells.
-use Rattle.std.proofs.Common.{◌≡◌, ℕ, zero, suc, ◌<◌, List, [], ◌∷◌, length, get_or, map, refl, sym, ap, ◌∙◌, arith, Option, Some, None}
+-- What stands after a deletion that was planned, and what an audit tells.
+use Rattle.std.proofs.Common.{◌≡◌, ℕ, zero, suc, ◌<◌, Bool, List, [], ◌∷◌, length, get_or, take, map, refl, sym, ap, ◌∙◌, arith, Option, Some, None}
 use Rattle.std.specs.Prelude.{Ok}
 use Rattle.connections.specs.declared.connection.Connection.{Connection}
 use Rattle.connections.specs.declared.deletion.Deletion.{Deletion}
+use Rattle.connections.specs.declared.plan.Plan.TheVariants.{Empty}
 use Rattle.connections.specs.Places.{holds_id, place_where}
-use Rattle.connections.specs.Standing.{Standing, described, without, refused, deleted, left_of, audited}
-use Rattle.connections.proofs.PlaceLemmas.{made_up_to, made_all}
+use Rattle.connections.specs.Planning.{emptied, committed, planned_alone}
+use Rattle.connections.specs.Standing.{Standing, described, is_emptied, without, refused, deleted, audited}
+use Rattle.connections.proofs.PlaceLemmas.{emptied_all, emptied_meant}
 
 abbrev holding : Standing → List (Option Connection) → Standing
 holding was places = record was { places = places }
 
-deleted_to : (deletion : Deletion) (was : Standing) (places : List (Option Connection)) → refused deletion was.places ≡ None
-    → length was.places ≡ 4 → places ≡ made_up_to 4 (without deletion) was.places
-    → holding was places ≡ left_of was (deleted deletion was)
+pub deletion_planned : (deletion : Deletion) (was : Standing) (those : List Bool) → refused deletion was.places ≡ None
+    → those ≡ map (is_emptied deletion) was.places → planned_alone (Ok (Empty those)) was ≡ deleted deletion was
 unfolding deleted
-deleted_to deletion was places taken four made =
-    let e : holding was places ≡ holding was (map (without deletion) was.places) =
-    ap (holding was) (made ∙ made_all 4 (without deletion) was.places (omega arith)) in
-    rw taken e
+deletion_planned deletion was those taken meant =
+    let e : holding was (emptied those was.places) ≡ holding was (map (without deletion) was.places) =
+    ap (λ (list : List Bool). holding was (emptied list was.places)) meant ∙ ap (holding was) (emptied_meant deletion was.places) in
+    rw taken (ap Ok e)
 
-pub deleted_all : (deletion : Deletion) (was : Standing) (places : List (Option Connection)) (n : ℕ)
-    → refused deletion was.places ≡ None → length was.places ≡ 4 → n ≡ 4 → places ≡ made_up_to n (without deletion) was.places
-    → holding was places ≡ left_of was (deleted deletion was)
-deleted_all deletion was places n taken four all made =
-    deleted_to deletion was places taken four (made ∙ ap (λ (n : ℕ). made_up_to n (without deletion) was.places) all)
+pub emptied_up_to : (those : List Bool) (was : Standing) (places : List (Option Connection)) (n : ℕ) → length was.places ≡ 4 → n ≡ 4
+    → places ≡ emptied (take n those) was.places → holding was places ≡ committed (Empty those) was
+emptied_up_to those was places n four all made =
+    ap (holding was) (made ∙ emptied_all n those was.places (omega arith))
 
 -- an element doesn't depend on what stands for one that there isn't
 get_or_any : {A : Type 0} (xs : List A) (n : ℕ) (d e : A) → n < length xs → get_or xs n d ≡ get_or xs n e

@@ -5,5 +5,6 @@ pub mod Numbers
 pub mod Connection
 pub mod Places
 pub mod Standing
+pub mod Planning
 pub mod Life
 pub mod Example

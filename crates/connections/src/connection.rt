@@ -1,5 +1,5 @@
 //! A connection: what it is made of, and what becomes of it.
-ghost use Rattle.std.specs.Prelude.{◌≡◌};
+ghost use Rattle.std.specs.Prelude.{◌≡◌, IfOk};
 ghost use Rattle.connections.specs.Connection.{local_list, list_in_force, agreed, can_be, begun, is_changed};
 ghost use Rattle.connections.specs.Connection.{given_or, remote_or, renewed, renewed_to};
 
@@ -143,8 +143,9 @@ fn can_be(mode: Mode, remote: &Option<Session>) -> bool
 
 // The connection with this number, or the return code by which it is refused.
 #[tactic(auto, unfolding(crate::specs::Connection::begun))]
-pub(crate) fn begun(encoding: Encoding, creation: Creation, number: u32) -> Result<Connection, u16>
-    ensures { result ≡ begun encoding creation number }
+pub(crate) fn begun(encoding: Encoding, creation: &Creation, number: u32) -> Result<Connection, u16>
+    ensures begun { result ≡ begun encoding creation.now number }
+    ensures numbered { IfOk result (λ connection. connection.number ≡ number) }
 {
     let Some(codecs) = agreed(creation.options.codecs, encoding, &creation.remote) else {
         return Err(ReturnCode::CodecNegotiationFailure.number());
@@ -153,12 +154,12 @@ pub(crate) fn begun(encoding: Encoding, creation: Creation, number: u32) -> Resu
         return Err(ReturnCode::MissingRemoteDescription.number());
     }
     Ok(Connection {
-        call: creation.call,
+        call: creation.call.copy(),
         number,
         mode: creation.mode,
         options: creation.options,
         codecs,
-        remote: creation.remote,
+        remote: copy_of(&creation.remote),
         version: 1,
     })
 }
@@ -171,11 +172,11 @@ pub(crate) fn is_changed(was: &Connection, options: Options, codecs: Agreement) 
         && was.options.packet_time == options.packet_time)
 }
 
-fn remote_or(given: Option<Session>, was: &Option<Session>) -> Option<Session>
-    ensures { result ≡ remote_or given was.now }
+fn remote_or(given: &Option<Session>, was: &Option<Session>) -> Option<Session>
+    ensures { result ≡ remote_or given.now was.now }
 {
     match given {
-        Some(remote) => Some(remote),
+        Some(remote) => Some(remote.copy()),
         None => copy_of(was),
     }
 }
@@ -218,16 +219,16 @@ fn renewed_to(
 #[tactic(auto, unfolding(crate::specs::Connection::renewed))]
 pub(crate) fn renewed(
     encoding: Encoding,
-    change: Change,
+    change: &Change,
     was: &Connection,
 ) -> Result<Connection, u16>
-    ensures { result ≡ renewed encoding change was.now }
+    ensures { result ≡ renewed encoding change.now was.now }
 {
     renewed_to(
         encoding,
         was,
         change.mode.unwrap_or(was.mode),
         change.options.unwrap_or(was.options),
-        remote_or(change.remote, &was.remote),
+        remote_or(&change.remote, &was.remote),
     )
 }

@@ -16,6 +16,7 @@ mod mode;
 mod option_items;
 mod options;
 mod places;
+mod plan;
 
 pub use crate::answer::{Audited, Created};
 pub use crate::codec::{Codec, Codecs, Encoding, encoding_text, read_encoding};
@@ -25,3 +26,4 @@ pub use crate::deletion::Deletion;
 pub use crate::identifier::write_number;
 pub use crate::mode::{Mode, mode_text, read_mode};
 pub use crate::options::{CodecChoice, Options, read_options, write_options};
+pub use crate::plan::{Plan, Planned};
