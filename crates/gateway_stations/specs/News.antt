@@ -1,6 +1,5 @@
--- What a deed made of the connections of a line, and what there is to be told of them.
-use Rattle.std.specs.Prelude.{[], ◌∷◌, Some, Result, Ok, Err, ℕ}
-use Rattle.connections.specs.Standing.{Standing, Left}
+-- What there is to be told of the connections of a line.
+use Rattle.std.specs.Prelude.{[], ◌∷◌, Some}
 use Rattle.plain_machine.specs.Connecting.{Shown, nothing_shown, created_shown, modified_shown, counts_param}
 use Rattle.gateway_stations.specs.declared.connecting.News.{News}
 use Rattle.gateway_stations.specs.declared.connecting.News.TheVariants.{Nothing, Began, Changed, Counted}
@@ -11,8 +10,3 @@ shown_as Nothing = nothing_shown
 shown_as (Began created) = created_shown created
 shown_as (Changed description) = modified_shown (Some description)
 shown_as Counted = record { params = counts_param ∷ []; body = [] }
-
--- with what it left
-abbrev pub connected_as : Result News ℕ → Standing → Result (Left Shown) ℕ
-connected_as (Ok news) left = Ok (record { leaves = left; answer = shown_as news })
-connected_as (Err code) left = Err code

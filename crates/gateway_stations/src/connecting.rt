@@ -1,19 +1,22 @@
 //! What a deed does to the connections of a line, and what its answer tells of them (RFC 3435, 2.3.5 to 2.3.9).
-ghost use Rattle.std.specs.Prelude.{◌≡◌, true, codes, IfOk, OnErr};
+ghost use Rattle.std.specs.Prelude.{◌≡◌, true, codes, IfOk};
 ghost use Rattle.std.specs.List.{list_all};
 ghost use Rattle.std.specs.Result.{result_err};
 ghost use Rattle.mgcp_text.specs.Writing.{is_writable_param, is_writable_body};
 ghost use Rattle.sdp_subset.specs.Writing.{session_text};
 ghost use Rattle.connections.specs.Standing.{created, modified, deleted};
+ghost use Rattle.connections.specs.Planning.{planned};
 ghost use Rattle.plain_machine.specs.Connecting.{id_param, counts_param, created_shown, modified_shown, deleted_shown};
 ghost use Rattle.plain_machine.specs.Connecting.{showing, showing_what, connected, done_code};
 ghost use Rattle.plain_machine.specs.Requesting.{encoding_with, connected_on, with_connections, shown_by, answer_with};
-ghost use Rattle.gateway_stations.specs.News.{shown_as, connected_as};
+ghost use Rattle.gateway_stations.specs.News.{shown_as};
 
 use crate::context::Context;
 use command_forms::{ConnectionDeed, Deed};
-use connections::{Change, Connections, Created, Creation, Deletion, Encoding, write_number};
-use mg_bytes::{CodeFault, Identifier, OutOfMemory, ReturnCode, Text};
+use connections::{
+    Change, Connections, Created, Creation, Deletion, Encoding, Plan, Planned, write_number,
+};
+use mg_bytes::{Identifier, OutOfMemory, ReturnCode, Text};
 use mgcp_text::{Answer, Bytes, Param, Params};
 use plain_machine::Station;
 use sdp_subset::{Session, write_sdp};
@@ -31,20 +34,20 @@ pub enum News {
     Counted,
 }
 
-// One is created.
+// What becomes of them where one is created.
 fn created(
     encoding: Encoding,
     creation: &Creation,
-    connections: &mut Connections,
-) -> Result<News, u16>
-    ensures made { connected_as result connections.new ≡ showing created_shown (created encoding creation.now connections.old) }
-    ensures refused { OnErr result (connections.new ≡ connections.old) }
+    connections: &Connections,
+) -> Result<Planned<News>, u16>
+    ensures { showing shown_as (planned result connections.now)
+        ≡ showing created_shown (created encoding creation.now connections.now) }
 {
-    match connections.create(encoding, creation.copy()) {
-        Ok(created) => Ok(News::Began(created)),
-        Err(CodeFault::Code(code)) => Err(code),
-        Err(CodeFault::OutOfMemory) => unreachable!(),
-    }
+    let Planned { plan, answer } = connections.plan_creation(encoding, creation)?;
+    Ok(Planned {
+        plan,
+        answer: News::Began(answer),
+    })
 }
 
 // What is told of a connection that was modified.
@@ -57,23 +60,22 @@ fn news_of(shown: Option<Session>) -> News
     }
 }
 
-// One is modified.
+// Where one is modified.
 fn modified(
     encoding: Encoding,
     call: &Identifier,
     id: &Identifier,
     change: &Change,
-    connections: &mut Connections,
-) -> Result<News, u16>
-    ensures made { connected_as result connections.new
-        ≡ showing modified_shown (modified encoding call.now id.now change.now connections.old) }
-    ensures refused { OnErr result (connections.new ≡ connections.old) }
+    connections: &Connections,
+) -> Result<Planned<News>, u16>
+    ensures { showing shown_as (planned result connections.now)
+        ≡ showing modified_shown (modified encoding call.now id.now change.now connections.now) }
 {
-    match connections.modify(encoding, call, id, change.copy()) {
-        Ok(shown) => Ok(news_of(shown)),
-        Err(CodeFault::Code(code)) => Err(code),
-        Err(CodeFault::OutOfMemory) => unreachable!(),
-    }
+    let Planned { plan, answer } = connections.plan_change(encoding, call, id, change)?;
+    Ok(Planned {
+        plan,
+        answer: news_of(answer),
+    })
 }
 
 // What is told of connections that were deleted.
@@ -87,17 +89,16 @@ fn counted(deletion: &Deletion) -> News
     }
 }
 
-// Some are deleted.
-fn deleted(deletion: &Deletion, connections: &mut Connections) -> Result<News, u16>
-    ensures made { connected_as result connections.new
-        ≡ showing_what (deleted_shown deletion.now) (deleted deletion.now connections.old) }
-    ensures refused { OnErr result (connections.new ≡ connections.old) }
+// Where some are deleted.
+fn deleted(deletion: &Deletion, connections: &Connections) -> Result<Planned<News>, u16>
+    ensures { showing shown_as (planned result connections.now)
+        ≡ showing_what (deleted_shown deletion.now) (deleted deletion.now connections.now) }
 {
-    match connections.delete(deletion) {
-        Ok(()) => Ok(counted(deletion)),
-        Err(CodeFault::Code(code)) => Err(code),
-        Err(CodeFault::OutOfMemory) => unreachable!(),
-    }
+    let plan = connections.plan_deletion(deletion)?;
+    Ok(Planned {
+        plan,
+        answer: counted(deletion),
+    })
 }
 
 // The encoding that a station has for a deed: one that is given counts already.
@@ -110,18 +111,20 @@ fn encoding_with(deed: &Deed, station: &Station) -> Encoding
     }
 }
 
-// A deed on connections: what there is to be told of them, or the code with which they refuse it, which changes nothing.
+// What becomes of connections by a deed, and what there is to be told of them; or the code with which they refuse it.
 #[tactic(auto, unfolding(plain_machine::specs::Connecting::connected))]
 fn connected(
     deed: &ConnectionDeed,
     encoding: Encoding,
-    connections: &mut Connections,
-) -> Result<News, u16>
-    ensures made { connected_as result connections.new ≡ connected deed.now encoding connections.old }
-    ensures refused { OnErr result (connections.new ≡ connections.old) }
+    connections: &Connections,
+) -> Result<Planned<News>, u16>
+    ensures { showing shown_as (planned result connections.now) ≡ connected deed.now encoding connections.now }
 {
     match deed {
-        ConnectionDeed::Keep => Ok(News::Nothing),
+        ConnectionDeed::Keep => Ok(Planned {
+            plan: Plan::Stay,
+            answer: News::Nothing,
+        }),
         ConnectionDeed::Create(creation) => created(encoding, creation, connections),
         ConnectionDeed::Modify { call, id, change } => {
             modified(encoding, call, id, change, connections)
@@ -131,15 +134,11 @@ fn connected(
 }
 
 /// The code with which the connections of a station refuse a deed. It takes no memory.
-#[tactic(auto, unfolding(plain_machine::specs::Connecting::connected))]
 pub(crate) fn connections_refuse(deed: &Deed, station: &Station) -> Option<u16>
     ensures { result ≡ result_err (connected_on deed.now station.now) }
 {
-    if let ConnectionDeed::Keep = deed.connections {
-        return None;
-    }
-    let mut tried = station.connections.copy();
-    match connected(&deed.connections, encoding_with(deed, station), &mut tried) {
+    let encoding = encoding_with(deed, station);
+    match connected(&deed.connections, encoding, &station.connections) {
         Ok(_) => None,
         Err(code) => Some(code),
     }
@@ -152,8 +151,11 @@ pub(crate) fn connect(deed: &Deed, station: &mut Station) -> News
     ensures news { shown_as result ≡ shown_by (connected_on deed.now station.old) }
 {
     let encoding = encoding_with(deed, station);
-    let news = match connected(&deed.connections, encoding, &mut station.connections) {
-        Ok(news) => news,
+    let news = match connected(&deed.connections, encoding, &station.connections) {
+        Ok(Planned { plan, answer }) => {
+            station.connections.commit(plan);
+            answer
+        }
         Err(_) => News::Nothing,
     };
     station.encoding = encoding;
