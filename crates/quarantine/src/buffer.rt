@@ -26,7 +26,7 @@ impl Model for Buffer {
 }
 
 impl Buffer {
-    ghost use Rattle.std.specs.Prelude.{◌≡◌, IfOk, length, ◌≤◌};
+    ghost use Rattle.std.specs.Prelude.{◌≡◌, ◌≢◌, IfOk, IfErr, OnOk, OnErr, length, ◌≤◌};
     ghost use Rattle.std.specs.Map.Iter.{ShowsInOrder, deref};
     ghost use Rattle.event_values.specs.declared.observed.Observed.{Observed};
     ghost use Rattle.quarantine.specs.Held.{nothing_held, holding, first_of, without_first, cleared};
@@ -45,15 +45,38 @@ impl Buffer {
     pub fn try_copy(&self) -> Result<Self, OutOfMemory>
         ensures { IfOk result (λ copy. copy ≡ self.now) }
     {
-        let room = self.events.capacity();
-        let mut events = HeapCircularBuffer::with_capacity(*self.events.allocator(), room)?;
-        let (front, back) = self.events.as_slices();
-        events.extend_from_slice(front);
-        events.extend_from_slice(back);
-        Ok(Buffer {
-            events,
-            lost: self.lost,
-        })
+        let mut copy = Buffer::new(*self.events.allocator(), self.events.capacity())?;
+        copy.fill_from(self);
+        Ok(copy)
+    }
+
+    /// Becomes equal to another. Where it has as much room as that one, this takes no memory, and as long as what that one
+    /// holds; else the room is made anew. An error is for want of memory only, and then it is as it was.
+    pub fn try_copy_from(&mut self, other: &Buffer) -> Result<(), OutOfMemory>
+        ensures ok { OnOk result (self.new ≡ other.now) }
+        ensures err { OnErr result (self.new ≡ self.old) }
+        ensures in_its_room { IfErr result (λ _. self.old.room ≢ other.now.room) }
+    {
+        if self.events.capacity() == other.events.capacity() {
+            self.fill_from(other);
+        } else {
+            *self = other.try_copy()?;
+        }
+        Ok(())
+    }
+
+    // Becomes equal to another that has as much room.
+    fn fill_from(&mut self, other: &Buffer)
+        requires { self.old.room ≡ other.now.room }
+        ensures { self.new ≡ other.now }
+    {
+        let _room = other.events.capacity();
+        let (front, back) = other.events.as_slices();
+        let held = &mut self.events;
+        held.clear();
+        held.extend_from_slice(front);
+        held.extend_from_slice(back);
+        self.lost = other.lost;
     }
 
     /// An event comes: it stands behind the others where there is room; else it is lost, and the count of lost events is

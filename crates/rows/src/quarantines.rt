@@ -3,10 +3,12 @@
 //! - `room 2` a new one with room for so many; `hold L/hf` this event comes; `clear` all are dropped;
 //! - `take L/hf` what came first is taken out; `take -` there is nothing;
 //! - `holds 64`, `lost 1`: so many are held, and so many found no room;
+//! - `into 2`: it goes on as its copy, in a quarantine that had room for so many, and held one event;
 //! - `keep` and `back`: the quarantine as it was once.
 use crate::events::{observed_of, spelled};
 use crate::keeping::Thing;
 use crate::texts::number_text;
+use event_values::Observed;
 use mg_line::MOST_QUARANTINED;
 use quarantine::Buffer;
 use std::alloc::Global;
@@ -35,6 +37,12 @@ impl Thing for QuarantineTale {
             "room" => self.buffer = Buffer::new(alloc, row.number()? as usize)?,
             "hold" => self.buffer.hold(observed_of(alloc, row.rest())?),
             "clear" => self.buffer.clear(),
+            "into" => {
+                let mut other = Buffer::new(alloc, row.number()? as usize)?;
+                other.hold(Observed::default());
+                other.try_copy_from(&self.buffer)?;
+                self.buffer = other;
+            }
             "take" => match self.buffer.take() {
                 Some(first) => return spelled(alloc, &[first]),
                 None => return Ok("-".to_string(alloc)?),
