@@ -24,4 +24,4 @@ pub use crate::falling::{due_on, earlier, happened_on, own_happened, post_due};
 pub use crate::posting::Occasion;
 pub use crate::requesting::{deed_on, has_place, refusal_by};
 pub use crate::responding::{opened_on, own_responded, redirected_on, responded_on};
-pub use crate::station::{same_own, same_station};
+pub use crate::station::{copy_station, same_own, same_station};

@@ -45,6 +45,17 @@ pub(crate) fn copy_of(post: &Post) -> Result<Post, OutOfMemory>
     })
 }
 
+/// A post becomes equal to another. An error is for want of memory only.
+pub(crate) fn copy_post(from: &Post, into: &mut Post) -> Result<(), OutOfMemory>
+    ensures { OnOk result (into.new ≡ from.now) }
+{
+    into.pending = pending_of(&from.pending)?;
+    into.entity = from.entity;
+    into.number = from.number;
+    into.restart = from.restart;
+    Ok(())
+}
+
 /// What is sent under a post goes to this entity from now on, where one is given.
 pub(crate) fn redirect(post: &mut Post, entity: Option<Entity>)
     ensures { post.new ≡ record post.old { entity = unwrap_or entity post.old.entity } }
