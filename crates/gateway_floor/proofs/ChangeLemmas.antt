@@ -10,7 +10,7 @@ use Rattle.plain_machine.specs.declared.station.Station.{Station}
 use Rattle.plain_machine.specs.Effect.{Effect, silently}
 use Rattle.plain_machine.specs.Machine.{Endpoints, with_station, with_own, on_line, on_own}
 use Rattle.gateway_stations.specs.Effects.{HasEffect}
-use Rattle.gateway_floor.specs.declared.floor.Saved.{Saved}
+use Rattle.gateway_floor.specs.declared.saves.Saved.{Saved}
 use Rattle.gateway_floor.specs.FloorState.{FloorState, settled_at}
 use Rattle.gateway_floor.specs.Saving.{manned, restored, found_in, IsSavedToo}
 use Rattle.gateway_floor.specs.Changing.{Call, LineChanges, GatewayChanges}

@@ -1,12 +1,13 @@
 -- Stations that are saved and put back, and the marks that say which are saved.
-use Rattle.std.proofs.Common.{◌≡◌, ℕ, zero, suc, ◌+◌, ◌<◌, ◌≤◌, ◌≢◌, ◌==◌, ◌||◌, Bool, true, false, List, [], ◌∷◌, ◌++◌, length, get_or, set, replicate, refl, sym, ap, ◌∙◌, arith, get_or-set_other}
+use Rattle.std.proofs.Common.{◌≡◌, ℕ, zero, suc, ◌+◌, ◌-◌, ◌<◌, ◌≤◌, ◌≢◌, ◌==◌, ◌||◌, Bool, true, false, List, [], ◌∷◌, ◌++◌, length, get_or, set, take, replicate, Option, Some, None, option_to_list, refl, sym, ap, ◌∙◌, append-nil, arith, get_or-set_other}
+use Rattle.std.specs.Prelude.{MatchOption, Result, Ok, Err, OnErr}
 use Rattle.std.proofs.lemmas.Grind.{common_steps}
-use Rattle.std.proofs.lemmas.List.{set-set, set-get_or, set_comm, set_past, length-set}
+use Rattle.std.proofs.lemmas.List.{set-set, set-get_or, set_comm, set_past, length-set, length_push, take_all, take_more, take_more_set, take-set}
 use Rattle.std.proofs.lemmas.Bool.Decides.{nat_tests}
 use Rattle.std.proofs.Math.ListN.{get_or-eq_default}
 use Rattle.plain_machine.specs.declared.station.Station.{Station}
-use Rattle.gateway_floor.specs.declared.floor.Saved.{Saved}
-use Rattle.gateway_floor.specs.Saving.{restored, is_saved, IsMarked, IsSavedToo, HasRoom, idle}
+use Rattle.gateway_floor.specs.declared.saves.Saved.{Saved}
+use Rattle.gateway_floor.specs.Saving.{restored, is_saved, IsMarked, IsSavedToo, HasRoom, idle, SavesState, saved_at, Popped, Fills, LeavesFilled}
 
 same_of : (i j : ℕ) → (i == j) ≡ true → i ≡ j
 same_of i j e = grind (arith, nat_tests, e)
@@ -192,3 +193,69 @@ room_first n saved flags capacity is none room = omega (arith, idle_none n flags
 pub changed_found : (place : ℕ) (was becomes : Station) (touched touched' : List Bool) (log log' : List Saved) (es : List Station) → was ≡ get_or es place was
     → IsSavedToo place was touched touched' log log' → restored log' (set es place becomes) ≡ restored log es
 changed_found place was becomes touched touched' log log' es here saved = restored_over log' es place becomes saved.this ∙ saved.same es here
+
+-- The slots
+
+-- what holds may be said where something is refused
+pub on_err : {A E : Type 0} {P : Type 0} (result : Result A E) → P → OnErr result P
+on_err (Ok value) holds = tt
+on_err (Err fault) holds = holds
+
+pub one_longer : (log log' : List Saved) (saved : Saved) → log' ≡ log ++ saved ∷ [] → length log' ≡ length log + 1
+one_longer log log' saved grown = ap length grown ∙ length_push log saved
+
+pub shorter : (log log' : List Saved) (saved : Saved) → log ≡ log' ++ saved ∷ [] → length log' < length log
+shorter log log' saved popped = omega (arith, one_longer log' log saved popped)
+
+abbrev saves_of : List Saved → ℕ → SavesState
+saves_of stations room = record { stations = stations; room = room }
+
+pub saves_is : (log log' : List Saved) (room room' : ℕ) → log ≡ log' → room ≡ room' → saves_of log room ≡ saves_of log' room'
+saves_is log log' room room' same kept = λ i. record { stations = same i; room = kept i }
+
+-- a slot is filled anew
+pub refilled : (slots slots' : List Saved) (count place : ℕ) (station : Station) (slot : Saved) → count < length slots → slot ≡ saved_at place station
+    → slots' ≡ set slots count slot → Fills (saved_at place station) count slots slots'
+refilled slots slots' count place station slot inside is set_is = record {
+  filled = ap (take (count + 1)) set_is ∙ take_more_set slots count slot inside ∙ ap (λ (s : Saved). take count slots ++ s ∷ []) is;
+  within = omega (arith, inside, ap length set_is, length-set slots count slot);
+}
+
+-- the slots before it stay
+pub still_filled : (slots slots' : List Saved) (count : ℕ) (slot : Saved) → count < length slots → slots' ≡ set slots count slot → LeavesFilled count slots slots'
+still_filled slots slots' count slot inside set_is = record {
+  filled = ap (take count) set_is ∙ take-set slots count slot;
+  within = omega (arith, inside, ap length set_is, length-set slots count slot);
+}
+
+-- one more slot is filled behind all
+pub filled_behind : (slots slots' : List Saved) (count place : ℕ) (station copy : Station) → count ≡ length slots → copy ≡ station
+    → slots' ≡ slots ++ saved_at place copy ∷ [] → Fills (saved_at place station) count slots slots'
+filled_behind slots slots' count place station copy all is grown =
+    let longer : length slots' ≡ length slots + 1 = one_longer slots slots' (saved_at place copy) grown in
+    record {
+      filled = take_all (count + 1) slots' (omega (arith, all, longer))
+          ∙ grown
+          ∙ ap (λ (s : Station). slots ++ saved_at place s ∷ []) is
+          ∙ ap (λ (x : List Saved). x ++ saved_at place station ∷ []) (sym (take_all count slots (omega (arith, all))));
+      within = omega (arith, all, longer);
+    }
+
+-- the last slot that is filled
+pub last_filled : (slots : List Saved) (count : ℕ) (slot : Saved) → 1 ≤ count → count ≤ length slots → slot ≡ get_or slots (count - 1) slot
+    → take count slots ≡ take (count - 1) slots ++ slot ∷ []
+last_filled slots count slot some within is =
+    let next : count ≡ count - 1 + 1 = omega (arith, some) in
+    let inside : count - 1 < length slots = omega (arith, some, within) in
+    ap (λ (n : ℕ). take n slots) next
+    ∙ take_more slots (count - 1) slot inside
+    ∙ ap (λ (s : Saved). take (count - 1) slots ++ s ∷ []) (sym is)
+
+-- what is left where the last is taken out of slots that are all filled
+pub popped_last : (last : Option Saved) (were mid are : List Saved) (count size size' : ℕ) → mid ≡ were → mid ≡ are ++ option_to_list last
+    → MatchOption last ((size ≡ 0) × (size' ≡ 0)) (λ _. size' + 1 ≡ size) → size' ≡ length are → count ≡ length are → Popped last were (take count are)
+popped_last None were mid are count size size' same popped cases long all =
+    let none : are ≡ [] = none_of are (omega (arith, cases.1, long)) in
+    (sym same ∙ popped ∙ append-nil are ∙ none, take_all count are (omega (arith, all)) ∙ none)
+popped_last (Some last) were mid are count size size' same popped cases long all =
+    sym same ∙ popped ∙ ap (λ (x : List Saved). x ++ last ∷ []) (sym (take_all count are (omega (arith, all))))

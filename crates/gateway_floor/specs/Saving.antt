@@ -1,10 +1,10 @@
 -- Going back to what an event found.
-use Rattle.std.specs.Prelude.{◌≡◌, ◌≤◌, ◌+◌, ℕ, suc, Bool, true, false, ◌||◌, ◌==◌, List, [], ◌∷◌, Option, slice_set, slice_index_or, length}
+use Rattle.std.specs.Prelude.{◌≡◌, ◌<◌, ◌≤◌, ◌+◌, ℕ, suc, Bool, true, false, ◌||◌, ◌==◌, List, [], ◌∷◌, ◌++◌, Option, Some, None, slice_set, slice_index_or, length, take}
 use Rattle.std.specs.Option.{unwrap_or}
 use Rattle.plain_machine.specs.declared.own.Own.{Own}
 use Rattle.plain_machine.specs.declared.station.Station.{Station}
 use Rattle.plain_machine.specs.Machine.{Endpoints}
-use Rattle.gateway_floor.specs.declared.floor.Saved.{Saved}
+use Rattle.gateway_floor.specs.declared.saves.Saved.{Saved}
 
 abbrev pub manned : List Station → Own → Endpoints
 manned stations own = record { stations = stations; own = own }
@@ -43,3 +43,42 @@ idle (false ∷ touched) = suc (idle touched)
 -- there is room for saving each station that isn't saved
 abbrev pub HasRoom : ℕ → List Bool → ℕ → Type 0
 HasRoom saved touched capacity = saved + idle touched ≤ capacity
+
+-- What is saved, in slots that outlive an event
+
+-- the stations that are saved, in the order of their first touch, and for how many there is room
+pub record SavesState : Type 0 where
+  pub stations : List Saved
+  pub room : ℕ
+
+abbrev pub saved_at : ℕ → Station → Saved
+saved_at place station = record { place = place; station = station }
+
+-- one more is saved
+abbrev pub with_saved : ℕ → Station → SavesState → SavesState
+with_saved place station saves = record saves { stations = saves.stations ++ saved_at place station ∷ [] }
+
+-- what was saved last is taken out, where something is saved
+abbrev pub Popped : Option Saved → List Saved → List Saved → Type 0
+Popped None were are = (were ≡ []) × (are ≡ [])
+Popped (Some last) were are = were ≡ are ++ last ∷ []
+
+-- what was saved last, at this place, is saved no more
+pub record IsForgotten (place : ℕ) (were are : List Saved) : Type 0 where
+  pub last : Saved
+  pub there : place ≡ last.place
+  pub popped : were ≡ are ++ last ∷ []
+
+abbrev pub Forgotten : Option ℕ → List Saved → List Saved → Type 0
+Forgotten None were are = (were ≡ []) × (are ≡ [])
+Forgotten (Some place) were are = IsForgotten place were are
+
+-- of slots the first so many have what is saved: one more has this
+pub record Fills (saved : Saved) (count : ℕ) (slots slots' : List Saved) : Type 0 where
+  pub filled : take (count + 1) slots' ≡ take count slots ++ saved ∷ []
+  pub within : count < length slots'
+
+-- they have what they had
+pub record LeavesFilled (count : ℕ) (slots slots' : List Saved) : Type 0 where
+  pub filled : take count slots' ≡ take count slots
+  pub within : count ≤ length slots'

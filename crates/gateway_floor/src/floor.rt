@@ -1,6 +1,6 @@
 //! The floor: the stations of a gateway, and what it keeps for itself. They are looked up, changed in place, one at a time,
 //! and put back where an event failed.
-ghost use Rattle.std.specs.Prelude.{ℕ, ◌≡◌, ◌-◌, ◌<◌, ◌≤◌, Some, false, length, replicate, slice_set, vec_capacity, OnOk, OnErr, IfOk};
+ghost use Rattle.std.specs.Prelude.{ℕ, ◌≡◌, ◌-◌, ◌<◌, ◌≤◌, Some, false, length, replicate, slice_set, OnOk, OnErr, IfOk};
 ghost use Rattle.std.specs.Borrow.{MutBor};
 ghost use Rattle.plain_machine.specs.declared.own.Own.{Own};
 ghost use Rattle.plain_machine.specs.declared.setup.Setup.{Setup};
@@ -11,30 +11,24 @@ ghost use Rattle.gateway_stations.specs.Telling.{HasId};
 ghost use Rattle.gateway_floor.specs.Saving.{manned, IsMarked, IsSavedToo, HasRoom};
 ghost use Rattle.plain_machine.specs.Setup.{most_lines};
 
+use crate::saves::{Saved, Saves};
 use crate::timed::Timed;
-use gateway_stations::{same_own, same_station};
+use gateway_stations::same_own;
 use mg_bytes::OutOfMemory;
 use mg_line::Act;
 use plain_machine::{DueItem, Own, Station};
 use std::alloc::Global;
 use std::marker::Model;
 
-/// A station as an event found it.
-#[derive(Drop)]
-struct Saved {
-    place: usize,
-    station: Station,
-}
-
 /// The stations of a gateway, at most `MOST_LINES`, and what it keeps for itself. A contract sees them as they are, and as
 /// the event that happens found them.
 ///
 /// What an event changes is saved at its first touch, and put back where the event fails, which takes no memory. The room
-/// for that is made once.
+/// for that outlives the event.
 #[derive(Drop)]
 pub struct Floor {
     endpoints: Timed,
-    saved: Vec<Saved>,
+    saved: Saves,
     // At which places the station is saved.
     touched: Vec<bool>,
     // What the gateway keeps for itself, where the event changed it.
@@ -42,19 +36,19 @@ pub struct Floor {
 }
 
 impl Model for Floor {
-    ghost use Rattle.std.specs.Prelude.{◌≡◌, length, vec_capacity, IfSome};
+    ghost use Rattle.std.specs.Prelude.{◌≡◌, length, IfSome};
     ghost use Rattle.gateway_stations.specs.Telling.{HasId};
     ghost use Rattle.gateway_floor.specs.FloorState.{FloorState};
     ghost use Rattle.gateway_floor.specs.Saving.{found_in, IsMarked, HasRoom};
 
     ghost Value = { FloorState };
 
-    ghost view = { λ f. record { endpoints = f.endpoints; found = found_in f.saved.items f.own_saved f.endpoints } };
+    ghost view = { λ f. record { endpoints = f.endpoints; found = found_in f.saved.stations f.own_saved f.endpoints } };
 
     ghost invariant = { λ f. record {
       flags : length f.touched.items ≡ length f.endpoints.stations;
-      marked : IsMarked f.touched.items f.saved.items;
-      room : HasRoom (length f.saved.items) f.touched.items (vec_capacity f.saved);
+      marked : IsMarked f.touched.items f.saved.stations;
+      room : HasRoom (length f.saved.stations) f.touched.items f.saved.room;
       own : IfSome f.own_saved (λ own. HasId 0 own.post.number);
     } };
 }
@@ -71,22 +65,21 @@ fn untouched(alloc: Global, stations: usize) -> Result<Vec<bool>, OutOfMemory>
 // The station at this place is saved, if this event didn't do so. After an error, which is for want of memory, all is as it
 // was.
 fn save(
-    saved: &mut Vec<Saved>,
+    saved: &mut Saves,
     touched: &mut Vec<bool>,
     place: usize,
     station: &Station,
 ) -> Result<(), OutOfMemory>
     requires within { place < length touched.old.items }
-    requires marked { IsMarked touched.old.items saved.old.items }
-    requires room { HasRoom (length saved.old.items) touched.old.items (vec_capacity saved.old) }
-    ensures ok { OnOk result (IsSavedToo place station.now touched.old.items touched.new.items saved.old.items saved.new.items) }
-    ensures room { OnOk result (HasRoom (length saved.new.items) touched.new.items (vec_capacity saved.new)) }
+    requires marked { IsMarked touched.old.items saved.old.stations }
+    requires room { HasRoom (length saved.old.stations) touched.old.items saved.old.room }
+    ensures ok { OnOk result (IsSavedToo place station.now touched.old.items touched.new.items saved.old.stations saved.new.stations) }
+    ensures room { OnOk result (HasRoom (length saved.new.stations) touched.new.items saved.new.room) }
     ensures saved { OnErr result (saved.new ≡ saved.old) }
     ensures touched { OnErr result (touched.new ≡ touched.old) }
 {
     if !touched[place] {
-        let station = same_station(station)?;
-        saved.push_reserved(Saved { place, station });
+        saved.save(place, station)?;
         touched[place] = true;
     }
     Ok(())
@@ -99,13 +92,6 @@ fn unmark(touched: &mut Vec<bool>, place: usize)
     if place < touched.len() {
         touched[place] = false;
     }
-}
-
-// What was saved is forgotten.
-fn forget(touched: &mut Vec<bool>, saved: Saved)
-    ensures { touched.new.items ≡ slice_set touched.old.items saved.place false }
-{
-    unmark(touched, saved.place);
 }
 
 impl Floor {
@@ -124,7 +110,7 @@ impl Floor {
         requires id { HasId 0 own.post.number }
         ensures { IfOk result (λ floor. floor ≡ settled_at (manned stations.items own)) }
     {
-        let saved = Vec::with_capacity(alloc, stations.len())?;
+        let saved = Saves::new(alloc, stations.len())?;
         let touched = untouched(alloc, stations.len())?;
         let endpoints = Timed::of(alloc, stations, own)?;
         Ok(Floor {
@@ -223,8 +209,8 @@ impl Floor {
     pub fn commit(&mut self)
         ensures { self.new ≡ settled_at self.old.endpoints }
     {
-        while let Some(saved) = self.saved.pop() {
-            forget(&mut self.touched, saved);
+        while let Some(place) = self.saved.forget() {
+            unmark(&mut self.touched, place);
         }
         self.own_saved = None;
     }

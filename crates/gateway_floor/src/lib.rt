@@ -10,6 +10,7 @@ mod floor;
 mod opening;
 mod requesting;
 mod responding;
+mod saves;
 mod timed;
 
 pub use crate::falling::{is_due, pass};

@@ -1,19 +1,23 @@
-use Rattle.std.proofs.Common.{◌∙◌, ap, length, arith}
+use Rattle.std.proofs.Common.{ℕ, ◌∙◌, ap, sym, length, set, false}
 use Rattle.std.proofs.lemmas.List.{length-set}
-use Rattle.gateway_floor.proofs.SavingLemmas.{unmarked_by, room_back, none_of}
+use Rattle.gateway_floor.proofs.SavingLemmas.{unmarked_by, room_back, one_longer, shorter}
 use Rattle.gateway_floor.proofs.ChangeLemmas.{none_saved}
 use Rattle.gateway_floor.proofs.floor.Floor.commit.Goals as goal
 
-pub loop-saved-preserved : goal.loop-saved-preserved
-loop-saved-preserved c = record {
-  endpoints = c.loop-saved.invariant.endpoints;
-  flags = ap length c.forget.ensures ∙ simp length-set c.loop-saved.invariant.flags;
-  room = room_back _ _ c.in-Some.saved.place _ _ _ _ c.loop-saved.invariant.room c.forget.ensures (omega (arith, c.in-Some.ensures.cases, c.pop.new.self.ok.0, c.loop-saved.self-inside.saved.ok.0)) c.in-Some.ensures.capacity;
-  marked = unmarked_by _ _ _ _ c.in-Some.saved c.loop-saved.invariant.marked c.in-Some.ensures.items c.forget.ensures;
-  own = c.loop-saved.invariant.own;
-}
+pub loop-place-preserved : goal.loop-place-preserved
+loop-place-preserved c =
+    let forgotten = c.in-Some.ensures.last in
+    record {
+      endpoints = c.loop-place.invariant.endpoints;
+      flags = ap length c.unmark.ensures ∙ simp length-set c.loop-place.invariant.flags;
+      room = room_back _ _ c.in-Some.place _ _ _ _ c.loop-place.invariant.room c.unmark.ensures (sym (one_longer _ _ _ forgotten.popped)) c.in-Some.ensures.room;
+      marked = unmarked_by _ _ _ _ forgotten.last c.loop-place.invariant.marked forgotten.popped
+          (c.unmark.ensures ∙ ap (λ (p : ℕ). set c.loop-place.self-inside.touched.items p false) forgotten.there);
+      own = c.loop-place.invariant.own;
+    }
+
+pub loop-place-smaller : goal.loop-place-smaller
+loop-place-smaller c = shorter _ _ _ c.in-Some.ensures.last.popped
 
 pub returns : goal.returns
-returns c =
-    none_saved c.pop.new.self.items c.loop-saved.self-inside.endpoints _ (none_of c.pop.new.self.items (omega (arith, c.in_default.ensures.cases.1, c.pop.new.self.ok.0)))
-    c.loop-saved.invariant.endpoints
+returns c = none_saved c.forget.new.self.stations c.loop-place.self-inside.endpoints _ c.in_default.ensures.last.1 c.loop-place.invariant.endpoints

@@ -1,4 +1,4 @@
-use Rattle.std.proofs.Common.{◌≡◌, ◌∙◌, ap, length, false, arith, rules}
+use Rattle.std.proofs.Common.{◌≡◌, ◌∙◌, ap, length, false, arith}
 use Rattle.std.proofs.lemmas.List.{length-replicate}
 use Rattle.plain_machine.specs.Machine.{Endpoints}
 use Rattle.gateway_floor.proofs.SavingLemmas.{room_first, marked_none}
@@ -11,6 +11,6 @@ invariant_of-result c =
     record {
       flags = omega (arith, all, marks, c.len-2.ensures, c.args.stations.ok.0);
       marked = marked_none _ _ _ c.in_ok-touched.ensures;
-      room = room_first _ _ _ _ c.in_ok-touched.ensures (search rules) (omega (arith, c.in_ok-saved.ensures.exact, c.len.ensures, c.len-2.ensures));
+      room = room_first _ _ _ _ c.in_ok-touched.ensures (ap length c.in_ok-saved.ensures.none) (omega (arith, c.in_ok-saved.ensures.room, c.len.ensures, c.len-2.ensures));
       own = tt;
     }

@@ -1,4 +1,4 @@
-use Rattle.std.proofs.Common.{◌≡◌, length, vec_capacity}
+use Rattle.std.proofs.Common.{◌≡◌, length}
 use Rattle.std.specs.Prelude.{IfSome}
 use Rattle.gateway_stations.specs.Telling.{HasId}
 use Rattle.gateway_floor.specs.Saving.{found_in, IsMarked, HasRoom}
@@ -6,12 +6,12 @@ use Rattle.gateway_floor.proofs.floor.Floor.rollback.Given as goal
 
 abbrev pub invariant-loop-saved : goal.invariant-loop-saved
 invariant-loop-saved l = record {
-  found : found_in l.self-inside.saved.items l.self-inside.own_saved l.self-inside.endpoints ≡ l.fn.self.found;
+  found : found_in l.self-inside.saved.stations l.self-inside.own_saved l.self-inside.endpoints ≡ l.fn.self.found;
   flags : length l.self-inside.touched.items ≡ length l.self-inside.endpoints.stations;
-  marked : IsMarked l.self-inside.touched.items l.self-inside.saved.items;
-  room : HasRoom (length l.self-inside.saved.items) l.self-inside.touched.items (vec_capacity l.self-inside.saved);
+  marked : IsMarked l.self-inside.touched.items l.self-inside.saved.stations;
+  room : HasRoom (length l.self-inside.saved.stations) l.self-inside.touched.items l.self-inside.saved.room;
   own : IfSome l.self-inside.own_saved (λ own. HasId 0 own.post.number);
 }
 
 abbrev pub decreases-loop-saved : goal.decreases-loop-saved
-decreases-loop-saved l = length l.self-inside.saved.items
+decreases-loop-saved l = length l.self-inside.saved.stations
