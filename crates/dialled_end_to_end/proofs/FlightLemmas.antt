@@ -28,8 +28,8 @@ use Rattle.restart.specs.declared.restart.Restart.TheVariants.{Waiting, Announce
 use Rattle.restart.specs.declared.heard.Heard.{Heard}
 use Rattle.restart.specs.declared.heard.Heard.TheVariants.{Nothing, PutOff, Redirected, Answered}
 use Rattle.restart.specs.Restarting.{is_serving, heard_of}
-use Rattle.plain_machine.specs.declared.due_item.StationDue.{StationDue}
-use Rattle.plain_machine.specs.declared.due_item.StationDue.TheVariants.{OfLine, Resend, Announce}
+use Rattle.timers.specs.declared.kind.DueKind.{DueKind}
+use Rattle.timers.specs.declared.kind.DueKind.TheVariants.{OfLine, Resend, Announce}
 use Rattle.command_forms.specs.declared.forms.Deed.{Deed}
 use Rattle.plain_machine.specs.declared.post.Post.{Post}
 use Rattle.plain_machine.specs.declared.response.Response.{Response}
@@ -305,7 +305,7 @@ module _ (A : ℕ → Type 0) (B : Type 0) where
     by_restart Announced rests = same
     by_restart Serving rests = same
 
-  happened_flies : (setup : Setup) (sent : List Sent) (due : StationDue) (line moment : ℕ) (station : Station) → Flies sent station → FliesOn sent (happened_on due setup line moment station)
+  happened_flies : (setup : Setup) (sent : List Sent) (due : DueKind) (line moment : ℕ) (station : Station) → Flies sent station → FliesOn sent (happened_on due setup line moment station)
   unfolding happened_on
   happened_flies setup sent (OfLine due) line moment station f =
       noted_flies setup sent line moment station (fired station.line due moment) (notifies_once.firing station.line due moment) (fired_waits station.line due moment) f
@@ -399,7 +399,7 @@ module _ (A : ℕ → Type 0) (B : Type 0) where
         noted_flies setup sent line moment station (phoned station.line act moment) (notifies_once.act station.line act moment) (phoned_waits station.line act moment) f;
     deed = λ course sent deed moment line station f. deed_flies setup sent deed moment line station f;
     response = λ serving course sent line moment response station final f. responded_flies setup sent line moment response station final f;
-    happening = λ serving course sent line item station is f. happened_flies setup sent item.due line item.moment station f;
+    happening = λ serving course sent line item station is f. happened_flies setup sent item.kind line item.moment station f;
     redirecting = λ serving course sent agent line station f. redirected_flies sent agent line station f;
     opening = λ course sent agent moment line station closed f. opened_flies setup sent agent moment line station closed f;
     answering = λ serving course sent one station is f. record { rests = f.rests; either = either_on sent (one ∷ []) station.post.restart station.post.pending (answer_begins one is) f.either };

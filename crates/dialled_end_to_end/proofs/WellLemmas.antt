@@ -37,8 +37,8 @@ use Rattle.restart.specs.declared.restart.Restart.{Restart}
 use Rattle.restart.specs.declared.restart.Restart.TheVariants.{Waiting, Announced, Serving}
 use Rattle.restart.specs.declared.heard.Heard.{Heard}
 use Rattle.restart.specs.declared.heard.Heard.TheVariants.{Nothing, PutOff, Redirected, Answered}
-use Rattle.plain_machine.specs.declared.due_item.StationDue.{StationDue}
-use Rattle.plain_machine.specs.declared.due_item.StationDue.TheVariants.{OfLine, Resend, Announce}
+use Rattle.timers.specs.declared.kind.DueKind.{DueKind}
+use Rattle.timers.specs.declared.kind.DueKind.TheVariants.{OfLine, Resend, Announce}
 use Rattle.plain_machine.specs.declared.own.Own.{Own}
 use Rattle.plain_machine.specs.declared.post.Post.{Post}
 use Rattle.plain_machine.specs.declared.response.Response.{Response}
@@ -168,7 +168,7 @@ module _ (setup : Setup) (set_up : IsSetUp setup) where
   replied_well (Redirected agent) line moment response post few below some = announced_well line moment (record post { entity = agent }) few below some
   replied_well (Answered agent) line moment response post few below some = none_well
 
-  happened_well : (due : StationDue) (line moment : ℕ) (station : Station) → Stationed setup line station → Well (happened_on due setup line moment station).sent
+  happened_well : (due : DueKind) (line moment : ℕ) (station : Station) → Stationed setup line station → Well (happened_on due setup line moment station).sent
   unfolding happened_on
   happened_well (OfLine due) line moment station s =
       noted_well line moment station (fired station.line due moment) s.sound.some s.sound.few s.within s.sound.below (fired_done station.line due moment s.sound.fine)
@@ -223,7 +223,7 @@ module _ (setup : Setup) (set_up : IsSetUp setup) where
         (opened_well agent line moment station s);
   }
 
-  own_happened_well : (due : StationDue) (moment : ℕ) (own : Own) → OwnSound own → Well (own_happened due setup moment own).sent
+  own_happened_well : (due : DueKind) (moment : ℕ) (own : Own) → OwnSound own → Well (own_happened due setup moment own).sent
   unfolding own_happened
   own_happened_well (OfLine due) moment own can = none_well
   own_happened_well Resend moment own can = resent_well 0 moment own.post

@@ -12,8 +12,8 @@ use Rattle.event_values.specs.declared.observed.Observed.TheVariants.{Happened, 
 use Rattle.event_requests.specs.Choice.{is_kept}
 use Rattle.quarantine.specs.Held.{Held, most_lost, one_lost, one_kept, holding}
 use Rattle.signals.specs.Stopping.{without}
-use Rattle.mg_line.specs.declared.due.LineDue.{LineDue}
-use Rattle.mg_line.specs.declared.due.LineDue.TheVariants.{DigitTimer, SignalEnd}
+use Rattle.timers.specs.declared.kind.LineDue.{LineDue}
+use Rattle.timers.specs.declared.kind.LineDue.TheVariants.{DigitTimer, SignalEnd}
 use Rattle.mg_line.specs.declared.phone.Act.{Act}
 use Rattle.mg_line.specs.declared.phone.Act.TheVariants.{OffHook, OnHook, Flash, Key}
 use Rattle.mg_line.specs.declared.state.State.{State}

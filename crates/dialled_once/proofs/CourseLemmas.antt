@@ -37,9 +37,9 @@ use Rattle.restart.specs.declared.restart.Restart.TheVariants.{Waiting, Announce
 use Rattle.restart.specs.declared.heard.Heard.{Heard}
 use Rattle.restart.specs.declared.heard.Heard.TheVariants.{Nothing, PutOff, Redirected, Answered}
 use Rattle.restart.specs.Restarting.{is_serving}
-use Rattle.plain_machine.specs.declared.due_item.StationDue.{StationDue}
-use Rattle.plain_machine.specs.declared.due_item.StationDue.TheVariants.{OfLine, Resend, Announce}
-use Rattle.plain_machine.specs.declared.due_item.DueItem.{DueItem}
+use Rattle.timers.specs.declared.kind.DueKind.{DueKind}
+use Rattle.timers.specs.declared.kind.DueKind.TheVariants.{OfLine, Resend, Announce}
+use Rattle.timers.specs.declared.due_item.DueItem.{DueItem}
 use Rattle.plain_machine.specs.declared.own.Own.{Own}
 use Rattle.plain_machine.specs.declared.response.Response.{Response}
 use Rattle.plain_machine.specs.declared.setup.Setup.{Setup}
@@ -78,7 +78,7 @@ use Rattle.dialled_once.proofs.StationLemmas.{steps_in, Calls, Goes, act_goes, d
 -- The gateway itself serves on, or not yet
 
 -- while it serves it has nothing in flight, and so it stays at what falls due
-free_happens : (setup : Setup) (due : StationDue) (moment : ℕ) (own : Own) → IsFree own → IsFree (own_happened due setup moment own).value
+free_happens : (setup : Setup) (due : DueKind) (moment : ℕ) (own : Own) → IsFree own → IsFree (own_happened due setup moment own).value
 unfolding own_happened announced
 free_happens setup (OfLine due) moment own free = free
 free_happens setup Resend moment own free = by_serving (is_serving own.post.restart) refl where
@@ -104,8 +104,8 @@ serves_passed : (setup : Setup) (moment : ℕ) (was : Own) (is : Effect Own) →
 serves_passed setup moment was is (rests w t none same) free = ap (λ (t : Effect Own). is_serving t.value.post.restart) same
 serves_passed setup moment was is (goes_on w item rest t some own same) free =
     ap (λ (t : Effect Own). is_serving t.value.post.restart) same
-    ∙ serves_passed setup moment (own_happened item.due setup item.moment was).value rest own (free_happens setup item.due item.moment was free)
-    ∙ happening_serves setup item.due item.moment was free
+    ∙ serves_passed setup moment (own_happened item.kind setup item.moment was).value rest own (free_happens setup item.kind item.moment was free)
+    ∙ happening_serves setup item.kind item.moment was free
 
 pub pass_serves : (setup : Setup) (endpoints : Endpoints) (moment : ℕ) → IsFree endpoints.own → serves (pass setup endpoints moment).value ≡ serves endpoints
 pass_serves setup endpoints moment free = serves_passed setup moment endpoints.own _ (own_passes setup moment endpoints) free
@@ -134,7 +134,7 @@ pub record StationTurns (setup : Setup) (H : Response → Type 0) (G : Bool → 
   pub response : (serving : Bool) (course : List Step) (sent : List Sent) (line moment : ℕ) (response : Response) (station : Station) → H response → G serving course sent station
       → TurnKeeps G serving course sent (responded_on setup line moment response station)
   pub happening : (serving : Bool) (course : List Step) (sent : List Sent) (line : ℕ) (item : DueItem) (station : Station) → due_on (line, station) ≡ Some item → G serving course sent station
-      → TurnKeeps G serving course sent (happened_on item.due setup line item.moment station)
+      → TurnKeeps G serving course sent (happened_on item.kind setup line item.moment station)
   pub redirecting : (serving : Bool) (course : List Step) (sent : List Sent) (agent : Entity) (line : ℕ) (station : Station) → G serving course sent station
       → TurnKeeps G serving course sent (redirected_on agent line station)
   pub opening : (course : List Step) (sent : List Sent) (agent : Option Entity) (moment line : ℕ) (station : Station) → IsClosed station → G false course sent station
@@ -235,7 +235,7 @@ module _ (setup : Setup) (H : Response → Type 0) (G : Bool → List Step → L
       (both_padded serving course sent s (goes s (sym (ap (λ (t : Effect (Option Station)). t.value) same) ∙ at)))
   line_passed serving moment None is (goes_on w item rest t first own same) course sent goes s at = absurd (none-some item first)
   line_passed serving moment (Some was) is (goes_on w item rest t first own same) course sent goes s at =
-      let turn : Effect Station = happened_on item.due setup line item.moment was in
+      let turn : Effect Station = happened_on item.kind setup line item.moment was in
       let here = turns.happening serving course sent line item was (by_is moment (due_on (line, was)) item first) (goes was refl) in
       let after = line_passed serving moment (Some turn.value) rest own (course ++ steps_in turn.sent) (sent ++ turn.sent)
       (λ x e. subst (λ (y : Station). G serving (course ++ steps_in turn.sent) (sent ++ turn.sent) y) (some_same turn.value x e) here)

@@ -20,8 +20,8 @@ use Rattle.event_syntax.specs.declared.request.Reaction.TheVariants.{Plain, Embe
 use Rattle.event_requests.specs.Choice.{Chosen, chosen}
 use Rattle.event_requests.specs.Naming.{event_of}
 use Rattle.signals.specs.Stopping.{without}
-use Rattle.mg_line.specs.declared.due.LineDue.{LineDue}
-use Rattle.mg_line.specs.declared.due.LineDue.TheVariants.{DigitTimer, SignalEnd}
+use Rattle.timers.specs.declared.kind.LineDue.{LineDue}
+use Rattle.timers.specs.declared.kind.LineDue.TheVariants.{DigitTimer, SignalEnd}
 use Rattle.mg_line.specs.declared.phone.Act.{Act}
 use Rattle.mg_line.specs.declared.phone.Act.TheVariants.{OffHook, OnHook, Flash, Key}
 use Rattle.event_requests.specs.declared.request.Request.{Request}

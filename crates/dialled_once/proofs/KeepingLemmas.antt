@@ -1,6 +1,6 @@
 -- What a line keeps of what its telephone does.
 use Rattle.std.proofs.Common.{◌≡◌, ℕ, Bool, true, false, List, [], ◌∷◌, ◌++◌, length, refl, sym, ap, subst, ◌∙◌, arith, append-nil}
-use Rattle.std.specs.Prelude.{Option, Some, None, IfSome, ◌||◌, nat_lt, option_map, if◌then◌else◌}
+use Rattle.std.specs.Prelude.{Option, Some, None, IfSome, ◌||◌, nat_lt, if◌then◌else◌}
 use Rattle.mg_bytes.specs.declared.letter.Letter.{Letter}
 use Rattle.mg_packages.specs.declared.event.Event.{Event}
 use Rattle.mg_packages.specs.declared.event.Event.TheVariants as events
@@ -20,8 +20,8 @@ use Rattle.event_requests.specs.Naming.{event_of}
 use Rattle.quarantine.specs.Held.{Held, one_lost, one_kept, holding}
 use Rattle.signals.specs.Due.{due_first}
 use Rattle.signals.specs.Stopping.{without}
-use Rattle.mg_line.specs.declared.due.LineDue.{LineDue}
-use Rattle.mg_line.specs.declared.due.LineDue.TheVariants.{DigitTimer, SignalEnd}
+use Rattle.timers.specs.declared.kind.LineDue.{LineDue}
+use Rattle.timers.specs.declared.kind.LineDue.TheVariants.{DigitTimer, SignalEnd}
 use Rattle.mg_line.specs.declared.phone.Act.{Act}
 use Rattle.mg_line.specs.declared.phone.Act.TheVariants.{OffHook, OnHook, Flash, Key}
 use Rattle.mg_line.specs.declared.phone.Key.{Key as OneKey}
@@ -36,7 +36,7 @@ use Rattle.mg_line.specs.Acting.{letter_at, hooked, observed_at, phoned}
 use Rattle.mg_line.specs.Requesting.{quarantined_after, replaced, resumed_in, asked}
 use Rattle.mg_line.specs.Answering.{is_loop, answered}
 use Rattle.mg_line.specs.Opening.{opened}
-use Rattle.mg_line.specs.Falling.{timer_end, signal_end, earlier, due_of, ended_by, fired}
+use Rattle.mg_line.specs.Falling.{signal_end, first_end, due_of, ended_by, fired}
 use Rattle.mg_line.proofs.DrainLemmas.{occurred_keeps}
 use Rattle.mg_line.proofs.LetterLemmas.{ends_have_no_letter}
 use Rattle.mg_line.proofs.LoseLemmas.{unasked_events_do_nothing}
@@ -294,8 +294,7 @@ opened_keeps line moment k = in_all line (resumed line moment) (resumed_keeps li
 
 -- What falls due
 
-no_timer : (timer : Option ℕ) (ends : Option (ℕ × Signal)) (at : ℕ) → timer ≡ None
-    → earlier (option_map timer_end timer) (option_map signal_end ends) ≡ Some (at, DigitTimer) → ⊥
+no_timer : (timer : Option ℕ) (ends : Option (ℕ × Signal)) (at : ℕ) → timer ≡ None → first_end timer ends ≡ Some (at, DigitTimer) → ⊥
 no_timer (Some end) ends at none e = cc
 no_timer None None at none e = cc
 no_timer None (Some first) at none e = let clash : is_digit (Some (signal_end first)) ≡ true = ap is_digit e in cc where

@@ -3,7 +3,7 @@ use Rattle.std.proofs.Common.{◌≡◌, ℕ, Bool, true, false, List, [], ◌�
 use Rattle.std.specs.Prelude.{◌⊎◌, flat_map, IfSome}
 use Rattle.endpoint_names.specs.declared.entity.Entity.{Entity}
 use Rattle.event_values.specs.declared.observed.Observed.{Observed}
-use Rattle.mg_line.specs.declared.due.LineDue.{LineDue}
+use Rattle.timers.specs.declared.kind.LineDue.{LineDue}
 use Rattle.mg_line.specs.declared.phone.Act.{Act}
 use Rattle.event_requests.specs.declared.request.Request.{Request}
 use Rattle.mg_line.specs.Line.{LineState, Notice, LineDone}
@@ -19,9 +19,9 @@ use Rattle.restart.specs.declared.restart.Restart.{Restart}
 use Rattle.restart.specs.declared.restart.Restart.TheVariants.{Waiting, Announced, Serving}
 use Rattle.restart.specs.declared.heard.Heard.{Heard}
 use Rattle.restart.specs.declared.heard.Heard.TheVariants.{Nothing, PutOff, Redirected, Answered}
-use Rattle.plain_machine.specs.declared.due_item.StationDue.{StationDue}
-use Rattle.plain_machine.specs.declared.due_item.StationDue.TheVariants.{OfLine, Resend, Announce}
-use Rattle.plain_machine.specs.declared.due_item.DueItem.{DueItem}
+use Rattle.timers.specs.declared.kind.DueKind.{DueKind}
+use Rattle.timers.specs.declared.kind.DueKind.TheVariants.{OfLine, Resend, Announce}
+use Rattle.timers.specs.declared.due_item.DueItem.{DueItem}
 use Rattle.command_forms.specs.declared.forms.Deed.{Deed}
 use Rattle.plain_machine.specs.declared.post.Post.{Post}
 use Rattle.plain_machine.specs.declared.response.Response.{Response}
@@ -174,25 +174,25 @@ module _ (setup : Setup) (Q : Bool → List Step → LineState → Type 0) where
       by_restart Serving = refl
 
     -- what falls due of the line itself is what the line says
-    of_the_line : (line : ℕ) (station : Station) (item : DueItem) (due : LineDue) → due_on (line, station) ≡ Some item → item.due ≡ OfLine due
+    of_the_line : (line : ℕ) (station : Station) (item : DueItem) (due : LineDue) → due_on (line, station) ≡ Some item → item.kind ≡ OfLine due
         → (at : ℕ) × (due_of station.line ≡ Some (at, due))
     of_the_line line station item due is kind = by_case (due_cases line station item is) where
       of_post : OfItsCommand line station.post item ⊎ OfItsAnnouncement line station.post item → (at : ℕ) × (due_of station.line ≡ Some (at, due))
-      of_post (inl of) = let clash : Resend ≡ OfLine due = ap (λ (i : DueItem). i.due) of.same ∙ kind in absurd cc
-      of_post (inr of) = let clash : Announce ≡ OfLine due = ap (λ (i : DueItem). i.due) of.same ∙ kind in absurd cc
+      of_post (inl of) = let clash : Resend ≡ OfLine due = ap (λ (i : DueItem). i.kind) of.same ∙ kind in absurd cc
+      of_post (inr of) = let clash : Announce ≡ OfLine due = ap (λ (i : DueItem). i.kind) of.same ∙ kind in absurd cc
 
       by_case : OfItsLine line station item ⊎ (post_due line station.post ≡ Some item) → (at : ℕ) × (due_of station.line ≡ Some (at, due))
       by_case (inl of) =
-          let same : OfLine of.found.1 ≡ OfLine due = ap (λ (i : DueItem). i.due) of.same ∙ kind in
+          let same : OfLine of.found.1 ≡ OfLine due = ap (λ (i : DueItem). i.kind) of.same ∙ kind in
           let equal : of.found.1 ≡ due = cc in
           (of.found.0, of.due ∙ ap (λ (d : LineDue). Some (of.found.0, d)) equal)
       by_case (inr of) = of_post (post_cases line station.post item of)
 
     pub happened_goes : (serving : Bool) (course : List Step) (line : ℕ) (item : DueItem) (station : Station) → due_on (line, station) ≡ Some item
-        → Goes serving course station → TurnGoes serving course (happened_on item.due setup line item.moment station)
+        → Goes serving course station → TurnGoes serving course (happened_on item.kind setup line item.moment station)
     unfolding happened_on
-    happened_goes serving course line item station is goes = by_due item.due refl where
-      by_due : (due : StationDue) → item.due ≡ due → TurnGoes serving course (happened_on due setup line item.moment station)
+    happened_goes serving course line item station is goes = by_due item.kind refl where
+      by_due : (due : DueKind) → item.kind ≡ due → TurnGoes serving course (happened_on due setup line item.moment station)
       by_due (OfLine due) kind =
           let of = of_the_line line station item due is kind in
           noted_goes serving course line item.moment station (fired station.line due item.moment) (fired_readable station.line due item.moment goes.readable)

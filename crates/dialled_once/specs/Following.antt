@@ -2,7 +2,7 @@
 use Rattle.std.specs.Prelude.{◌≡◌, ℕ, Bool, true, false, codes, List, [], ◌∷◌, None, IfSome}
 use Rattle.event_values.specs.declared.handling.Handling.{Handling}
 use Rattle.event_values.specs.declared.handling.Notifying.TheVariants.{Step as InStep}
-use Rattle.mg_line.specs.declared.due.LineDue.{LineDue}
+use Rattle.timers.specs.declared.kind.LineDue.{LineDue}
 use Rattle.mg_line.specs.declared.phone.Act.{Act}
 use Rattle.event_requests.specs.declared.request.Request.{Request}
 use Rattle.mg_line.specs.Line.{LineState, LineDone}

@@ -1,116 +1,84 @@
 -- The table of due moments stays in step with the endpoints, and its least is what falls due first of all.
-use Rattle.std.proofs.Common.{◌≡◌, ◌≢◌, ℕ, zero, suc, ◌+◌, ◌-◌, ◌<◌, ◌≤◌, ◌==◌, if◌then◌else◌, nat_lt, nat_le, Bool, true, false, List, [], ◌∷◌, length, Option, Some, None, refl, sym, ap, ◌∙◌, subst, get_or, arith}
-use Rattle.std.specs.Prelude.{slice_get, slice_set, option_map, option_and_then, IfSome}
-use Rattle.std.specs.declared.cmp.Ordering.{Ordering}
-use Rattle.std.specs.declared.cmp.Ordering.TheVariants.{Less, Equal, Greater}
-use Rattle.std.specs.Ordering.{nat_cmp, ordering_then, is_eq, is_lt}
-use Rattle.std.specs.Cmp.{nat_cmp_is}
-use Rattle.std.proofs.lemmas.Cmp.{tied_itself}
+use Rattle.std.proofs.Common.{◌≡◌, ◌≢◌, ℕ, zero, suc, ◌+◌, ◌-◌, ◌<◌, ◌≤◌, ◌==◌, if◌then◌else◌, nat_lt, Bool, true, false, List, [], ◌∷◌, length, Option, Some, None, refl, sym, ap, ◌∙◌, subst, get_or, arith}
+use Rattle.std.specs.Prelude.{slice_get, slice_set, option_and_then, IfSome}
 use Rattle.std.proofs.lemmas.Bool.{eq-eqb, eqb-true, leb-true, leb-false}
 use Rattle.std.proofs.lemmas.Bool.Decides.{nat_tests}
 use Rattle.std.proofs.lemmas.Option.{none-some, same_Some, slice_get-get_or}
-use Rattle.mg_packages.specs.declared.signal.Signal.{Signal}
-use Rattle.mg_packages.specs.declared.signal.Signal.TheVariants as signals
-use Rattle.mg_line.specs.declared.due.LineDue.TheVariants.{DigitTimer, SignalEnd}
-use Rattle.plain_machine.specs.declared.due_item.StationDue.{StationDue}
-use Rattle.plain_machine.specs.declared.due_item.StationDue.TheVariants.{OfLine, Resend, Announce}
-use Rattle.plain_machine.specs.declared.due_item.DueItem.{DueItem}
 use Rattle.plain_machine.specs.declared.own.Own.{Own}
 use Rattle.plain_machine.specs.declared.station.Station.{Station}
 use Rattle.plain_machine.specs.Machine.{Endpoints}
-use Rattle.plain_machine.specs.Falling.{due_on, own_due, due_at, first_due, if_by, due_by}
-use Rattle.plain_machine.proofs.FirstLemmas.{first_at, first_earliest, none_by}
-use Rattle.timers.specs.declared.kind.Kind.{Kind}
-use Rattle.timers.specs.declared.entry.Entry.{Entry}
-use Rattle.timers.specs.Order.{kind_cmp, place_cmp, comes_before}
+use Rattle.plain_machine.specs.Falling.{due_on, own_due, due_at, first_due}
+use Rattle.plain_machine.proofs.FirstLemmas.{first_there, earliest_of, line_is, none_of}
+use Rattle.timers.specs.declared.kind.DueKind.{DueKind}
+use Rattle.timers.specs.declared.due_item.DueItem.{DueItem}
+use Rattle.timers.specs.Order.{kind_number}
 use Rattle.timers.specs.Table.{Table, DueState, due, place_at, moment_of, with_moment, without, least_of, IsLeast}
-use Rattle.timers.proofs.OrderLemmas.{kind_total, kind_exact}
-use Rattle.timers.proofs.LeastLemmas.{least_of-none}
+use Rattle.timers.proofs.OrderLemmas.{kind_exact}
+use Rattle.timers.proofs.LeastLemmas.{least_of-none, same_from_neither}
 use Rattle.timers.proofs.TableLaws.{moment_of-with_moment, moment_of-with_other, moment_of-without, moment_of-without_other}
 use Rattle.gateway_floor.specs.Saving.{manned}
-use Rattle.gateway_floor.specs.DueTable.{place_of, signal_at, kind_of, due_of, item_of, cleared, entered, moment_if, Has, Renews, InStep}
+use Rattle.gateway_floor.specs.DueTable.{cleared, entered, moment_if, Has, Renews, InStep}
 
 neither : (b : Bool) → b ≡ true → b ≡ false → ⊥
 neither b t f = cc
 
 -- Of two kinds
 
-equal_from : (o : Ordering) → is_eq o ≡ true → o ≡ Equal
-equal_from Less e = absurd cc
-equal_from Equal e = refl
-equal_from Greater e = absurd cc
+same_kind : (a b : DueKind) → (kind_number a == kind_number b) ≡ true → a ≡ b
+same_kind a b e = kind_exact a b (eqb-true (kind_number a) (kind_number b) e)
 
-same_kind : (a b : Kind) → is_eq (kind_cmp a b) ≡ true → a ≡ b
-same_kind a b e = kind_exact a b (equal_from (kind_cmp a b) e)
+itself : (kind : DueKind) → (kind_number kind == kind_number kind) ≡ true
+itself kind = eq-eqb (kind_number kind) (kind_number kind) refl
 
-itself : (kind : Kind) → is_eq (kind_cmp kind kind) ≡ true
-itself kind = ap is_eq (tied_itself kind_total kind)
-
-other_kind : (a b : Kind) → is_eq (kind_cmp a b) ≡ false → a ≢ b
-other_kind a b differ same = neither (is_eq (kind_cmp a b)) (ap (λ (k : Kind). is_eq (kind_cmp k b)) same ∙ itself b) differ
-
-signal_back : (signal : Signal) → signal_at (place_of signal) ≡ signal
-signal_back signals.DialTone = refl
-signal_back signals.Busy = refl
-signal_back signals.Reorder = refl
-signal_back signals.Ringing = refl
-signal_back signals.RingSplash = refl
-signal_back signals.MessageWaiting = refl
-signal_back signals.Ringback = refl
-signal_back signals.Congestion = refl
-signal_back signals.Confirm = refl
-
-due_back : (due : StationDue) → due_of (kind_of due) ≡ due
-due_back (OfLine DigitTimer) = refl
-due_back (OfLine (SignalEnd signal)) = ap (λ (s : Signal). OfLine (SignalEnd s)) (signal_back signal)
-due_back Resend = refl
-due_back Announce = refl
+other_kind : (a b : DueKind) → (kind_number a == kind_number b) ≡ false → a ≢ b
+other_kind a b differ same =
+    neither (kind_number a == kind_number b) (eq-eqb (kind_number a) (kind_number b) (ap (λ (k : DueKind). kind_number k) same)) differ
 
 -- What is first of a line becomes another, and nothing else does
 
-apart_line : (line other : ℕ) (kind kind' : Kind) → other ≢ line → place_at other kind ≢ place_at line kind'
-apart_line line other kind kind' apart e = apart (ap (λ (p : ℕ × Kind). p.0) e)
+apart_line : (line other : ℕ) (kind kind' : DueKind) → other ≢ line → place_at other kind ≢ place_at line kind'
+apart_line line other kind kind' apart e = apart (ap (λ (p : ℕ × DueKind). p.0) e)
 
-apart_kind : (line : ℕ) (kind kind' : Kind) → kind ≢ kind' → place_at line kind ≢ place_at line kind'
-apart_kind line kind kind' apart e = apart (ap (λ (p : ℕ × Kind). p.1) e)
+apart_kind : (line : ℕ) (kind kind' : DueKind) → kind ≢ kind' → place_at line kind ≢ place_at line kind'
+apart_kind line kind kind' apart e = apart (ap (λ (p : ℕ × DueKind). p.1) e)
 
-cleared_elsewhere : (line other : ℕ) (kind : Kind) (was : Option DueItem) (table : Table) → other ≢ line
+cleared_elsewhere : (line other : ℕ) (kind : DueKind) (was : Option DueItem) (table : Table) → other ≢ line
     → moment_of (cleared line was table) other kind ≡ moment_of table other kind
 cleared_elsewhere line other kind None table apart = refl
 cleared_elsewhere line other kind (Some item) table apart =
-    moment_of-without_other table line (kind_of item.due) other kind (apart_line line other kind (kind_of item.due) apart)
+    moment_of-without_other table line item.kind other kind (apart_line line other kind item.kind apart)
 
-entered_elsewhere : (line other : ℕ) (kind : Kind) (is : Option DueItem) (table : Table) → other ≢ line
+entered_elsewhere : (line other : ℕ) (kind : DueKind) (is : Option DueItem) (table : Table) → other ≢ line
     → moment_of (entered line is table) other kind ≡ moment_of table other kind
 entered_elsewhere line other kind None table apart = refl
 entered_elsewhere line other kind (Some item) table apart =
-    moment_of-with_other table line (kind_of item.due) item.moment other kind (apart_line line other kind (kind_of item.due) apart)
+    moment_of-with_other table line item.kind item.moment other kind (apart_line line other kind item.kind apart)
 
-cleared_here : (line : ℕ) (kind : Kind) (was : Option DueItem) (table : Table) → ((k : Kind) → moment_of table line k ≡ moment_if k was)
+cleared_here : (line : ℕ) (kind : DueKind) (was : Option DueItem) (table : Table) → ((k : DueKind) → moment_of table line k ≡ moment_if k was)
     → moment_of (cleared line was table) line kind ≡ None
 cleared_here line kind None table had = had kind
-cleared_here line kind (Some item) table had = by_kind (is_eq (kind_cmp kind (kind_of item.due))) refl where
-  by_kind : (b : Bool) → is_eq (kind_cmp kind (kind_of item.due)) ≡ b → moment_of (without table line (kind_of item.due)) line kind ≡ None
+cleared_here line kind (Some item) table had = by_kind (kind_number kind == kind_number item.kind) refl where
+  by_kind : (b : Bool) → (kind_number kind == kind_number item.kind) ≡ b → moment_of (without table line item.kind) line kind ≡ None
   by_kind true e =
-      subst (λ (k : Kind). moment_of (without table line (kind_of item.due)) line k ≡ None) (sym (same_kind kind (kind_of item.due) e))
-      (moment_of-without table line (kind_of item.due))
+      subst (λ (k : DueKind). moment_of (without table line item.kind) line k ≡ None) (sym (same_kind kind item.kind e))
+      (moment_of-without table line item.kind)
   by_kind false e =
-      moment_of-without_other table line (kind_of item.due) line kind (apart_kind line kind (kind_of item.due) (other_kind kind (kind_of item.due) e))
+      moment_of-without_other table line item.kind line kind (apart_kind line kind item.kind (other_kind kind item.kind e))
       ∙ had kind
       ∙ ap (λ (b : Bool). if b then Some item.moment else None) e
 
-entered_here : (line : ℕ) (kind : Kind) (is : Option DueItem) (table : Table) → ((k : Kind) → moment_of table line k ≡ None)
+entered_here : (line : ℕ) (kind : DueKind) (is : Option DueItem) (table : Table) → ((k : DueKind) → moment_of table line k ≡ None)
     → moment_of (entered line is table) line kind ≡ moment_if kind is
 entered_here line kind None table none = none kind
-entered_here line kind (Some item) table none = by_kind (is_eq (kind_cmp kind (kind_of item.due))) refl where
-  by_kind : (b : Bool) → is_eq (kind_cmp kind (kind_of item.due)) ≡ b
-      → moment_of (with_moment table line (kind_of item.due) item.moment) line kind ≡ (if b then Some item.moment else None)
+entered_here line kind (Some item) table none = by_kind (kind_number kind == kind_number item.kind) refl where
+  by_kind : (b : Bool) → (kind_number kind == kind_number item.kind) ≡ b
+      → moment_of (with_moment table line item.kind item.moment) line kind ≡ (if b then Some item.moment else None)
   by_kind true e =
-      subst (λ (k : Kind). moment_of (with_moment table line (kind_of item.due) item.moment) line k ≡ Some item.moment)
-      (sym (same_kind kind (kind_of item.due) e)) (moment_of-with_moment table line (kind_of item.due) item.moment)
+      subst (λ (k : DueKind). moment_of (with_moment table line item.kind item.moment) line k ≡ Some item.moment)
+      (sym (same_kind kind item.kind e)) (moment_of-with_moment table line item.kind item.moment)
   by_kind false e =
-      moment_of-with_other table line (kind_of item.due) item.moment line kind
-      (apart_kind line kind (kind_of item.due) (other_kind kind (kind_of item.due) e))
+      moment_of-with_other table line item.kind item.moment line kind
+      (apart_kind line kind item.kind (other_kind kind item.kind e))
       ∙ none kind
 
 -- what was first of a line is taken out, and what is first is put in
@@ -135,12 +103,12 @@ left_alone line was is table had same = record {
 
 -- each line has in the table what it has of these
 abbrev Moments : Table → (ℕ → Option DueItem) → Type 0
-Moments table firsts = (line : ℕ) (kind : Kind) → moment_of table line kind ≡ moment_if kind (firsts line)
+Moments table firsts = (line : ℕ) (kind : DueKind) → moment_of table line kind ≡ moment_if kind (firsts line)
 
 renewed : (table table' : Table) (line : ℕ) (is : Option DueItem) (before after : ℕ → Option DueItem) → Moments table before → Renews line is table table'
     → is ≡ after line → ((other : ℕ) → other ≢ line → after other ≡ before other) → Moments table' after
 renewed table table' line is before after had renews is_is elsewhere = λ other kind. by_line other kind (other == line) refl where
-  by_line : (other : ℕ) (kind : Kind) (b : Bool) → (other == line) ≡ b → moment_of table' other kind ≡ moment_if kind (after other)
+  by_line : (other : ℕ) (kind : DueKind) (b : Bool) → (other == line) ≡ b → moment_of table' other kind ≡ moment_if kind (after other)
   by_line other kind true e =
       subst (λ (l : ℕ). moment_of table' l kind ≡ moment_if kind (after l)) (sym (eqb-true other line e)) (renews.here kind ∙ ap (moment_if kind) is_is)
   by_line other kind false e =
@@ -243,7 +211,7 @@ due_before most endpoints line = if nat_lt line most then due_at endpoints line 
 -- the table has what falls due first of so many lines, the gateway itself among them
 pub record IsFilled (most : ℕ) (endpoints : Endpoints) (state : DueState) : Type 0 where
   pub lines : state.lines ≡ length endpoints.stations
-  pub moments : (line : ℕ) (kind : Kind) → moment_of state.table line kind ≡ moment_if kind (due_before most endpoints line)
+  pub moments : (line : ℕ) (kind : DueKind) → moment_of state.table line kind ≡ moment_if kind (due_before most endpoints line)
 
 before_next : (n other : ℕ) → other ≢ n → nat_lt other (n + 1) ≡ nat_lt other n
 before_next n other apart = by_test (nat_lt other n) (nat_lt other (n + 1)) refl refl where
@@ -319,109 +287,53 @@ all_filled most stations own state past filled = record {
 
 -- What falls due first
 
-less : (a b : ℕ) → a < b → nat_cmp a b ≡ Less
-less a b l = sym (nat_cmp_is a b Less l)
-
-as_much : (a b : ℕ) → a ≡ b → nat_cmp a b ≡ Equal
-as_much a b e = sym (nat_cmp_is a b Equal e)
-
-sooner : (moment line : ℕ) (kind : Kind) (entry : Entry) → moment < entry.moment → comes_before (due moment line kind) entry ≡ true
-sooner moment line kind entry l =
-    ap (λ (o : Ordering). is_lt (ordering_then o (place_cmp (due moment line kind) entry))) (less moment entry.moment l)
-
-nearer : (moment line : ℕ) (kind : Kind) (entry : Entry) → moment ≡ entry.moment → line < entry.line → comes_before (due moment line kind) entry ≡ true
-nearer moment line kind entry same l =
-    ap (λ (o : Ordering). is_lt (ordering_then o (place_cmp (due moment line kind) entry))) (as_much moment entry.moment same)
-    ∙ ap (λ (o : Ordering). is_lt (ordering_then o (kind_cmp kind entry.kind))) (less line entry.line l)
-
-no_sooner : (moment line : ℕ) (kind : Kind) (entry : Entry) → comes_before (due moment line kind) entry ≡ false → entry.moment ≤ moment
-no_sooner moment line kind entry not = by_test (nat_le entry.moment moment) refl where
-  by_test : (b : Bool) → nat_le entry.moment moment ≡ b → entry.moment ≤ moment
-  by_test true e = leb-true _ _ e
-  by_test false e = absurd (neither (comes_before (due moment line kind) entry) (sooner moment line kind entry (leb-false _ _ e)) not)
-
-no_nearer : (moment line : ℕ) (kind : Kind) (entry : Entry) → comes_before (due moment line kind) entry ≡ false → moment ≡ entry.moment → entry.line ≤ line
-no_nearer moment line kind entry not same = by_test (nat_le entry.line line) refl where
-  by_test : (b : Bool) → nat_le entry.line line ≡ b → entry.line ≤ line
-  by_test true e = leb-true _ _ e
-  by_test false e = absurd (neither (comes_before (due moment line kind) entry) (nearer moment line kind entry same (leb-false _ _ e)) not)
-
-due_by_none : (endpoints : Endpoints) (moment : ℕ) → first_due endpoints ≡ None → due_by endpoints moment ≡ None
-unfolding due_by
-due_by_none endpoints moment e = ap (if_by moment) e
-
-not_later : (n : ℕ) → nat_le n n ≡ true
-not_later n = grind (arith, nat_tests)
-
-due_by_its : (endpoints : Endpoints) (item : DueItem) → first_due endpoints ≡ Some item → due_by endpoints item.moment ≡ Some item
-unfolding due_by
-due_by_its endpoints item e = ap (if_by item.moment) e ∙ ap (λ (b : Bool). if b then Some item else None) (not_later item.moment)
-
 -- what falls due first of a line is in the table
 in_table : (endpoints : Endpoints) (state : DueState) (line : ℕ) (item : DueItem) → InStep endpoints state → due_at endpoints line ≡ Some item
-    → moment_of state.table line (kind_of item.due) ≡ Some item.moment
+    → moment_of state.table line item.kind ≡ Some item.moment
 in_table endpoints state line item step at =
-    step.moments line (kind_of item.due)
-    ∙ ap (moment_if (kind_of item.due)) at
-    ∙ ap (λ (b : Bool). if b then Some item.moment else None) (itself (kind_of item.due))
+    step.moments line item.kind
+    ∙ ap (moment_if item.kind) at
+    ∙ ap (λ (b : Bool). if b then Some item.moment else None) (itself item.kind)
 
 -- what is in the table falls due first of its line
-record IsOf (first : Option DueItem) (entry : Entry) : Type 0 where
-  item : DueItem
-  is : first ≡ Some item
-  moment : item.moment ≡ entry.moment
-  kind : entry.kind ≡ kind_of item.due
+of_its_line : (endpoints : Endpoints) (state : DueState) (item : DueItem) → InStep endpoints state
+    → moment_of state.table item.line item.kind ≡ Some item.moment → due_at endpoints item.line ≡ Some item
+of_its_line endpoints state item step set = by_first (due_at endpoints item.line) refl (sym (step.moments item.line item.kind) ∙ set) where
+  by_kind : (first : DueItem) → due_at endpoints item.line ≡ Some first → (b : Bool) → (kind_number item.kind == kind_number first.kind) ≡ b
+      → (if b then Some first.moment else None) ≡ Some item.moment → Some first ≡ Some item
+  by_kind first at true same has =
+      let moments : first.moment ≡ item.moment = same_Some first.moment item.moment has in
+      let lines : first.line ≡ item.line = line_is endpoints item.line first at in
+      let kinds : item.kind ≡ first.kind = same_kind item.kind first.kind same in
+      let one : first ≡ item = λ i. record { moment = moments i; line = lines i; kind = (sym kinds) i } in
+      ap (λ (x : DueItem). Some x) one
+  by_kind first at false other has = absurd (none-some item.moment has)
 
-is_of_line : (entry : Entry) (first : Option DueItem) → moment_if entry.kind first ≡ Some entry.moment → IsOf first entry
-is_of_line entry None e = absurd (none-some entry.moment e)
-is_of_line entry (Some item) e = by_kind (is_eq (kind_cmp entry.kind (kind_of item.due))) refl e where
-  by_kind : (b : Bool) → is_eq (kind_cmp entry.kind (kind_of item.due)) ≡ b → (if b then Some item.moment else None) ≡ Some entry.moment → IsOf (Some item) entry
-  by_kind true same has = record {
-    item = item;
-    is = refl;
-    moment = same_Some item.moment entry.moment has;
-    kind = same_kind entry.kind (kind_of item.due) same;
-  }
-  by_kind false other has = absurd (none-some entry.moment has)
+  by_first : (first : Option DueItem) → due_at endpoints item.line ≡ first → moment_if item.kind first ≡ Some item.moment
+      → due_at endpoints item.line ≡ Some item
+  by_first None none has = absurd (none-some item.moment has)
+  by_first (Some first) at has = at ∙ by_kind first at (kind_number item.kind == kind_number first.kind) refl has
 
 -- the least of the table is the first of all
-least_first : (endpoints : Endpoints) (state : DueState) (entry : Entry) → InStep endpoints state → IsLeast state.table entry
-    → (first : Option DueItem) → first_due endpoints ≡ first → Some (item_of entry) ≡ first
-least_first endpoints state entry step least first e =
-    by_first first e (is_of_line entry (due_at endpoints entry.line) (sym (step.moments entry.line entry.kind) ∙ least.set)) where
-      same_item : (item : DueItem) → item.moment ≡ entry.moment → item.line ≡ entry.line → entry.kind ≡ kind_of item.due → item_of entry ≡ item
-      same_item item moment line kind =
-          let dues : due_of entry.kind ≡ item.due = ap due_of kind ∙ due_back item.due in
-          λ i. record { moment = (sym moment) i; line = (sym line) i; due = dues i }
-
-      by_first : (first : Option DueItem) → first_due endpoints ≡ first → IsOf (due_at endpoints entry.line) entry → Some (item_of entry) ≡ first
-      by_first None none of =
-          absurd (let later = none_by endpoints of.item.moment entry.line of.item (due_by_none endpoints of.item.moment none) of.is in omega (arith, later))
-      by_first (Some item) some of =
-          let by = due_by_its endpoints item some in
-          let at = (first_at endpoints item.moment item by).0 in
-          let before = first_earliest endpoints item.moment entry.line item of.item by of.is in
-          let not = least.first item.line (kind_of item.due) item.moment (in_table endpoints state item.line item step at) in
-          let no_later = no_sooner item.moment item.line (kind_of item.due) entry not in
-          let earliest = before.0 in
-          let moments_of = of.moment in
-          let moments : item.moment ≡ entry.moment = omega (arith, no_later, earliest, moments_of) in
-          let one = no_nearer item.moment item.line (kind_of item.due) entry not moments in
-          let other = before.1 (moments ∙ sym of.moment) in
-          let lines : item.line ≡ entry.line = omega (arith, one, other) in
-          let same : of.item ≡ item = same_Some of.item item (sym of.is ∙ sym (ap (due_at endpoints) lines) ∙ at) in
-          ap (λ (x : DueItem). Some x) (same_item item moments lines (of.kind ∙ ap (λ (x : DueItem). kind_of x.due) same))
+least_first : (endpoints : Endpoints) (state : DueState) (least : DueItem) → InStep endpoints state → IsLeast state.table least
+    → (first : Option DueItem) → first_due endpoints ≡ first → Some least ≡ first
+least_first endpoints state least step is None none =
+    absurd (none_of endpoints least.line least none (of_its_line endpoints state least step is.set))
+least_first endpoints state least step is (Some item) some =
+    let there = in_table endpoints state item.line item step (first_there endpoints item some) in
+    ap (λ (x : DueItem). Some x)
+    (same_from_neither least item (earliest_of endpoints least.line item least some (of_its_line endpoints state least step is.set))
+    (is.first item.line item.kind item.moment there))
 
 pub first_is_least : (endpoints : Endpoints) (state : DueState) → InStep endpoints state → IfSome (least_of state.table) (IsLeast state.table)
-    → option_map item_of (least_of state.table) ≡ first_due endpoints
+    → least_of state.table ≡ first_due endpoints
 first_is_least endpoints state step least = by_least (least_of state.table) refl least where
   by_none : (first : Option DueItem) → first_due endpoints ≡ first → least_of state.table ≡ None → None ≡ first
   by_none None e none = refl
   by_none (Some item) e none =
-      let at = (first_at endpoints item.moment item (due_by_its endpoints item e)).0 in
       let empty : state.table ≡ [] = least_of-none state.table none in
-      absurd (none-some item.moment (sym (ap (λ (t : Table). moment_of t item.line (kind_of item.due)) empty) ∙ in_table endpoints state item.line item step at))
+      absurd (none-some item.moment (sym (ap (λ (t : Table). moment_of t item.line item.kind) empty) ∙ in_table endpoints state item.line item step (first_there endpoints item e)))
 
-  by_least : (found : Option Entry) → least_of state.table ≡ found → IfSome found (IsLeast state.table) → option_map item_of found ≡ first_due endpoints
+  by_least : (found : Option DueItem) → least_of state.table ≡ found → IfSome found (IsLeast state.table) → found ≡ first_due endpoints
   by_least None none unneeded = by_none (first_due endpoints) refl none
-  by_least (Some entry) is set = least_first endpoints state entry step set (first_due endpoints) refl
+  by_least (Some least) is set = least_first endpoints state least step set (first_due endpoints) refl

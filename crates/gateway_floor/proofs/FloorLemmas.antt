@@ -20,7 +20,7 @@ use Rattle.plain_machine.specs.declared.station.Station.{Station}
 use Rattle.transmission.specs.declared.output.OutDatagram.{OutDatagram}
 use Rattle.plain_machine.specs.Message.{datagram_of, datagrams_of}
 use Rattle.plain_machine.specs.declared.setup.Setup.{Setup}
-use Rattle.plain_machine.specs.declared.due_item.DueItem.{DueItem}
+use Rattle.timers.specs.declared.due_item.DueItem.{DueItem}
 use Rattle.plain_machine.specs.Machine.{Endpoints, station_at, with_station, with_own, with_turn, on_line, on_own, on_lines}
 use Rattle.plain_machine.specs.Falling.{due_by, happened, pass}
 use Rattle.plain_machine.proofs.EffectLaws.{on_this, same_station}

@@ -8,7 +8,8 @@ ghost use Rattle.gateway_floor.specs.Tells.{Tells};
 use crate::floor::Floor;
 use gateway_stations::{Context, Occasion, happened_on, own_happened};
 use mg_bytes::OutOfMemory;
-use plain_machine::{DueItem, OutDatagram, StationDue};
+use plain_machine::OutDatagram;
+use timers::{DueItem, DueKind};
 
 // What falls due first of all, where it is due up to a moment.
 #[tactic(auto, unfolding(plain_machine::specs::Falling::due_by))]
@@ -36,12 +37,12 @@ fn happen_on_line(
     context: Context<'_>,
     floor: &mut Floor,
     occasion: Occasion,
-    due: StationDue,
+    kind: DueKind,
     out: &mut Vec<OutDatagram>,
 ) -> Result<(), OutOfMemory>
     requires { MayTell context.setup.now occasion.moment }
     ensures { Tells result (on_line floor.old.endpoints occasion.line
-        (happened_on due context.entry.setup.now occasion.line occasion.moment))
+        (happened_on kind context.entry.setup.now occasion.line occasion.moment))
         floor.old floor.new out.old.items out.new.items }
 {
     let Some(_) = floor.station(occasion.line) else {
@@ -49,7 +50,7 @@ fn happen_on_line(
     };
     let Context { alloc, setup } = context;
     floor.change(occasion.line, out, |station, out| {
-        happened_on(Context { alloc, setup }, occasion, station, due, out)
+        happened_on(Context { alloc, setup }, occasion, station, kind, out)
     })?
 }
 
@@ -58,16 +59,16 @@ fn happen_itself(
     context: Context<'_>,
     floor: &mut Floor,
     moment: u64,
-    due: StationDue,
+    kind: DueKind,
     out: &mut Vec<OutDatagram>,
 ) -> Result<(), OutOfMemory>
     requires { MayTell context.setup.now moment }
-    ensures { Tells result (on_own floor.old.endpoints (own_happened due context.entry.setup.now moment))
+    ensures { Tells result (on_own floor.old.endpoints (own_happened kind context.entry.setup.now moment))
         floor.old floor.new out.old.items out.new.items }
 {
     let Context { alloc, setup } = context;
     floor.change_own(out, |own, out| {
-        own_happened(Context { alloc, setup }, moment, own, due, out)
+        own_happened(Context { alloc, setup }, moment, own, kind, out)
     })?
 }
 
@@ -82,11 +83,11 @@ fn happen(
     ensures { Tells result (happened context.entry.setup.now floor.old.endpoints item)
         floor.old floor.new out.old.items out.new.items }
 {
-    let DueItem { moment, line, due } = item;
+    let DueItem { moment, line, kind } = item;
     if line == 0 {
-        happen_itself(context, floor, moment, due, out)?;
+        happen_itself(context, floor, moment, kind, out)?;
     } else {
-        happen_on_line(context, floor, Occasion { line, moment }, due, out)?;
+        happen_on_line(context, floor, Occasion { line, moment }, kind, out)?;
     }
     Ok(())
 }

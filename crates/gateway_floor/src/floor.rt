@@ -16,9 +16,10 @@ use crate::timed::Timed;
 use gateway_stations::same_own;
 use mg_bytes::OutOfMemory;
 use mg_line::Act;
-use plain_machine::{DueItem, Own, Station};
+use plain_machine::{Own, Station};
 use std::alloc::Global;
 use std::marker::Model;
+use timers::DueItem;
 
 /// The stations of a gateway, at most `MOST_LINES`, and what it keeps for itself. A contract sees them as they are, and as
 /// the event that happens found them.

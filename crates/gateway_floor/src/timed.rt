@@ -14,14 +14,14 @@ ghost use Rattle.gateway_floor.specs.Changing.{StationChanges, OwnChanges, Keeps
 ghost use Rattle.gateway_floor.specs.Saving.{manned};
 ghost use Rattle.gateway_floor.specs.DueTable.{InStep};
 
-use crate::due_table::{enter, first_in, renew};
+use crate::due_table::{enter, renew};
 use gateway_stations::{due_on, post_due};
 use mg_bytes::OutOfMemory;
 use mg_line::Act;
-use plain_machine::{DueItem, Own, Station};
+use plain_machine::{Own, Station};
 use std::alloc::Global;
 use std::marker::Model;
-use timers::Due;
+use timers::{Due, DueItem};
 
 /// The stations of a gateway, at most `MOST_LINES`, and what it keeps for itself. A contract sees them alone.
 ///
@@ -73,7 +73,7 @@ impl Timed {
     pub(crate) fn first_due(&self) -> Option<DueItem>
         ensures { result ≡ first_due self.now }
     {
-        first_in(&self.due)
+        self.due.least()
     }
 
     /// What the gateway keeps for itself.

@@ -35,15 +35,16 @@ use Rattle.restart.specs.declared.restart.Restart.TheVariants.{Waiting, Announce
 use Rattle.restart.specs.declared.heard.Heard.{Heard}
 use Rattle.restart.specs.declared.heard.Heard.TheVariants.{Nothing, PutOff, Redirected, Answered}
 use Rattle.restart.specs.Restarting.{announced_at, is_serving, answer_by, answer_of, heard_of}
-use Rattle.mg_line.specs.declared.due.LineDue.{LineDue}
+use Rattle.timers.specs.declared.kind.LineDue.{LineDue}
 use Rattle.mg_line.specs.declared.phone.Act.{Act}
 use Rattle.mg_line.specs.declared.state.State.TheVariants.{Notification}
 use Rattle.mg_line.specs.Line.{LineDone, Notice}
 use Rattle.mg_line.specs.Acting.{phoned}
 use Rattle.mg_line.specs.Answering.{answered}
 use Rattle.mg_line.specs.Falling.{fired}
-use Rattle.plain_machine.specs.declared.due_item.StationDue.TheVariants.{OfLine, Resend, Announce}
-use Rattle.plain_machine.specs.declared.due_item.DueItem.{DueItem}
+use Rattle.timers.specs.declared.kind.DueKind.TheVariants.{OfLine, Resend, Announce}
+use Rattle.timers.specs.declared.due_item.DueItem.{DueItem}
+use Rattle.timers.specs.Order.{earlier}
 use Rattle.command_forms.specs.declared.forms.Deed.{Deed}
 use Rattle.plain_machine.specs.declared.own.Own.{Own}
 use Rattle.plain_machine.specs.declared.post.Post.{Post}
@@ -62,7 +63,7 @@ use Rattle.plain_machine.specs.Acting.{acted_on, acted}
 use Rattle.plain_machine.specs.Done.{Done}
 use Rattle.plain_machine.specs.Requesting.{refused_by, with_entity, with_connections, asked_if, deed_on, lines_meant, unless_refused, deed_done, line_with_place, done_there, done_for}
 use Rattle.plain_machine.specs.Commanding.{done_by, commanded}
-use Rattle.plain_machine.specs.Falling.{command_item, announcement_item, earlier, post_due, own_due, due_by, own_happened, happened_on, happened, go_on, passed, room, pass}
+use Rattle.plain_machine.specs.Falling.{command_item, announcement_item, post_due, own_due, due_by, own_happened, happened_on, happened, go_on, passed, room, pass}
 use Rattle.plain_machine.specs.Responding.{response_with, responded_as, responded_on, own_responded, redirected_on, opened_on, lines_told, own_heard, responded}
 use Rattle.plain_machine.specs.Answering.{Transaction, executed, transacted_by, handled, took_all}
 use Rattle.plain_machine.specs.Happening.{effect}
@@ -115,11 +116,11 @@ deed_serves setup endpoints moment id command confirms =
 
 pub due_serves : (setup : Setup) (endpoints : Endpoints) (item : DueItem) → OwnIsInOrder endpoints.own → serves (happened setup endpoints item).value ≡ serves endpoints
 due_serves setup endpoints item order = by_test (item.line == 0) where
-  by_test : (b : Bool) → serves (if b then on_own endpoints (own_happened item.due setup item.moment) else on_line endpoints item.line (happened_on item.due setup item.line item.moment)).value ≡ serves endpoints
-  by_test true = happening_serves setup item.due item.moment endpoints.own (own_free endpoints.own order)
+  by_test : (b : Bool) → serves (if b then on_own endpoints (own_happened item.kind setup item.moment) else on_line endpoints item.line (happened_on item.kind setup item.line item.moment)).value ≡ serves endpoints
+  by_test true = happening_serves setup item.kind item.moment endpoints.own (own_free endpoints.own order)
   by_test false =
-      same_own endpoints (on_line endpoints item.line (happened_on item.due setup item.line item.moment)).value
-      (own_stays_at endpoints item.line (happened_on item.due setup item.line item.moment))
+      same_own endpoints (on_line endpoints item.line (happened_on item.kind setup item.line item.moment)).value
+      (own_stays_at endpoints item.line (happened_on item.kind setup item.line item.moment))
 
 -- The answer
 
@@ -296,7 +297,7 @@ all_served setup endpoints moment id command confirms served =
 -- An announcement goes on
 
 pub waits_due : (line until : ℕ) (post : Post) → post.restart ≡ Waiting until → post.pending ≡ None
-    → post_due line post ≡ Some (record { moment = until; line = line; due = Announce })
+    → post_due line post ≡ Some (record { moment = until; line = line; kind = Announce })
 unfolding post_due
 waits_due line until post waits none =
     ap (λ (p : Option InFlight). earlier (option_map (command_item line) p) (option_map (announcement_item line) (announced_at post.restart))) none

@@ -23,8 +23,8 @@ use Rattle.mg_line.specs.Line.{LineState, LineDone, Notice}
 use Rattle.mg_line.specs.Acting.{phoned}
 use Rattle.mg_line.specs.Answering.{answered}
 use Rattle.mg_line.specs.Falling.{fired}
-use Rattle.plain_machine.specs.declared.due_item.StationDue.{StationDue}
-use Rattle.plain_machine.specs.declared.due_item.StationDue.TheVariants.{OfLine, Resend, Announce}
+use Rattle.timers.specs.declared.kind.DueKind.{DueKind}
+use Rattle.timers.specs.declared.kind.DueKind.TheVariants.{OfLine, Resend, Announce}
 use Rattle.plain_machine.specs.declared.own.Own.{Own}
 use Rattle.plain_machine.specs.declared.post.Post.{Post}
 use Rattle.plain_machine.specs.declared.response.Response.{Response}
@@ -148,7 +148,7 @@ posted_sound line station turn s goes =
 can_go : (line : ℕ) (station : Station) → Sound line station → CanGo line station.post
 can_go line station s = let one : 1 ≤ line = s.some in record { below = s.below; some = omega (arith, one); flight = s.flight }
 
-happened_sound : (setup : Setup) → IsSetUp setup → (due : StationDue) (line moment : ℕ) (station : Station) → Sound line station
+happened_sound : (setup : Setup) → IsSetUp setup → (due : DueKind) (line moment : ℕ) (station : Station) → Sound line station
     → Good Sound IsOut line (happened_on due setup line moment station)
 unfolding happened_on
 happened_sound setup set_up (OfLine due) line moment station s =
@@ -219,7 +219,7 @@ OwnSound own = CanGo 0 own.post
 own_posted_sound : (own : Own) (turn : Effect Post) → PostGoes 0 turn → Gives OwnSound IsOut (own_posted own turn)
 own_posted_sound own turn goes = (goes.can, goes.sent)
 
-own_happened_sound : (setup : Setup) → IsSetUp setup → (due : StationDue) (moment : ℕ) (own : Own) → OwnSound own
+own_happened_sound : (setup : Setup) → IsSetUp setup → (due : DueKind) (moment : ℕ) (own : Own) → OwnSound own
     → Gives OwnSound IsOut (own_happened due setup moment own)
 unfolding own_happened
 own_happened_sound setup set_up (OfLine due) moment own can = (can, All-nil IsOut)

@@ -30,8 +30,8 @@ use Rattle.restart.specs.declared.restart.Restart.TheVariants.{Waiting, Announce
 use Rattle.restart.specs.declared.heard.Heard.{Heard}
 use Rattle.restart.specs.declared.heard.Heard.TheVariants.{Nothing, PutOff, Redirected, Answered}
 use Rattle.restart.specs.Restarting.{is_serving, answer_of, heard_of}
-use Rattle.mg_line.specs.declared.due.LineDue.{LineDue}
-use Rattle.mg_line.specs.declared.due.LineDue.TheVariants.{DigitTimer, SignalEnd}
+use Rattle.timers.specs.declared.kind.LineDue.{LineDue}
+use Rattle.timers.specs.declared.kind.LineDue.TheVariants.{DigitTimer, SignalEnd}
 use Rattle.mg_line.specs.declared.phone.Act.{Act}
 use Rattle.mg_line.specs.declared.phone.Act.TheVariants.{OffHook, OnHook, Flash, Key}
 use Rattle.event_requests.specs.declared.request.Request.{Request}
@@ -46,8 +46,8 @@ use Rattle.mg_line.specs.Opening.{opened}
 use Rattle.mg_line.specs.Falling.{ended_by, fired}
 use Rattle.mg_line.specs.Laws.{AwaitsIfNotified}
 use Rattle.mg_line.proofs.OnceLemmas.{notifies_once}
-use Rattle.plain_machine.specs.declared.due_item.StationDue.{StationDue}
-use Rattle.plain_machine.specs.declared.due_item.StationDue.TheVariants.{OfLine, Resend, Announce}
+use Rattle.timers.specs.declared.kind.DueKind.{DueKind}
+use Rattle.timers.specs.declared.kind.DueKind.TheVariants.{OfLine, Resend, Announce}
 use Rattle.command_forms.specs.declared.forms.Deed.{Deed}
 use Rattle.plain_machine.specs.declared.own.Own.{Own}
 use Rattle.plain_machine.specs.declared.post.Post.{Post}
@@ -70,7 +70,7 @@ use Rattle.plain_machine.specs.Lists.{machine_after}
 use Rattle.plain_machine.specs.Flights.{Waits, HasOwnId, IsWith, InOrderBy, OwnInOrderBy, OwnIsInOrder, InOrderWhile, AreInOrder, BeginsNothing, IsSame, Carries}
 use Rattle.plain_machine.proofs.EffectLaws.{other_station, some_line, on_still}
 use Rattle.mgcp_text.specs.Reading.{Outcome}
-use Rattle.plain_machine.specs.declared.due_item.DueItem.{DueItem}
+use Rattle.timers.specs.declared.due_item.DueItem.{DueItem}
 use Rattle.plain_machine.specs.Answering.{handled}
 use Rattle.gateway_laws.proofs.TurnLemmas.{acted_goes, pass_goes, happened_goes, handled_on_all, Turns, OwnTurns, IsFree, Holds, of_line, on_made, event_on_all, events_on_all}
 
@@ -283,7 +283,7 @@ deed_orders setup deed line moment station orders =
 -- what falls due of a post
 
 -- nothing is in flight of a line that is closed
-happened_closed : (setup : Setup) (due : StationDue) (line moment : ℕ) (station : Station) → Orders false line station → Orders false line (happened_on due setup line moment station).value
+happened_closed : (setup : Setup) (due : DueKind) (line moment : ℕ) (station : Station) → Orders false line station → Orders false line (happened_on due setup line moment station).value
 unfolding happened_on
 happened_closed setup (OfLine due) line moment station orders =
     noted_closed setup line moment station (fired station.line due moment) orders (fired_waits station.line due moment orders.order.state)
@@ -292,7 +292,7 @@ happened_closed setup Resend line moment station orders =
 happened_closed setup Announce line moment station orders =
     subst (λ (r : Restart). Orders false line (posted station (announced_by r setup line moment station.post)).value) (sym orders.order.restart) orders
 
-happened_open : (setup : Setup) (due : StationDue) (line moment : ℕ) (station : Station) → Orders true line station → Orders true line (happened_on due setup line moment station).value
+happened_open : (setup : Setup) (due : DueKind) (line moment : ℕ) (station : Station) → Orders true line station → Orders true line (happened_on due setup line moment station).value
 unfolding happened_on announced
 happened_open setup (OfLine due) line moment station orders =
     noted_orders setup line moment station (fired station.line due moment) orders (notifies_once.firing station.line due moment) (fired_waits station.line due moment)
@@ -316,7 +316,7 @@ happened_open setup Announce line moment station orders = by_restart station.pos
   by_restart Announced order = orders
   by_restart Serving order = orders
 
-happened_orders : (setup : Setup) (serving : Bool) (due : StationDue) (line moment : ℕ) (station : Station) → Orders serving line station → Orders serving line (happened_on due setup line moment station).value
+happened_orders : (setup : Setup) (serving : Bool) (due : DueKind) (line moment : ℕ) (station : Station) → Orders serving line station → Orders serving line (happened_on due setup line moment station).value
 happened_orders setup false due line moment station orders = happened_closed setup due line moment station orders
 happened_orders setup true due line moment station orders = happened_open setup due line moment station orders
 
@@ -421,7 +421,7 @@ own_put_off (Waiting until) response moment None order = order
 own_put_off Announced response moment None order = absurd (none-some order.message order.flies)
 own_put_off Serving response moment None order = order
 
-own_happened_orders : (setup : Setup) (due : StationDue) (moment : ℕ) (own : Own) → OwnOrders own → OwnOrders (own_happened due setup moment own).value
+own_happened_orders : (setup : Setup) (due : DueKind) (moment : ℕ) (own : Own) → OwnOrders own → OwnOrders (own_happened due setup moment own).value
 unfolding own_happened announced
 own_happened_orders setup (OfLine due) moment own orders = orders
 own_happened_orders setup Resend moment own orders = by_pending own.post.pending orders.order where

@@ -23,7 +23,7 @@ use Rattle.command_forms.specs.declared.forms.Target.{Target}
 use Rattle.command_forms.specs.declared.forms.Target.TheVariants.{One, All, Any}
 use Rattle.restart.specs.declared.heard.Heard.{Heard}
 use Rattle.restart.specs.declared.heard.Heard.TheVariants.{Nothing, PutOff, Redirected, Answered}
-use Rattle.plain_machine.specs.declared.due_item.DueItem.{DueItem}
+use Rattle.timers.specs.declared.due_item.DueItem.{DueItem}
 use Rattle.command_forms.specs.declared.forms.Deed.{Deed}
 use Rattle.plain_machine.specs.declared.own.Own.{Own}
 use Rattle.plain_machine.specs.declared.response.Response.{Response}
@@ -104,8 +104,8 @@ response_leaves setup endpoints moment response other = by_test (line_of_id resp
 
 pub due_leaves : (setup : Setup) (endpoints : Endpoints) (item : DueItem) (other : ℕ) → standing_at (happened setup endpoints item).value other ≡ standing_at endpoints other
 due_leaves setup endpoints item other =
-    either_same endpoints item.line other (own_happened item.due setup item.moment) (happened_on item.due setup item.line item.moment)
-    (λ station. happened_same setup item.due item.line item.moment station)
+    either_same endpoints item.line other (own_happened item.kind setup item.moment) (happened_on item.kind setup item.line item.moment)
+    (λ station. happened_same setup item.kind item.line item.moment station)
 
 passed_leaves : (n : ℕ) (setup : Setup) (endpoints : Endpoints) (moment other : ℕ) → standing_at (passed n setup endpoints moment).value other ≡ standing_at endpoints other
 unfolding passed

@@ -27,9 +27,9 @@ use Rattle.restart.specs.declared.restart.Restart.{Restart}
 use Rattle.restart.specs.declared.restart.Restart.TheVariants.{Waiting, Announced, Serving}
 use Rattle.restart.specs.declared.heard.Heard.{Heard}
 use Rattle.restart.specs.declared.heard.Heard.TheVariants.{Nothing, PutOff, Redirected, Answered}
-use Rattle.plain_machine.specs.declared.due_item.StationDue.{StationDue}
-use Rattle.plain_machine.specs.declared.due_item.StationDue.TheVariants.{OfLine, Resend, Announce}
-use Rattle.plain_machine.specs.declared.due_item.DueItem.{DueItem}
+use Rattle.timers.specs.declared.kind.DueKind.{DueKind}
+use Rattle.timers.specs.declared.kind.DueKind.TheVariants.{OfLine, Resend, Announce}
+use Rattle.timers.specs.declared.due_item.DueItem.{DueItem}
 use Rattle.command_forms.specs.declared.forms.Deed.{Deed}
 use Rattle.plain_machine.specs.declared.own.Own.{Own}
 use Rattle.plain_machine.specs.declared.post.Post.{Post}
@@ -95,13 +95,13 @@ announced_quiet setup line moment post = by_restart post.restart where
   by_restart Announced = refl
   by_restart Serving = refl
 
-happened_on_quiet : (due : StationDue) (setup : Setup) (line moment : ℕ) (station : Station) → Quiet (happened_on due setup line moment station).sent
+happened_on_quiet : (due : DueKind) (setup : Setup) (line moment : ℕ) (station : Station) → Quiet (happened_on due setup line moment station).sent
 unfolding happened_on
 happened_on_quiet (OfLine due) setup line moment station = noted_quiet setup line moment station (fired station.line due moment)
 happened_on_quiet Resend setup line moment station = resent_quiet setup line moment station.post
 happened_on_quiet Announce setup line moment station = announced_quiet setup line moment station.post
 
-own_happened_quiet : (due : StationDue) (setup : Setup) (moment : ℕ) (own : Own) → Quiet (own_happened due setup moment own).sent
+own_happened_quiet : (due : DueKind) (setup : Setup) (moment : ℕ) (own : Own) → Quiet (own_happened due setup moment own).sent
 unfolding own_happened
 own_happened_quiet (OfLine due) setup moment own = refl
 own_happened_quiet Resend setup moment own = resent_quiet setup 0 moment own.post
@@ -198,8 +198,8 @@ heard_quiet (message (messages.Response code id params body)) setup m source =
 
 happened_quiet : (setup : Setup) (endpoints : Endpoints) (item : DueItem) → Quiet (happened setup endpoints item).sent
 happened_quiet setup endpoints item =
-    either_quiet endpoints item.line (own_happened item.due setup item.moment) (happened_on item.due setup item.line item.moment)
-    (own_happened_quiet item.due setup item.moment) (λ station. happened_on_quiet item.due setup item.line item.moment station)
+    either_quiet endpoints item.line (own_happened item.kind setup item.moment) (happened_on item.kind setup item.line item.moment)
+    (own_happened_quiet item.kind setup item.moment) (λ station. happened_on_quiet item.kind setup item.line item.moment station)
 
 passed_quiet : (n : ℕ) (setup : Setup) (endpoints : Endpoints) (moment : ℕ) → Quiet (passed n setup endpoints moment).sent
 unfolding passed

@@ -53,8 +53,8 @@ use Rattle.restart.specs.declared.restart.Restart.{Restart}
 use Rattle.restart.specs.declared.restart.Restart.TheVariants.{Waiting, Announced, Serving}
 use Rattle.restart.specs.declared.heard.Heard.{Heard}
 use Rattle.restart.specs.declared.heard.Heard.TheVariants.{Nothing, PutOff, Redirected, Answered}
-use Rattle.plain_machine.specs.declared.due_item.StationDue.{StationDue}
-use Rattle.plain_machine.specs.declared.due_item.StationDue.TheVariants.{OfLine, Resend, Announce}
+use Rattle.timers.specs.declared.kind.DueKind.{DueKind}
+use Rattle.timers.specs.declared.kind.DueKind.TheVariants.{OfLine, Resend, Announce}
 use Rattle.plain_machine.specs.declared.response.Response.{Response}
 use Rattle.plain_machine.specs.declared.setup.Setup.{Setup}
 use Rattle.plain_machine.specs.declared.station.Station.{Station}
@@ -250,7 +250,7 @@ deed_shows setup command confirms target deed is line moment station shows =
           (done_shows command.params command.body deed.connections (encoding_with deed station) station.connections has.connections shows.places);
     }
 
-happened_shows : (setup : Setup) (due : StationDue) (line moment : ℕ) (station : Station) → Shows line station → Shows line (happened_on due setup line moment station).value
+happened_shows : (setup : Setup) (due : DueKind) (line moment : ℕ) (station : Station) → Shows line station → Shows line (happened_on due setup line moment station).value
 unfolding happened_on announced
 happened_shows setup (OfLine due) line moment station shows = noted_shows setup line moment station (fired station.line due moment) shows
 happened_shows setup Resend line moment station shows = by_pending station.post.pending where

@@ -24,8 +24,8 @@ use Rattle.mg_line.specs.Opening.{opened}
 use Rattle.restart.specs.declared.heard.Heard.{Heard}
 use Rattle.restart.specs.declared.heard.Heard.TheVariants.{Nothing, PutOff, Redirected, Answered}
 use Rattle.endpoint_names.specs.declared.entity.Entity.{Entity}
-use Rattle.plain_machine.specs.declared.due_item.StationDue.{StationDue}
-use Rattle.plain_machine.specs.declared.due_item.StationDue.TheVariants.{OfLine, Resend, Announce}
+use Rattle.timers.specs.declared.kind.DueKind.{DueKind}
+use Rattle.timers.specs.declared.kind.DueKind.TheVariants.{OfLine, Resend, Announce}
 use Rattle.command_forms.specs.declared.forms.Deed.{Deed}
 use Rattle.plain_machine.specs.declared.own.Own.{Own}
 use Rattle.plain_machine.specs.declared.response.Response.{Response}
@@ -83,7 +83,7 @@ deed_connections setup deed moment line station =
     noted_same setup line moment (with_connections deed (with_entity deed.entity station)) (asked_if deed.request station.line moment)
     ∙ connected_after deed.connections (encoding_with deed station) station.connections
 
-pub happened_same : (setup : Setup) (due : StationDue) (line moment : ℕ) (station : Station) → (happened_on due setup line moment station).value.connections ≡ station.connections
+pub happened_same : (setup : Setup) (due : DueKind) (line moment : ℕ) (station : Station) → (happened_on due setup line moment station).value.connections ≡ station.connections
 unfolding happened_on
 happened_same setup (OfLine due) line moment station = noted_same setup line moment station (fired station.line due moment)
 happened_same setup Resend line moment station = refl

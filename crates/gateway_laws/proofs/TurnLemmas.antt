@@ -35,9 +35,9 @@ use Rattle.restart.specs.declared.restart.Restart.TheVariants.{Waiting, Announce
 use Rattle.restart.specs.declared.heard.Heard.{Heard}
 use Rattle.restart.specs.declared.heard.Heard.TheVariants.{Nothing, PutOff, Redirected, Answered}
 use Rattle.restart.specs.Restarting.{is_serving, answer_by, answer_of, heard_of}
-use Rattle.plain_machine.specs.declared.due_item.StationDue.{StationDue}
-use Rattle.plain_machine.specs.declared.due_item.StationDue.TheVariants.{OfLine, Resend, Announce}
-use Rattle.plain_machine.specs.declared.due_item.DueItem.{DueItem}
+use Rattle.timers.specs.declared.kind.DueKind.{DueKind}
+use Rattle.timers.specs.declared.kind.DueKind.TheVariants.{OfLine, Resend, Announce}
+use Rattle.timers.specs.declared.due_item.DueItem.{DueItem}
 use Rattle.plain_machine.specs.declared.own.Own.{Own}
 use Rattle.plain_machine.specs.declared.post.Post.{Post}
 use Rattle.plain_machine.specs.declared.response.Response.{Response}
@@ -153,7 +153,7 @@ pub record Turns (setup : Setup) (P : Bool → ℕ → Station → Type 0) (Q : 
       → (line moment : ℕ) (station : Station) → P true line station → Good (P true) Q line (deed_on setup deed moment line station)
   pub response : (serving : Bool) (line moment : ℕ) (response : Response) (station : Station) → IsRead setup response → P serving line station
       → Good (P serving) Q line (responded_on setup line moment response station)
-  pub happening : (serving : Bool) (due : StationDue) (line moment : ℕ) (station : Station) → P serving line station → Good (P serving) Q line (happened_on due setup line moment station)
+  pub happening : (serving : Bool) (due : DueKind) (line moment : ℕ) (station : Station) → P serving line station → Good (P serving) Q line (happened_on due setup line moment station)
   pub redirecting : (agent : Entity) (line : ℕ) (station : Station) → IsEntity setup agent → P false line station → Good (P false) Q line (redirected_on agent line station)
   pub opening : (agent : Option Entity) (line moment : ℕ) (station : Station) → IfSome agent (IsEntity setup) → P false line station
       → Good (P true) Q line (opened_on agent setup moment line station)
@@ -175,10 +175,10 @@ pub record OwnTurns (setup : Setup) (P : Bool → ℕ → Station → Type 0) (R
   pub free : (own : Own) → R own → IsFree own ⊎ IsEqual P
   pub response : (moment : ℕ) (response : Response) (own : Own) → IsRead setup response → R own
       → Gives R Q (own_responded setup moment response own)
-  pub happening : (due : StationDue) (moment : ℕ) (own : Own) → R own → Gives R Q (own_happened due setup moment own)
+  pub happening : (due : DueKind) (moment : ℕ) (own : Own) → R own → Gives R Q (own_happened due setup moment own)
 
 -- what falls due of the gateway itself leaves it serving, or not yet
-pub happening_serves : (setup : Setup) (due : StationDue) (moment : ℕ) (own : Own) → IsFree own → is_serving (own_happened due setup moment own).value.post.restart ≡ is_serving own.post.restart
+pub happening_serves : (setup : Setup) (due : DueKind) (moment : ℕ) (own : Own) → IsFree own → is_serving (own_happened due setup moment own).value.post.restart ≡ is_serving own.post.restart
 unfolding own_happened announced
 happening_serves setup (OfLine due) moment own free = refl
 happening_serves setup Resend moment own free = by_serving (is_serving own.post.restart) refl where
@@ -343,17 +343,17 @@ module _ (setup : Setup) (P : Bool → ℕ → Station → Type 0) (R : Own → 
   pub happened_goes : (endpoints : Endpoints) (item : DueItem) → Holds P R endpoints → GoesOn P R Q (happened setup endpoints item)
   happened_goes endpoints item all = by_test (item.line == 0) where
     after : Bool
-    after = is_serving (own_happened item.due setup item.moment endpoints.own).value.post.restart
+    after = is_serving (own_happened item.kind setup item.moment endpoints.own).value.post.restart
 
     by_free : (IsFree endpoints.own ⊎ IsEqual P) → OnAll (P after) 1 endpoints.stations
-    by_free (inl free) = subst (λ (b : Bool). OnAll (P b) 1 endpoints.stations) (sym (happening_serves setup item.due item.moment endpoints.own free)) all.stations
+    by_free (inl free) = subst (λ (b : Bool). OnAll (P b) 1 endpoints.stations) (sym (happening_serves setup item.kind item.moment endpoints.own free)) all.stations
     by_free (inr equal) = moved (serves endpoints) after equal 1 endpoints.stations all.stations
 
-    by_test : (b : Bool) → GoesOn P R Q (if b then on_own endpoints (own_happened item.due setup item.moment) else on_line endpoints item.line (happened_on item.due setup item.line item.moment))
+    by_test : (b : Bool) → GoesOn P R Q (if b then on_own endpoints (own_happened item.kind setup item.moment) else on_line endpoints item.line (happened_on item.kind setup item.line item.moment))
     by_test true =
-        let goes = own_turns.happening item.due item.moment endpoints.own all.own in
+        let goes = own_turns.happening item.kind item.moment endpoints.own all.own in
         record { holds = record { stations = by_free (own_turns.free endpoints.own all.own); own = goes.0 }; sent = goes.1 }
-    by_test false = turned_goes endpoints item.line (happened_on item.due setup item.line item.moment) all (turns.happening (serves endpoints) item.due item.line item.moment)
+    by_test false = turned_goes endpoints item.line (happened_on item.kind setup item.line item.moment) all (turns.happening (serves endpoints) item.kind item.line item.moment)
 
   passed_goes : (n : ℕ) (endpoints : Endpoints) (moment : ℕ) → Holds P R endpoints → GoesOn P R Q (passed n setup endpoints moment)
   unfolding passed

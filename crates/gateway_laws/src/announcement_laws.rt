@@ -15,10 +15,10 @@ ghost use Rattle.outbound.specs.Flight.{InFlight, repeat_of, reply_of};
 ghost use Rattle.restart.specs.declared.restart.Restart.TheVariants.{Waiting, Announced};
 ghost use Rattle.restart.specs.declared.heard.Heard.TheVariants.{Redirected, Answered};
 ghost use Rattle.restart.specs.Restarting.{is_serving};
-ghost use Rattle.mg_line.specs.declared.due.LineDue.{LineDue};
+ghost use Rattle.timers.specs.declared.kind.LineDue.{LineDue};
 ghost use Rattle.mg_line.specs.declared.phone.Act.{Act};
-ghost use Rattle.plain_machine.specs.declared.due_item.StationDue.TheVariants.{OfLine, Resend, Announce};
-ghost use Rattle.plain_machine.specs.declared.due_item.DueItem.{DueItem};
+ghost use Rattle.timers.specs.declared.kind.DueKind.TheVariants.{OfLine, Resend, Announce};
+ghost use Rattle.timers.specs.declared.due_item.DueItem.{DueItem};
 ghost use Rattle.command_forms.specs.declared.forms.Deed.{Deed};
 ghost use Rattle.plain_machine.specs.declared.own.Own.{Own};
 ghost use Rattle.plain_machine.specs.declared.post.Post.{Post};
@@ -96,7 +96,7 @@ pub fn a_gateway_serves_once_its_announcement_is_answered()
 pub fn an_announcement_goes_on_until_it_is_answered()
     ensures due { (own : Own) → OwnIsInOrder own → is_serving own.post.restart ≡ false → own_due own ≢ None }
     ensures waits { (line until : ℕ) (post : Post) → post.restart ≡ Waiting until → post.pending ≡ None →
-        post_due line post ≡ Some (record { moment = until; line = line; due = Announce }) }
+        post_due line post ≡ Some (record { moment = until; line = line; kind = Announce }) }
     ensures sent { (setup : Setup) (line moment until : ℕ) (post : Post) → post.restart ≡ Waiting until →
         announced_on setup line moment post
         ≡ with_command line moment (record post { restart = Announced }) (announcement setup line (id_on line post.number)) }

@@ -22,7 +22,7 @@ ghost use Rattle.command_forms.specs.declared.forms.Target.TheVariants.{All};
 ghost use Rattle.command_forms.specs.Command.{Command};
 ghost use Rattle.command_forms.specs.Meaning.{is_for};
 ghost use Rattle.command_forms.specs.Order.{form_of};
-ghost use Rattle.plain_machine.specs.declared.due_item.DueItem.{DueItem};
+ghost use Rattle.timers.specs.declared.due_item.DueItem.{DueItem};
 ghost use Rattle.plain_machine.specs.declared.response.Response.{Response};
 ghost use Rattle.plain_machine.specs.declared.setup.Setup.{Setup};
 ghost use Rattle.plain_machine.specs.declared.station.Station.{Station};

@@ -16,7 +16,7 @@ ghost use Rattle.plain_machine.specs.Event.{GatewayEvent};
 ghost use Rattle.plain_machine.specs.Message.{again, is_answer, text_of, Sent, datagrams_of};
 ghost use Rattle.plain_machine.specs.Machine.{Machine, Endpoints};
 ghost use Rattle.plain_machine.specs.Falling.{due_at, due_by, happened, pass};
-ghost use Rattle.plain_machine.specs.declared.due_item.DueItem.{DueItem};
+ghost use Rattle.timers.specs.declared.due_item.DueItem.{DueItem};
 ghost use Rattle.plain_machine.specs.declared.config.Config.{Config};
 ghost use Rattle.plain_machine.specs.declared.config.ConfigKey.{ConfigKey};
 ghost use Rattle.plain_machine.specs.ConfigFault.{fault_about};

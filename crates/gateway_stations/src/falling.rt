@@ -4,7 +4,7 @@
 ghost use Rattle.std.specs.Prelude.{◌≡◌, option_map, OnOk};
 ghost use Rattle.mg_line.specs.Falling.{due_of};
 ghost use Rattle.restart.specs.Restarting.{announced_at};
-ghost use Rattle.plain_machine.specs.Falling.{line_item, command_item, announcement_item, post_due, due_on, earlier};
+ghost use Rattle.plain_machine.specs.Falling.{line_item, command_item, announcement_item, post_due, due_on};
 ghost use Rattle.plain_machine.specs.Falling.{happened_on, own_happened};
 ghost use Rattle.gateway_stations.specs.Telling.{MayTell, IsLine, HasId};
 ghost use Rattle.gateway_stations.specs.Effects.{HasEffect};
@@ -14,7 +14,8 @@ use crate::context::Context;
 use crate::notifying::tell;
 use crate::posting::{Occasion, resent_on};
 use mg_bytes::OutOfMemory;
-use plain_machine::{DueItem, OutDatagram, Own, Post, Station, StationDue};
+use plain_machine::{OutDatagram, Own, Post, Station};
+use timers::{DueItem, DueKind, earlier};
 
 // What falls due first of a line.
 fn line_item(line: u16, station: &Station) -> Option<DueItem>
@@ -24,7 +25,7 @@ fn line_item(line: u16, station: &Station) -> Option<DueItem>
     Some(DueItem {
         moment,
         line,
-        due: StationDue::OfLine(due),
+        kind: DueKind::OfLine(due),
     })
 }
 
@@ -37,7 +38,7 @@ fn command_item(line: u16, post: &Post) -> Option<DueItem>
         Some(message) => Some(DueItem {
             moment: message.due(),
             line,
-            due: StationDue::Resend,
+            kind: DueKind::Resend,
         }),
     }
 }
@@ -50,7 +51,7 @@ fn announcement_item(line: u16, post: &Post) -> Option<DueItem>
     Some(DueItem {
         moment,
         line,
-        due: StationDue::Announce,
+        kind: DueKind::Announce,
     })
 }
 
@@ -70,45 +71,28 @@ pub fn due_on(line: u16, station: &Station) -> Option<DueItem>
     earlier(line_item(line, station), post_due(line, &station.post))
 }
 
-/// The earlier of two, the first where both are as early.
-pub fn earlier(first: Option<DueItem>, other: Option<DueItem>) -> Option<DueItem>
-    ensures { result ≡ earlier first other }
-{
-    match (first, other) {
-        (None, _) => other,
-        (Some(_), None) => first,
-        (Some(one), Some(two)) => {
-            if one.moment <= two.moment {
-                first
-            } else {
-                other
-            }
-        }
-    }
-}
-
 /// What falls due happens to a station. An error is for want of memory only.
 #[tactic(auto, unfolding(plain_machine::specs::Falling::happened_on, plain_machine::specs::Notifying::noted))]
 pub fn happened_on(
     context: Context<'_>,
     occasion: Occasion,
     station: &mut Station,
-    due: StationDue,
+    kind: DueKind,
     out: &mut Vec<OutDatagram>,
 ) -> Result<(), OutOfMemory>
     requires line { IsLine occasion.line }
     requires may { MayTell context.setup.now occasion.moment }
     ensures { OnOk result (HasEffect
-        (happened_on due context.entry.setup.now occasion.line occasion.moment station.old)
+        (happened_on kind context.entry.setup.now occasion.line occasion.moment station.old)
         station.new out.old.items out.new.items) }
 {
-    match due {
-        StationDue::OfLine(due) => {
+    match kind {
+        DueKind::OfLine(due) => {
             let notice = station.line.fire(due, occasion.moment)?;
             tell(context, occasion, station, notice, out)
         }
-        StationDue::Resend => resent_on(context, occasion, &mut station.post, out),
-        StationDue::Announce => announced_on(context, occasion, &mut station.post, out),
+        DueKind::Resend => resent_on(context, occasion, &mut station.post, out),
+        DueKind::Announce => announced_on(context, occasion, &mut station.post, out),
     }
 }
 
@@ -119,19 +103,19 @@ pub fn own_happened(
     context: Context<'_>,
     moment: u64,
     own: &mut Own,
-    due: StationDue,
+    kind: DueKind,
     out: &mut Vec<OutDatagram>,
 ) -> Result<(), OutOfMemory>
     requires id { HasId 0 own.old.post.number }
     requires may { MayTell context.setup.now moment }
-    ensures turn { OnOk result (HasEffect (own_happened due context.entry.setup.now moment own.old)
+    ensures turn { OnOk result (HasEffect (own_happened kind context.entry.setup.now moment own.old)
         own.new out.old.items out.new.items) }
     ensures id { HasId 0 own.new.post.number }
 {
     let occasion = Occasion { line: 0, moment };
-    match due {
-        StationDue::OfLine(_) => Ok(()),
-        StationDue::Resend => resent_on(context, occasion, &mut own.post, out),
-        StationDue::Announce => announced_on(context, occasion, &mut own.post, out),
+    match kind {
+        DueKind::OfLine(_) => Ok(()),
+        DueKind::Resend => resent_on(context, occasion, &mut own.post, out),
+        DueKind::Announce => announced_on(context, occasion, &mut own.post, out),
     }
 }

@@ -20,7 +20,7 @@ pub use crate::acting::acted_on;
 pub use crate::announcing::heard_on;
 pub use crate::connecting::{News, answer_with};
 pub use crate::context::Context;
-pub use crate::falling::{due_on, earlier, happened_on, own_happened, post_due};
+pub use crate::falling::{due_on, happened_on, own_happened, post_due};
 pub use crate::posting::Occasion;
 pub use crate::requesting::{deed_on, has_place, refusal_by};
 pub use crate::responding::{opened_on, own_responded, redirected_on, responded_on};

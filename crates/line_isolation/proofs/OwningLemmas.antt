@@ -18,9 +18,9 @@ use Rattle.restart.specs.declared.restart.Restart.{Restart}
 use Rattle.restart.specs.declared.restart.Restart.TheVariants.{Waiting, Announced, Serving}
 use Rattle.restart.specs.declared.heard.Heard.{Heard}
 use Rattle.restart.specs.declared.heard.Heard.TheVariants.{Nothing, PutOff, Redirected, Answered}
-use Rattle.plain_machine.specs.declared.due_item.StationDue.{StationDue}
-use Rattle.plain_machine.specs.declared.due_item.StationDue.TheVariants.{OfLine, Resend, Announce}
-use Rattle.plain_machine.specs.declared.due_item.DueItem.{DueItem}
+use Rattle.timers.specs.declared.kind.DueKind.{DueKind}
+use Rattle.timers.specs.declared.kind.DueKind.TheVariants.{OfLine, Resend, Announce}
+use Rattle.timers.specs.declared.due_item.DueItem.{DueItem}
 use Rattle.command_forms.specs.declared.forms.Deed.{Deed}
 use Rattle.plain_machine.specs.declared.own.Own.{Own}
 use Rattle.plain_machine.specs.declared.post.Post.{Post}
@@ -90,13 +90,13 @@ announced_owned setup line moment post = by_restart post.restart where
   by_restart Announced = none_owned line
   by_restart Serving = none_owned line
 
-pub happened_owned : (due : StationDue) (setup : Setup) (line moment : ℕ) (station : Station) → OwnedBy line (happened_on due setup line moment station).sent
+pub happened_owned : (due : DueKind) (setup : Setup) (line moment : ℕ) (station : Station) → OwnedBy line (happened_on due setup line moment station).sent
 unfolding happened_on
 happened_owned (OfLine due) setup line moment station = noted_owned setup line moment station (fired station.line due moment)
 happened_owned Resend setup line moment station = resent_owned setup line moment station.post
 happened_owned Announce setup line moment station = announced_owned setup line moment station.post
 
-pub own_happened_owned : (due : StationDue) (setup : Setup) (moment : ℕ) (own : Own) → OwnedBy 0 (own_happened due setup moment own).sent
+pub own_happened_owned : (due : DueKind) (setup : Setup) (moment : ℕ) (own : Own) → OwnedBy 0 (own_happened due setup moment own).sent
 unfolding own_happened
 own_happened_owned (OfLine due) setup moment own = none_owned 0
 own_happened_owned Resend setup moment own = resent_owned setup 0 moment own.post
@@ -140,17 +140,17 @@ opened_owned agent setup moment line station = noted_owned setup line moment (wi
 
 pub happening_owned : (setup : Setup) (endpoints : Endpoints) (item : DueItem) → OwnedBy item.line (happened setup endpoints item).sent
 happening_owned setup endpoints item = by_test (item.line == 0) refl where
-  on_station : (found : Option Station) → station_at endpoints item.line ≡ found → OwnedBy item.line (on_line endpoints item.line (happened_on item.due setup item.line item.moment)).sent
-  on_station None at = subst (λ (x : Effect Endpoints). OwnedBy item.line x.sent) (sym (on_nothing endpoints item.line (happened_on item.due setup item.line item.moment) at)) (none_owned item.line)
+  on_station : (found : Option Station) → station_at endpoints item.line ≡ found → OwnedBy item.line (on_line endpoints item.line (happened_on item.kind setup item.line item.moment)).sent
+  on_station None at = subst (λ (x : Effect Endpoints). OwnedBy item.line x.sent) (sym (on_nothing endpoints item.line (happened_on item.kind setup item.line item.moment) at)) (none_owned item.line)
   on_station (Some station) at =
-      subst (λ (x : Effect Endpoints). OwnedBy item.line x.sent) (sym (on_this endpoints item.line station (happened_on item.due setup item.line item.moment) at))
-      (happened_owned item.due setup item.line item.moment station)
+      subst (λ (x : Effect Endpoints). OwnedBy item.line x.sent) (sym (on_this endpoints item.line station (happened_on item.kind setup item.line item.moment) at))
+      (happened_owned item.kind setup item.line item.moment station)
 
   by_test : (b : Bool) → (item.line == 0) ≡ b
-      → OwnedBy item.line (if b then on_own endpoints (own_happened item.due setup item.moment) else on_line endpoints item.line (happened_on item.due setup item.line item.moment)).sent
+      → OwnedBy item.line (if b then on_own endpoints (own_happened item.kind setup item.moment) else on_line endpoints item.line (happened_on item.kind setup item.line item.moment)).sent
   by_test true is =
-      subst (λ (n : ℕ). OwnedBy n (own_happened item.due setup item.moment endpoints.own).sent) (sym ((Decides-eqb item.line 0).0 is))
-      (own_happened_owned item.due setup item.moment endpoints.own)
+      subst (λ (n : ℕ). OwnedBy n (own_happened item.kind setup item.moment endpoints.own).sent) (sym ((Decides-eqb item.line 0).0 is))
+      (own_happened_owned item.kind setup item.moment endpoints.own)
   by_test false is = on_station (station_at endpoints item.line) refl
 
 -- One line's turn

@@ -4,7 +4,7 @@ use Rattle.std.specs.Prelude.{nat_le, option_map, option_and_then}
 use Rattle.std.proofs.lemmas.Bool.{le-leb, leb-true}
 use Rattle.std.proofs.lemmas.Bool.Decides.{Decides-eqb}
 use Rattle.std.proofs.lemmas.Option.{none-some}
-use Rattle.plain_machine.specs.declared.due_item.DueItem.{DueItem}
+use Rattle.timers.specs.declared.due_item.DueItem.{DueItem}
 use Rattle.plain_machine.specs.declared.own.Own.{Own}
 use Rattle.plain_machine.specs.declared.setup.Setup.{Setup}
 use Rattle.plain_machine.specs.declared.station.Station.{Station}
@@ -137,21 +137,21 @@ module _ (setup : Setup) (line moment : ℕ) (some : 1 ≤ line) where
     due_here : line_due line (station_at endpoints line) ≡ Some item
     due_here = sym (due_at_line endpoints line some) ∙ ap (due_at endpoints) (sym same) ∙ first.0
 
-    turns : happened setup endpoints item ≡ on_line endpoints line (happened_on item.due setup line item.moment)
+    turns : happened setup endpoints item ≡ on_line endpoints line (happened_on item.kind setup line item.moment)
     turns =
-        either_line endpoints item.line (own_happened item.due setup item.moment) (happened_on item.due setup item.line item.moment)
+        either_line endpoints item.line (own_happened item.kind setup item.moment) (happened_on item.kind setup item.line item.moment)
         (ap (λ (n : ℕ). n == 0) same ∙ not_zero line some)
-        ∙ ap (λ (n : ℕ). on_line endpoints n (happened_on item.due setup n item.moment)) same
+        ∙ ap (λ (n : ℕ). on_line endpoints n (happened_on item.kind setup n item.moment)) same
 
     by_station : (found : Option Station) → station_at endpoints line ≡ found
         → (station_at (happened setup endpoints item).value line ≡ (line_happens setup line item found).value)
         × (of_line line (happened setup endpoints item).sent ≡ (line_happens setup line item found).sent)
     by_station None at = absurd (none-some item (ap (line_due line) (sym at) ∙ due_here))
     by_station (Some station) at = (
-      ap (λ (t : Effect Endpoints). station_at t.value line) turns ∙ this_turns endpoints line (happened_on item.due setup line item.moment)
-          ∙ ap (option_map (λ (s : Station). (happened_on item.due setup line item.moment s).value)) at,
-      ap (λ (t : Effect Endpoints). of_line line t.sent) (turns ∙ on_this endpoints line station (happened_on item.due setup line item.moment) at)
-          ∙ owned_here line _ (happened_owned item.due setup line item.moment station),
+      ap (λ (t : Effect Endpoints). station_at t.value line) turns ∙ this_turns endpoints line (happened_on item.kind setup line item.moment)
+          ∙ ap (option_map (λ (s : Station). (happened_on item.kind setup line item.moment s).value)) at,
+      ap (λ (t : Effect Endpoints). of_line line t.sent) (turns ∙ on_this endpoints line station (happened_on item.kind setup line item.moment) at)
+          ∙ owned_here line _ (happened_owned item.kind setup line item.moment station),
     )
 
   line_there : (endpoints : Endpoints) (item : DueItem) → due_by endpoints moment ≡ Some item → (item.line == line) ≡ false
@@ -179,12 +179,12 @@ module _ (setup : Setup) (moment : ℕ) where
       → Here own_due (own_happens setup) setup moment 0 (λ (e : Endpoints). e.own) endpoints item
   own_here endpoints item is same =
       let first = first_at endpoints moment item is in
-      let turns = either_own endpoints item.line (own_happened item.due setup item.moment) (happened_on item.due setup item.line item.moment)
+      let turns = either_own endpoints item.line (own_happened item.kind setup item.moment) (happened_on item.kind setup item.line item.moment)
       (ap (λ (n : ℕ). n == 0) same) in
       record {
         first = by_moment_is moment (own_due endpoints.own) item (ap (due_at endpoints) (sym same) ∙ first.0) first.1;
         becomes = ap (λ (t : Effect Endpoints). t.value.own) turns;
-        sends = ap (λ (t : Effect Endpoints). of_line 0 t.sent) turns ∙ owned_here 0 _ (own_happened_owned item.due setup item.moment endpoints.own);
+        sends = ap (λ (t : Effect Endpoints). of_line 0 t.sent) turns ∙ owned_here 0 _ (own_happened_owned item.kind setup item.moment endpoints.own);
       }
 
   own_there : (endpoints : Endpoints) (item : DueItem) → due_by endpoints moment ≡ Some item → (item.line == 0) ≡ false

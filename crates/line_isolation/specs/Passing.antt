@@ -1,6 +1,6 @@
 -- What falls due on one line, or of the gateway itself, as if nothing else did (RFC 3435, 2.1.5, 2.1.7, 3.5.3 and 4.4.6).
 use Rattle.std.specs.Prelude.{◌≡◌, ℕ, Option, Some, None, option_and_then}
-use Rattle.plain_machine.specs.declared.due_item.DueItem.{DueItem}
+use Rattle.timers.specs.declared.due_item.DueItem.{DueItem}
 use Rattle.plain_machine.specs.declared.own.Own.{Own}
 use Rattle.plain_machine.specs.declared.setup.Setup.{Setup}
 use Rattle.plain_machine.specs.declared.station.Station.{Station}
@@ -26,8 +26,8 @@ line_due line found = option_and_then (λ station. due_on (line, station)) found
 
 abbrev pub line_happens : Setup → ℕ → DueItem → Option Station → Effect (Option Station)
 line_happens setup line item None = silently None
-line_happens setup line item (Some station) = effect_map Some (happened_on item.due setup line item.moment station)
+line_happens setup line item (Some station) = effect_map Some (happened_on item.kind setup line item.moment station)
 
 -- of the gateway itself
 abbrev pub own_happens : Setup → DueItem → Own → Effect Own
-own_happens setup item own = own_happened item.due setup item.moment own
+own_happens setup item own = own_happened item.kind setup item.moment own

@@ -1,6 +1,6 @@
 //! Laws of a line and of the others.
 ghost use Rattle.std.specs.Prelude.{◌≡◌, ◌≤◌, ℕ, List, Option};
-ghost use Rattle.plain_machine.specs.declared.due_item.DueItem.{DueItem};
+ghost use Rattle.timers.specs.declared.due_item.DueItem.{DueItem};
 ghost use Rattle.plain_machine.specs.declared.own.Own.{Own};
 ghost use Rattle.plain_machine.specs.declared.setup.Setup.{Setup};
 ghost use Rattle.plain_machine.specs.declared.station.Station.{Station};

@@ -25,10 +25,10 @@ use Rattle.mg_line.specs.Acting.{phoned}
 use Rattle.mg_line.specs.Answering.{answered}
 use Rattle.mg_line.specs.Opening.{opened}
 use Rattle.mg_line.specs.Falling.{fired}
-use Rattle.mg_line.specs.declared.due.LineDue.{LineDue}
+use Rattle.timers.specs.declared.kind.LineDue.{LineDue}
 use Rattle.mg_line.specs.declared.phone.Act.{Act}
-use Rattle.plain_machine.specs.declared.due_item.StationDue.TheVariants.{OfLine, Resend, Announce}
-use Rattle.plain_machine.specs.declared.due_item.DueItem.{DueItem}
+use Rattle.timers.specs.declared.kind.DueKind.TheVariants.{OfLine, Resend, Announce}
+use Rattle.timers.specs.declared.due_item.DueItem.{DueItem}
 use Rattle.plain_machine.specs.declared.own.Own.{Own as Itself}
 use Rattle.plain_machine.specs.declared.post.Post.{Post}
 use Rattle.plain_machine.specs.declared.response.Response.{Response}
@@ -114,14 +114,14 @@ some_id : (line : ℕ) (station : Station) → Sound line station → 1 ≤ id_o
 some_id line station s = let one : 1 ≤ line = s.some in omega (arith, one)
 
 happening_good : (setup : Setup) (until : ℕ) → IsSetUp setup → (log : List Begun) (line : ℕ) (item : DueItem) (station : Station) → Logged until log → Stationed until log line station
-    → due_on (line, station) ≡ Some item → item.moment ≤ until → GoodTurn until log line (happened_on item.due setup line item.moment station)
+    → due_on (line, station) ≡ Some item → item.moment ≤ until → GoodTurn until log line (happened_on item.kind setup line item.moment station)
 unfolding happened_on
 happening_good setup until set_up log line item station logged s due past = by_case (due_cases line station item due) where
-  sounds : Sound line (happened_on item.due setup line item.moment station).value
-  sounds = ((sound_turns setup set_up).happening true item.due line item.moment station s.sound).0
+  sounds : Sound line (happened_on item.kind setup line item.moment station).value
+  sounds = ((sound_turns setup set_up).happening true item.kind line item.moment station s.sound).0
 
   Happens : DueItem → Type 0
-  Happens i = i.moment ≤ until → Sound line (happened_on i.due setup line i.moment station).value → GoodTurn until log line (happened_on i.due setup line i.moment station)
+  Happens i = i.moment ≤ until → Sound line (happened_on i.kind setup line i.moment station).value → GoodTurn until log line (happened_on i.kind setup line i.moment station)
 
   of_line : (due : LineDue) (moment : ℕ) → moment ≤ until → GoodTurn until log line (happened_on (OfLine due) setup line moment station)
   of_line due moment by = noted_good setup until set_up log line moment station (fired station.line due moment) by logged s (fired_done station.line due moment s.sound.fine)
@@ -136,23 +136,23 @@ happening_good setup until set_up log line item station logged s due past = by_c
       post_turn until log line station (announced_on setup line moment station.post) sound
       (announcing_good setup until log line moment station.post set_up s.sound.few (some_id line station s.sound) by logged s.post)
 
-  by_post : OfItsCommand line station.post item ⊎ OfItsAnnouncement line station.post item → GoodTurn until log line (happened_on item.due setup line item.moment station)
+  by_post : OfItsCommand line station.post item ⊎ OfItsAnnouncement line station.post item → GoodTurn until log line (happened_on item.kind setup line item.moment station)
   by_post (inl of) = subst Happens of.same (λ by sound. of_command of.message of.pending by sound) past sounds
   by_post (inr of) = subst Happens of.same (λ by sound. of_announcement of.until by sound) past sounds
 
-  by_case : OfItsLine line station item ⊎ (post_due line station.post ≡ Some item) → GoodTurn until log line (happened_on item.due setup line item.moment station)
+  by_case : OfItsLine line station item ⊎ (post_due line station.post ≡ Some item) → GoodTurn until log line (happened_on item.kind setup line item.moment station)
   by_case (inl of) = subst Happens of.same (λ by sound. of_line of.found.1 of.found.0 by) past sounds
   by_case (inr is) = by_post (post_cases line station.post item is)
 
 own_happening_good : (setup : Setup) (until : ℕ) → IsSetUp setup → (log : List Begun) (item : DueItem) (own : Itself) → Logged until log → OwnStands until log own
-    → own_due own ≡ Some item → item.moment ≤ until → OwnGood (OwnStands until) (Own until) (Logged until) log (own_happened item.due setup item.moment own)
+    → own_due own ≡ Some item → item.moment ≤ until → OwnGood (OwnStands until) (Own until) (Logged until) log (own_happened item.kind setup item.moment own)
 unfolding own_happened
 own_happening_good setup until set_up log item own logged s due past = by_post (post_cases 0 own.post item due) where
-  sounds : OwnSound (own_happened item.due setup item.moment own).value
-  sounds = ((sound_own_turns setup set_up).happening item.due item.moment own s.sound).0
+  sounds : OwnSound (own_happened item.kind setup item.moment own).value
+  sounds = ((sound_own_turns setup set_up).happening item.kind item.moment own s.sound).0
 
   Happens : DueItem → Type 0
-  Happens i = i.moment ≤ until → OwnSound (own_happened i.due setup i.moment own).value → OwnGood (OwnStands until) (Own until) (Logged until) log (own_happened i.due setup i.moment own)
+  Happens i = i.moment ≤ until → OwnSound (own_happened i.kind setup i.moment own).value → OwnGood (OwnStands until) (Own until) (Logged until) log (own_happened i.kind setup i.moment own)
 
   of_command : (message : InFlight) → own.post.pending ≡ Some message → message.due ≤ until → OwnSound (own_happened Resend setup message.due own).value
       → OwnGood (OwnStands until) (Own until) (Logged until) log (own_happened Resend setup message.due own)
@@ -165,7 +165,7 @@ own_happening_good setup until set_up log item own logged s due past = by_post (
       own_turn until log own (announced_on setup 0 moment own.post) sound
       (announcing_good setup until log 0 moment own.post set_up (omega arith) s.sound.some by logged s.post)
 
-  by_post : OfItsCommand 0 own.post item ⊎ OfItsAnnouncement 0 own.post item → OwnGood (OwnStands until) (Own until) (Logged until) log (own_happened item.due setup item.moment own)
+  by_post : OfItsCommand 0 own.post item ⊎ OfItsAnnouncement 0 own.post item → OwnGood (OwnStands until) (Own until) (Logged until) log (own_happened item.kind setup item.moment own)
   by_post (inl of) = subst Happens of.same (λ by sound. of_command of.message of.pending by sound) past sounds
   by_post (inr of) = subst Happens of.same (λ by sound. of_announcement of.until by sound) past sounds
 

@@ -19,7 +19,7 @@ use Rattle.command_forms.proofs.RestartLemmas.{while_taken, while_none}
 use Rattle.mg_line.specs.declared.phone.Act.{Act}
 use Rattle.restart.specs.declared.heard.Heard.{Heard}
 use Rattle.restart.specs.declared.heard.Heard.TheVariants.{Nothing, PutOff, Redirected, Answered}
-use Rattle.plain_machine.specs.declared.due_item.DueItem.{DueItem}
+use Rattle.timers.specs.declared.due_item.DueItem.{DueItem}
 use Rattle.plain_machine.specs.declared.own.Own.{Own as Itself}
 use Rattle.plain_machine.specs.declared.response.Response.{Response}
 use Rattle.plain_machine.specs.declared.setup.Setup.{Setup}
@@ -83,12 +83,12 @@ pub record LogTurns (setup : Setup) (until : ℕ) (P : List Begun → ℕ → St
       → (log : List Begun) (line : ℕ) (station : Station) → L log → P log line station → Good P Q L log line (deed_on setup deed until line station)
   pub response : (log : List Begun) (line : ℕ) (response : Response) (station : Station) → L log → P log line station → Good P Q L log line (responded_on setup line until response station)
   pub happening : (log : List Begun) (line : ℕ) (item : DueItem) (station : Station) → L log → P log line station → due_on (line, station) ≡ Some item → item.moment ≤ until
-      → Good P Q L log line (happened_on item.due setup line item.moment station)
+      → Good P Q L log line (happened_on item.kind setup line item.moment station)
   pub redirecting : (log : List Begun) (agent : Entity) (line : ℕ) (station : Station) → L log → P log line station → Good P Q L log line (redirected_on agent line station)
   pub opening : (log : List Begun) (agent : Option Entity) (line : ℕ) (station : Station) → L log → P log line station → Good P Q L log line (opened_on agent setup until line station)
   pub own_response : (log : List Begun) (response : Response) (own : Itself) → L log → R log own → OwnGood R Q L log (own_responded setup until response own)
   pub own_happening : (log : List Begun) (item : DueItem) (own : Itself) → L log → R log own → own_due own ≡ Some item → item.moment ≤ until
-      → OwnGood R Q L log (own_happened item.due setup item.moment own)
+      → OwnGood R Q L log (own_happened item.kind setup item.moment own)
   -- what others begin changes nothing of it
   pub others : (log new : List Begun) (line : ℕ) (station : Station) → Each (λ (b : Begun). line_of_id b.id ≢ line) new → P log line station → P (log ++ new) line station
   pub own_others : (log new : List Begun) (own : Itself) → Each (λ (b : Begun). line_of_id b.id ≢ 0) new → R log own → R (log ++ new) own
@@ -215,18 +215,18 @@ module _ (setup : Setup) (until : ℕ) (P : List Begun → ℕ → Station → T
     by = by_moment endpoints until item due
 
     Happens : Bool → Type 0
-    Happens b = Goes log (if b then on_own endpoints (own_happened item.due setup item.moment) else on_line endpoints item.line (happened_on item.due setup item.line item.moment))
+    Happens b = Goes log (if b then on_own endpoints (own_happened item.kind setup item.moment) else on_line endpoints item.line (happened_on item.kind setup item.line item.moment))
 
-    at_station : (on : IsDueOn 1 endpoints.stations item) → Goes log (on_line endpoints item.line (happened_on item.due setup item.line item.moment))
+    at_station : (on : IsDueOn 1 endpoints.stations item) → Goes log (on_line endpoints item.line (happened_on item.kind setup item.line item.moment))
     at_station on =
         let at = station_is endpoints item on in
-        subst (λ (found : Option Station). Goes log (turned_at found endpoints item.line (happened_on item.due setup item.line item.moment))) (sym at)
+        subst (λ (found : Option Station). Goes log (turned_at found endpoints item.line (happened_on item.kind setup item.line item.moment))) (sym at)
         (turned log endpoints item.line on.station _ s at
         (turns.happening log item.line item on.station s.log_holds (of_line (P log) endpoints item.line on.station s.stations at) on.due by.1))
 
     by_case : (own_due endpoints.own ≡ Some item) ⊎ IsDueOn 1 endpoints.stations item → Happens (item.line == 0)
     by_case (inl is) = subst Happens (sym ((Decides-eqb item.line 0).1 (post_line 0 endpoints.own.post item is)))
-        (own_turned log endpoints (own_happened item.due setup item.moment) s (turns.own_happening log item endpoints.own s.log_holds s.own is by.1))
+        (own_turned log endpoints (own_happened item.kind setup item.moment) s (turns.own_happening log item endpoints.own s.log_holds s.own is by.1))
     by_case (inr on) = subst Happens (sym (station_line endpoints item on)) (at_station on)
 
   passed_goes : (n : ℕ) (log : List Begun) (endpoints : Endpoints) → Stands log endpoints → Goes log (passed n setup endpoints until)

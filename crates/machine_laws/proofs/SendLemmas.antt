@@ -9,8 +9,8 @@ use Rattle.mg_line.specs.Line.{LineDone, Notice}
 use Rattle.mg_line.specs.Falling.{fired}
 use Rattle.mg_line.specs.Acting.{phoned}
 use Rattle.mg_line.specs.Answering.{answered}
-use Rattle.plain_machine.specs.declared.due_item.StationDue.{StationDue}
-use Rattle.plain_machine.specs.declared.due_item.StationDue.TheVariants.{OfLine, Resend, Announce}
+use Rattle.timers.specs.declared.kind.DueKind.{DueKind}
+use Rattle.timers.specs.declared.kind.DueKind.TheVariants.{OfLine, Resend, Announce}
 use Rattle.command_forms.specs.declared.forms.Deed.{Deed}
 use Rattle.plain_machine.specs.declared.own.Own.{Own}
 use Rattle.plain_machine.specs.declared.post.Post.{Post}
@@ -93,13 +93,13 @@ announced_none setup line moment post = by_restart post.restart where
   by_restart Announced = All-nil NoAck
   by_restart Serving = All-nil NoAck
 
-happened_none : (due : StationDue) (setup : Setup) (line moment : ℕ) (station : Station) → All NoAck (happened_on due setup line moment station).sent
+happened_none : (due : DueKind) (setup : Setup) (line moment : ℕ) (station : Station) → All NoAck (happened_on due setup line moment station).sent
 unfolding happened_on
 happened_none (OfLine due) setup line moment station = noted_none setup line moment station (fired station.line due moment)
 happened_none Resend setup line moment station = resent_none setup line moment station.post
 happened_none Announce setup line moment station = announced_none setup line moment station.post
 
-own_happened_none : (due : StationDue) (setup : Setup) (moment : ℕ) (own : Own) → All NoAck (own_happened due setup moment own).sent
+own_happened_none : (due : DueKind) (setup : Setup) (moment : ℕ) (own : Own) → All NoAck (own_happened due setup moment own).sent
 unfolding own_happened
 own_happened_none (OfLine due) setup moment own = All-nil NoAck
 own_happened_none Resend setup moment own = resent_none setup 0 moment own.post

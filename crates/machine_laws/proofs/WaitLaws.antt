@@ -5,11 +5,11 @@ use Rattle.std.proofs.lemmas.Bool.Decides.{Decides-eqb}
 use Rattle.std.specs.declared.net.socket_addr.SocketAddrV4.{SocketAddrV4}
 use Rattle.outbound.specs.Flight.{InFlight}
 use Rattle.mgcp_text.specs.Reading.{Outcome, read_text}
-use Rattle.mg_line.specs.declared.due.LineDue.{LineDue}
+use Rattle.timers.specs.declared.kind.LineDue.{LineDue}
 use Rattle.mg_line.specs.declared.phone.Act.{Act}
-use Rattle.plain_machine.specs.declared.due_item.StationDue.{StationDue}
-use Rattle.plain_machine.specs.declared.due_item.StationDue.TheVariants.{OfLine, Resend}
-use Rattle.plain_machine.specs.declared.due_item.DueItem.{DueItem}
+use Rattle.timers.specs.declared.kind.DueKind.{DueKind}
+use Rattle.timers.specs.declared.kind.DueKind.TheVariants.{OfLine, Resend}
+use Rattle.timers.specs.declared.due_item.DueItem.{DueItem}
 use Rattle.plain_machine.specs.declared.setup.Setup.{Setup}
 use Rattle.plain_machine.specs.declared.station.Station.{Station}
 use Rattle.plain_machine.specs.Effect.{Effect}
@@ -89,25 +89,25 @@ texts_wait setup m source (text ∷ texts) keep =
 
 -- it happens on the line
 on_the_line : (setup : Setup) (endpoints : Endpoints) (item : DueItem) (station : Station) → station_at endpoints item.line ≡ Some station
-    → happened setup endpoints item ≡ on_line endpoints item.line (happened_on item.due setup item.line item.moment)
+    → happened setup endpoints item ≡ on_line endpoints item.line (happened_on item.kind setup item.line item.moment)
 on_the_line setup endpoints item station at =
-    either_line endpoints item.line (own_happened item.due setup item.moment) (happened_on item.due setup item.line item.moment) (some_line endpoints item.line station at)
+    either_line endpoints item.line (own_happened item.kind setup item.moment) (happened_on item.kind setup item.line item.moment) (some_line endpoints item.line station at)
 
-line_turned : (setup : Setup) (endpoints : Endpoints) (item : DueItem) (due : StationDue) (station : Station) → item.due ≡ due → station_at endpoints item.line ≡ Some station
+line_turned : (setup : Setup) (endpoints : Endpoints) (item : DueItem) (due : DueKind) (station : Station) → item.kind ≡ due → station_at endpoints item.line ≡ Some station
     → station_at (happened setup endpoints item).value item.line ≡ Some (happened_on due setup item.line item.moment station).value
 line_turned setup endpoints item due station is at =
     ap (λ (x : Effect Endpoints). station_at x.value item.line) (on_the_line setup endpoints item station at)
-    ∙ this_turns endpoints item.line (happened_on item.due setup item.line item.moment)
-    ∙ ap (option_map (λ (s : Station). (happened_on item.due setup item.line item.moment s).value)) at
-    ∙ ap (λ (which : StationDue). Some (happened_on which setup item.line item.moment station).value) is
+    ∙ this_turns endpoints item.line (happened_on item.kind setup item.line item.moment)
+    ∙ ap (option_map (λ (s : Station). (happened_on item.kind setup item.line item.moment s).value)) at
+    ∙ ap (λ (which : DueKind). Some (happened_on which setup item.line item.moment station).value) is
 
-line_sent : (setup : Setup) (endpoints : Endpoints) (item : DueItem) (due : StationDue) (station : Station) → item.due ≡ due → station_at endpoints item.line ≡ Some station
+line_sent : (setup : Setup) (endpoints : Endpoints) (item : DueItem) (due : DueKind) (station : Station) → item.kind ≡ due → station_at endpoints item.line ≡ Some station
     → (happened setup endpoints item).sent ≡ (happened_on due setup item.line item.moment station).sent
 line_sent setup endpoints item due station is at =
-    ap (λ (x : Effect Endpoints). x.sent) (on_the_line setup endpoints item station at ∙ on_this endpoints item.line station (happened_on item.due setup item.line item.moment) at)
-    ∙ ap (λ (which : StationDue). (happened_on which setup item.line item.moment station).sent) is
+    ap (λ (x : Effect Endpoints). x.sent) (on_the_line setup endpoints item station at ∙ on_this endpoints item.line station (happened_on item.kind setup item.line item.moment) at)
+    ∙ ap (λ (which : DueKind). (happened_on which setup item.line item.moment station).sent) is
 
-pub line_silent : (setup : Setup) (endpoints : Endpoints) (item : DueItem) (due : LineDue) (station : Station) (message : InFlight) → KeepOrder endpoints → item.due ≡ OfLine due
+pub line_silent : (setup : Setup) (endpoints : Endpoints) (item : DueItem) (due : LineDue) (station : Station) (message : InFlight) → KeepOrder endpoints → item.kind ≡ OfLine due
     → station_at endpoints item.line ≡ Some station → in_flight station ≡ Some message
     → ((happened setup endpoints item).sent ≡ [])
     × IfSome (station_at (happened setup endpoints item).value item.line) (λ after. in_flight after ≡ Some message)
@@ -117,7 +117,7 @@ line_silent setup endpoints item due station message are is at flight =
       subst (λ (x : Option Station). IfSome x (λ after. in_flight after ≡ Some message)) (sym (line_turned setup endpoints item (OfLine due) station is at)) (begins.pending ∙ flight),
     )
 
-pub command_again : (setup : Setup) (endpoints : Endpoints) (item : DueItem) (station : Station) (message : InFlight) → item.due ≡ Resend
+pub command_again : (setup : Setup) (endpoints : Endpoints) (item : DueItem) (station : Station) (message : InFlight) → item.kind ≡ Resend
     → station_at endpoints item.line ≡ Some station → in_flight station ≡ Some message
     → All (Carries item.line message) (happened setup endpoints item).sent
     × IfSome (station_at (happened setup endpoints item).value item.line) (λ after. IfSome (in_flight after) (IsSame message))
@@ -131,33 +131,33 @@ pub others_wait : (setup : Setup) (endpoints : Endpoints) (item : DueItem) (othe
     → station_at (happened setup endpoints item).value other ≡ station_at endpoints other
 others_wait setup endpoints item other apart = by_test (item.line == 0) where
   by_test : (b : Bool)
-      → station_at (if b then on_own endpoints (own_happened item.due setup item.moment) else on_line endpoints item.line (happened_on item.due setup item.line item.moment)).value other
+      → station_at (if b then on_own endpoints (own_happened item.kind setup item.moment) else on_line endpoints item.line (happened_on item.kind setup item.line item.moment)).value other
       ≡ station_at endpoints other
   by_test true = refl
-  by_test false = others_stay_on endpoints item.line other (happened_on item.due setup item.line item.moment) apart
+  by_test false = others_stay_on endpoints item.line other (happened_on item.kind setup item.line item.moment) apart
 
 -- The gateway itself
 
 abbrev AtOwn : Setup → Endpoints → DueItem → Type 0
-AtOwn setup endpoints item = happened setup endpoints item ≡ on_own endpoints (own_happened item.due setup item.moment)
+AtOwn setup endpoints item = happened setup endpoints item ≡ on_own endpoints (own_happened item.kind setup item.moment)
 
 at_own : (setup : Setup) (endpoints : Endpoints) (item : DueItem) → item.line ≡ 0 → AtOwn setup endpoints item
 at_own setup endpoints item is =
-    either_own endpoints item.line (own_happened item.due setup item.moment) (happened_on item.due setup item.line item.moment) ((Decides-eqb item.line 0).1 is)
+    either_own endpoints item.line (own_happened item.kind setup item.moment) (happened_on item.kind setup item.line item.moment) ((Decides-eqb item.line 0).1 is)
 
-pub own_again : (setup : Setup) (endpoints : Endpoints) (item : DueItem) (message : InFlight) → item.due ≡ Resend → item.line ≡ 0
+pub own_again : (setup : Setup) (endpoints : Endpoints) (item : DueItem) (message : InFlight) → item.kind ≡ Resend → item.line ≡ 0
     → endpoints.own.post.pending ≡ Some message
     → All (Carries 0 message) (happened setup endpoints item).sent × IfSome (happened setup endpoints item).value.own.post.pending (IsSame message)
 own_again setup endpoints item message is line flight =
     let here : happened setup endpoints item ≡ on_own endpoints (own_happened Resend setup item.moment) =
-    at_own setup endpoints item line ∙ ap (λ (which : StationDue). on_own endpoints (own_happened which setup item.moment)) is in
+    at_own setup endpoints item line ∙ ap (λ (which : DueKind). on_own endpoints (own_happened which setup item.moment)) is in
     subst (λ (x : Effect Endpoints). All (Carries 0 message) x.sent × IfSome x.value.own.post.pending (IsSame message)) (sym here)
     (own_carries setup item.moment endpoints.own message flight, own_keeps setup item.moment endpoints.own message flight)
 
 pub own_waits : (setup : Setup) (endpoints : Endpoints) (item : DueItem) → item.line ≢ 0 → (happened setup endpoints item).value.own ≡ endpoints.own
 own_waits setup endpoints item apart = by_test (item.line == 0) refl where
   by_test : (b : Bool) → (item.line == 0) ≡ b
-      → (if b then on_own endpoints (own_happened item.due setup item.moment) else on_line endpoints item.line (happened_on item.due setup item.line item.moment)).value.own
+      → (if b then on_own endpoints (own_happened item.kind setup item.moment) else on_line endpoints item.line (happened_on item.kind setup item.line item.moment)).value.own
       ≡ endpoints.own
   by_test true e = absurd (apart ((Decides-eqb item.line 0).0 e))
-  by_test false e = own_stays_on endpoints item.line (happened_on item.due setup item.line item.moment)
+  by_test false e = own_stays_on endpoints item.line (happened_on item.kind setup item.line item.moment)

@@ -1,12 +1,12 @@
 //! A line has one command in flight at each thing that happens, within an event too (RFC 3435, 3.2.1.2, 3.5 and 4.4.1).
 ghost use Rattle.std.specs.Prelude.{◌≡◌, ◌≢◌, [], ℕ, List, Some, IfSome, All};
 ghost use Rattle.std.specs.declared.net.socket_addr.SocketAddrV4.{SocketAddrV4};
-ghost use Rattle.mg_line.specs.declared.due.LineDue.{LineDue};
+ghost use Rattle.timers.specs.declared.kind.LineDue.{LineDue};
 ghost use Rattle.mg_line.specs.declared.phone.Act.{Act};
 ghost use Rattle.mgcp_text.specs.Reading.{Outcome};
 ghost use Rattle.outbound.specs.Flight.{InFlight};
-ghost use Rattle.plain_machine.specs.declared.due_item.StationDue.TheVariants.{OfLine, Resend};
-ghost use Rattle.plain_machine.specs.declared.due_item.DueItem.{DueItem};
+ghost use Rattle.timers.specs.declared.kind.DueKind.TheVariants.{OfLine, Resend};
+ghost use Rattle.timers.specs.declared.due_item.DueItem.{DueItem};
 ghost use Rattle.plain_machine.specs.declared.setup.Setup.{Setup};
 ghost use Rattle.plain_machine.specs.declared.station.Station.{Station};
 ghost use Rattle.plain_machine.specs.Acting.{acted};
@@ -42,13 +42,13 @@ pub fn lines_wait_at_each_thing_that_happens()
 /// due as that of line 0, the same holds.
 pub fn what_falls_due_begins_nothing_while_a_command_is_in_flight()
     ensures line { (setup : Setup) (endpoints : Endpoints) (item : DueItem) (due : LineDue) (station : Station)
-        (message : InFlight) → KeepOrder endpoints → item.due ≡ OfLine due →
+        (message : InFlight) → KeepOrder endpoints → item.kind ≡ OfLine due →
         station_at endpoints item.line ≡ Some station → in_flight station ≡ Some message →
         ((happened setup endpoints item).sent ≡ [])
         × IfSome (station_at (happened setup endpoints item).value item.line)
         (λ after. in_flight after ≡ Some message) }
     ensures command { (setup : Setup) (endpoints : Endpoints) (item : DueItem) (station : Station)
-        (message : InFlight) → item.due ≡ Resend →
+        (message : InFlight) → item.kind ≡ Resend →
         station_at endpoints item.line ≡ Some station → in_flight station ≡ Some message →
         All (Carries item.line message) (happened setup endpoints item).sent
         × IfSome (station_at (happened setup endpoints item).value item.line)
@@ -56,7 +56,7 @@ pub fn what_falls_due_begins_nothing_while_a_command_is_in_flight()
     ensures others { (setup : Setup) (endpoints : Endpoints) (item : DueItem) (other : ℕ) → other ≢ item.line →
         station_at (happened setup endpoints item).value other ≡ station_at endpoints other }
     ensures own_command { (setup : Setup) (endpoints : Endpoints) (item : DueItem) (message : InFlight) →
-        item.due ≡ Resend → item.line ≡ 0 → endpoints.own.post.pending ≡ Some message →
+        item.kind ≡ Resend → item.line ≡ 0 → endpoints.own.post.pending ≡ Some message →
         All (Carries 0 message) (happened setup endpoints item).sent
         × IfSome (happened setup endpoints item).value.own.post.pending (IsSame message) }
     ensures own { (setup : Setup) (endpoints : Endpoints) (item : DueItem) → item.line ≢ 0 →

@@ -27,7 +27,7 @@ use Rattle.plain_machine.specs.Responding.{response_with, responded_on, own_resp
 use Rattle.restart.specs.declared.heard.Heard.{Heard}
 use Rattle.restart.specs.declared.heard.Heard.TheVariants.{Nothing, PutOff, Redirected, Answered}
 use Rattle.plain_machine.specs.declared.response.Response.{Response}
-use Rattle.plain_machine.specs.declared.due_item.DueItem.{DueItem}
+use Rattle.timers.specs.declared.due_item.DueItem.{DueItem}
 use Rattle.plain_machine.specs.Done.{Done}
 use Rattle.command_forms.specs.declared.forms.Deed.{Deed}
 use Rattle.plain_machine.specs.Requesting.{refused_by, lines_meant, unless_refused, deed_done, line_with_place, done_there, done_for}
@@ -143,7 +143,7 @@ took_lines setup m source texts = (took_keeps setup m source texts).lines
 -- what falls due changes a station, and adds none
 pub happened_lines : (setup : Setup) (endpoints : Endpoints) (item : DueItem) → lines_in (happened setup endpoints item).value ≡ lines_in endpoints
 happened_lines setup endpoints item =
-    either_lines endpoints item.line (own_happened item.due setup item.moment) (happened_on item.due setup item.line item.moment)
+    either_lines endpoints item.line (own_happened item.kind setup item.moment) (happened_on item.kind setup item.line item.moment)
 
 passed_lines : (n : ℕ) (setup : Setup) (endpoints : Endpoints) (moment : ℕ) → lines_in (passed n setup endpoints moment).value ≡ lines_in endpoints
 unfolding passed

@@ -7,7 +7,7 @@ use Rattle.std.proofs.lemmas.Bool.Decides.{Decides-eqb}
 use Rattle.std.proofs.lemmas.List.{get_or-set_same}
 use Rattle.std.proofs.lemmas.List.Sums.{sum_by-set, sum_by-cons}
 use Rattle.std.proofs.lemmas.Option.{slice_get_within, get_or_from_slice_get}
-use Rattle.plain_machine.specs.declared.due_item.DueItem.{DueItem}
+use Rattle.timers.specs.declared.due_item.DueItem.{DueItem}
 use Rattle.plain_machine.specs.declared.setup.Setup.{Setup}
 use Rattle.plain_machine.specs.declared.station.Station.{Station}
 use Rattle.plain_machine.specs.Effect.{Effect, silently, behind, afterwards}
@@ -36,15 +36,15 @@ total_most moment endpoints = omega (arith, sum_most moment endpoints.stations, 
 -- What happens on one line, or of the gateway itself
 
 happened_is : (setup : Setup) (endpoints : Endpoints) (item : DueItem) (is : IsDueOn 1 endpoints.stations item)
-    → happened setup endpoints item ≡ with_turn endpoints item.line (happened_on item.due setup item.line item.moment is.station)
+    → happened setup endpoints item ≡ with_turn endpoints item.line (happened_on item.kind setup item.line item.moment is.station)
 happened_is setup endpoints item is =
-    either_line endpoints item.line (own_happened item.due setup item.moment) (happened_on item.due setup item.line item.moment) (station_line endpoints item is)
-    ∙ on_this endpoints item.line is.station (happened_on item.due setup item.line item.moment) (station_is endpoints item is)
+    either_line endpoints item.line (own_happened item.kind setup item.moment) (happened_on item.kind setup item.line item.moment) (station_line endpoints item is)
+    ∙ on_this endpoints item.line is.station (happened_on item.kind setup item.line item.moment) (station_is endpoints item is)
 
 own_happened_is : (setup : Setup) (endpoints : Endpoints) (item : DueItem) → own_due endpoints.own ≡ Some item
-    → happened setup endpoints item ≡ on_own endpoints (own_happened item.due setup item.moment)
+    → happened setup endpoints item ≡ on_own endpoints (own_happened item.kind setup item.moment)
 own_happened_is setup endpoints item is =
-    either_own endpoints item.line (own_happened item.due setup item.moment) (happened_on item.due setup item.line item.moment)
+    either_own endpoints item.line (own_happened item.kind setup item.moment) (happened_on item.kind setup item.line item.moment)
     (ap (λ (line : ℕ). line == 0) (post_line 0 endpoints.own.post item is))
 
 less_sum : (moment : ℕ) (stations : List Station) (place : ℕ) (was is : Station) → slice_get stations place ≡ Some was → due_count moment is < due_count moment was
@@ -68,12 +68,12 @@ less_to_come setup endpoints item first = by_case (first_on endpoints item first
   by_case : (own_due endpoints.own ≡ Some item) ⊎ IsDueOn 1 endpoints.stations item → total item.moment (happened setup endpoints item).value < total item.moment endpoints
   by_case (inl is) =
       rw (own_happened_is setup endpoints item is)
-      (second_less _ _ _ (own_happens_less item.moment item.due endpoints.own _ (own_first_happens setup endpoints.own item is)))
+      (second_less _ _ _ (own_happens_less item.moment item.kind endpoints.own _ (own_first_happens setup endpoints.own item is)))
   by_case (inr is) =
       let place : item.line - 1 ≡ is.place = omega (arith, is.line) in
       rw (happened_is setup endpoints item is, place)
       (first_less _ _ _ (less_sum item.moment endpoints.stations is.place is.station _ is.at
-      (happens_less item.moment item.due is.station _ (first_happens setup item.line is.station item is.due))))
+      (happens_less item.moment item.kind is.station _ (first_happens setup item.line is.station item is.due))))
 
 -- and something was due then
 some_due : (setup : Setup) (endpoints : Endpoints) (item : DueItem) → first_due endpoints ≡ Some item → 0 < total item.moment endpoints
@@ -90,16 +90,16 @@ get_set_same stations place was is station at found =
 own_not_earlier : (setup : Setup) (endpoints : Endpoints) (item next : DueItem) → first_due endpoints ≡ Some item → own_due endpoints.own ≡ Some item
     → first_due (happened setup endpoints item).value ≡ Some next → item.moment ≤ next.moment
 own_not_earlier setup endpoints item next first is after =
-    by_case (first_on (with_own endpoints (own_happened item.due setup item.moment endpoints.own).value) next
+    by_case (first_on (with_own endpoints (own_happened item.kind setup item.moment endpoints.own).value) next
     (subst (λ (t : Effect Endpoints). first_due t.value ≡ Some next) (own_happened_is setup endpoints item is) after)) where
-      by_each : (post_has next.moment endpoints.own.post next.due ≡ true) ⊎ (item.moment < next.moment) → item.moment ≤ next.moment
-      by_each (inl before) = own_none_before endpoints.own item next.due next.moment is before
+      by_each : (post_has next.moment endpoints.own.post next.kind ≡ true) ⊎ (item.moment < next.moment) → item.moment ≤ next.moment
+      by_each (inl before) = own_none_before endpoints.own item next.kind next.moment is before
       by_each (inr later) = omega (arith, later)
 
-      by_case : (own_due (own_happened item.due setup item.moment endpoints.own).value ≡ Some next) ⊎ IsDueOn 1 endpoints.stations next → item.moment ≤ next.moment
+      by_case : (own_due (own_happened item.kind setup item.moment endpoints.own).value ≡ Some next) ⊎ IsDueOn 1 endpoints.stations next → item.moment ≤ next.moment
       by_case (inl own) =
-          by_each ((own_first_happens setup endpoints.own item is).each next.due next.moment
-          (own_first_happens setup (own_happened item.due setup item.moment endpoints.own).value next own).on)
+          by_each ((own_first_happens setup endpoints.own item is).each next.kind next.moment
+          (own_first_happens setup (own_happened item.kind setup item.moment endpoints.own).value next own).on)
       by_case (inr on) =
           earliest_on endpoints item next on.place on.station first on.at (subst (λ (l : ℕ). due_on (l, on.station) ≡ Some next) on.line on.due)
 
@@ -107,7 +107,7 @@ own_not_earlier setup endpoints item next first is after =
 line_not_earlier : (setup : Setup) (endpoints : Endpoints) (item next : DueItem) → first_due endpoints ≡ Some item → (is : IsDueOn 1 endpoints.stations item)
     → IsDueOn 1 (happened setup endpoints item).value.stations next → item.moment ≤ next.moment
 line_not_earlier setup endpoints item next first is later =
-    let now = (happened_on item.due setup item.line item.moment is.station).value in
+    let now = (happened_on item.kind setup item.line item.moment is.station).value in
     let h = first_happens setup item.line is.station item is.due in
     let place : item.line - 1 ≡ is.place = omega (arith, is.line) in
     let stations : (happened setup endpoints item).value.stations ≡ slice_set endpoints.stations is.place now =
@@ -116,18 +116,18 @@ line_not_earlier setup endpoints item next first is later =
     subst (λ (xs : List Station). slice_get xs later.place ≡ Some later.station) stations later.at in
     by_place is.place is.station now later.place later.station is.at is.due h at (subst (λ (l : ℕ). due_on (l, later.station) ≡ Some next) later.line later.due)
     (first_happens setup next.line later.station next later.due).on (later.place == is.place) refl where
-      by_each : (was : Station) → due_on (item.line, was) ≡ Some item → (has_by next.moment was next.due ≡ true) ⊎ (item.moment < next.moment) → item.moment ≤ next.moment
-      by_each was due (inl before) = none_before item.line was item next.due next.moment due before
+      by_each : (was : Station) → due_on (item.line, was) ≡ Some item → (has_by next.moment was next.kind ≡ true) ⊎ (item.moment < next.moment) → item.moment ≤ next.moment
+      by_each was due (inl before) = none_before item.line was item next.kind next.moment due before
       by_each was due (inr later) = omega (arith, later)
 
       by_place : (place : ℕ) (was now : Station) (other : ℕ) (station : Station) → slice_get endpoints.stations place ≡ Some was → due_on (item.line, was) ≡ Some item
-          → Happens item.moment item.due was now → slice_get (slice_set endpoints.stations place now) other ≡ Some station → due_on (1 + other, station) ≡ Some next
-          → has_by next.moment station next.due ≡ true → (b : Bool) → (other == place) ≡ b → item.moment ≤ next.moment
+          → Happens item.moment item.kind was now → slice_get (slice_set endpoints.stations place now) other ≡ Some station → due_on (1 + other, station) ≡ Some next
+          → has_by next.moment station next.kind ≡ true → (b : Bool) → (other == place) ≡ b → item.moment ≤ next.moment
       by_place place was now other station at due h found on has true e =
           let same_place : other ≡ place = (Decides-eqb other place).0 e in
           let here : slice_get (slice_set endpoints.stations place now) place ≡ Some station = subst (λ (p : ℕ). slice_get (slice_set endpoints.stations place now) p ≡ Some station) same_place found in
           let same : now ≡ station = get_set_same endpoints.stations place was now station at here in
-          by_each was due (h.each next.due next.moment (subst (λ (s : Station). has_by next.moment s next.due ≡ true) (sym same) has))
+          by_each was due (h.each next.kind next.moment (subst (λ (s : Station). has_by next.moment s next.kind ≡ true) (sym same) has))
       by_place place was now other station at due h found on has false e =
           earliest_on endpoints item next other station first
           (sym (other_station endpoints.stations place other now (λ same. absurd (let b : (other == place) ≡ true = (Decides-eqb other place).1 same in cc))) ∙ found) on

@@ -1,13 +1,14 @@
 -- What falls due: on a line the end of timer T and the ends of signals; and of it and of the gateway itself the repeats of
 -- the command that is in flight, and the announcement, each at its own moment (RFC 3435, 2.1.5, 2.1.7, 3.5.3 and 4.4.6).
 use Rattle.std.specs.Prelude.{ℕ, ◌+◌, ◌*◌, ◌==◌, zero, suc, nat_le, if◌then◌else◌, Bool, length, fold, Option, Some, None, is_some, option_map, option_and_then}
-use Rattle.mg_line.specs.declared.due.LineDue.{LineDue}
+use Rattle.timers.specs.declared.kind.LineDue.{LineDue}
 use Rattle.mg_line.specs.Falling.{due_of, fired}
 use Rattle.outbound.specs.Flight.{InFlight}
 use Rattle.restart.specs.Restarting.{announced_at}
-use Rattle.plain_machine.specs.declared.due_item.StationDue.{StationDue}
-use Rattle.plain_machine.specs.declared.due_item.StationDue.TheVariants.{OfLine, Resend, Announce}
-use Rattle.plain_machine.specs.declared.due_item.DueItem.{DueItem}
+use Rattle.timers.specs.declared.kind.DueKind.{DueKind}
+use Rattle.timers.specs.declared.kind.DueKind.TheVariants.{OfLine, Resend, Announce}
+use Rattle.timers.specs.declared.due_item.DueItem.{DueItem}
+use Rattle.timers.specs.Order.{earlier}
 use Rattle.plain_machine.specs.declared.own.Own.{Own}
 use Rattle.plain_machine.specs.declared.post.Post.{Post}
 use Rattle.plain_machine.specs.declared.setup.Setup.{Setup}
@@ -21,19 +22,13 @@ use Rattle.plain_machine.specs.Machine.{Endpoints, station_at, own_posted, on_ei
 -- What falls due first
 
 abbrev pub line_item : ℕ → ℕ × LineDue → DueItem
-line_item line first = record { moment = first.0; line = line; due = OfLine first.1 }
+line_item line first = record { moment = first.0; line = line; kind = OfLine first.1 }
 
 abbrev pub command_item : ℕ → InFlight → DueItem
-command_item line message = record { moment = message.due; line = line; due = Resend }
+command_item line message = record { moment = message.due; line = line; kind = Resend }
 
 abbrev pub announcement_item : ℕ → ℕ → DueItem
-announcement_item line moment = record { moment = moment; line = line; due = Announce }
-
--- the earlier of two, the first where both are as early
-abbrev pub earlier : Option DueItem → Option DueItem → Option DueItem
-earlier None other = other
-earlier (Some first) None = Some first
-earlier (Some first) (Some other) = if nat_le first.moment other.moment then Some first else Some other
+announcement_item line moment = record { moment = moment; line = line; kind = Announce }
 
 -- what falls due first of a post: its command, and then its announcement
 unfoldable pub post_due : ℕ → Post → Option DueItem
@@ -73,13 +68,13 @@ is_due endpoints moment = is_some (due_by endpoints moment)
 -- What then happens
 
 -- what falls due on a station, at this moment: where its command is given up, or an announcement begins, the line waits on
-unfoldable pub happened_on : StationDue → Setup → ℕ → ℕ → Station → Effect Station
+unfoldable pub happened_on : DueKind → Setup → ℕ → ℕ → Station → Effect Station
 happened_on (OfLine due) setup line moment station = noted setup line moment station (fired station.line due moment)
 happened_on Resend setup line moment station = posted station (resent_on setup line moment station.post)
 happened_on Announce setup line moment station = posted station (announced_on setup line moment station.post)
 
 -- what falls due of the gateway itself, at this moment: of what falls due of lines there is nothing
-unfoldable pub own_happened : StationDue → Setup → ℕ → Own → Effect Own
+unfoldable pub own_happened : DueKind → Setup → ℕ → Own → Effect Own
 own_happened (OfLine due) setup moment own = own_posted own (silently own.post)
 own_happened Resend setup moment own = own_posted own (resent_on setup 0 moment own.post)
 own_happened Announce setup moment own = own_posted own (announced_on setup 0 moment own.post)
@@ -87,7 +82,7 @@ own_happened Announce setup moment own = own_posted own (announced_on setup 0 mo
 -- what falls due happens at its own moment
 abbrev pub happened : Setup → Endpoints → DueItem → Effect Endpoints
 happened setup endpoints item =
-    on_either endpoints item.line (own_happened item.due setup item.moment) (happened_on item.due setup item.line item.moment)
+    on_either endpoints item.line (own_happened item.kind setup item.moment) (happened_on item.kind setup item.line item.moment)
 
 abbrev pub go_on : Option DueItem → Setup → Endpoints → (Endpoints → Effect Endpoints) → Effect Endpoints
 go_on None setup endpoints next = silently endpoints

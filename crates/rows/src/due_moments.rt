@@ -8,10 +8,11 @@
 //! - `keep` and `back`: the table as it was once.
 use crate::keeping::Thing;
 use crate::texts::number_text;
+use mg_packages::SIGNALS;
 use std::alloc::Global;
 use std::io;
 use tales::{Row, unread};
-use timers::{Due, Kind};
+use timers::{Due, DueItem, DueKind, LineDue, comes_before};
 
 // How many lines the table has beside the gateway itself.
 const LINES: u16 = 96;
@@ -21,7 +22,22 @@ const LINES: u16 = 96;
 struct Places {
     first: u16,
     last: u16,
-    kind: Kind,
+    kind: DueKind,
+}
+
+// `T` or `signal 8`.
+fn kind_of(row: &mut Row<'_>) -> Option<DueKind> {
+    match row.before(" ") {
+        "T" => Some(DueKind::OfLine(LineDue::DigitTimer)),
+        "signal" => {
+            let place = row.before(" ").parse::<usize>().ok()?;
+            let signal = SIGNALS.get(place)?;
+            Some(DueKind::OfLine(LineDue::SignalEnd(*signal)))
+        }
+        "message" => Some(DueKind::Resend),
+        "announcement" => Some(DueKind::Announce),
+        _ => None,
+    }
 }
 
 // `1 T` or `0-32 signal 8`.
@@ -31,28 +47,33 @@ fn places_of(row: &mut Row<'_>) -> Option<Places> {
     Some(Places {
         first: first.parse::<u16>().ok()?,
         last: last.parse::<u16>().ok()?,
-        kind: match row.before(" ") {
-            "T" => Kind::Timer,
-            "signal" => Kind::Signal(row.before(" ").parse::<u8>().ok()?),
-            "message" => Kind::Message,
-            "announcement" => Kind::Announcement,
-            _ => return None,
-        },
+        kind: kind_of(row)?,
     })
 }
 
 // What is due first.
 fn least_text(alloc: Global, due: &Due) -> io::Result<String> {
-    let Some(entry) = due.least() else {
+    let Some(item) = due.least() else {
         return Ok("-".to_string(alloc)?);
     };
-    let (moment, line) = (entry.moment, entry.line);
-    Ok(match entry.kind {
-        Kind::Timer => format!(in alloc; "{moment} {line} T")?,
-        Kind::Signal(place) => format!(in alloc; "{moment} {line} signal {place}")?,
-        Kind::Message => format!(in alloc; "{moment} {line} message")?,
-        Kind::Announcement => format!(in alloc; "{moment} {line} announcement")?,
+    let (moment, line) = (item.moment, item.line);
+    Ok(match item.kind {
+        DueKind::OfLine(LineDue::DigitTimer) => format!(in alloc; "{moment} {line} T")?,
+        DueKind::OfLine(LineDue::SignalEnd(signal)) => {
+            let place = signal as u8;
+            format!(in alloc; "{moment} {line} signal {place}")?
+        }
+        DueKind::Resend => format!(in alloc; "{moment} {line} message")?,
+        DueKind::Announce => format!(in alloc; "{moment} {line} announcement")?,
     })
+}
+
+// Whether it falls due behind the last one, if there was one.
+fn is_behind(item: DueItem, last: Option<DueItem>) -> bool {
+    match last {
+        None => true,
+        Some(last) => comes_before(last, item),
+    }
 }
 
 // How many fall due one behind the other, of so many at most; these are cleared.
@@ -61,7 +82,7 @@ fn fallen(due: &mut Due, most: u32) -> u32 {
     for count in 0..most {
         let least = due.least();
         match least {
-            Some(entry) if last < least => due.clear(entry.line, entry.kind),
+            Some(item) if is_behind(item, last) => due.clear(item.line, item.kind),
             _ => return count,
         }
         last = least;
@@ -81,7 +102,7 @@ impl DueTale {
         let places = places_of(row).ok_or(unread())?;
         let moment = u64::from(row.number()?);
         for line in places.first..=places.last {
-            if !self.due.has_place(line, places.kind) {
+            if !self.due.has_place(line) {
                 return Err(unread());
             }
             self.due.set(line, places.kind, moment);
@@ -92,7 +113,7 @@ impl DueTale {
     fn clear(&mut self, row: &mut Row<'_>) -> io::Result<()> {
         let places = places_of(row).ok_or(unread())?;
         for line in places.first..=places.last {
-            if !self.due.has_place(line, places.kind) {
+            if !self.due.has_place(line) {
                 return Err(unread());
             }
             self.due.clear(line, places.kind);

@@ -2,16 +2,16 @@
 use Rattle.std.proofs.Common.{◌≡◌, ℕ, zero, suc, ◌+◌, ◌*◌, ◌/◌, ◌<◌, ◌≤◌, ◌≢◌, ◌==◌, Bool, true, false, List, length, drop, get_or, set, replicate, Option, None, refl, sym, ap, ◌∙◌, subst, arith, add-one, drop-cons, get_or-set_other, get_or-set_same}
 use Rattle.std.proofs.lemmas.List.{drop_all, get_or_default}
 use Rattle.std.proofs.lemmas.Bool.Decides.{nat_tests}
-use Rattle.timers.specs.declared.entry.Entry.{Entry}
+use Rattle.timers.specs.declared.due_item.DueItem.{DueItem}
 use Rattle.timers.specs.Order.{earlier}
 use Rattle.timers.specs.Leaves.{first_of, IsTree}
 use Rattle.timers.proofs.LeastLemmas.{earlier_none, earlier_comm, earlier_assoc}
 
 abbrev Nodes : Type 0
-Nodes = List (Option Entry)
+Nodes = List (Option DueItem)
 
 -- what a node has
-abbrev pub at : Nodes → ℕ → Option Entry
+abbrev pub at : Nodes → ℕ → Option DueItem
 at nodes node = get_or nodes node None
 
 -- a node is the earlier of its two children
@@ -19,7 +19,7 @@ abbrev pub IsWon : Nodes → ℕ → Type 0
 IsWon nodes node = at nodes node ≡ earlier (at nodes (2 * node)) (at nodes (2 * node + 1))
 
 -- the earliest of so many nodes from one on
-abbrev best : Nodes → ℕ → ℕ → Option Entry
+abbrev best : Nodes → ℕ → ℕ → Option DueItem
 best nodes from zero = None
 best nodes from (suc count) = earlier (at nodes from) (best nodes (from + 1) count)
 
@@ -43,9 +43,9 @@ best_first nodes from (suc count) all =
 further : (nodes : Nodes) (i : ℕ) → IsWon nodes (suc i) →
     best nodes (suc i) (suc i) ≡ best nodes (suc (suc i)) (suc (suc i))
 further nodes i won =
-    let left : Option Entry = at nodes (2 * suc i) in
-    let right : Option Entry = at nodes (2 * suc i + 1) in
-    let rest : Option Entry = best nodes (suc (suc i)) i in
+    let left : Option DueItem = at nodes (2 * suc i) in
+    let right : Option DueItem = at nodes (2 * suc i + 1) in
+    let rest : Option DueItem = best nodes (suc (suc i)) i in
     let one : best nodes (suc (suc i)) (suc i) ≡ earlier rest left =
     best_last nodes (suc (suc i)) i (2 * suc i) (omega arith) in
     let two : best nodes (suc (suc i)) (suc (suc i)) ≡ earlier (best nodes (suc (suc i)) (suc i)) right =
@@ -75,7 +75,7 @@ root_first leaves nodes tree =
     ∙ best_first nodes leaves leaves (omega arith)
 
 -- what was taken of the two children is their earlier one
-pub won_by : (nodes : Nodes) (node : ℕ) (left right winner : Option Entry) → 2 * node + 1 < length nodes →
+pub won_by : (nodes : Nodes) (node : ℕ) (left right winner : Option DueItem) → 2 * node + 1 < length nodes →
     left ≡ get_or nodes (2 * node) left → right ≡ get_or nodes (2 * node + 1) right → winner ≡ earlier left right →
     winner ≡ earlier (at nodes (2 * node)) (at nodes (2 * node + 1))
 won_by nodes node left right winner within l r is =
@@ -97,59 +97,59 @@ whole but leaves nodes tree is node one within = by (node == but) refl
     by false e = tree.won node one within (λ same. absurd (grind (arith, nat_tests, e, same)))
 
 -- another node changes, and none of its children
-won_still : (nodes : Nodes) (node changed : ℕ) (entry : Option Entry) → node ≢ changed → 2 * node ≢ changed →
-    2 * node + 1 ≢ changed → IsWon nodes node → IsWon (set nodes changed entry) node
-won_still nodes node changed entry other left right won =
+won_still : (nodes : Nodes) (node changed : ℕ) (item : Option DueItem) → node ≢ changed → 2 * node ≢ changed →
+    2 * node + 1 ≢ changed → IsWon nodes node → IsWon (set nodes changed item) node
+won_still nodes node changed item other left right won =
     rw (
-      get_or-set_other nodes changed node entry None other,
-      get_or-set_other nodes changed (2 * node) entry None left,
-      get_or-set_other nodes changed (2 * node + 1) entry None right,
+      get_or-set_other nodes changed node item None other,
+      get_or-set_other nodes changed (2 * node) item None left,
+      get_or-set_other nodes changed (2 * node + 1) item None right,
     ) won
 
 -- a leaf changes
-pub leaf_changed : (leaves leaf : ℕ) (nodes : Nodes) (entry : Option Entry) → IsTree leaves nodes → leaves ≤ leaf →
-    IsTreeBut (leaf / 2) leaves (set nodes leaf entry)
-leaf_changed leaves leaf nodes entry tree out =
+pub leaf_changed : (leaves leaf : ℕ) (nodes : Nodes) (item : Option DueItem) → IsTree leaves nodes → leaves ≤ leaf →
+    IsTreeBut (leaf / 2) leaves (set nodes leaf item)
+leaf_changed leaves leaf nodes item tree out =
     record {
       won = λ node one within other.
-          won_still nodes node leaf entry (omega arith) (omega arith) (omega arith) (tree.won node one within);
+          won_still nodes node leaf item (omega arith) (omega arith) (omega arith) (tree.won node one within);
     }
 
 -- a node is mended
-pub node_mended : (node leaves : ℕ) (nodes : Nodes) (entry : Option Entry) → IsTreeBut node leaves nodes → 1 ≤ node →
-    node < length nodes → entry ≡ earlier (at nodes (2 * node)) (at nodes (2 * node + 1)) →
-    IsTreeBut (node / 2) leaves (set nodes node entry)
-node_mended node leaves nodes entry tree some inside is =
+pub node_mended : (node leaves : ℕ) (nodes : Nodes) (item : Option DueItem) → IsTreeBut node leaves nodes → 1 ≤ node →
+    node < length nodes → item ≡ earlier (at nodes (2 * node)) (at nodes (2 * node + 1)) →
+    IsTreeBut (node / 2) leaves (set nodes node item)
+node_mended node leaves nodes item tree some inside is =
     record {
       won = λ i one within other. by (i == node) i refl one within other;
     }
   where
-    here : (i : ℕ) → i ≡ node → IsWon (set nodes node entry) i
+    here : (i : ℕ) → i ≡ node → IsWon (set nodes node item) i
     here i e =
         let left : 2 * i ≢ node = omega arith in
         let right : 2 * i + 1 ≢ node = omega arith in
-        rw (get_or-set_other nodes node (2 * i) entry None left, get_or-set_other nodes node (2 * i + 1) entry None right)
-        (ap (at (set nodes node entry)) e
-        ∙ get_or-set_same nodes node entry None inside
+        rw (get_or-set_other nodes node (2 * i) item None left, get_or-set_other nodes node (2 * i + 1) item None right)
+        (ap (at (set nodes node item)) e
+        ∙ get_or-set_same nodes node item None inside
         ∙ is
         ∙ ap (λ k. earlier (at nodes (2 * k)) (at nodes (2 * k + 1))) (sym e))
 
-    by : (x : Bool) (i : ℕ) → (i == node) ≡ x → 1 ≤ i → i < leaves → i ≢ node / 2 → IsWon (set nodes node entry) i
+    by : (x : Bool) (i : ℕ) → (i == node) ≡ x → 1 ≤ i → i < leaves → i ≢ node / 2 → IsWon (set nodes node item) i
     by true i e one within other = here i (grind (arith, nat_tests, e))
     by false i e one within other =
         let apart : i ≢ node = λ same. absurd (grind (arith, nat_tests, e, same)) in
-        won_still nodes i node entry apart (omega arith) (omega arith) (tree.won i one within apart)
+        won_still nodes i node item apart (omega arith) (omega arith) (tree.won i one within apart)
 
--- At the opening no leaf has an entry
+-- At the opening no leaf has an item
 
-at_none : (count i : ℕ) → at (replicate {A = Option Entry} count None) i ≡ None
+at_none : (count i : ℕ) → at (replicate {A = Option DueItem} count None) i ≡ None
 at_none zero i = refl
 at_none (suc count) zero = refl
 at_none (suc count) (suc i) = at_none count i
 
 drop_none : (from count all : ℕ) → all ≡ from + count →
-    drop from (replicate {A = Option Entry} all None) ≡ replicate count None
-drop_none zero count all is = ap (λ k. replicate {A = Option Entry} k None) (let e : all ≡ count = omega arith in e)
+    drop from (replicate {A = Option DueItem} all None) ≡ replicate count None
+drop_none zero count all is = ap (λ k. replicate {A = Option DueItem} k None) (let e : all ≡ count = omega arith in e)
 drop_none (suc from) count zero is = absurd (omega arith)
 drop_none (suc from) count (suc all) is = drop_none from count all (omega arith)
 
@@ -157,7 +157,7 @@ pub opened : (leaves : ℕ) (nodes : Nodes) → nodes ≡ replicate (2 * leaves)
     drop leaves nodes ≡ replicate leaves None
 opened leaves nodes is = ap (drop leaves) is ∙ drop_none leaves leaves (2 * leaves) (omega arith)
 
-pub won_at_first : (count node : ℕ) → IsWon (replicate {A = Option Entry} count None) node
+pub won_at_first : (count node : ℕ) → IsWon (replicate {A = Option DueItem} count None) node
 won_at_first count node =
     at_none count node
     ∙ sym (ap (λ x. earlier x (at (replicate count None) (2 * node + 1))) (at_none count (2 * node))

@@ -1,11 +1,11 @@
 //! A table of due moments.
-ghost use Rattle.std.specs.Prelude.{◌≡◌, ◌↔◌, ◌<◌, IsTrue, IfOk, IfSome};
-ghost use Rattle.timers.specs.Order.{signal_place};
+ghost use Rattle.std.specs.Prelude.{◌≡◌, ◌↔◌, ◌+◌, ◌*◌, ◌<◌, ◌≤◌, IsTrue, IfOk, IfSome};
+ghost use Rattle.timers.specs.Order.{kind_count};
 ghost use Rattle.timers.specs.Leaves.{leaf_of};
-ghost use Rattle.timers.specs.Table.{HasPlace, nothing_set, with_moment, without, least_of, IsLeast};
+ghost use Rattle.timers.specs.Table.{nothing_set, with_moment, without, least_of, IsLeast};
 
-use crate::entry::Entry;
-use crate::kind::{KIND_COUNT, Kind, SIGNAL_COUNT, is_known, number_of};
+use crate::due_item::DueItem;
+use crate::kind::{DueKind, KIND_COUNT, number_of};
 use crate::winners::Winners;
 use mg_bytes::OutOfMemory;
 use std::alloc::Global;
@@ -13,7 +13,7 @@ use std::marker::Model;
 
 /// What falls due, and when: for each kind of each line one moment at most, in ms. Line 0 is the gateway itself.
 ///
-/// A contract sees how many lines there are, and the entries that are set (`DueState`). All memory is taken by `new`
+/// A contract sees how many lines there are, and the items that are set (`DueState`). All memory is taken by `new`
 /// and `try_copy`.
 #[derive(Drop)]
 pub struct Due {
@@ -42,27 +42,26 @@ impl Due {
         Ok(Due { lines, winners })
     }
 
-    /// Whether the table has a place for the kind on the line: the line is one of its lines, or 0, and a signal is one of
-    /// the table of signals.
-    pub fn has_place(&self, line: u16, kind: Kind) -> bool
-        ensures { IsTrue result ↔ HasPlace self.now.lines line kind }
+    /// Whether the table has a place for the line: it is one of its lines, or 0.
+    pub fn has_place(&self, line: u16) -> bool
+        ensures { IsTrue result ↔ line ≤ self.now.lines }
     {
-        line <= self.lines && is_known(kind)
+        line <= self.lines
     }
 
     /// Sets the moment, in ms, at which the kind falls due on the line, in place of the one that was set for it.
-    pub fn set(&mut self, line: u16, kind: Kind, moment: u64)
-        requires { HasPlace self.old.lines line kind }
+    pub fn set(&mut self, line: u16, kind: DueKind, moment: u64)
+        requires { line ≤ self.old.lines }
         ensures table { self.new.table ≡ with_moment self.old.table line kind moment }
         ensures lines { self.new.lines ≡ self.old.lines }
     {
         self.winners
-            .put(leaf_of(line, kind), Some(Entry { moment, line, kind }));
+            .put(leaf_of(line, kind), Some(DueItem { moment, line, kind }));
     }
 
     /// Takes out the moment that is set for the kind on the line, where there is one.
-    pub fn clear(&mut self, line: u16, kind: Kind)
-        requires { HasPlace self.old.lines line kind }
+    pub fn clear(&mut self, line: u16, kind: DueKind)
+        requires { line ≤ self.old.lines }
         ensures table { self.new.table ≡ without self.old.table line kind }
         ensures lines { self.new.lines ≡ self.old.lines }
     {
@@ -70,12 +69,12 @@ impl Due {
     }
 
     /// What falls due first, by moment, then by line, then by kind; `None` where nothing is set.
-    pub fn least(&self) -> Option<Entry>
+    pub fn least(&self) -> Option<DueItem>
         ensures least { result ≡ least_of self.now.table }
         // It is set, and nothing that is set comes before it.
         ensures first { IfSome result (IsLeast self.now.table) }
         // So it can be cleared.
-        ensures place { IfSome result (λ entry. HasPlace self.now.lines entry.line entry.kind) }
+        ensures place { IfSome result (λ item. item.line ≤ self.now.lines) }
     {
         self.winners.first()
     }
@@ -93,9 +92,9 @@ impl Due {
 }
 
 // The leaf of a kind of a line: line after line, and for each all kinds.
-fn leaf_of(line: u16, kind: Kind) -> usize
-    requires { signal_place kind < SIGNAL_COUNT }
-    ensures { result ≡ leaf_of line kind }
+fn leaf_of(line: u16, kind: DueKind) -> usize
+    ensures value { result ≡ leaf_of line kind }
+    ensures within { result < (line + 1) * kind_count }
 {
     usize::from(line) * KIND_COUNT + number_of(kind)
 }

@@ -1,48 +1,50 @@
-//! What can fall due of a line.
-ghost use Rattle.std.specs.Prelude.{◌≡◌, ◌↔◌, ◌<◌, IsTrue};
-ghost use Rattle.timers.specs.Order.{signal_place};
-ghost use Rattle.timers.specs.Leaves.{kind_number, kind_count};
+//! What can fall due.
+ghost use Rattle.std.specs.Prelude.{◌≡◌, ◌<◌};
+ghost use Rattle.timers.specs.Order.{place_of, kind_number, kind_count};
 
-/// How many signals the table of signals has.
-pub const SIGNAL_COUNT: u8 = 9;
+use mg_packages::Signal;
 
-/// What falls due of a line. Kinds are in the order in which they happen where they fall due at one moment (this
+/// What can fall due on a line, in the order in which it happens where several are due at one moment.
+#[derive(Clone, Copy, Debug, PartialEq, Eq)]
+pub enum LineDue {
+    /// Timer T ends (RFC 3435, 2.1.5): the event D/T.
+    DigitTimer,
+    /// An active signal ends by its time; of several the first in the order of the table (RFC 3435, 2.1.7).
+    SignalEnd(Signal),
+}
+
+/// What can fall due, in the order in which it happens where several kinds are due on one line at one moment (this
 /// gateway's profile).
-#[derive(Clone, Copy, PartialEq, Eq, PartialOrd, Ord)]
-pub enum Kind {
-    /// Timer T of the digits (RFC 3435, 2.1.5).
-    Timer,
-    /// The end of a signal, which has this place in the table of signals (2.1.7).
-    Signal(u8),
-    /// The next repeat of the message in flight, or that it is given up (3.5.3, 4.3).
-    Message,
-    /// The end of the wait before an announcement (4.4.6, 4.4.7).
-    Announcement,
+#[derive(Clone, Copy, Debug, PartialEq, Eq)]
+pub enum DueKind {
+    /// Of a line: timer T ends, or a signal does.
+    OfLine(LineDue),
+    /// A command in flight is sent again, or given up (RFC 3435, 3.5.3). This can fall due of the gateway itself too.
+    Resend,
+    /// A line announces itself (RFC 3435, 4.4.6 and 4.4.7), and so does the gateway itself.
+    Announce,
 }
 
 /// How many kinds a line has.
-pub(crate) const KIND_COUNT: usize = SIGNAL_COUNT as usize + 3;
+pub(crate) const KIND_COUNT: usize = 12;
 
-// Whether it is no signal, or one of the table of signals.
-pub(crate) fn is_known(kind: Kind) -> bool
-    ensures { IsTrue result ↔ (signal_place kind < SIGNAL_COUNT) }
+// The place of a signal in the table of signals.
+fn place_of(signal: Signal) -> usize
+    ensures value { result ≡ place_of signal }
+    ensures within { result < 9 }
 {
-    match kind {
-        Kind::Signal(place) => place < SIGNAL_COUNT,
-        Kind::Timer | Kind::Message | Kind::Announcement => true,
-    }
+    signal as usize
 }
 
 // Where a kind stands among all kinds of a line.
-pub(crate) fn number_of(kind: Kind) -> usize
-    requires { signal_place kind < SIGNAL_COUNT }
+pub(crate) fn number_of(kind: DueKind) -> usize
     ensures number { result ≡ kind_number kind }
     ensures within { result < kind_count }
 {
     match kind {
-        Kind::Timer => 0,
-        Kind::Signal(place) => 1 + usize::from(place),
-        Kind::Message => 1 + usize::from(SIGNAL_COUNT),
-        Kind::Announcement => 2 + usize::from(SIGNAL_COUNT),
+        DueKind::OfLine(LineDue::DigitTimer) => 0,
+        DueKind::OfLine(LineDue::SignalEnd(signal)) => 1 + place_of(signal),
+        DueKind::Resend => 10,
+        DueKind::Announce => 11,
     }
 }

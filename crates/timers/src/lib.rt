@@ -6,12 +6,12 @@
 #![tactic(auto)]
 
 mod due;
-mod entry;
+mod due_item;
 pub mod examples;
 mod kind;
 pub mod laws;
 mod winners;
 
 pub use crate::due::Due;
-pub use crate::entry::{Entry, earlier};
-pub use crate::kind::{Kind, SIGNAL_COUNT};
+pub use crate::due_item::{DueItem, comes_before, earlier};
+pub use crate::kind::{DueKind, LineDue};

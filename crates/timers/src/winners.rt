@@ -1,13 +1,13 @@
-//! Which of many entries falls due first.
+//! Which of many items falls due first.
 ghost use Rattle.std.specs.Prelude.{◌≡◌, ◌<◌, ◌^◌, length, replicate, slice_set, IfOk, None};
 ghost use Rattle.timers.specs.Leaves.{first_of};
 
-use crate::entry::{Entry, earlier, is_same};
+use crate::due_item::{DueItem, earlier, is_same};
 use mg_bytes::OutOfMemory;
 use std::alloc::Global;
 use std::marker::Model;
 
-/// So many leaves, each with an entry or with none, and the first of all entries: a tree of winners, each node the
+/// So many leaves, each with an item or with none, and the first of all items: a tree of winners, each node the
 /// earlier of its two children, with the leaves behind the nodes.
 ///
 /// A contract sees the leaves. Only `new` and `try_copy` take memory.
@@ -15,15 +15,15 @@ use std::marker::Model;
 pub(crate) struct Winners {
     leaves: usize,
     // The root is node 1; the children of node i are 2 i and 2 i + 1.
-    nodes: Vec<Option<Entry>>,
+    nodes: Vec<Option<DueItem>>,
 }
 
 impl Model for Winners {
     ghost use Rattle.std.specs.Prelude.{List, Option, drop};
-    ghost use Rattle.timers.specs.declared.entry.Entry.{Entry};
+    ghost use Rattle.timers.specs.declared.due_item.DueItem.{DueItem};
     ghost use Rattle.timers.specs.Leaves.{IsTree};
 
-    ghost Value = { List (Option Entry) };
+    ghost Value = { List (Option DueItem) };
 
     ghost view = { λ w. drop w.leaves w.nodes.items };
 
@@ -43,12 +43,12 @@ impl Winners {
     }
 
     /// A leaf has this now.
-    pub(crate) fn put(&mut self, leaf: usize, entry: Option<Entry>)
+    pub(crate) fn put(&mut self, leaf: usize, item: Option<DueItem>)
         requires { leaf < length self.old }
-        ensures { self.new ≡ slice_set self.old leaf entry }
+        ensures { self.new ≡ slice_set self.old leaf item }
     {
         let mut node = self.leaves + leaf;
-        self.nodes[node] = entry;
+        self.nodes[node] = item;
         node /= 2;
         while node > 0 {
             let winner = earlier(self.nodes[2 * node], self.nodes[2 * node + 1]);
@@ -62,7 +62,7 @@ impl Winners {
     }
 
     /// What falls due first.
-    pub(crate) fn first(&self) -> Option<Entry>
+    pub(crate) fn first(&self) -> Option<DueItem>
         ensures { result ≡ first_of self.now }
     {
         self.nodes[1]

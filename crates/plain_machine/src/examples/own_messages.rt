@@ -2,7 +2,7 @@
 #![tactic(auto, unfolding(crate::proofs::Computing::on_examples))]
 
 ghost use Rattle.std.specs.Prelude.{◌≡◌, ◌++◌, codes, [], ◌∷◌, option_map, true, false, None, Some};
-ghost use Rattle.mg_line.specs.declared.due.LineDue.TheVariants as ends;
+ghost use Rattle.timers.specs.declared.kind.LineDue.TheVariants as ends;
 ghost use Rattle.restart.specs.declared.restart.Restart.TheVariants.{Waiting, Announced};
 ghost use Rattle.plain_machine.specs.Effect.{silently};
 ghost use Rattle.plain_machine.specs.Event.{tick};

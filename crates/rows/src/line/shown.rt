@@ -1,10 +1,11 @@
 //! What can be read of a line, as rows say it.
 use crate::texts::words_of;
 use event_syntax::{write_handling, write_observed};
-use mg_line::{Line, LineDue, Notice};
+use mg_line::{Line, Notice};
 use mg_packages::{Hook, signal_name};
 use std::alloc::Global;
 use std::io;
+use timers::LineDue;
 
 /// A notification, where there is one: its X, a blank and its O.
 pub fn told(alloc: Global, notice: Option<&Notice>) -> io::Result<String> {

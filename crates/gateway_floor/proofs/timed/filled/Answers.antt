@@ -1,5 +1,5 @@
 use Rattle.std.proofs.Common.{rules, arith, ◌≡◌, ◌∙◌, ◌+◌, ◌<◌, ◌≤◌, length, Option, ap, refl}
-use Rattle.plain_machine.specs.declared.due_item.DueItem.{DueItem}
+use Rattle.timers.specs.declared.due_item.DueItem.{DueItem}
 use Rattle.timers.specs.Table.{DueState}
 use Rattle.gateway_floor.specs.DueTable.{entered}
 use Rattle.gateway_floor.proofs.DueLemmas.{filled_first, filled_next, all_filled}

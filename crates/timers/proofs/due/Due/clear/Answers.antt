@@ -12,6 +12,6 @@ invariant_of-self c =
 pub returns-clause-table : goal.returns-clause-table
 returns-clause-table c =
     ap set_in c.put.ensures
-    ∙ set_in-cleared 0 c.leaf_of.result c.self.inside.winners c.args.line c.args.kind c.requires.known
-    (omega (arith, c.leaf_of.ensures)) c.self.invariant.placed
+    ∙ set_in-cleared 0 c.leaf_of.result c.self.inside.winners c.args.line c.args.kind
+    (omega (arith, c.leaf_of.ensures.value)) c.self.invariant.placed
     ∙ ap (λ (state : DueState). without state.table c.args.line c.args.kind) c.self.view_is

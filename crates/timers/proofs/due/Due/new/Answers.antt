@@ -1,6 +1,7 @@
 use Rattle.std.proofs.Common.{ap, ◌∙◌, ◌+◌, ◌*◌, replicate, None}
 use Rattle.timers.specs.Table.{Table, DueState}
-use Rattle.timers.specs.Leaves.{kind_count, set_in}
+use Rattle.timers.specs.Order.{kind_count}
+use Rattle.timers.specs.Leaves.{set_in}
 use Rattle.timers.proofs.LeavesLemmas.{kept_none, set_in-none}
 use Rattle.timers.proofs.due.Due.new.Goals as goal
 

@@ -15,10 +15,10 @@ loop-node-init c =
       some = c.self.invariant.some;
       few = c.self.invariant.few;
       within = omega arith;
-      tree = leaf_changed leaves (leaves + c.args.leaf) nodes c.args.entry c.self.invariant (omega arith);
+      tree = leaf_changed leaves (leaves + c.args.leaf) nodes c.args.item c.self.invariant (omega arith);
       leaves =
-          drop-set-add leaves nodes c.args.leaf c.args.entry
-          ∙ ap (λ x. slice_set x c.args.leaf c.args.entry) c.self.view_is;
+          drop-set-add leaves nodes c.args.leaf c.args.item
+          ∙ ap (λ x. slice_set x c.args.leaf c.args.item) c.self.view_is;
     }
 
 pub loop-node-preserved : goal.loop-node-preserved

@@ -10,7 +10,7 @@ invariant-loop-node l = record {
   few : l.self-inside.leaves < 2 ^ 32;
   within : l.node < l.self-inside.leaves;
   tree : IsTreeBut l.node l.self-inside.leaves l.self-inside.nodes.items;
-  leaves : drop l.self-inside.leaves l.self-inside.nodes.items ≡ slice_set l.fn.self l.leaf l.fn.entry;
+  leaves : drop l.self-inside.leaves l.self-inside.nodes.items ≡ slice_set l.fn.self l.leaf l.fn.item;
 }
 
 abbrev pub decreases-loop-node : goal.decreases-loop-node
