@@ -1,10 +1,10 @@
 -- How the program ends: its exit status, and what it writes on standard error.
 use Rattle.std.specs.Prelude.{ℕ, ◌≡◌, codes, decimal, List, [], ◌++◌, Option, Result, Ok, Err, IfSome, IsOk}
-use Rattle.rgw_play.specs.declared.played.PlayFault.{PlayFault}
-use Rattle.rgw_play.specs.declared.played.PlayFault.TheVariants.{OutOfMemory, Read, Write, Config, Script}
-use Rattle.rgw_play.specs.Printing.{printed_line}
-use Rattle.rgw_play.specs.Fault.{name_of_config_fault}
-use Rattle.rgw_play.specs.Play.{judged, PlaysInto, Explains}
+use Rattle.rgw_scripts.specs.declared.played.PlayFault.{PlayFault}
+use Rattle.rgw_scripts.specs.declared.played.PlayFault.TheVariants.{OutOfMemory, Read, Write, Config, Script}
+use Rattle.rgw_scripts.specs.Printing.{printed_line}
+use Rattle.rgw_scripts.specs.Fault.{name_of_config_fault}
+use Rattle.rgw_scripts.specs.Play.{judged, PlaysInto, Explains}
 use Rattle.rgw_cli.specs.declared.words.Task.{Task}
 use Rattle.rgw_cli.specs.declared.words.Task.TheVariants.{Simulate, Loopback}
 use Rattle.rgw_cli.specs.declared.words.WordFault.{WordFault}

@@ -2,7 +2,7 @@
 #![tactic(auto, unfolding(crate::proofs::Computing::on_examples))]
 
 ghost use Rattle.std.specs.Prelude.{◌≡◌, codes, []};
-ghost use Rattle.rgw_play.specs.declared.played.PlayFault.TheVariants as faults;
+ghost use Rattle.rgw_scripts.specs.declared.played.PlayFault.TheVariants as faults;
 ghost use Rattle.rgw_cli.specs.declared.ending.Ending.TheVariants as endings;
 ghost use Rattle.rgw_cli.specs.Ending.{status_of, error_text};
 

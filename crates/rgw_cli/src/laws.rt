@@ -1,10 +1,10 @@
 //! What an ending says of the input.
 ghost use Rattle.std.specs.Prelude.{◌≡◌, ◌++◌, ℕ, List, Option, Some, Ok, Err, IsOk};
 ghost use Rattle.std.specs.List.{flat_map};
-ghost use Rattle.rgw_play.specs.declared.played.PlayFault.{PlayFault};
-ghost use Rattle.rgw_play.specs.declared.played.PlayFault.TheVariants as faults;
-ghost use Rattle.rgw_play.specs.Moves.{printed};
-ghost use Rattle.rgw_play.specs.Play.{Scene, judged, shown};
+ghost use Rattle.rgw_scripts.specs.declared.played.PlayFault.{PlayFault};
+ghost use Rattle.rgw_scripts.specs.declared.played.PlayFault.TheVariants as faults;
+ghost use Rattle.rgw_scripts.specs.Moves.{printed};
+ghost use Rattle.rgw_scripts.specs.Play.{Scene, judged, shown};
 ghost use Rattle.rgw_cli.specs.declared.words.Task.TheVariants as tasks;
 ghost use Rattle.rgw_cli.specs.declared.words.WordFault.TheVariants as word_faults;
 ghost use Rattle.rgw_cli.specs.declared.ending.Ending.{Ending};

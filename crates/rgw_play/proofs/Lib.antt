@@ -1,8 +1,1 @@
-pub mod WholeInput
-pub mod PartLemmas
-pub mod ConfigLemmas
 pub mod PlayLemmas
-pub mod JudgedLemmas
-pub mod HexLemmas
-pub mod ScriptLaws
-pub mod Computing

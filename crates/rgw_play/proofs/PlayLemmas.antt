@@ -18,9 +18,10 @@ use Rattle.gateway_core.specs.Stands.{Stands, Took}
 use Rattle.plain_machine.specs.Refusing.{tick_refusal, refusal_of, Ends}
 use Rattle.plain_machine.specs.Lists.{plain}
 use Rattle.plain_machine.proofs.EndLaws.{ends_fine, ends_cause}
-use Rattle.rgw_play.specs.declared.step.Step.{Step}
-use Rattle.rgw_play.specs.Status.{LineStatus, status_of}
-use Rattle.rgw_play.specs.Moves.{Move, give, pass, ask, moves_of_wait, moves_of, all_moves, Shown, sends, refuses, tells, Went, given, move_went, went, followed, printed, is_refused}
+use Rattle.rgw_scripts.specs.declared.step.Step.{Step}
+use Rattle.rgw_scripts.specs.Status.{LineStatus, status_of}
+use Rattle.rgw_scripts.specs.Moves.{Move, give, pass, ask, moves_of_wait, moves_of, all_moves, Shown, sends, refuses, tells, given, move_went, went, printed, is_refused}
+use Rattle.rgw_scripts.proofs.MoveLemmas.{went_more}
 use Rattle.rgw_play.specs.declared.player.Player.{Player}
 use Rattle.rgw_play.specs.Player.{Prints, Moved, Finishes}
 
@@ -38,21 +39,6 @@ flat_more f (x ∷ xs) ys = ap (λ (s : List ℕ). f x ++ s) (flat_more f xs ys)
 
 count_more : (xs ys : List Shown) → count_by is_refused (xs ++ ys) ≡ count_by is_refused xs + count_by is_refused ys
 count_more xs ys = sum_by-append (λ (s : Shown). cond (is_refused s) 1 0) xs ys
-
-followed_more : (first : Went) (second third : List GatewayEvent → Went) → followed (followed first second) third ≡ followed first (λ taken. followed (second taken) third)
-followed_more first second third =
-    let middle : Went = second first.taken in
-    let last : Went = third middle.taken in
-    ap (λ (s : List Shown). record { shown = s; taken = last.taken }) (append_assoc first.shown middle.shown last.shown)
-
--- moves, and then more
-pub went_more : (setup : Setup) (before : List GatewayEvent) (xs ys : List Move) → went setup before (xs ++ ys) ≡ followed (went setup before xs) (λ taken. went setup taken ys)
-unfolding went
-went_more setup before [] ys = refl
-went_more setup before (x ∷ xs) ys =
-    let first : Went = move_went setup before x in
-    ap (λ (next : Went). followed first (λ (taken : List GatewayEvent). next)) (went_more setup first.taken xs ys)
-    ∙ sym (followed_more first (λ taken. went setup taken xs) (λ taken. went setup taken ys))
 
 -- one thing is shown
 pub prints_one : (p q : Player) (shown : Shown) → q.out.items ≡ p.out.items ++ printed shown → q.refused ≡ p.refused + cond (is_refused shown) 1 0 → Prints p (shown ∷ []) q

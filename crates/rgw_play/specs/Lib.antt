@@ -1,12 +1,1 @@
-pub use Rattle.toml.specs.View
-pub mod Input
-pub mod Configuration
-pub mod SettingsSeen
-pub mod Script
-pub mod Status
-pub mod Printing
-pub mod Moves
 pub mod Player
-pub mod Fault
-pub mod Play
-pub mod Example

@@ -7,7 +7,7 @@ use Rattle.plain_machine.specs.declared.refusal.Refusal.TheVariants.{OutOfMemory
 use Rattle.plain_machine.specs.Event.{GatewayEvent}
 use Rattle.gateway_core.specs.Stands.{Stands}
 use Rattle.rgw_play.specs.declared.player.Player.{Player}
-use Rattle.rgw_play.specs.Moves.{Move, Shown, sends, refuses, went, printed, is_refused}
+use Rattle.rgw_scripts.specs.Moves.{Move, Shown, sends, refuses, went, printed, is_refused}
 
 -- what is shown is printed after p's text, and its refusals are counted
 pub record Prints (p : Player) (shown : List Shown) (q : Player) : Type 0 where

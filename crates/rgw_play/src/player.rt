@@ -1,15 +1,12 @@
 //! Plays steps at a gateway, and prints what they show.
 ghost use Rattle.std.specs.Prelude.{◌≡◌, ◌≤◌, ◌∷◌, [], length, OnOk, replicate};
 ghost use Rattle.plain_machine.specs.Event.{datagram, event_of};
-ghost use Rattle.rgw_play.specs.Moves.{give, pass, ask, sends, refuses, moves_of_wait, moves_of, all_moves};
+ghost use Rattle.rgw_scripts.specs.Moves.{give, pass, ask, sends, refuses, moves_of_wait, moves_of, all_moves};
 
-use crate::link::Link;
-use crate::played::StepFault;
-use crate::printing::{put_datagrams, put_line, put_refusal};
 use crate::status::status_of;
-use crate::step::Step;
 use gateway_core::{Event, Gateway, Outputs, Refusal};
 use mg_bytes::OutOfMemory;
+use rgw_scripts::{Link, Step, StepFault, put_datagrams, put_line, put_refusal};
 use std::alloc::Global;
 use std::net::SocketAddrV4;
 
@@ -154,7 +151,7 @@ impl Player {
     }
 
     // Plays a step.
-    #[tactic(auto, unfolding(crate::specs::Moves::moves_of))]
+    #[tactic(auto, unfolding(rgw_scripts::specs::Moves::moves_of))]
     fn step<L: Link>(&mut self, link: &mut L, step: &Step) -> Result<(), StepFault<L::Fault>>
         ensures { OnOk result (Moved self.old (moves_of step.now) self.new) }
     {

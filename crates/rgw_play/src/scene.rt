@@ -2,17 +2,13 @@
 ghost use Rattle.std.specs.Prelude.{◌≡◌, ◌≢◌, List, [], Ok, ℕ, Result, IfOk, IfErr, option_and_then};
 ghost use Rattle.plain_machine.specs.Setup.{key_at_fault};
 ghost use Rattle.gateway_core.specs.Stands.{Stands};
-ghost use Rattle.rgw_play.specs.declared.step.Step.{Step};
-ghost use Rattle.rgw_play.specs.Configuration.{config_in};
-ghost use Rattle.rgw_play.specs.Play.{scene_of, configured, judged, Explains};
+ghost use Rattle.rgw_scripts.specs.declared.step.Step.{Step};
+ghost use Rattle.rgw_scripts.specs.Configuration.{config_in};
+ghost use Rattle.rgw_scripts.specs.Play.{scene_of, configured, judged, Explains};
 
-use crate::input::parts_of;
-use crate::script::{ScriptFault, read_script};
-use crate::settings::read_config;
-use crate::step::Step;
-use crate::{LIMIT, PlayFault};
 use gateway_core::{ConfigFault, ConfigKey, Gateway, key_at_fault};
 use mg_bytes::OutOfMemory;
+use rgw_scripts::{PlayFault, ScriptFault, Step, is_too_long, parts_of, read_config, read_script};
 use std::alloc::Global;
 
 // The number of the fault that a configuration can't be read.
@@ -68,7 +64,7 @@ pub fn judge(alloc: Global, input: &[u8]) -> Result<Scene, PlayFault>
     ensures err { IfErr result (λ fault. Explains fault (judged input.now)) }
     ensures no_stream { IfErr result (λ fault. (fault ≢ PlayFault.Read) × (fault ≢ PlayFault.Write)) }
 {
-    if input.len() > LIMIT {
+    if is_too_long(input) {
         return Err(PlayFault::Script { line: 0 });
     }
     let parts = parts_of(input);

@@ -1,16 +1,13 @@
 //! A play: reads an input, judges it, plays its steps and writes what they show.
 ghost use Rattle.std.specs.Prelude.{◌≡◌, ◌≢◌, [], Ok, IfOk, IfErr, IfSome};
 ghost use Rattle.gateway_core.specs.Stands.{Stands};
-ghost use Rattle.rgw_play.specs.Play.{judged, Plays, PlaysInto, Explains, ExplainsLink};
+ghost use Rattle.rgw_scripts.specs.Play.{judged, Plays, PlaysInto, Explains, ExplainsLink};
 
-use crate::input::read_limited;
-use crate::link::{Direct, Link};
-use crate::played::{LinkFault, StepFault};
 use crate::player::Player;
 use crate::scene::{Scene, judge};
 use crate::sockets::{BindFault, Sockets};
-use crate::{PlayFault, Played};
 use gateway_core::WireFault;
+use rgw_scripts::{Direct, Link, LinkFault, PlayFault, Played, StepFault, read_limited};
 use std::alloc::Global;
 use std::io::{Read, Write};
 use std::net::Net;

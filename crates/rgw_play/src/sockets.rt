@@ -1,8 +1,8 @@
 //! Two UDP sockets of this host, one the call agent's and one the gateway's.
 ghost use Rattle.std.specs.Prelude.{◌≡◌, IfOk};
 
-use crate::link::Link;
 use gateway_core::WireFault;
+use rgw_scripts::Link;
 use std::alloc::{AllocError, Global};
 use std::io;
 use std::net::{Ipv4Addr, Net, SocketAddrV4, UdpSocket};

@@ -1,42 +1,12 @@
-//! What a line is when it is shown.
+//! What a line of a gateway is.
 ghost use Rattle.std.specs.Prelude.{◌≡◌, ◌≤◌, List, Some};
 ghost use Rattle.plain_machine.specs.Event.{GatewayEvent};
 ghost use Rattle.plain_machine.specs.Lists.{plain};
 ghost use Rattle.gateway_core.specs.Stands.{Stands};
-ghost use Rattle.rgw_play.specs.Status.{status_of};
+ghost use Rattle.rgw_scripts.specs.Status.{status_of};
 
-use arrayvec::ArrayVec;
-use connections::Connection;
 use gateway_core::Gateway;
-use mg_line::Hook;
-use signals::ActiveSignal;
-use std::marker::Model;
-
-/// What a line is, as the gateway's readers tell it. A contract sees its lists.
-#[derive(Drop)]
-pub struct LineStatus<'a> {
-    pub line: u16,
-    pub hook: Hook,
-    pub signals: ArrayVec<ActiveSignal, 9>,
-    /// What its places hold.
-    pub connections: &'a [Option<Connection>],
-    /// How many events found no room.
-    pub lost: u64,
-}
-
-impl<'a> Model for LineStatus<'a> {
-    ghost use Rattle.rgw_play.specs.Status.{LineStatus};
-
-    ghost Value = { LineStatus };
-
-    ghost view = { λ s. record {
-      line = s.line;
-      hook = s.hook;
-      signals = s.signals.items;
-      connections = s.connections.now;
-      lost = s.lost;
-    } };
-}
+use rgw_scripts::LineStatus;
 
 /// What a line, from 1 to the number of lines, is.
 pub fn status_of(gateway: &Gateway, line: u16) -> LineStatus<'_>

@@ -1,4 +1,4 @@
-use Rattle.rgw_play.proofs.JudgedLemmas.{explains_whole, plays_whole}
+use Rattle.rgw_scripts.proofs.JudgedLemmas.{explains_whole, plays_whole}
 use Rattle.rgw_play.proofs.session.play.Goals as goal
 
 pub returns-clause-explained : goal.returns-clause-explained

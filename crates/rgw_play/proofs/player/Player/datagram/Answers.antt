@@ -1,7 +1,7 @@
 use Rattle.std.proofs.Common.{ℕ, List, [], ◌∷◌, refl, subst}
 use Rattle.std.specs.Prelude.{OnOk}
 use Rattle.plain_machine.specs.Event.{datagram}
-use Rattle.rgw_play.specs.Moves.{give}
+use Rattle.rgw_scripts.specs.Moves.{give}
 use Rattle.rgw_play.specs.Player.{Moved}
 use Rattle.rgw_play.proofs.PlayLemmas.{finished_moved}
 use Rattle.rgw_play.proofs.player.Player.datagram.Goals as goal

@@ -1,5 +1,5 @@
 use Rattle.std.proofs.Common.{take}
-use Rattle.rgw_play.specs.Moves.{all_moves}
+use Rattle.rgw_scripts.specs.Moves.{all_moves}
 use Rattle.rgw_play.specs.Player.{Moved}
 use Rattle.rgw_play.proofs.player.Player.play.Given as goal
 

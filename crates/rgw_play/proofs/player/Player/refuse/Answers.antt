@@ -1,5 +1,5 @@
 use Rattle.std.proofs.Common.{refl}
-use Rattle.rgw_play.specs.Moves.{refuses, printed, is_refused}
+use Rattle.rgw_scripts.specs.Moves.{refuses, printed, is_refused}
 use Rattle.rgw_play.proofs.PlayLemmas.{prints_one}
 use Rattle.rgw_play.proofs.player.Player.refuse.Goals as goal
 

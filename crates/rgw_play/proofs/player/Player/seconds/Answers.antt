@@ -1,4 +1,4 @@
-use Rattle.rgw_play.specs.Moves.{pass}
+use Rattle.rgw_scripts.specs.Moves.{pass}
 use Rattle.rgw_play.proofs.PlayLemmas.{moved_nothing, moved_again}
 use Rattle.rgw_play.proofs.player.Player.seconds.Goals as goal
 

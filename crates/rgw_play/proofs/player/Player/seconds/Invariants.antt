@@ -1,5 +1,5 @@
 use Rattle.std.specs.Prelude.{replicate}
-use Rattle.rgw_play.specs.Moves.{pass}
+use Rattle.rgw_scripts.specs.Moves.{pass}
 use Rattle.rgw_play.specs.Player.{Moved}
 use Rattle.rgw_play.proofs.player.Player.seconds.Given as goal
 

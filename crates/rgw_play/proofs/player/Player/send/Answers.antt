@@ -1,5 +1,5 @@
 use Rattle.std.proofs.Common.{sym, add-zero}
-use Rattle.rgw_play.specs.Moves.{sends, printed, is_refused}
+use Rattle.rgw_scripts.specs.Moves.{sends, printed, is_refused}
 use Rattle.rgw_play.proofs.PlayLemmas.{prints_one}
 use Rattle.rgw_play.proofs.player.Player.send.Goals as goal
 

@@ -1,5 +1,5 @@
 use Rattle.std.proofs.Common.{refl, sym, add-zero}
-use Rattle.rgw_play.specs.Moves.{tells, printed, is_refused}
+use Rattle.rgw_scripts.specs.Moves.{tells, printed, is_refused}
 use Rattle.rgw_play.proofs.PlayLemmas.{prints_one, told_moved}
 use Rattle.rgw_play.proofs.player.Player.tell.Goals as goal
 

@@ -1,8 +1,0 @@
-use Rattle.rgw_play.proofs.JudgedLemmas.{judged-long, judged-short}
-use Rattle.rgw_play.proofs.laws.faults_come_in_their_order.Goals as goal
-
-pub returns-clause-long : goal.returns-clause-long
-returns-clause-long c = judged-long
-
-pub returns-clause-short : goal.returns-clause-short
-returns-clause-short c = judged-short

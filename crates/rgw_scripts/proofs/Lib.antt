@@ -1,0 +1,8 @@
+pub mod WholeInput
+pub mod PartLemmas
+pub mod ConfigLemmas
+pub mod MoveLemmas
+pub mod JudgedLemmas
+pub mod HexLemmas
+pub mod ScriptLaws
+pub mod Computing

@@ -1,0 +1,31 @@
+//! What an input says, and what is printed of a play: a configuration, the steps of a script, and what they show.
+//!
+//! Nothing here has a gateway. What the steps show is what the plain machine does (`plain_machine`); `rgw_play` plays them
+//! at a gateway.
+#![tactic(auto)]
+
+mod acts;
+pub mod examples;
+mod input;
+pub mod laws;
+mod link;
+mod played;
+mod printing;
+mod script;
+mod settings;
+mod status;
+mod step;
+mod words;
+
+pub use crate::input::{Parts, is_too_long, parts_of, read_limited};
+pub use crate::link::{Direct, Link};
+pub use crate::played::{LinkFault, PlayFault, Played, StepFault, name_of_config_fault};
+pub use crate::printing::{put_datagrams, put_line, put_refusal};
+pub use crate::script::{ScriptFault, read_script};
+pub use crate::settings::read_config;
+pub use crate::status::LineStatus;
+pub use crate::step::{ScriptLine, Step};
+pub use crate::words::line_in;
+
+/// How many bytes of input are taken.
+pub const LIMIT: usize = 1_048_576;

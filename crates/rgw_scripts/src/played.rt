@@ -1,0 +1,84 @@
+//! What a play answers.
+ghost use Rattle.std.specs.Prelude.{◌≡◌};
+ghost use Rattle.rgw_scripts.specs.Fault.{name_of_config_fault};
+
+use mg_bytes::OutOfMemory;
+use plain_machine::ConfigFault;
+
+/// Why an input was not played, or not to its end.
+#[derive(Clone, Copy, Debug, PartialEq, Eq)]
+pub enum PlayFault {
+    /// Memory was refused.
+    OutOfMemory,
+    /// The reader failed.
+    Read,
+    /// The writer failed.
+    Write,
+    /// The configuration is refused: 2 to 6 as the gateway counts its faults, and 7 where it can't be read.
+    Config { number: u8 },
+    /// This line of the script is no step, counted from 1; 0 where the input is too long.
+    Script { line: u64 },
+}
+
+/// Why a step was not played to its end: the network may fail too.
+#[derive(Clone, Copy, Debug, PartialEq, Eq)]
+pub enum StepFault<F> {
+    /// Memory was refused.
+    OutOfMemory,
+    /// The network failed so.
+    Link(F),
+}
+
+impl<F> From<OutOfMemory> for StepFault<F> {
+    fn from(_e: OutOfMemory) -> StepFault<F> {
+        StepFault::OutOfMemory
+    }
+}
+
+/// Why an input was not played over a network, or not to its end.
+#[derive(Clone, Copy, Debug, PartialEq, Eq)]
+pub enum LinkFault<F> {
+    /// As without a network.
+    Play(PlayFault),
+    /// The network failed so.
+    Link(F),
+}
+
+/// What was played.
+#[derive(Clone, Copy, Debug, PartialEq, Eq)]
+pub struct Played {
+    /// The steps of the script.
+    pub commands: u64,
+    /// The steps that the gateway refused.
+    pub refused: u64,
+}
+
+impl From<OutOfMemory> for PlayFault {
+    ghost use Rattle.rgw_scripts.specs.declared.played.PlayFault.TheVariants as play_faults;
+
+    ghost from_gives = { λ _ fault. fault ≡ play_faults.OutOfMemory };
+
+    fn from(_e: OutOfMemory) -> PlayFault {
+        PlayFault::OutOfMemory
+    }
+}
+
+const CONFIG_FAULTS: [ConfigFault; 5] = [
+    ConfigFault::BadDomain,
+    ConfigFault::BadLines,
+    ConfigFault::BadAgent,
+    ConfigFault::BadWait,
+    ConfigFault::BadMedia,
+];
+
+/// The name of a configuration's fault, which the gateway gives, or `BadToml`.
+pub fn name_of_config_fault(number: u8) -> &'static str
+    ensures { result.now ≡ name_of_config_fault number }
+{
+    for fault in CONFIG_FAULTS {
+        if fault.number() == number {
+            return fault.name();
+        }
+    }
+    "BadToml"
+}

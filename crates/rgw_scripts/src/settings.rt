@@ -1,0 +1,178 @@
+//! Reads a configuration from TOML.
+ghost use Rattle.std.specs.Prelude.{◌≡◌, IfOk, MatchOption, Some, None, option_map, string_bytes};
+ghost use Rattle.toml.specs.View.{table_view, view};
+ghost use Rattle.toml.specs.Data.{get_member, as_str};
+ghost use Rattle.rgw_scripts.specs.Configuration.{count_of, text_at, number_in, number_at, address_in, address_at, names_from, names_at, settings_of, config_of, config_in};
+ghost use Rattle.rgw_scripts.specs.SettingsSeen.{settings_seen};
+
+use mg_bytes::{OutOfMemory, Sequence, Text, ipv4_address};
+use plain_machine::{Config, NamedAddress};
+use std::alloc::{AllocError, Global};
+use std::net::Ipv4Addr;
+use toml::{Table, Value};
+
+fn key_count(table: &Table) -> usize
+    ensures { result ≡ count_of (table_view table.now) }
+{
+    table.len()
+}
+
+fn value_at<'a>(table: &'a Table, key: &str) -> Option<&'a Value>
+    ensures { option_map (λ v. view v.now) result ≡ get_member key.now (table_view table.now) }
+{
+    table.get(key)
+}
+
+fn text_at<'a>(table: &'a Table, key: &str) -> Option<&'a str>
+    ensures { option_map (λ s. s.now) result ≡ text_at key.now (table_view table.now) }
+{
+    match value_at(table, key) {
+        Some(value) => value.as_str(),
+        None => None,
+    }
+}
+
+// The number that a value is, from 0 to 4,294,967,295.
+fn number_in(value: &Value) -> Option<u32>
+    ensures { result ≡ number_in (view value.now) }
+{
+    match value.as_integer() {
+        Some(integer) => u32::try_from(integer).ok(),
+        None => None,
+    }
+}
+
+fn number_at(table: &Table, key: &str) -> Option<u32>
+    ensures { result ≡ number_at key.now (table_view table.now) }
+{
+    match value_at(table, key) {
+        Some(value) => number_in(value),
+        None => None,
+    }
+}
+
+// The address that a value is the text of.
+fn address_in(value: &Value) -> Option<Ipv4Addr>
+    ensures { result ≡ address_in (view value.now) }
+{
+    match value.as_str() {
+        Some(text) => ipv4_address(text.as_bytes()),
+        None => None,
+    }
+}
+
+fn address_at(table: &Table, key: &str) -> Option<Ipv4Addr>
+    ensures { result ≡ address_at key.now (table_view table.now) }
+{
+    match value_at(table, key) {
+        Some(value) => address_in(value),
+        None => None,
+    }
+}
+
+fn names_at(table: &Table) -> Option<&Table>
+    ensures { option_map (λ t. table_view t.now) result ≡ names_at (table_view table.now) }
+{
+    match value_at(table, "names") {
+        Some(value) => value.as_table(),
+        None => None,
+    }
+}
+
+fn owned(alloc: Global, text: &str) -> Result<Text, OutOfMemory>
+    ensures { IfOk result (λ t. t ≡ text.now) }
+{
+    Ok(Text::of(Vec::from_slice(alloc, text.as_bytes())?))
+}
+
+// The names of a table with their addresses, if each has one.
+#[tactic(auto, unfolding(crate::specs::Configuration::names_from))]
+fn names_of(alloc: Global, table: &Table) -> Result<Option<Sequence<NamedAddress>>, OutOfMemory>
+    ensures { IfOk result (λ found.
+        MatchOption found (names_from (table_view table.now) ≡ None)
+        (λ names. names_from (table_view table.now) ≡ Some names)) }
+{
+    let mut names = Sequence::new(alloc);
+    for (name, value) in table.iter() {
+        let Some(address) = address_in(value) else {
+            return Ok(None);
+        };
+        let name = owned(alloc, name.as_str())?;
+        names.push(NamedAddress { name, address })?;
+    }
+    Ok(Some(names))
+}
+
+// The settings of a document, and the names still as a table.
+#[derive(Clone, Copy)]
+struct Settings<'a> {
+    domain: &'a str,
+    lines: u32,
+    agent: &'a str,
+    restart_wait: u32,
+    disconnected_wait: u32,
+    media_address: Ipv4Addr,
+    media_base: u32,
+    hosts: &'a Table,
+}
+
+// The settings of a document that has each of the eight keys.
+#[tactic(auto, unfolding(crate::specs::Configuration::settings_of))]
+fn settings_of(table: &Table) -> Option<Settings<'_>>
+    ensures { option_map settings_seen result ≡ settings_of (table_view table.now) }
+{
+    Some(Settings {
+        domain: text_at(table, "domain")?,
+        lines: number_at(table, "lines")?,
+        agent: text_at(table, "agent")?,
+        restart_wait: number_at(table, "restart_wait")?,
+        disconnected_wait: number_at(table, "disconnected_wait")?,
+        media_address: address_at(table, "media_address")?,
+        media_base: number_at(table, "media_base")?,
+        hosts: names_at(table)?,
+    })
+}
+
+// The configuration of a document, if it has the eight keys and no ninth.
+#[tactic(auto, unfolding(crate::specs::Configuration::config_of))]
+fn config_of(alloc: Global, table: &Table) -> Result<Option<Config>, OutOfMemory>
+    ensures { IfOk result (λ found.
+        MatchOption found (config_of (table_view table.now) ≡ None)
+        (λ config. config_of (table_view table.now) ≡ Some config)) }
+{
+    if key_count(table) != 8 {
+        return Ok(None);
+    }
+    let Some(settings) = settings_of(table) else {
+        return Ok(None);
+    };
+    let Some(names) = names_of(alloc, settings.hosts)? else {
+        return Ok(None);
+    };
+    Ok(Some(Config {
+        domain: owned(alloc, settings.domain)?,
+        lines: settings.lines,
+        agent: owned(alloc, settings.agent)?,
+        restart_wait: settings.restart_wait,
+        disconnected_wait: settings.disconnected_wait,
+        media_address: settings.media_address,
+        media_base: settings.media_base,
+        names,
+    }))
+}
+
+/// The configuration that a text writes; `None` where it isn't one (7, BadToml).
+#[tactic(auto, unfolding(crate::specs::Configuration::config_in))]
+pub fn read_config(alloc: Global, text: &[u8]) -> Result<Option<Config>, OutOfMemory>
+    ensures { IfOk result (λ found.
+        MatchOption found (config_in text.now ≡ None) (λ config. config_in text.now ≡ Some config)) }
+{
+    let Ok(text) = std::str::from_utf8(text) else {
+        return Ok(None);
+    };
+    match toml::table_from_str(alloc, text) {
+        Ok(table) => config_of(alloc, &table),
+        Err(e) if e.is_memory() => Err(AllocError),
+        Err(_) => Ok(None),
+    }
+}
