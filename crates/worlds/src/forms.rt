@@ -3,7 +3,7 @@ use agent_core::Agent;
 use event_values::write_observed;
 use mg_bytes::Text;
 use mg_line::Act;
-use rgw_play::{ScriptLine, Step, line_in};
+use rgw_scripts::{ScriptLine, Step, line_in};
 use std::alloc::Global;
 use std::io;
 use std::net::SocketAddrV4;
