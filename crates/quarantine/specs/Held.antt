@@ -37,6 +37,10 @@ first_of (event ∷ events) = Some event
 abbrev pub without_first : Held → Held
 without_first held = record held { events = drop 1 held.events }
 
+-- so many are taken out, those that came first; all, where there are no more
+abbrev pub without_front : ℕ → Held → Held
+without_front count held = record held { events = drop count held.events }
+
 -- all events are dropped; they don't count as lost
 abbrev pub cleared : Held → Held
 cleared held = record held { events = [] }

@@ -26,10 +26,10 @@ impl Model for Buffer {
 }
 
 impl Buffer {
-    ghost use Rattle.std.specs.Prelude.{◌≡◌, ◌≢◌, IfOk, IfErr, OnOk, OnErr, length, ◌≤◌};
+    ghost use Rattle.std.specs.Prelude.{◌≡◌, ◌≢◌, ◌<◌, ◌≤◌, ◌^◌, IfOk, IfErr, OnOk, OnErr, length, slice_get};
     ghost use Rattle.std.specs.Map.Iter.{ShowsInOrder, deref};
     ghost use Rattle.event_values.specs.declared.observed.Observed.{Observed};
-    ghost use Rattle.quarantine.specs.Held.{nothing_held, holding, first_of, without_first, cleared};
+    ghost use Rattle.quarantine.specs.Held.{nothing_held, holding, first_of, without_first, without_front, cleared};
 
     /// No events, and room for so many. An error is for want of memory only.
     pub fn new(alloc: Global, room: usize) -> Result<Self, OutOfMemory>
@@ -97,6 +97,35 @@ impl Buffer {
         ensures rest { self.new ≡ without_first self.old }
     {
         self.events.pop_front()
+    }
+
+    /// The event before which so many came; `None` where there is none.
+    pub fn nth(&self, count: usize) -> Option<Observed>
+        ensures value { result ≡ slice_get self.now.events count }
+        ensures few { length self.now.events < 2 ^ 63 }
+    {
+        let _count = self.events.len();
+        match self.events.get(count) {
+            None => None,
+            Some(event) => Some(*event),
+        }
+    }
+
+    /// How many events there are.
+    pub fn count(&self) -> usize
+        ensures value { result ≡ length self.now.events }
+        ensures few { result < 2 ^ 63 }
+    {
+        self.events.len()
+    }
+
+    /// Drops so many events, those that came first; all, where there are no more. They don't count as lost.
+    #[tactic(auto, using(crate::proofs::FrontLemmas::front_dropped))]
+    pub fn drop_front(&mut self, count: usize)
+        ensures { self.new ≡ without_front count self.old }
+    {
+        let left = self.events.len().saturating_sub(count);
+        self.events.truncate_front(left);
     }
 
     /// Drops all events. They don't count as lost.

@@ -2,7 +2,7 @@
 #![tactic(auto, unfolding(crate::proofs::Computing::on_examples))]
 
 ghost use Rattle.std.specs.Prelude.{◌≡◌, [], ◌∷◌, ◌++◌, Some, None, replicate};
-ghost use Rattle.quarantine.specs.Held.{most_lost, nothing_held, holding, first_of, without_first, cleared};
+ghost use Rattle.quarantine.specs.Held.{most_lost, nothing_held, holding, first_of, without_first, without_front, cleared};
 ghost use Rattle.quarantine.specs.Given.{is_taken, coming};
 ghost use Rattle.quarantine.specs.Example.{happened, come, held_of, given_of, holds};
 
@@ -37,6 +37,10 @@ pub fn events_are_taken_from_the_front()
     ensures none { first_of [] ≡ None }
     ensures rest { without_first (holds 4 (Event.OnHook ∷ Event.Flash ∷ []) 3) ≡ holds 4 (Event.Flash ∷ []) 3 }
     ensures rest_of_none { without_first (holds 4 [] 3) ≡ holds 4 [] 3 }
+    ensures front { without_front 2 (holds 4 (Event.OnHook ∷ Event.Flash ∷ Event.OffHook ∷ []) 3)
+        ≡ holds 4 (Event.OffHook ∷ []) 3 }
+    ensures no_front { without_front 0 (holds 4 (Event.OnHook ∷ []) 3) ≡ holds 4 (Event.OnHook ∷ []) 3 }
+    ensures whole_front { without_front 2 (holds 4 (Event.OnHook ∷ []) 3) ≡ holds 4 [] 3 }
     ensures room_again { held_of 1 (come (Event.OnHook ∷ []) ++ is_taken ∷ come (Event.Flash ∷ []))
         ≡ holds 1 (Event.Flash ∷ []) 0 }
     ensures given { given_of 2 (come (Event.OnHook ∷ Event.OffHook ∷ Event.Flash ∷ []) ++ is_taken ∷ is_taken
