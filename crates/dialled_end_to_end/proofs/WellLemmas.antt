@@ -39,17 +39,16 @@ use Rattle.restart.specs.declared.heard.Heard.{Heard}
 use Rattle.restart.specs.declared.heard.Heard.TheVariants.{Nothing, PutOff, Redirected, Answered}
 use Rattle.timers.specs.declared.kind.DueKind.{DueKind}
 use Rattle.timers.specs.declared.kind.DueKind.TheVariants.{OfLine, Resend, Announce}
-use Rattle.plain_machine.specs.declared.own.Own.{Own}
 use Rattle.plain_machine.specs.declared.post.Post.{Post}
 use Rattle.plain_machine.specs.declared.response.Response.{Response}
 use Rattle.plain_machine.specs.declared.setup.Setup.{Setup}
 use Rattle.plain_machine.specs.declared.station.Station.{Station}
 use Rattle.plain_machine.specs.Effect.{Effect}
 use Rattle.plain_machine.specs.Acting.{acted_on}
-use Rattle.plain_machine.specs.Announcing.{announcement, announced, announced_by, announced_on, heard_on, replied}
+use Rattle.plain_machine.specs.Announcing.{announcement, announced, announced_by, announced_on, heard_on, replied, replied_on}
 use Rattle.plain_machine.specs.Answering.{Transaction, executed, transacted_by, handled, took_all}
 use Rattle.plain_machine.specs.Event.{GatewayEvent, datagram, phone, tick}
-use Rattle.plain_machine.specs.Falling.{happened_on, own_happened}
+use Rattle.plain_machine.specs.Falling.{happened_on, happened_under}
 use Rattle.plain_machine.specs.Happening.{effect}
 use Rattle.plain_machine.specs.Lists.{sent_from, sent_of}
 use Rattle.plain_machine.specs.Machine.{Machine, opening, opening_station}
@@ -57,7 +56,7 @@ use Rattle.plain_machine.specs.Message.{Owner, own_of, of_none, Said, answer, ag
 use Rattle.plain_machine.specs.Notifying.{notification, with_notice, noted}
 use Rattle.plain_machine.specs.Posting.{numbers, id_on, line_of_id, repeated_as, resent_by, resent_on}
 use Rattle.plain_machine.specs.Requesting.{with_entity, with_connections, asked_if, deed_on}
-use Rattle.plain_machine.specs.Responding.{acknowledged, response_with, responded_as, responded_on, own_responded, redirected_on, opened_on}
+use Rattle.plain_machine.specs.Responding.{acknowledged, response_with, responded_as, responded_on, redirected_on, opened_on}
 use Rattle.plain_machine.specs.Setup.{IsSetUp, most_lines}
 use Rattle.gateway_laws.proofs.AnnouncementLemmas.{announcement_writable}
 use Rattle.gateway_laws.proofs.CommandLaws.{Sound, OwnSound, sound_turns, sound_own_turns, opening_is_sound, asked_if_done}
@@ -223,15 +222,15 @@ module _ (setup : Setup) (set_up : IsSetUp setup) where
         (opened_well agent line moment station s);
   }
 
-  own_happened_well : (due : DueKind) (moment : ℕ) (own : Own) → OwnSound own → Well (own_happened due setup moment own).sent
-  unfolding own_happened
+  own_happened_well : (due : DueKind) (moment : ℕ) (own : Post) → OwnSound own → Well (happened_under due setup 0 moment own).sent
+  unfolding happened_under
   own_happened_well (OfLine due) moment own can = none_well
-  own_happened_well Resend moment own can = resent_well 0 moment own.post
-  own_happened_well Announce moment own can = announced_on_well 0 moment own.post (omega arith) can.below can.some
+  own_happened_well Resend moment own can = resent_well 0 moment own
+  own_happened_well Announce moment own can = announced_on_well 0 moment own (omega arith) can.below can.some
 
-  own_responded_well : (moment : ℕ) (response : Response) (own : Own) → OwnSound own → Well (own_responded setup moment response own).sent
-  unfolding own_responded
-  own_responded_well moment response own can = replied_well (heard_on own.post response) 0 moment response own.post (omega arith) can.below can.some
+  own_responded_well : (moment : ℕ) (response : Response) (own : Post) → OwnSound own → Well (replied_on setup 0 moment response own).sent
+  unfolding replied_on
+  own_responded_well moment response own can = replied_well (heard_on own response) 0 moment response own (omega arith) can.below can.some
 
   well_own_turns : OwnTurns setup (OnStation setup) OwnSound (IsWell setup)
   well_own_turns = record {

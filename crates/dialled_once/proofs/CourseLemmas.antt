@@ -40,27 +40,27 @@ use Rattle.restart.specs.Restarting.{is_serving}
 use Rattle.timers.specs.declared.kind.DueKind.{DueKind}
 use Rattle.timers.specs.declared.kind.DueKind.TheVariants.{OfLine, Resend, Announce}
 use Rattle.timers.specs.declared.due_item.DueItem.{DueItem}
-use Rattle.plain_machine.specs.declared.own.Own.{Own}
+use Rattle.plain_machine.specs.declared.post.Post.{Post}
 use Rattle.plain_machine.specs.declared.response.Response.{Response}
 use Rattle.plain_machine.specs.declared.setup.Setup.{Setup}
 use Rattle.plain_machine.specs.declared.station.Station.{Station}
 use Rattle.plain_machine.specs.Effect.{Effect, silently, effect_map, afterwards}
 use Rattle.plain_machine.specs.Acting.{acted_on, acted}
-use Rattle.plain_machine.specs.Announcing.{announcement, announced, announced_by, heard_by, heard_on, replied}
+use Rattle.plain_machine.specs.Announcing.{announcement, announced, announced_by, heard_by, heard_on, replied, replied_on}
 use Rattle.plain_machine.specs.Answering.{line_of_name, transaction, executed, transacted_by, handled, took_all}
 use Rattle.plain_machine.specs.Arriving.{TextArrival, arrival, arrivals_at, arrivals_from, clock_after}
 use Rattle.plain_machine.specs.Commanding.{done_by, commanded}
 use Rattle.plain_machine.specs.Done.{Done, only_answer}
 use Rattle.plain_machine.specs.Event.{GatewayEvent, datagram, phone, tick}
-use Rattle.plain_machine.specs.Falling.{due_on, own_due, if_by, happened_on, own_happened, pass}
+use Rattle.plain_machine.specs.Falling.{due_on, post_due, if_by, happened_on, happened_under, pass}
 use Rattle.plain_machine.specs.Flights.{IsClosed, InOrderWhile}
 use Rattle.plain_machine.specs.Happening.{effect}
 use Rattle.plain_machine.specs.Lists.{machine_after, sent_from}
-use Rattle.plain_machine.specs.Machine.{Endpoints, Machine, told_in, serves, station_at, with_own, own_posted, on_line}
+use Rattle.plain_machine.specs.Machine.{Endpoints, Machine, told_in, serves, station_at, with_own, on_line}
 use Rattle.plain_machine.specs.Message.{Owner, answer_of, own_of, Said, answer, again, command as own_command, resent, acknowledgement, is_answer, Sent}
 use Rattle.plain_machine.specs.Posting.{id_on, line_of_id, repeated_as, resent_by}
 use Rattle.plain_machine.specs.Requesting.{refused_by, lines_meant, deed_on, deed_on_all, shown_of, answer_with, unless_refused, deed_done, line_with_place, done_there, done_for}
-use Rattle.plain_machine.specs.Responding.{response_with, responded_on, own_responded, redirected_on, opened_on, on_all, lines_told, own_heard, responded, heard_from}
+use Rattle.plain_machine.specs.Responding.{response_with, responded_on, redirected_on, opened_on, on_all, lines_told, own_heard, responded, heard_from}
 use Rattle.gateway_laws.proofs.FlightLaws.{own_free}
 use Rattle.gateway_laws.proofs.TurnLemmas.{IsFree, happening_serves}
 use Rattle.machine_laws.specs.Waiting.{KeepOrder}
@@ -78,33 +78,33 @@ use Rattle.dialled_once.proofs.StationLemmas.{steps_in, Calls, Goes, act_goes, d
 -- The gateway itself serves on, or not yet
 
 -- while it serves it has nothing in flight, and so it stays at what falls due
-free_happens : (setup : Setup) (due : DueKind) (moment : ℕ) (own : Own) → IsFree own → IsFree (own_happened due setup moment own).value
-unfolding own_happened announced
+free_happens : (setup : Setup) (due : DueKind) (moment : ℕ) (own : Post) → IsFree own → IsFree (happened_under due setup 0 moment own).value
+unfolding happened_under announced
 free_happens setup (OfLine due) moment own free = free
-free_happens setup Resend moment own free = by_serving (is_serving own.post.restart) refl where
-  by_repeat : (flight : InFlight) (repeat : Repeat) → is_serving own.post.restart ≡ false → IsFree (own_posted own (repeated_as repeat setup 0 moment own.post flight)).value
+free_happens setup Resend moment own free = by_serving (is_serving own.restart) refl where
+  by_repeat : (flight : InFlight) (repeat : Repeat) → is_serving own.restart ≡ false → IsFree (repeated_as repeat setup 0 moment own flight).value
   by_repeat flight SentAgain e = λ serving. absurd (let clash : false ≡ true = sym e ∙ serving in cc)
   by_repeat flight GivenUp e = λ serving. absurd cc
 
-  by_pending : (pending : Option InFlight) → is_serving own.post.restart ≡ false → IsFree (own_posted own (resent_by pending setup 0 moment own.post)).value
+  by_pending : (pending : Option InFlight) → is_serving own.restart ≡ false → IsFree (resent_by pending setup 0 moment own).value
   by_pending None e = free
   by_pending (Some flight) e = by_repeat flight (repeat_of flight moment) e
 
-  by_serving : (b : Bool) → is_serving own.post.restart ≡ b → IsFree (own_posted own (resent_by own.post.pending setup 0 moment own.post)).value
-  by_serving true e = subst (λ (pending : Option InFlight). IsFree (own_posted own (resent_by pending setup 0 moment own.post)).value) (sym (free e)) free
-  by_serving false e = by_pending own.post.pending e
-free_happens setup Announce moment own free = by_restart own.post.restart refl where
-  by_restart : (restart : Restart) → own.post.restart ≡ restart → IsFree (own_posted own (announced_by restart setup 0 moment own.post)).value
+  by_serving : (b : Bool) → is_serving own.restart ≡ b → IsFree (resent_by own.pending setup 0 moment own).value
+  by_serving true e = subst (λ (pending : Option InFlight). IsFree (resent_by pending setup 0 moment own).value) (sym (free e)) free
+  by_serving false e = by_pending own.pending e
+free_happens setup Announce moment own free = by_restart own.restart refl where
+  by_restart : (restart : Restart) → own.restart ≡ restart → IsFree (announced_by restart setup 0 moment own).value
   by_restart (Waiting until) e = λ serving. absurd cc
   by_restart Announced e = free
   by_restart Serving e = free
 
-serves_passed : (setup : Setup) (moment : ℕ) (was : Own) (is : Effect Own) → PassesAlone own_due (own_happens setup) moment was is → IsFree was
-    → is_serving is.value.post.restart ≡ is_serving was.post.restart
-serves_passed setup moment was is (rests w t none same) free = ap (λ (t : Effect Own). is_serving t.value.post.restart) same
+serves_passed : (setup : Setup) (moment : ℕ) (was : Post) (is : Effect Post) → PassesAlone (post_due 0) (own_happens setup) moment was is → IsFree was
+    → is_serving is.value.restart ≡ is_serving was.restart
+serves_passed setup moment was is (rests w t none same) free = ap (λ (t : Effect Post). is_serving t.value.restart) same
 serves_passed setup moment was is (goes_on w item rest t some own same) free =
-    ap (λ (t : Effect Own). is_serving t.value.post.restart) same
-    ∙ serves_passed setup moment (own_happened item.kind setup item.moment was).value rest own (free_happens setup item.kind item.moment was free)
+    ap (λ (t : Effect Post). is_serving t.value.restart) same
+    ∙ serves_passed setup moment (happened_under item.kind setup 0 item.moment was).value rest own (free_happens setup item.kind item.moment was free)
     ∙ happening_serves setup item.kind item.moment was free
 
 pub pass_serves : (setup : Setup) (endpoints : Endpoints) (moment : ℕ) → IsFree endpoints.own → serves (pass setup endpoints moment).value ≡ serves endpoints
@@ -212,7 +212,7 @@ module _ (setup : Setup) (H : Response → Type 0) (G : Bool → List Step → L
     is = acted setup endpoints n moment act
 
     served : serves is.value ≡ serves endpoints
-    served = ap (λ (own : Own). is_serving own.post.restart) (own_stays_on endpoints n (acted_on setup n moment act))
+    served = ap (λ (own : Post). is_serving own.restart) (own_stays_on endpoints n (acted_on setup n moment act))
 
     goes : (s : Station) → station_at endpoints line ≡ Some s → G (serves is.value) course sent s
     goes s at = subst (λ (b : Bool). G b course sent s) (sym served) (holds s at)
@@ -260,10 +260,10 @@ module _ (setup : Setup) (H : Response → Type 0) (G : Bool → List Step → L
   all_hold endpoints course sent serving turn goes turned served =
       turns_hold endpoints course sent (turn line) (on_all endpoints turn) turned
       (λ s at. subst (λ (b : Bool). TurnKeeps G b course sent (turn line s))
-      (sym (ap (λ (own : Own). is_serving own.post.restart) (own_stays (lines_meant endpoints All) endpoints turn) ∙ served)) (goes s at))
+      (sym (ap (λ (own : Post). is_serving own.restart) (own_stays (lines_meant endpoints All) endpoints turn) ∙ served)) (goes s at))
 
-  abbrev OwnAs : Heard → Endpoints → ℕ → Response → Effect Own
-  OwnAs heard endpoints moment response = own_posted endpoints.own (replied heard setup 0 moment response endpoints.own.post)
+  abbrev OwnAs : Heard → Endpoints → ℕ → Response → Effect Post
+  OwnAs heard endpoints moment response = replied heard setup 0 moment response endpoints.own
 
   abbrev FirstAs : Heard → Endpoints → ℕ → Response → Effect Endpoints
   FirstAs heard endpoints moment response = effect_map (with_own endpoints) (OwnAs heard endpoints moment response)
@@ -279,29 +279,29 @@ module _ (setup : Setup) (H : Response → Type 0) (G : Bool → List Step → L
 
   own_heard_holds : (endpoints : Endpoints) (course : List Step) (sent : List Sent) (moment : ℕ) (response : Response) → KeepOrder endpoints → Holds course sent endpoints
       → GoesOn course sent (own_heard setup endpoints moment response)
-  unfolding own_responded replied announced announcement
-  own_heard_holds endpoints course sent moment response order holds = by_heard (heard_on endpoints.own.post response) refl where
+  unfolding replied_on replied announced announcement
+  own_heard_holds endpoints course sent moment response order holds = by_heard (heard_on endpoints.own response) refl where
     -- where it serves nothing is in flight
-    not_serving : (heard : Heard) → heard_on endpoints.own.post response ≡ heard → heard ≢ Nothing → serves endpoints ≡ false
+    not_serving : (heard : Heard) → heard_on endpoints.own response ≡ heard → heard ≢ Nothing → serves endpoints ≡ false
     not_serving heard e apart = by_serving (serves endpoints) refl where
       by_serving : (b : Bool) → serves endpoints ≡ b → b ≡ false
-      by_serving true is = absurd (apart (sym e ∙ ap (λ (pending : Option InFlight). heard_by pending endpoints.own.post.restart response) (own_free endpoints.own order.order.own is)))
+      by_serving true is = absurd (apart (sym e ∙ ap (λ (pending : Option InFlight). heard_by pending endpoints.own.restart response) (own_free endpoints.own order.order.own is)))
       by_serving false is = refl
 
-    closed : (heard : Heard) → heard_on endpoints.own.post response ≡ heard → heard ≢ Nothing → (s : Station) → station_at endpoints line ≡ Some s → G false course sent s
+    closed : (heard : Heard) → heard_on endpoints.own response ≡ heard → heard ≢ Nothing → (s : Station) → station_at endpoints line ≡ Some s → G false course sent s
     closed heard e apart s at = subst (λ (b : Bool). G b course sent s) (not_serving heard e apart) (holds s at)
 
-    waiting : (heard : Heard) → heard_on endpoints.own.post response ≡ heard → heard ≢ Nothing → (s : Station) → station_at endpoints line ≡ Some s → IsClosed s
+    waiting : (heard : Heard) → heard_on endpoints.own response ≡ heard → heard ≢ Nothing → (s : Station) → station_at endpoints line ≡ Some s → IsClosed s
     waiting heard e apart s at = subst (λ (b : Bool). InOrderWhile b line s) (not_serving heard e apart) (order.order.lines line s at)
 
-    by_heard : (heard : Heard) → heard_on endpoints.own.post response ≡ heard → GoesOn course sent (HeardAs heard endpoints moment response)
+    by_heard : (heard : Heard) → heard_on endpoints.own response ≡ heard → GoesOn course sent (HeardAs heard endpoints moment response)
     by_heard Nothing e = padded endpoints course sent holds
     by_heard PutOff e = padded endpoints course sent holds
     by_heard (Redirected agent) e =
         let first : Effect Endpoints = FirstAs (Redirected agent) endpoints moment response in
         let next : Effect Endpoints = on_all first.value (redirected_on agent) in
         let apart : Redirected agent ≢ Nothing = λ same. absurd cc in
-        let out : Sent = record { to = agent.address; moment = moment; owner = own_of 0; said = own_command (announcement setup 0 (id_on 0 endpoints.own.post.number)) } in
+        let out : Sent = record { to = agent.address; moment = moment; owner = own_of 0; said = own_command (announcement setup 0 (id_on 0 endpoints.own.number)) } in
         subst (λ (x : List Sent). Holds (course ++ steps_in x) (sent ++ x) next.value) (sym (behind_own out next.sent refl))
         (all_hold first.value course sent false (redirected_on agent)
         (λ s at. turns.redirecting false course sent agent line s (closed (Redirected agent) e apart s at))
@@ -323,7 +323,7 @@ module _ (setup : Setup) (H : Response → Type 0) (G : Bool → List Step → L
         goes : (s : Station) → station_at endpoints line ≡ Some s → G (serves is.value) course sent s
         goes s at =
             subst (λ (b : Bool). G b course sent s)
-            (sym (ap (λ (own : Own). is_serving own.post.restart) (own_stays_on endpoints n (responded_on setup n moment response)))) (holds s at)
+            (sym (ap (λ (own : Post). is_serving own.restart) (own_stays_on endpoints n (responded_on setup n moment response)))) (holds s at)
 
         by_line : (b : Bool) → LineTurns line endpoints (turn_if b (responded_on setup n moment response)) is → GoesOn course sent is
         by_line true turned =
@@ -361,7 +361,7 @@ module _ (setup : Setup) (H : Response → Type 0) (G : Bool → List Step → L
     goes s at = subst (λ (b : Bool). G b course sent s) serving (holds s at)
 
     served : serves whole.told.value ≡ true
-    served = ap (λ (own : Own). is_serving own.post.restart) (own_stays (lines_meant endpoints target) endpoints (deed_on setup deed moment)) ∙ serving
+    served = ap (λ (own : Post). is_serving own.restart) (own_stays (lines_meant endpoints target) endpoints (deed_on setup deed moment)) ∙ serving
 
     by_meant : (b : Bool) → LineTurns line endpoints (turn_if b (deed_on setup deed moment line)) whole.told
         → GoesOn (course ++ (if b && true then accepted deed.request else [])) sent whole.told

@@ -5,7 +5,7 @@ use Rattle.std.specs.Prelude.{slice_set}
 use Rattle.std.specs.Option.{unwrap_or}
 use Rattle.std.specs.Global.{Vec}
 use Rattle.transmission.specs.declared.output.OutDatagram.{OutDatagram}
-use Rattle.plain_machine.specs.declared.own.Own.{Own}
+use Rattle.plain_machine.specs.declared.post.Post.{Post}
 use Rattle.plain_machine.specs.declared.station.Station.{Station}
 use Rattle.plain_machine.specs.Effect.{Effect, silently}
 use Rattle.plain_machine.specs.Machine.{Endpoints, with_station, with_own, on_line, on_own}
@@ -22,11 +22,11 @@ pub floor_is : {e e' f f' : Endpoints} → e ≡ e' → f ≡ f' → ◌≡◌ {
 floor_is same found = rw (same, found) refl
 
 -- the floor with these endpoints, and what was saved
-abbrev pub floor_of : List Saved → Option Own → Endpoints → FloorState
+abbrev pub floor_of : List Saved → Option Post → Endpoints → FloorState
 floor_of log own endpoints = record { endpoints = endpoints; found = found_in log own endpoints }
 
 -- a station is changed
-pub line_changed : (log log' : List Saved) (own : Option Own) (endpoints is : Endpoints) (place line : ℕ) (was becomes : Station) (touched touched' : List Bool) (floor : FloorState)
+pub line_changed : (log log' : List Saved) (own : Option Post) (endpoints is : Endpoints) (place line : ℕ) (was becomes : Station) (touched touched' : List Bool) (floor : FloorState)
     → floor ≡ floor_of log own endpoints → place ≡ line - 1 → was ≡ get_or endpoints.stations place was → IsSavedToo place was touched touched' log log'
     → is ≡ record endpoints { stations = slice_set endpoints.stations place becomes }
     → floor_of log' own is ≡ record floor { endpoints = with_station floor.endpoints line becomes }
@@ -36,13 +36,13 @@ line_changed log log' own endpoints is place line was becomes touched touched' f
     ∙ ap (λ (x : List Station). manned x (unwrap_or own endpoints.own)) (changed_found place was becomes touched touched' log log' endpoints.stations here saved))
     ∙ ap (λ (f : FloorState). let g : FloorState = record f { endpoints = with_station f.endpoints line becomes } in g) (sym view)
 
--- what the gateway keeps for itself is changed
-pub own_changed : (log : List Saved) (saved own : Option Own) (endpoints is : Endpoints) (becomes : Own) (floor : FloorState) → floor ≡ floor_of log saved endpoints
+-- the post of the gateway itself is changed
+pub own_changed : (log : List Saved) (saved own : Option Post) (endpoints is : Endpoints) (becomes : Post) (floor : FloorState) → floor ≡ floor_of log saved endpoints
     → own ≡ Some (unwrap_or saved endpoints.own) → is ≡ with_own endpoints becomes
     → floor_of log own is ≡ record floor { endpoints = with_own floor.endpoints becomes }
 own_changed log saved own endpoints is becomes floor view kept set_is =
     floor_is set_is
-    (ap (λ (o : Option Own). found_in log o is) kept ∙ ap (λ (e : Endpoints). manned (restored log e.stations) (unwrap_or saved endpoints.own)) set_is)
+    (ap (λ (o : Option Post). found_in log o is) kept ∙ ap (λ (e : Endpoints). manned (restored log e.stations) (unwrap_or saved endpoints.own)) set_is)
     ∙ ap (λ (f : FloorState). let g : FloorState = record f { endpoints = with_own f.endpoints becomes } in g) (sym view)
 
 -- a change by a rule of one station
@@ -57,7 +57,7 @@ goes_changed g f line was with r is left turn changes has =
     goes_on_line was.endpoints line changes.station changes.becomes turn was is with.items left.items refl (sym changes.here) turned changes.floor
 
 -- and of the gateway itself
-pub own_goes_changed : {F T : Type 0} (g : Call F Own (Vec OutDatagram) T) (f : F) (was : FloorState) (with : Vec OutDatagram) (r : T) (is : FloorState) (left : Vec OutDatagram) (turn : Own → Effect Own)
+pub own_goes_changed : {F T : Type 0} (g : Call F Post (Vec OutDatagram) T) (f : F) (was : FloorState) (with : Vec OutDatagram) (r : T) (is : FloorState) (left : Vec OutDatagram) (turn : Post → Effect Post)
     → (changes : GatewayChanges g f was with r is left)
     → HasEffect (turn changes.leaves.shown.now) changes.leaves.leaves.now changes.leaves.lent.now.items changes.leaves.back.now.items
     → Goes (on_own was.endpoints turn) was is with.items left.items
@@ -78,7 +78,7 @@ goes_silent g f line was with r is left turn changes same =
     (record { value = ap (λ (t : Effect Station). t.value) turned; sent = rw (sym turned) refl }) changes.floor
 
 -- what was saved last is put back
-pub back_found : (log log' : List Saved) (saved : Saved) (own : Option Own) (was is found : Endpoints) → log ≡ log' ++ saved ∷ []
+pub back_found : (log log' : List Saved) (saved : Saved) (own : Option Post) (was is found : Endpoints) → log ≡ log' ++ saved ∷ []
     → is ≡ record was { stations = slice_set was.stations saved.place saved.station } → found_in log own was ≡ found → found_in log' own is ≡ found
 back_found log log' saved own was is found popped set_is same =
     ap (found_in log' own) set_is
@@ -100,20 +100,20 @@ none_saved log endpoints was none same =
     floor_is same (ap (λ (x : List Station). manned x endpoints.own) (restored_none log endpoints.stations none) ∙ same)
 
 -- all stations are put back, and nothing of the gateway itself was changed
-pub stations_back : (log log' : List Saved) (own own' : Option Own) (endpoints found : Endpoints) → log ≡ [] → log' ≡ [] → own ≡ None → own' ≡ None → found_in log own endpoints ≡ found
+pub stations_back : (log log' : List Saved) (own own' : Option Post) (endpoints found : Endpoints) → log ≡ [] → log' ≡ [] → own ≡ None → own' ≡ None → found_in log own endpoints ≡ found
     → floor_of log' own' endpoints ≡ settled_at found
 stations_back log log' own own' endpoints found none still unsaved gone same =
-    ap (λ (o : Option Own). floor_of log' o endpoints) gone
+    ap (λ (o : Option Post). floor_of log' o endpoints) gone
     ∙ none_saved log' endpoints found still
     (ap (λ (x : List Station). manned x endpoints.own) (sym (restored_none log endpoints.stations none))
-    ∙ ap (λ (o : Option Own). found_in log o endpoints) (sym unsaved) ∙ same)
+    ∙ ap (λ (o : Option Post). found_in log o endpoints) (sym unsaved) ∙ same)
 
--- and what the gateway keeps for itself is put back
-pub own_back : (log log' : List Saved) (own : Own) (saved saved' : Option Own) (endpoints is found : Endpoints) → log ≡ [] → log' ≡ [] → saved ≡ Some own → saved' ≡ None
+-- and the post of the gateway itself is put back
+pub own_back : (log log' : List Saved) (own : Post) (saved saved' : Option Post) (endpoints is found : Endpoints) → log ≡ [] → log' ≡ [] → saved ≡ Some own → saved' ≡ None
     → found_in log saved endpoints ≡ found → is ≡ with_own endpoints own → floor_of log' saved' is ≡ settled_at found
 own_back log log' own saved saved' endpoints is found none still kept gone same set_is =
-    ap (λ (o : Option Own). floor_of log' o is) gone
+    ap (λ (o : Option Post). floor_of log' o is) gone
     ∙ none_saved log' is found still
     (set_is
     ∙ ap (λ (x : List Station). manned x own) (sym (restored_none log endpoints.stations none))
-    ∙ ap (λ (o : Option Own). found_in log o endpoints) (sym kept) ∙ same)
+    ∙ ap (λ (o : Option Post). found_in log o endpoints) (sym kept) ∙ same)

@@ -4,10 +4,10 @@ use Rattle.std.specs.Prelude.{slice_get, slice_set, option_and_then, IfSome}
 use Rattle.std.proofs.lemmas.Bool.{eq-eqb, eqb-true, leb-true, leb-false}
 use Rattle.std.proofs.lemmas.Bool.Decides.{nat_tests}
 use Rattle.std.proofs.lemmas.Option.{none-some, same_Some, slice_get-get_or}
-use Rattle.plain_machine.specs.declared.own.Own.{Own}
+use Rattle.plain_machine.specs.declared.post.Post.{Post}
 use Rattle.plain_machine.specs.declared.station.Station.{Station}
 use Rattle.plain_machine.specs.Machine.{Endpoints}
-use Rattle.plain_machine.specs.Falling.{due_on, own_due, due_at, first_due}
+use Rattle.plain_machine.specs.Falling.{due_on, post_due, due_at, first_due}
 use Rattle.plain_machine.proofs.FirstLemmas.{first_there, earliest_of, line_is, none_of}
 use Rattle.timers.specs.declared.kind.DueKind.{DueKind}
 use Rattle.timers.specs.declared.due_item.DueItem.{DueItem}
@@ -120,14 +120,14 @@ renewed table table' line is before after had renews is_is elsewhere = λ other 
 not_zero : (n : ℕ) → 1 ≤ n → (n == 0) ≡ false
 not_zero n some = grind (arith, nat_tests, some)
 
-due_there : (stations : List Station) (own : Own) (place line : ℕ) (station : Station) → line ≡ place + 1 → place < length stations
+due_there : (stations : List Station) (own : Post) (place line : ℕ) (station : Station) → line ≡ place + 1 → place < length stations
     → station ≡ get_or stations place station → due_on (line, station) ≡ due_at (manned stations own) line
 due_there stations own place line station same inside is =
     let some : (line == 0) ≡ false = not_zero line (omega (arith, same)) in
     let at : line - 1 ≡ place = omega (arith, same) in
     let got : slice_get stations (line - 1) ≡ Some station =
     ap (slice_get stations) at ∙ slice_get-get_or stations place station inside ∙ ap (λ (s : Station). Some s) (sym is) in
-    sym (ap (λ (b : Bool). if b then own_due own
+    sym (ap (λ (b : Bool). if b then post_due 0 own
     else option_and_then (λ (s : Station). due_on (line, s)) (if b then None else slice_get stations (line - 1))) some
     ∙ ap (λ (found : Option Station). option_and_then (λ (s : Station). due_on (line, s)) found) got)
 
@@ -139,11 +139,11 @@ got_elsewhere (one ∷ more) zero (suc other) becomes apart = refl
 got_elsewhere (one ∷ more) (suc place) zero becomes apart = refl
 got_elsewhere (one ∷ more) (suc place) (suc other) becomes apart = got_elsewhere more place other becomes (λ e. apart (ap suc e))
 
-due_elsewhere : (stations : List Station) (own : Own) (place line : ℕ) (becomes : Station) → line ≡ place + 1 → (other : ℕ) → other ≢ line
+due_elsewhere : (stations : List Station) (own : Post) (place line : ℕ) (becomes : Station) → line ≡ place + 1 → (other : ℕ) → other ≢ line
     → due_at (manned (slice_set stations place becomes) own) other ≡ due_at (manned stations own) other
 due_elsewhere stations own place line becomes same other apart = by_zero (other == 0) refl where
   at : List Station → Bool → Option DueItem
-  at those b = if b then own_due own else option_and_then (λ (s : Station). due_on (other, s)) (if b then None else slice_get those (other - 1))
+  at those b = if b then post_due 0 own else option_and_then (λ (s : Station). due_on (other, s)) (if b then None else slice_get those (other - 1))
 
   by_zero : (b : Bool) → (other == 0) ≡ b → at (slice_set stations place becomes) b ≡ at stations b
   by_zero true e = refl
@@ -163,13 +163,13 @@ got_there (one ∷ more) zero station other inside = refl
 got_there (one ∷ more) (suc place) station other inside = got_there more place station other (omega (arith, inside))
 
 -- what the table has of the line of a station
-pub had_there : (stations : List Station) (own : Own) (place line : ℕ) (was : Station) (first : Option DueItem) (state : DueState) → InStep (manned stations own) state
+pub had_there : (stations : List Station) (own : Post) (place line : ℕ) (was : Station) (first : Option DueItem) (state : DueState) → InStep (manned stations own) state
     → line ≡ place + 1 → place < length stations → was ≡ get_or stations place was → first ≡ due_on (line, was) → Has state.table line first
 had_there stations own place line was first state step same inside had falls =
     λ kind. step.moments line kind ∙ ap (moment_if kind) (sym (falls ∙ due_there stations own place line was same inside had))
 
 -- one station becomes another
-pub station_in_step : (stations : List Station) (own : Own) (place line : ℕ) (is : Station) (first : Option DueItem) (state state' : DueState)
+pub station_in_step : (stations : List Station) (own : Post) (place line : ℕ) (is : Station) (first : Option DueItem) (state state' : DueState)
     → InStep (manned stations own) state → line ≡ place + 1 → place < length stations → first ≡ due_on (line, is) → state'.lines ≡ state.lines
     → Renews line first state.table state'.table → InStep (manned (slice_set stations place is) own) state'
 station_in_step stations own place line is first state state' step same inside falls lines renews = record {
@@ -179,23 +179,23 @@ station_in_step stations own place line is first state state' step same inside f
       (due_elsewhere stations own place line is same);
 }
 
-own_elsewhere : (stations : List Station) (own becomes : Own) (other : ℕ) → other ≢ 0 → due_at (manned stations becomes) other ≡ due_at (manned stations own) other
+own_elsewhere : (stations : List Station) (own becomes : Post) (other : ℕ) → other ≢ 0 → due_at (manned stations becomes) other ≡ due_at (manned stations own) other
 own_elsewhere stations own becomes other some = by_zero (other == 0) refl where
-  at : Own → Bool → Option DueItem
-  at one b = if b then own_due one else option_and_then (λ (s : Station). due_on (other, s)) (if b then None else slice_get stations (other - 1))
+  at : Post → Bool → Option DueItem
+  at one b = if b then post_due 0 one else option_and_then (λ (s : Station). due_on (other, s)) (if b then None else slice_get stations (other - 1))
 
   by_zero : (b : Bool) → (other == 0) ≡ b → at becomes b ≡ at own b
   by_zero true e = absurd (some (eqb-true other 0 e))
   by_zero false e = refl
 
 -- what the table has of the gateway itself
-pub own_had : (stations : List Station) (own : Own) (first : Option DueItem) (state : DueState) → InStep (manned stations own) state → first ≡ own_due own
+pub own_had : (stations : List Station) (own : Post) (first : Option DueItem) (state : DueState) → InStep (manned stations own) state → first ≡ post_due 0 own
     → Has state.table 0 first
 own_had stations own first state step falls = λ kind. step.moments 0 kind ∙ ap (moment_if kind) (sym falls)
 
--- what the gateway keeps for itself becomes another
-pub own_in_step : (stations : List Station) (own becomes : Own) (first : Option DueItem) (state state' : DueState) → InStep (manned stations own) state
-    → first ≡ own_due becomes → state'.lines ≡ state.lines → Renews 0 first state.table state'.table → InStep (manned stations becomes) state'
+-- the post of the gateway itself becomes another
+pub own_in_step : (stations : List Station) (own becomes : Post) (first : Option DueItem) (state state' : DueState) → InStep (manned stations own) state
+    → first ≡ post_due 0 becomes → state'.lines ≡ state.lines → Renews 0 first state.table state'.table → InStep (manned stations becomes) state'
 own_in_step stations own becomes first state state' step falls lines renews = record {
   lines = lines ∙ step.lines;
   moments = renewed state.table state'.table 0 first (due_at (manned stations own)) (due_at (manned stations becomes)) step.moments renews falls
@@ -242,8 +242,8 @@ filled_more endpoints line state state' filled lines table = record {
 }
 
 -- that of the gateway itself is put into a table with nothing
-pub filled_first : (stations : List Station) (own : Own) (state state' : DueState) → state.lines ≡ length stations → state.table ≡ [] → state'.lines ≡ state.lines
-    → state'.table ≡ entered 0 (own_due own) state.table → IsFilled 1 (manned stations own) state'
+pub filled_first : (stations : List Station) (own : Post) (state state' : DueState) → state.lines ≡ length stations → state.table ≡ [] → state'.lines ≡ state.lines
+    → state'.table ≡ entered 0 (post_due 0 own) state.table → IsFilled 1 (manned stations own) state'
 filled_first stations own state state' lines none kept table =
     filled_more (manned stations own) 0 state state'
     (record {
@@ -254,7 +254,7 @@ filled_first stations own state state' lines none kept table =
     kept table
 
 -- and that of one line more
-pub filled_next : (stations : List Station) (own : Own) (place line : ℕ) (station : Station) (state state' : DueState) → IsFilled (place + 1) (manned stations own) state
+pub filled_next : (stations : List Station) (own : Post) (place line : ℕ) (station : Station) (state state' : DueState) → IsFilled (place + 1) (manned stations own) state
     → line ≡ place + 1 → place < length stations → station ≡ get_or stations place station → state'.lines ≡ state.lines
     → state'.table ≡ entered line (due_on (line, station)) state.table → IsFilled (place + 1 + 1) (manned stations own) state'
 filled_next stations own place line station state state' filled same inside is kept table =
@@ -268,7 +268,7 @@ got_past (one ∷ more) zero past = absurd (omega (arith, past))
 got_past (one ∷ more) (suc n) past = got_past more n (omega (arith, past))
 
 -- all lines are in it
-pub all_filled : (most : ℕ) (stations : List Station) (own : Own) (state : DueState) → length stations < most → IsFilled most (manned stations own) state
+pub all_filled : (most : ℕ) (stations : List Station) (own : Post) (state : DueState) → length stations < most → IsFilled most (manned stations own) state
     → InStep (manned stations own) state
 all_filled most stations own state past filled = record {
   lines = filled.lines;
@@ -277,7 +277,7 @@ all_filled most stations own state past filled = record {
   none_there : (line : ℕ) → most ≤ line → due_at (manned stations own) line ≡ None
   none_there line far =
       let some : (line == 0) ≡ false = not_zero line (omega (arith, past, far)) in
-      ap (λ (b : Bool). if b then own_due own
+      ap (λ (b : Bool). if b then post_due 0 own
       else option_and_then (λ (s : Station). due_on (line, s)) (if b then None else slice_get stations (line - 1))) some
       ∙ ap (λ (found : Option Station). option_and_then (λ (s : Station). due_on (line, s)) found) (got_past stations (line - 1) (omega (arith, past, far)))
 

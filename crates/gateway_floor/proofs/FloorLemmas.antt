@@ -15,7 +15,7 @@ use Rattle.restart.specs.declared.heard.Heard.TheVariants.{Nothing}
 use Rattle.plain_machine.specs.declared.response.Response.{Response}
 use Rattle.plain_machine.specs.Announcing.{heard_on}
 use Rattle.plain_machine.specs.Responding.{responded_as, responded_on}
-use Rattle.plain_machine.specs.declared.own.Own.{Own}
+use Rattle.plain_machine.specs.declared.post.Post.{Post}
 use Rattle.plain_machine.specs.declared.station.Station.{Station}
 use Rattle.transmission.specs.declared.output.OutDatagram.{OutDatagram}
 use Rattle.plain_machine.specs.Message.{datagram_of, datagrams_of}
@@ -65,10 +65,10 @@ goes_on_line endpoints line station becomes turn was is were are here at has put
 })
 
 -- the gateway itself has its turn
-pub goes_on_own : (own becomes : Own) (turn : Own → Effect Own) (was is : FloorState) (were are : List OutDatagram) → own ≡ was.endpoints.own → HasEffect (turn own) becomes were are
+pub goes_on_own : (own becomes : Post) (turn : Post → Effect Post) (was is : FloorState) (were are : List OutDatagram) → own ≡ was.endpoints.own → HasEffect (turn own) becomes were are
     → is ≡ record was { endpoints = with_own was.endpoints becomes } → Goes (on_own was.endpoints turn) was is were are
 goes_on_own own becomes turn was is were are here has put =
-    let turned : HasEffect (turn was.endpoints.own) becomes were are = subst (λ (o : Own). HasEffect (turn o) becomes were are) here has in
+    let turned : HasEffect (turn was.endpoints.own) becomes were are = subst (λ (o : Post). HasEffect (turn o) becomes were are) here has in
     record {
       endpoints = ap (λ (f : FloorState). f.endpoints) put ∙ ap (with_own was.endpoints) turned.value;
       found = ap (λ (f : FloorState). f.found) put;
@@ -179,17 +179,17 @@ not_zero : (n : ℕ) → 1 ≤ n → (n == 0) ≡ false
 not_zero n some = grind (arith, nat_tests, some)
 
 -- the station at a place is that of its line
-station_there : (stations : List Station) (own : Own) (number : ℕ) (station : Station) → 1 ≤ number → number - 1 < length stations → station ≡ get_or stations (number - 1) station
+station_there : (stations : List Station) (own : Post) (number : ℕ) (station : Station) → 1 ≤ number → number - 1 < length stations → station ≡ get_or stations (number - 1) station
     → station_at (manned stations own) number ≡ Some station
 station_there stations own number station some inside is = rw (not_zero number some) (slice_get-get_or stations (number - 1) station inside ∙ ap Some (sym is))
 
 -- an act that a line doesn't heed is done in place
-pub is_there : (stations : List Station) (own : Own) (number place : ℕ) (station : Station) → IsLine number → number - 1 < length stations → place ≡ number → station ≡ get_or stations (place - 1) station
+pub is_there : (stations : List Station) (own : Post) (number place : ℕ) (station : Station) → IsLine number → number - 1 < length stations → place ≡ number → station ≡ get_or stations (place - 1) station
     → station_at (manned stations own) number ≡ Some station
 is_there stations own number place station line within same is =
     station_there stations own number station line.some within (is ∙ ap (λ n. get_or stations (n - 1) station) same)
 
-pub passes_over : (setup : Setup) (stations : List Station) (own : Own) (number place moment : ℕ) (act : Act) (station becomes : Station) → place ≡ number
+pub passes_over : (setup : Setup) (stations : List Station) (own : Post) (number place moment : ℕ) (act : Act) (station becomes : Station) → place ≡ number
     → station_at (manned stations own) number ≡ Some station → silently becomes ≡ acted_on setup number moment act station
     → acted setup (manned stations own) number moment act ≡ silently (manned (slice_set stations (place - 1) becomes) own)
 passes_over setup stations own number place moment act station becomes same at passed =

@@ -2,7 +2,7 @@
 use Rattle.std.specs.Prelude.{◌≡◌, ℕ, Some, slice_set, slice_index_or}
 use Rattle.std.specs.Borrow.{MutBor}
 use denote.Param.Members.{Once}
-use Rattle.plain_machine.specs.declared.own.Own.{Own}
+use Rattle.plain_machine.specs.declared.post.Post.{Post}
 use Rattle.plain_machine.specs.declared.station.Station.{Station}
 use Rattle.plain_machine.specs.Machine.{Endpoints, station_at, with_station, with_own}
 use Rattle.gateway_stations.specs.Telling.{HasId}
@@ -35,16 +35,16 @@ pub record StationChanges {F C T : Type 0} (g : Call F Station C T) (f : F) (pla
   pub leaves : Leaves g f station with r becomes left
   pub endpoints : is ≡ record was { stations = slice_set was.stations place becomes }
 
--- what the gateway keeps for itself becomes what a call leaves of it
-pub record OwnChanges {F C T : Type 0} (g : Call F Own C T) (f : F) (was : Endpoints) (with : C) (r : T) (is : Endpoints) (left : C) : Type 0 where
-  pub becomes : Own
+-- the post of the gateway itself becomes what a call leaves of it
+pub record OwnChanges {F C T : Type 0} (g : Call F Post C T) (f : F) (was : Endpoints) (with : C) (r : T) (is : Endpoints) (left : C) : Type 0 where
+  pub becomes : Post
   pub leaves : Leaves g f was.own with r becomes left
   pub endpoints : is ≡ with_own was becomes
 
 -- of what has an id for its next command, a call leaves what has one
-abbrev pub KeepsId : {F C T : Type 0} → Call F Own C T → F → Type 0
-KeepsId g f = (shown leaves : MutBor Own) (lent back : MutBor _) (r : _) → HasId 0 shown.now.post.number
-    → g.post f (shown, (lent, tt)) (r, (leaves, (back, tt))) → HasId 0 leaves.now.post.number
+abbrev pub KeepsId : {F C T : Type 0} → Call F Post C T → F → Type 0
+KeepsId g f = (shown leaves : MutBor Post) (lent back : MutBor _) (r : _) → HasId 0 shown.now.number
+    → g.post f (shown, (lent, tt)) (r, (leaves, (back, tt))) → HasId 0 leaves.now.number
 
 -- the station of a line becomes what a call leaves of it, and what the event found can still be had
 pub record LineChanges {F C T : Type 0} (g : Call F Station C T) (f : F) (line : ℕ) (was : FloorState) (with : C) (r : T) (is : FloorState) (left : C) : Type 0 where
@@ -54,8 +54,8 @@ pub record LineChanges {F C T : Type 0} (g : Call F Station C T) (f : F) (line :
   pub leaves : Leaves g f station with r becomes left
   pub floor : is ≡ record was { endpoints = with_station was.endpoints line becomes }
 
--- and so does what the gateway keeps for itself
-pub record GatewayChanges {F C T : Type 0} (g : Call F Own C T) (f : F) (was : FloorState) (with : C) (r : T) (is : FloorState) (left : C) : Type 0 where
-  pub becomes : Own
+-- and so does the post of the gateway itself
+pub record GatewayChanges {F C T : Type 0} (g : Call F Post C T) (f : F) (was : FloorState) (with : C) (r : T) (is : FloorState) (left : C) : Type 0 where
+  pub becomes : Post
   pub leaves : Leaves g f was.endpoints.own with r becomes left
   pub floor : is ≡ record was { endpoints = with_own was.endpoints becomes }

@@ -1,12 +1,12 @@
 -- Going back to what an event found.
 use Rattle.std.specs.Prelude.{◌≡◌, ◌<◌, ◌≤◌, ◌+◌, ℕ, suc, Bool, true, false, ◌||◌, ◌==◌, List, [], ◌∷◌, ◌++◌, Option, Some, None, slice_set, slice_index_or, length, take}
 use Rattle.std.specs.Option.{unwrap_or}
-use Rattle.plain_machine.specs.declared.own.Own.{Own}
+use Rattle.plain_machine.specs.declared.post.Post.{Post}
 use Rattle.plain_machine.specs.declared.station.Station.{Station}
 use Rattle.plain_machine.specs.Machine.{Endpoints}
 use Rattle.gateway_floor.specs.declared.saves.Saved.{Saved}
 
-abbrev pub manned : List Station → Own → Endpoints
+abbrev pub manned : List Station → Post → Endpoints
 manned stations own = record { stations = stations; own = own }
 
 -- all stations that were saved are put back, what was saved last first
@@ -14,8 +14,8 @@ unfoldable pub restored : List Saved → List Station → List Station
 restored [] stations = stations
 restored (saved ∷ more) stations = slice_set (restored more stations) saved.place saved.station
 
--- and so is what the gateway keeps for itself, where that was saved
-abbrev pub found_in : List Saved → Option Own → Endpoints → Endpoints
+-- and so is the post of the gateway itself, where that was saved
+abbrev pub found_in : List Saved → Option Post → Endpoints → Endpoints
 found_in saved own endpoints = manned (restored saved endpoints.stations) (unwrap_or own endpoints.own)
 
 -- the station at this place is saved

@@ -1,12 +1,12 @@
 //! What falls due happens, the first first, each thing at its own moment (RFC 3435, 2.1.5, 2.1.7, 3.5.3 and 4.4.6).
 ghost use Rattle.std.specs.Prelude.{◌≡◌};
 ghost use Rattle.plain_machine.specs.Machine.{on_line, on_own};
-ghost use Rattle.plain_machine.specs.Falling.{due_by, is_due, happened_on, own_happened, happened, pass};
+ghost use Rattle.plain_machine.specs.Falling.{due_by, is_due, happened_on, happened_under, happened, pass};
 ghost use Rattle.gateway_stations.specs.Telling.{MayTell};
 ghost use Rattle.gateway_floor.specs.Tells.{Tells};
 
 use crate::floor::Floor;
-use gateway_stations::{Context, Occasion, happened_on, own_happened};
+use gateway_stations::{Context, Occasion, happened_on, happened_under};
 use mg_bytes::OutOfMemory;
 use plain_machine::OutDatagram;
 use timers::{DueItem, DueKind};
@@ -63,12 +63,18 @@ fn happen_itself(
     out: &mut Vec<OutDatagram>,
 ) -> Result<(), OutOfMemory>
     requires { MayTell context.setup.now moment }
-    ensures { Tells result (on_own floor.old.endpoints (own_happened kind context.entry.setup.now moment))
+    ensures { Tells result (on_own floor.old.endpoints (happened_under kind context.entry.setup.now 0 moment))
         floor.old floor.new out.old.items out.new.items }
 {
     let Context { alloc, setup } = context;
-    floor.change_own(out, |own, out| {
-        own_happened(Context { alloc, setup }, moment, own, kind, out)
+    floor.change_own(out, |post, out| {
+        happened_under(
+            Context { alloc, setup },
+            Occasion { line: 0, moment },
+            post,
+            kind,
+            out,
+        )
     })?
 }
 

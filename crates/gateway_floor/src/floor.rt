@@ -1,8 +1,8 @@
-//! The floor: the stations of a gateway, and what it keeps for itself. They are looked up, changed in place, one at a time,
+//! The floor: the stations of a gateway, and its own post. They are looked up, changed in place, one at a time,
 //! and put back where an event failed.
 ghost use Rattle.std.specs.Prelude.{ℕ, ◌≡◌, ◌-◌, ◌<◌, ◌≤◌, Some, false, length, replicate, slice_set, OnOk, OnErr, IfOk};
 ghost use Rattle.std.specs.Borrow.{MutBor};
-ghost use Rattle.plain_machine.specs.declared.own.Own.{Own};
+ghost use Rattle.plain_machine.specs.declared.post.Post.{Post};
 ghost use Rattle.plain_machine.specs.declared.setup.Setup.{Setup};
 ghost use Rattle.plain_machine.specs.declared.station.Station.{Station};
 ghost use Rattle.plain_machine.specs.Effect.{silently};
@@ -13,16 +13,16 @@ ghost use Rattle.plain_machine.specs.Setup.{most_lines};
 
 use crate::saves::{Saved, Saves};
 use crate::timed::Timed;
-use gateway_stations::same_own;
+use gateway_stations::same_post;
 use mg_bytes::OutOfMemory;
 use mg_line::Act;
-use plain_machine::{Own, Station};
+use plain_machine::{Post, Station};
 use std::alloc::Global;
 use std::marker::Model;
 use timers::DueItem;
 
-/// The stations of a gateway, at most `MOST_LINES`, and what it keeps for itself. A contract sees them as they are, and as
-/// the event that happens found them.
+/// The stations of a gateway, at most `MOST_LINES`, and its own post. A contract sees them as they are, and as the event
+/// that happens found them.
 ///
 /// What an event changes is saved at its first touch, and put back where the event fails, which takes no memory. The room
 /// for that outlives the event.
@@ -32,8 +32,8 @@ pub struct Floor {
     saved: Saves,
     // At which places the station is saved.
     touched: Vec<bool>,
-    // What the gateway keeps for itself, where the event changed it.
-    own_saved: Option<Own>,
+    // The post of the gateway itself, where the event changed it.
+    own_saved: Option<Post>,
 }
 
 impl Model for Floor {
@@ -50,7 +50,7 @@ impl Model for Floor {
       flags : length f.touched.items ≡ length f.endpoints.stations;
       marked : IsMarked f.touched.items f.saved.stations;
       room : HasRoom (length f.saved.stations) f.touched.items f.saved.room;
-      own : IfSome f.own_saved (λ own. HasId 0 own.post.number);
+      own : IfSome f.own_saved (λ own. HasId 0 own.number);
     } };
 }
 
@@ -104,11 +104,11 @@ impl Floor {
     ghost use Rattle.gateway_floor.specs.Changing.{LineChanges, GatewayChanges, KeepsId};
     ghost use Rattle.gateway_stations.specs.Telling.{IsLine};
 
-    /// A floor with these stations, and with this of the gateway itself. An error is for want of memory only.
+    /// A floor with these stations, and with this post of the gateway itself. An error is for want of memory only.
     #[tactic(auto, unfolding(crate::specs::Saving::restored))]
-    pub fn of(alloc: Global, stations: Vec<Station>, own: Own) -> Result<Self, OutOfMemory>
+    pub fn of(alloc: Global, stations: Vec<Station>, own: Post) -> Result<Self, OutOfMemory>
         requires few { length stations.items ≤ most_lines }
-        requires id { HasId 0 own.post.number }
+        requires id { HasId 0 own.number }
         ensures { IfOk result (λ floor. floor ≡ settled_at (manned stations.items own)) }
     {
         let saved = Saves::new(alloc, stations.len())?;
@@ -129,10 +129,10 @@ impl Floor {
         self.endpoints.first_due()
     }
 
-    /// What the gateway keeps for itself.
-    pub fn own(&self) -> &Own
+    /// The post of the gateway itself.
+    pub fn own(&self) -> &Post
         ensures value { result.now ≡ self.now.endpoints.own }
-        ensures id { HasId 0 result.now.post.number }
+        ensures id { HasId 0 result.now.number }
     {
         self.endpoints.own()
     }
@@ -141,7 +141,7 @@ impl Floor {
     pub fn serves(&self) -> bool
         ensures { result ≡ serves self.now.endpoints }
     {
-        self.endpoints.own().post.restart.serving()
+        self.endpoints.own().restart.serving()
     }
 
     /// The stations, of which the first is that of line 1.
@@ -186,14 +186,14 @@ impl Floor {
         Ok(self.endpoints.change(place, with, change))
     }
 
-    /// What the gateway keeps for itself is changed in place, with what else the change is to see. Where memory for saving
-    /// it is refused, the floor is as it was.
-    pub fn change_own<C, T, F: FnOnce(&mut Own, &mut C) -> T>(
+    /// The post of the gateway itself is changed in place, with what else the change is to see. Where memory for saving it
+    /// is refused, the floor is as it was.
+    pub fn change_own<C, T, F: FnOnce(&mut Post, &mut C) -> T>(
         &mut self,
         with: &mut C,
         change: F,
     ) -> Result<T, OutOfMemory>
-        requires callable { (p : MutBor Own) (q : MutBor C) → p.now ≡ self.old.endpoints.own → HasId 0 p.now.post.number
+        requires callable { (p : MutBor Post) (q : MutBor C) → p.now ≡ self.old.endpoints.own → HasId 0 p.now.number
             → q.now ≡ with.old → F.pre change p q }
         requires keeps { KeepsId F.FnOnce change }
         ensures ok { IfOk result (λ r. GatewayChanges F.FnOnce change self.old with.old r self.new with.new) }
@@ -201,7 +201,7 @@ impl Floor {
         ensures with { OnErr result (with.new ≡ with.old) }
     {
         if self.own_saved.is_none() {
-            self.own_saved = Some(same_own(self.endpoints.own())?);
+            self.own_saved = Some(same_post(self.endpoints.own())?);
         }
         Ok(self.endpoints.change_own(with, change))
     }

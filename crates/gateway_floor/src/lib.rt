@@ -1,4 +1,4 @@
-//! The floor of a gateway: all its stations, and what it keeps for itself.
+//! The floor of a gateway: all its stations, and its own post.
 //!
 //! What comes to one line or to several is brought to their stations here. The floor knows what falls due first, and
 //! where an event failed, it is again what that found.

@@ -1,4 +1,4 @@
-//! What a configuration sets up, and what there is at the opening: the stations, and what the gateway keeps for itself.
+//! What a configuration sets up, and what there is at the opening: the stations, and the post of the gateway itself.
 ghost use Rattle.std.specs.Prelude.{◌≡◌, ◌≤◌, ◌<◌, ◌+◌, ◌^◌, [], length, map, IfOk};
 ghost use Rattle.std.specs.List.{AllByRecursion, range_with_len};
 ghost use Rattle.plain_machine.specs.Setup.{table_from, are_lines, is_wait, is_media_base, is_address, parts_of, setup_of, key_at_fault, IsSetUp, most_lines};
@@ -10,8 +10,7 @@ use endpoint_names::{Entity, Names, Table, is_domain, read_entity};
 use mg_bytes::OutOfMemory;
 use mg_line::Line;
 use plain_machine::{
-    CommandNumber, Config, ConfigFault, ConfigKey, MOST_LINES, NamedAddress, Own, Post, Setup,
-    Station,
+    CommandNumber, Config, ConfigFault, ConfigKey, MOST_LINES, NamedAddress, Post, Setup, Station,
 };
 use restart::Restart;
 use std::alloc::Global;
@@ -185,14 +184,12 @@ pub fn opening_stations(alloc: Global, setup: &Setup) -> Result<Vec<Station>, Ou
     Ok(stations)
 }
 
-/// What the gateway keeps for itself at the opening: it reports to the configured agent, has nothing in flight, and waits to
+/// The post of the gateway itself at the opening: it reports to the configured agent, has nothing in flight, and waits to
 /// announce itself.
-pub fn opening_own(setup: &Setup) -> Own
+pub fn opening_own(setup: &Setup) -> Post
     ensures value { result ≡ opening_own setup.now }
-    ensures id { HasId 0 result.post.number }
+    ensures id { HasId 0 result.number }
 {
     let restart = Restart::begin(0, setup.restart_wait);
-    Own {
-        post: opening_post(setup, CommandNumber::first_own(), restart),
-    }
+    opening_post(setup, CommandNumber::first_own(), restart)
 }

@@ -2,7 +2,8 @@
 //! and 4.4.7).
 ghost use Rattle.std.specs.Prelude.{[]};
 ghost use Rattle.plain_machine.specs.Machine.{on_line, on_own};
-ghost use Rattle.plain_machine.specs.Responding.{responded_on, own_responded, redirected_on, opened_on};
+ghost use Rattle.plain_machine.specs.Responding.{responded_on, redirected_on, opened_on};
+ghost use Rattle.plain_machine.specs.Announcing.{replied_on};
 ghost use Rattle.plain_machine.specs.Responding.{on_all, lines_told, own_heard, responded};
 ghost use Rattle.gateway_stations.specs.Telling.{MayTell};
 ghost use Rattle.gateway_floor.specs.Tells.{Tells};
@@ -10,7 +11,7 @@ ghost use Rattle.gateway_floor.specs.Tells.{Tells};
 use crate::floor::Floor;
 use endpoint_names::Entity;
 use gateway_stations::{
-    Context, Occasion, heard_on, opened_on, own_responded, redirected_on, responded_on,
+    Context, Occasion, heard_on, opened_on, redirected_on, replied_on, responded_on,
 };
 use mg_bytes::OutOfMemory;
 use plain_machine::{OutDatagram, Response, line_of_id};
@@ -43,7 +44,7 @@ fn respond_on_line(
     })?
 }
 
-// What a response does to what the gateway keeps for itself.
+// What a response does to the post of the gateway itself.
 fn respond_to_own(
     context: Context<'_>,
     floor: &mut Floor,
@@ -52,12 +53,18 @@ fn respond_to_own(
     out: &mut Vec<OutDatagram>,
 ) -> Result<(), OutOfMemory>
     requires { MayTell context.setup.now moment }
-    ensures { Tells result (on_own floor.old.endpoints (own_responded context.entry.setup.now moment response.now))
+    ensures { Tells result (on_own floor.old.endpoints (replied_on context.entry.setup.now 0 moment response.now))
         floor.old floor.new out.old.items out.new.items }
 {
     let Context { alloc, setup } = context;
-    floor.change_own(out, |own, out| {
-        own_responded(Context { alloc, setup }, moment, own, response, out)
+    floor.change_own(out, |post, out| {
+        replied_on(
+            Context { alloc, setup },
+            Occasion { line: 0, moment },
+            post,
+            response,
+            out,
+        )
     })?
 }
 
@@ -157,7 +164,7 @@ fn respond_itself(
     ensures { Tells result (own_heard context.entry.setup.now floor.old.endpoints moment response.now)
         floor.old floor.new out.old.items out.new.items }
 {
-    let heard = heard_on(&floor.own().post, response);
+    let heard = heard_on(floor.own(), response);
     respond_to_own(context, floor, moment, response, out)?;
     tell_lines(context, floor, moment, heard, out)?;
     Ok(())

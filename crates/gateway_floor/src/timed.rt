@@ -1,7 +1,7 @@
-//! The endpoints: the stations of a gateway, and what it keeps for itself, with the table of what falls due first of each.
+//! The endpoints: the stations of a gateway, and its own post, with the table of what falls due first of each.
 ghost use Rattle.std.specs.Prelude.{ℕ, ◌≡◌, ◌-◌, ◌<◌, ◌≤◌, false, length, slice_set, slice_index_or, IfOk};
 ghost use Rattle.std.specs.Borrow.{MutBor};
-ghost use Rattle.plain_machine.specs.declared.own.Own.{Own};
+ghost use Rattle.plain_machine.specs.declared.post.Post.{Post};
 ghost use Rattle.plain_machine.specs.declared.station.Station.{Station};
 ghost use Rattle.plain_machine.specs.declared.setup.Setup.{Setup};
 ghost use Rattle.mg_line.specs.Acting.{is_heeded};
@@ -18,18 +18,18 @@ use crate::due_table::{enter, renew};
 use gateway_stations::{due_on, post_due};
 use mg_bytes::OutOfMemory;
 use mg_line::Act;
-use plain_machine::{Own, Station};
+use plain_machine::{Post, Station};
 use std::alloc::Global;
 use std::marker::Model;
 use timers::{Due, DueItem};
 
-/// The stations of a gateway, at most `MOST_LINES`, and what it keeps for itself. A contract sees them alone.
+/// The stations of a gateway, at most `MOST_LINES`, and its own post. A contract sees them alone.
 ///
 /// The table of what falls due is always in step with them. All its memory is taken by `of`.
 #[derive(Drop)]
 pub(crate) struct Timed {
     stations: Vec<Station>,
-    own: Own,
+    own: Post,
     due: Due,
 }
 
@@ -47,7 +47,7 @@ impl Model for Timed {
 
     ghost invariant = { λ t. record {
       few : length t.stations.items ≤ most_lines;
-      id : HasId 0 t.own.post.number;
+      id : HasId 0 t.own.number;
       due : InStep (manned t.stations.items t.own) t.due;
     } };
 }
@@ -59,10 +59,10 @@ impl Timed {
     ghost use Rattle.plain_machine.specs.Refusing.{is_unheeded};
     ghost use Rattle.gateway_stations.specs.Telling.{IsLine};
 
-    /// These stations, and this of the gateway itself. An error is for want of memory only.
-    pub(crate) fn of(alloc: Global, stations: Vec<Station>, own: Own) -> Result<Self, OutOfMemory>
+    /// These stations, and this post of the gateway itself. An error is for want of memory only.
+    pub(crate) fn of(alloc: Global, stations: Vec<Station>, own: Post) -> Result<Self, OutOfMemory>
         requires few { length stations.items ≤ most_lines }
-        requires id { HasId 0 own.post.number }
+        requires id { HasId 0 own.number }
         ensures { IfOk result (λ timed. timed ≡ manned stations.items own) }
     {
         let due = filled(alloc, &stations, &own)?;
@@ -76,10 +76,10 @@ impl Timed {
         self.due.least()
     }
 
-    /// What the gateway keeps for itself.
-    pub(crate) fn own(&self) -> &Own
+    /// The post of the gateway itself.
+    pub(crate) fn own(&self) -> &Post
         ensures value { result.now ≡ self.now.own }
-        ensures id { HasId 0 result.now.post.number }
+        ensures id { HasId 0 result.now.number }
     {
         &self.own
     }
@@ -113,20 +113,20 @@ impl Timed {
         result
     }
 
-    /// What the gateway keeps for itself is changed in place, with what else the change is to see.
-    pub(crate) fn change_own<C, T, F: FnOnce(&mut Own, &mut C) -> T>(
+    /// The post of the gateway itself is changed in place, with what else the change is to see.
+    pub(crate) fn change_own<C, T, F: FnOnce(&mut Post, &mut C) -> T>(
         &mut self,
         with: &mut C,
         change: F,
     ) -> T
-        requires callable { (p : MutBor Own) (q : MutBor C) → p.now ≡ self.old.own → HasId 0 p.now.post.number
+        requires callable { (p : MutBor Post) (q : MutBor C) → p.now ≡ self.old.own → HasId 0 p.now.number
             → q.now ≡ with.old → F.pre change p q }
         requires keeps { KeepsId F.FnOnce change }
         ensures { OwnChanges F.FnOnce change self.old with.old result self.new with.new }
     {
-        let was = post_due(0, &self.own.post);
+        let was = post_due(0, &self.own);
         let result = change(&mut self.own, with);
-        let is = post_due(0, &self.own.post);
+        let is = post_due(0, &self.own);
         renew(&mut self.due, 0, was, is);
         result
     }
@@ -144,13 +144,13 @@ impl Timed {
         self.stations[place] = station;
     }
 
-    /// What the gateway keeps for itself becomes this.
-    pub(crate) fn exchange_own(&mut self, own: Own)
-        requires { HasId 0 own.post.number }
+    /// The post of the gateway itself becomes this.
+    pub(crate) fn exchange_own(&mut self, own: Post)
+        requires { HasId 0 own.number }
         ensures { self.new ≡ with_own self.old own }
     {
-        let was = post_due(0, &self.own.post);
-        let is = post_due(0, &own.post);
+        let was = post_due(0, &self.own);
+        let is = post_due(0, &own);
         renew(&mut self.due, 0, was, is);
         self.own = own;
     }
@@ -172,12 +172,12 @@ impl Timed {
 }
 
 // The table of what falls due first of the gateway itself, and of each line.
-fn filled(alloc: Global, stations: &[Station], own: &Own) -> Result<Due, OutOfMemory>
+fn filled(alloc: Global, stations: &[Station], own: &Post) -> Result<Due, OutOfMemory>
     requires { length stations.now ≤ most_lines }
     ensures { IfOk result (λ due. InStep (manned stations.now own.now) due) }
 {
     let mut due = Due::new(alloc, stations.len() as u16)?;
-    let first = post_due(0, &own.post);
+    let first = post_due(0, own);
     enter(&mut due, 0, first);
     for (place, station) in stations.iter().enumerate() {
         let line = place as u16 + 1;

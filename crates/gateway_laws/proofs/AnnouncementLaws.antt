@@ -46,7 +46,6 @@ use Rattle.timers.specs.declared.kind.DueKind.TheVariants.{OfLine, Resend, Annou
 use Rattle.timers.specs.declared.due_item.DueItem.{DueItem}
 use Rattle.timers.specs.Order.{earlier}
 use Rattle.command_forms.specs.declared.forms.Deed.{Deed}
-use Rattle.plain_machine.specs.declared.own.Own.{Own}
 use Rattle.plain_machine.specs.declared.post.Post.{Post}
 use Rattle.plain_machine.specs.declared.response.Response.{Response}
 use Rattle.plain_machine.specs.declared.setup.Setup.{Setup}
@@ -55,16 +54,16 @@ use Rattle.plain_machine.specs.Effect.{Effect, silently, effect_map, afterwards}
 use Rattle.plain_machine.specs.Event.{GatewayEvent, datagram, phone, tick}
 use Rattle.plain_machine.specs.Message.{Sent}
 use Rattle.plain_machine.specs.Posting.{id_on, line_of_id, wait_of, with_command, repeated_as, resent_by, resent_on}
-use Rattle.plain_machine.specs.Announcing.{announcement, announced, announced_by, announced_on, heard_by, heard_on, replied}
+use Rattle.plain_machine.specs.Announcing.{announcement, announced, announced_by, announced_on, heard_by, heard_on, replied, replied_on}
 use Rattle.plain_machine.specs.Notifying.{with_notice, noted}
-use Rattle.plain_machine.specs.Machine.{Endpoints, Machine, serves, opening, on_line, on_own, on_lines, own_posted, with_own}
+use Rattle.plain_machine.specs.Machine.{Endpoints, Machine, serves, opening, on_line, on_own, on_lines, with_own}
 use Rattle.transmission.specs.Texts.{texts_of}
 use Rattle.plain_machine.specs.Acting.{acted_on, acted}
 use Rattle.plain_machine.specs.Done.{Done}
 use Rattle.plain_machine.specs.Requesting.{refused_by, with_entity, with_connections, asked_if, deed_on, lines_meant, unless_refused, deed_done, line_with_place, done_there, done_for}
 use Rattle.plain_machine.specs.Commanding.{done_by, commanded}
-use Rattle.plain_machine.specs.Falling.{command_item, announcement_item, post_due, own_due, due_by, own_happened, happened_on, happened, go_on, passed, room, pass}
-use Rattle.plain_machine.specs.Responding.{response_with, responded_as, responded_on, own_responded, redirected_on, opened_on, lines_told, own_heard, responded}
+use Rattle.plain_machine.specs.Falling.{command_item, announcement_item, post_due, due_by, happened_under, happened_on, happened, go_on, passed, room, pass}
+use Rattle.plain_machine.specs.Responding.{response_with, responded_as, responded_on, redirected_on, opened_on, lines_told, own_heard, responded}
 use Rattle.plain_machine.specs.Answering.{Transaction, executed, transacted_by, handled, took_all}
 use Rattle.plain_machine.specs.Happening.{effect}
 use Rattle.plain_machine.specs.Lists.{machine_after, plain}
@@ -82,7 +81,7 @@ several_own [] endpoints turn = refl
 several_own (line ∷ lines) endpoints turn = several_own lines (on_line endpoints line (turn line)).value turn ∙ own_stays_at endpoints line (turn line)
 
 same_own : (endpoints others : Endpoints) → others.own ≡ endpoints.own → serves others ≡ serves endpoints
-same_own endpoints others same = ap (λ (own : Own). is_serving own.post.restart) same
+same_own endpoints others same = ap (λ (own : Post). is_serving own.restart) same
 
 pub act_serves : (setup : Setup) (endpoints : Endpoints) (line moment : ℕ) (act : Act) → serves (acted setup endpoints line moment act).value ≡ serves endpoints
 act_serves setup endpoints line moment act = same_own endpoints (acted setup endpoints line moment act).value (own_stays_at endpoints line (acted_on setup line moment act))
@@ -116,7 +115,7 @@ deed_serves setup endpoints moment id command confirms =
 
 pub due_serves : (setup : Setup) (endpoints : Endpoints) (item : DueItem) → OwnIsInOrder endpoints.own → serves (happened setup endpoints item).value ≡ serves endpoints
 due_serves setup endpoints item order = by_test (item.line == 0) where
-  by_test : (b : Bool) → serves (if b then on_own endpoints (own_happened item.kind setup item.moment) else on_line endpoints item.line (happened_on item.kind setup item.line item.moment)).value ≡ serves endpoints
+  by_test : (b : Bool) → serves (if b then on_own endpoints (happened_under item.kind setup 0 item.moment) else on_line endpoints item.line (happened_on item.kind setup item.line item.moment)).value ≡ serves endpoints
   by_test true = happening_serves setup item.kind item.moment endpoints.own (own_free endpoints.own order)
   by_test false =
       same_own endpoints (on_line endpoints item.line (happened_on item.kind setup item.line item.moment)).value
@@ -139,26 +138,26 @@ ServesAfter (Redirected agent) was = false
 ServesAfter (Answered agent) was = true
 
 heard_serves : (setup : Setup) (endpoints : Endpoints) (moment : ℕ) (response : Response)
-    → serves (own_heard setup endpoints moment response).value ≡ ServesAfter (heard_on endpoints.own.post response) (serves endpoints)
-unfolding own_responded replied announced
-heard_serves setup endpoints moment response = by_heard (heard_on endpoints.own.post response) where
-  by_heard : (heard : Heard) → is_serving (afterwards (effect_map (with_own endpoints) (own_posted endpoints.own (replied heard setup 0 moment response endpoints.own.post))) (λ next. lines_told heard setup moment next)).value.own.post.restart
+    → serves (own_heard setup endpoints moment response).value ≡ ServesAfter (heard_on endpoints.own response) (serves endpoints)
+unfolding replied_on replied announced
+heard_serves setup endpoints moment response = by_heard (heard_on endpoints.own response) where
+  by_heard : (heard : Heard) → is_serving (afterwards (effect_map (with_own endpoints) (replied heard setup 0 moment response endpoints.own)) (λ next. lines_told heard setup moment next)).value.own.restart
       ≡ ServesAfter heard (serves endpoints)
   by_heard Nothing = refl
   by_heard PutOff = refl
-  by_heard (Redirected agent) = ap (λ (own : Own). is_serving own.post.restart) (told_own (Redirected agent) setup moment (with_own endpoints (own_posted endpoints.own (replied (Redirected agent) setup 0 moment response endpoints.own.post)).value))
-  by_heard (Answered agent) = ap (λ (own : Own). is_serving own.post.restart) (told_own (Answered agent) setup moment (with_own endpoints (own_posted endpoints.own (replied (Answered agent) setup 0 moment response endpoints.own.post)).value))
+  by_heard (Redirected agent) = ap (λ (own : Post). is_serving own.restart) (told_own (Redirected agent) setup moment (with_own endpoints (replied (Redirected agent) setup 0 moment response endpoints.own).value))
+  by_heard (Answered agent) = ap (λ (own : Post). is_serving own.restart) (told_own (Answered agent) setup moment (with_own endpoints (replied (Answered agent) setup 0 moment response endpoints.own).value))
 
 pub answer_serves : (setup : Setup) (endpoints : Endpoints) (moment : ℕ) (response : Response) (agent : Option Entity) → line_of_id response.id ≡ 0
-    → heard_on endpoints.own.post response ≡ Answered agent → serves (responded setup endpoints moment response).value ≡ true
+    → heard_on endpoints.own response ≡ Answered agent → serves (responded setup endpoints moment response).value ≡ true
 answer_serves setup endpoints moment response agent none is =
     ap (λ (told : Effect Endpoints). serves told.value) (is_own setup endpoints moment response none)
     ∙ heard_serves setup endpoints moment response ∙ ap (λ (heard : Heard). ServesAfter heard (serves endpoints)) is
 
 pub other_serves_not : (setup : Setup) (endpoints : Endpoints) (moment : ℕ) (response : Response) → serves endpoints ≡ false
-    → ((agent : Option Entity) → heard_on endpoints.own.post response ≢ Answered agent) → serves (responded setup endpoints moment response).value ≡ false
+    → ((agent : Option Entity) → heard_on endpoints.own response ≢ Answered agent) → serves (responded setup endpoints moment response).value ≡ false
 other_serves_not setup endpoints moment response closed other = by_test (line_of_id response.id == 0) where
-  by_heard : (heard : Heard) → heard_on endpoints.own.post response ≡ heard → ServesAfter heard (serves endpoints) ≡ false
+  by_heard : (heard : Heard) → heard_on endpoints.own response ≡ heard → ServesAfter heard (serves endpoints) ≡ false
   by_heard Nothing e = closed
   by_heard PutOff e = closed
   by_heard (Redirected agent) e = refl
@@ -166,7 +165,7 @@ other_serves_not setup endpoints moment response closed other = by_test (line_of
 
   by_test : (b : Bool) → serves (if b then own_heard setup endpoints moment response
       else on_line endpoints (line_of_id response.id) (responded_on setup (line_of_id response.id) moment response)).value ≡ false
-  by_test true = heard_serves setup endpoints moment response ∙ by_heard (heard_on endpoints.own.post response) refl
+  by_test true = heard_serves setup endpoints moment response ∙ by_heard (heard_on endpoints.own response) refl
   by_test false =
       same_own endpoints (on_line endpoints (line_of_id response.id) (responded_on setup (line_of_id response.id) moment response)).value
       (own_stays_at endpoints (line_of_id response.id) (responded_on setup (line_of_id response.id) moment response)) ∙ closed
@@ -175,8 +174,8 @@ other_serves_not setup endpoints moment response closed other = by_test (line_of
 response_lasts : (setup : Setup) (endpoints : Endpoints) (moment : ℕ) (response : Response) → OwnIsInOrder endpoints.own → serves endpoints ≡ true
     → serves (responded setup endpoints moment response).value ≡ true
 response_lasts setup endpoints moment response order served = by_test (line_of_id response.id == 0) where
-  nothing : heard_on endpoints.own.post response ≡ Nothing
-  nothing = ap (λ (p : Option InFlight). heard_by p endpoints.own.post.restart response) (own_free endpoints.own order served)
+  nothing : heard_on endpoints.own response ≡ Nothing
+  nothing = ap (λ (p : Option InFlight). heard_by p endpoints.own.restart response) (own_free endpoints.own order served)
 
   by_test : (b : Bool) → serves (if b then own_heard setup endpoints moment response
       else on_line endpoints (line_of_id response.id) (responded_on setup (line_of_id response.id) moment response)).value ≡ true
@@ -303,13 +302,13 @@ waits_due line until post waits none =
     ap (λ (p : Option InFlight). earlier (option_map (command_item line) p) (option_map (announcement_item line) (announced_at post.restart))) none
     ∙ ap (λ (r : Restart). option_map (announcement_item line) (announced_at r)) waits
 
-pub own_falls_due : (own : Own) → OwnIsInOrder own → is_serving own.post.restart ≡ false → own_due own ≢ None
+pub own_falls_due : (own : Post) → OwnIsInOrder own → is_serving own.restart ≡ false → post_due 0 own ≢ None
 unfolding post_due
-own_falls_due own order closed = by_restart own.post.restart order closed where
+own_falls_due own order closed = by_restart own.restart order closed where
   DueAs : Restart → Option InFlight → Option DueItem
   DueAs restart pending = earlier (option_map (command_item 0) pending) (option_map (announcement_item 0) (announced_at restart))
 
-  by_restart : (restart : Restart) → OwnInOrderBy restart own.post.pending → is_serving restart ≡ false → DueAs restart own.post.pending ≢ None
+  by_restart : (restart : Restart) → OwnInOrderBy restart own.pending → is_serving restart ≡ false → DueAs restart own.pending ≢ None
   by_restart (Waiting until) order closed = λ none. none-some _ (sym none ∙ ap (DueAs (Waiting until)) order)
   by_restart Announced order closed = λ none. none-some _ (sym none ∙ ap (DueAs Announced) order.flies)
   by_restart Serving order closed = absurd cc

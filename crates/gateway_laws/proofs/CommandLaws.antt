@@ -25,7 +25,6 @@ use Rattle.mg_line.specs.Answering.{answered}
 use Rattle.mg_line.specs.Falling.{fired}
 use Rattle.timers.specs.declared.kind.DueKind.{DueKind}
 use Rattle.timers.specs.declared.kind.DueKind.TheVariants.{OfLine, Resend, Announce}
-use Rattle.plain_machine.specs.declared.own.Own.{Own}
 use Rattle.plain_machine.specs.declared.post.Post.{Post}
 use Rattle.plain_machine.specs.declared.response.Response.{Response}
 use Rattle.plain_machine.specs.declared.setup.Setup.{Setup}
@@ -34,13 +33,13 @@ use Rattle.plain_machine.specs.Effect.{Effect, silently}
 use Rattle.plain_machine.specs.Setup.{IsSetUp, most_lines}
 use Rattle.plain_machine.specs.Message.{Sent, datagram_of}
 use Rattle.plain_machine.specs.Posting.{numbers, id_on, repeated_as, resent_by, resent_on}
-use Rattle.plain_machine.specs.Announcing.{announced, announced_by, announced_on, heard_on, put_off, replied}
+use Rattle.plain_machine.specs.Announcing.{announced, announced_by, announced_on, heard_on, put_off, replied, replied_on}
 use Rattle.plain_machine.specs.Notifying.{posted, with_notice, noted}
-use Rattle.plain_machine.specs.Machine.{own_posted, opening_station, opening}
+use Rattle.plain_machine.specs.Machine.{opening_station, opening}
 use Rattle.transmission.specs.Texts.{largest_datagram}
 use Rattle.plain_machine.specs.Requesting.{with_entity, with_connections, asked_if, deed_on}
-use Rattle.plain_machine.specs.Falling.{happened_on, own_happened}
-use Rattle.plain_machine.specs.Responding.{responded_as, responded_on, own_responded, redirected_on, opened_on}
+use Rattle.plain_machine.specs.Falling.{happened_on, happened_under}
+use Rattle.plain_machine.specs.Responding.{responded_as, responded_on, redirected_on, opened_on}
 use Rattle.mg_line.specs.Opening.{opened}
 use Rattle.endpoint_names.specs.declared.entity.Entity.{Entity}
 use Rattle.piggyback.specs.Packing.{is_joinable}
@@ -213,26 +212,26 @@ sound_turns setup set_up = record {
 }
 
 -- of the gateway itself
-abbrev pub OwnSound : Own → Type 0
-OwnSound own = CanGo 0 own.post
+abbrev pub OwnSound : Post → Type 0
+OwnSound own = CanGo 0 own
 
-own_posted_sound : (own : Own) (turn : Effect Post) → PostGoes 0 turn → Gives OwnSound IsOut (own_posted own turn)
-own_posted_sound own turn goes = (goes.can, goes.sent)
+own_goes : (turn : Effect Post) → PostGoes 0 turn → Gives OwnSound IsOut turn
+own_goes turn goes = (goes.can, goes.sent)
 
-own_happened_sound : (setup : Setup) → IsSetUp setup → (due : DueKind) (moment : ℕ) (own : Own) → OwnSound own
-    → Gives OwnSound IsOut (own_happened due setup moment own)
-unfolding own_happened
+own_happened_sound : (setup : Setup) → IsSetUp setup → (due : DueKind) (moment : ℕ) (own : Post) → OwnSound own
+    → Gives OwnSound IsOut (happened_under due setup 0 moment own)
+unfolding happened_under
 own_happened_sound setup set_up (OfLine due) moment own can = (can, All-nil IsOut)
-own_happened_sound setup set_up Resend moment own can = own_posted_sound own (resent_on setup 0 moment own.post) (resent_goes setup 0 moment own.post can)
+own_happened_sound setup set_up Resend moment own can = own_goes (resent_on setup 0 moment own) (resent_goes setup 0 moment own can)
 own_happened_sound setup set_up Announce moment own can =
-    own_posted_sound own (announced_on setup 0 moment own.post) (announced_on_goes setup 0 moment own.post set_up (omega arith) can)
+    own_goes (announced_on setup 0 moment own) (announced_on_goes setup 0 moment own set_up (omega arith) can)
 
-pub own_responded_sound : (setup : Setup) → IsSetUp setup → (moment : ℕ) (response : Response) (own : Own) → OwnSound own
-    → Gives OwnSound IsOut (own_responded setup moment response own)
-unfolding own_responded
+pub own_responded_sound : (setup : Setup) → IsSetUp setup → (moment : ℕ) (response : Response) (own : Post) → OwnSound own
+    → Gives OwnSound IsOut (replied_on setup 0 moment response own)
+unfolding replied_on
 own_responded_sound setup set_up moment response own can =
-    own_posted_sound own (replied (heard_on own.post response) setup 0 moment response own.post)
-    (replied_goes (heard_on own.post response) setup 0 moment response own.post set_up (omega arith) can)
+    own_goes (replied (heard_on own response) setup 0 moment response own)
+    (replied_goes (heard_on own response) setup 0 moment response own set_up (omega arith) can)
 
 pub sound_own_turns : (setup : Setup) → IsSetUp setup → OwnTurns setup (Always Sound) OwnSound IsOut
 sound_own_turns setup set_up = record {

@@ -49,7 +49,6 @@ use Rattle.mg_line.proofs.OnceLemmas.{notifies_once}
 use Rattle.timers.specs.declared.kind.DueKind.{DueKind}
 use Rattle.timers.specs.declared.kind.DueKind.TheVariants.{OfLine, Resend, Announce}
 use Rattle.command_forms.specs.declared.forms.Deed.{Deed}
-use Rattle.plain_machine.specs.declared.own.Own.{Own}
 use Rattle.plain_machine.specs.declared.post.Post.{Post}
 use Rattle.plain_machine.specs.declared.response.Response.{Response}
 use Rattle.plain_machine.specs.declared.setup.Setup.{Setup}
@@ -58,13 +57,13 @@ use Rattle.plain_machine.specs.Effect.{Effect, silently, effect_map, afterwards}
 use Rattle.plain_machine.specs.Event.{GatewayEvent}
 use Rattle.plain_machine.specs.Message.{Sent}
 use Rattle.plain_machine.specs.Posting.{numbers, first_number, number_after, id_on, line_of_id, repeated_as, resent_by, resent_on}
-use Rattle.plain_machine.specs.Announcing.{announced, announced_by, heard_by, heard_on, put_off, replied}
+use Rattle.plain_machine.specs.Announcing.{announced, announced_by, heard_by, heard_on, put_off, replied, replied_on}
 use Rattle.plain_machine.specs.Notifying.{posted, notification, with_notice, noted}
-use Rattle.plain_machine.specs.Machine.{Endpoints, Machine, serves, opening_station, opening, station_at, turned_at, on_line, own_posted, with_own}
+use Rattle.plain_machine.specs.Machine.{Endpoints, Machine, serves, opening_station, opening, station_at, turned_at, on_line, with_own}
 use Rattle.plain_machine.specs.Acting.{acted_on, acted}
 use Rattle.plain_machine.specs.Requesting.{with_entity, with_connections, asked_if, deed_on}
-use Rattle.plain_machine.specs.Falling.{happened_on, own_happened, happened, pass}
-use Rattle.plain_machine.specs.Responding.{responded_as, responded_on, own_responded, redirected_on, opened_on, lines_told, own_heard, responded}
+use Rattle.plain_machine.specs.Falling.{happened_on, happened_under, happened, pass}
+use Rattle.plain_machine.specs.Responding.{responded_as, responded_on, redirected_on, opened_on, lines_told, own_heard, responded}
 use Rattle.plain_machine.specs.Happening.{effect}
 use Rattle.plain_machine.specs.Lists.{machine_after}
 use Rattle.plain_machine.specs.Flights.{Waits, HasOwnId, IsWith, InOrderBy, OwnInOrderBy, OwnIsInOrder, InOrderWhile, AreInOrder, BeginsNothing, IsSame, Carries}
@@ -397,13 +396,13 @@ ordering setup = record {
 
 -- the gateway itself
 
-pub record OwnOrders (own : Own) : Type 0 where
+pub record OwnOrders (own : Post) : Type 0 where
   pub order : OwnIsInOrder own
-  pub below : own.post.number < numbers
+  pub below : own.number < numbers
 
-pub own_free : (own : Own) → OwnIsInOrder own → IsFree own
-own_free own order = λ serving. by_restart own.post.restart order serving where
-  by_restart : (restart : Restart) → OwnInOrderBy restart own.post.pending → is_serving restart ≡ true → own.post.pending ≡ None
+pub own_free : (own : Post) → OwnIsInOrder own → IsFree own
+own_free own order = λ serving. by_restart own.restart order serving where
+  by_restart : (restart : Restart) → OwnInOrderBy restart own.pending → is_serving restart ≡ true → own.pending ≡ None
   by_restart (Waiting until) order serving = order
   by_restart Announced order serving = absurd cc
   by_restart Serving order serving = order
@@ -421,32 +420,32 @@ own_put_off (Waiting until) response moment None order = order
 own_put_off Announced response moment None order = absurd (none-some order.message order.flies)
 own_put_off Serving response moment None order = order
 
-own_happened_orders : (setup : Setup) (due : DueKind) (moment : ℕ) (own : Own) → OwnOrders own → OwnOrders (own_happened due setup moment own).value
-unfolding own_happened announced
+own_happened_orders : (setup : Setup) (due : DueKind) (moment : ℕ) (own : Post) → OwnOrders own → OwnOrders (happened_under due setup 0 moment own).value
+unfolding happened_under announced
 own_happened_orders setup (OfLine due) moment own orders = orders
-own_happened_orders setup Resend moment own orders = by_pending own.post.pending orders.order where
-  by_repeat : (message : InFlight) (repeat : Repeat) → OwnInOrderBy own.post.restart (Some message)
-      → OwnOrders (own_posted own (repeated_as repeat setup 0 moment own.post message)).value
+own_happened_orders setup Resend moment own orders = by_pending own.pending orders.order where
+  by_repeat : (message : InFlight) (repeat : Repeat) → OwnInOrderBy own.restart (Some message)
+      → OwnOrders (repeated_as repeat setup 0 moment own message).value
   by_repeat message SentAgain order =
-      record { order = own_sent_in_order own.post.restart message (repeated message moment) (repeated_same message moment).id order; below = orders.below }
+      record { order = own_sent_in_order own.restart message (repeated message moment) (repeated_same message moment).id order; below = orders.below }
   by_repeat message GivenUp order = record { order = refl; below = orders.below }
 
-  by_pending : (pending : Option InFlight) → OwnInOrderBy own.post.restart pending → OwnOrders (own_posted own (resent_by pending setup 0 moment own.post)).value
+  by_pending : (pending : Option InFlight) → OwnInOrderBy own.restart pending → OwnOrders (resent_by pending setup 0 moment own).value
   by_pending None order = orders
   by_pending (Some message) order = by_repeat message (repeat_of message moment) order
-own_happened_orders setup Announce moment own orders = by_restart own.post.restart where
-  by_restart : (restart : Restart) → OwnOrders (own_posted own (announced_by restart setup 0 moment own.post)).value
-  by_restart (Waiting until) = record { order = begins_with 0 own.post.number _ _ moment orders.below; below = next_below 0 own.post.number orders.below }
+own_happened_orders setup Announce moment own orders = by_restart own.restart where
+  by_restart : (restart : Restart) → OwnOrders (announced_by restart setup 0 moment own).value
+  by_restart (Waiting until) = record { order = begins_with 0 own.number _ _ moment orders.below; below = next_below 0 own.number orders.below }
   by_restart Announced = orders
   by_restart Serving = orders
 
-own_responded_orders : (setup : Setup) (moment : ℕ) (response : Response) (own : Own) → OwnOrders own → OwnOrders (own_responded setup moment response own).value
-unfolding own_responded replied announced
-own_responded_orders setup moment response own orders = by_heard (heard_on own.post response) where
-  by_heard : (heard : Heard) → OwnOrders (own_posted own (replied heard setup 0 moment response own.post)).value
+own_responded_orders : (setup : Setup) (moment : ℕ) (response : Response) (own : Post) → OwnOrders own → OwnOrders (replied_on setup 0 moment response own).value
+unfolding replied_on replied announced
+own_responded_orders setup moment response own orders = by_heard (heard_on own response) where
+  by_heard : (heard : Heard) → OwnOrders (replied heard setup 0 moment response own).value
   by_heard Nothing = orders
-  by_heard PutOff = record { order = own_put_off own.post.restart response moment own.post.pending orders.order; below = orders.below }
-  by_heard (Redirected agent) = record { order = begins_with 0 own.post.number _ _ moment orders.below; below = next_below 0 own.post.number orders.below }
+  by_heard PutOff = record { order = own_put_off own.restart response moment own.pending orders.order; below = orders.below }
+  by_heard (Redirected agent) = record { order = begins_with 0 own.number _ _ moment orders.below; below = next_below 0 own.number orders.below }
   by_heard (Answered agent) = record { order = refl; below = orders.below }
 
 own_ordering : (setup : Setup) → OwnTurns setup Orders OwnOrders Any
@@ -509,17 +508,17 @@ pub waits_for_the_answer : (setup : Setup) (events : List GatewayEvent) (line : 
 waits_for_the_answer setup events line station at =
     order_waits (serves (machine_after setup (opening setup) events).endpoints) line station ((posts_in_order setup events).lines line station at)
 
-own_order_has : (own : Own) → OwnIsInOrder own → HasOwnId own
+own_order_has : (own : Post) → OwnIsInOrder own → HasOwnId own
 unfolding same_with
-own_order_has own order = by_pending own.post.pending order where
+own_order_has own order = by_pending own.pending order where
   by_restart : (restart : Restart) (message : InFlight) → OwnInOrderBy restart (Some message) → line_of_id message.id ≡ 0
   by_restart (Waiting until) message order = absurd (none-some message (sym order))
   by_restart Announced message order = (same_with 0 message message (Some message) refl refl order).own
   by_restart Serving message order = absurd (none-some message (sym order))
 
-  by_pending : (pending : Option InFlight) → OwnInOrderBy own.post.restart pending → IfSome pending (λ message. line_of_id message.id ≡ 0)
+  by_pending : (pending : Option InFlight) → OwnInOrderBy own.restart pending → IfSome pending (λ message. line_of_id message.id ≡ 0)
   by_pending None order = tt
-  by_pending (Some message) order = by_restart own.post.restart message order
+  by_pending (Some message) order = by_restart own.restart message order
 
 pub has_own_id : (setup : Setup) (events : List GatewayEvent) → HasOwnId (machine_after setup (opening setup) events).endpoints.own
 has_own_id setup events = own_order_has (machine_after setup (opening setup) events).endpoints.own (posts_in_order setup events).own
@@ -596,16 +595,16 @@ no_command_at_another_response setup line moment response station message pendin
       by_heard (Redirected agent) is = absurd is
       by_heard (Answered agent) is = absurd is
 
-pub no_own_command_at_another_response : (setup : Setup) (moment : ℕ) (response : Response) (own : Own) (message : InFlight) → own.post.pending ≡ Some message
+pub no_own_command_at_another_response : (setup : Setup) (moment : ℕ) (response : Response) (own : Post) (message : InFlight) → own.pending ≡ Some message
     → reply_of message response.id response.code ≢ replies.Answered
-    → ((own_responded setup moment response own).sent ≡ []) × IfSome (own_responded setup moment response own).value.post.pending (IsSame message)
-unfolding own_responded replied
+    → ((replied_on setup 0 moment response own).sent ≡ []) × IfSome (replied_on setup 0 moment response own).value.pending (IsSame message)
+unfolding replied_on replied
 no_own_command_at_another_response setup moment response own message pending other =
-    by_heard (heard_on own.post response) (other_is_no_answer own.post response message pending other) where
+    by_heard (heard_on own response) (other_is_no_answer own response message pending other) where
       by_heard : (heard : Heard) → IsPutOff heard
-          → ((own_posted own (replied heard setup 0 moment response own.post)).sent ≡ []) × IfSome (own_posted own (replied heard setup 0 moment response own.post)).value.post.pending (IsSame message)
-      by_heard Nothing is = (refl, it_stays own.post message pending)
-      by_heard PutOff is = (refl, it_is_put_off response moment own.post message pending)
+          → ((replied heard setup 0 moment response own).sent ≡ []) × IfSome (replied heard setup 0 moment response own).value.pending (IsSame message)
+      by_heard Nothing is = (refl, it_stays own message pending)
+      by_heard PutOff is = (refl, it_is_put_off response moment own message pending)
       by_heard (Redirected agent) is = absurd is
       by_heard (Answered agent) is = absurd is
 
@@ -635,15 +634,15 @@ pub repeat_keeps : (setup : Setup) (line moment : ℕ) (station : Station) (mess
 unfolding happened_on
 repeat_keeps setup line moment station message pending = post_keeps setup line moment station.post message pending
 
-pub own_carries : (setup : Setup) (moment : ℕ) (own : Own) (message : InFlight) → own.post.pending ≡ Some message
-    → All (Carries 0 message) (own_happened Resend setup moment own).sent
-unfolding own_happened
-own_carries setup moment own message pending = post_carries setup 0 moment own.post message pending
+pub own_carries : (setup : Setup) (moment : ℕ) (own : Post) (message : InFlight) → own.pending ≡ Some message
+    → All (Carries 0 message) (happened_under Resend setup 0 moment own).sent
+unfolding happened_under
+own_carries setup moment own message pending = post_carries setup 0 moment own message pending
 
-pub own_keeps : (setup : Setup) (moment : ℕ) (own : Own) (message : InFlight) → own.post.pending ≡ Some message
-    → IfSome (own_happened Resend setup moment own).value.post.pending (IsSame message)
-unfolding own_happened
-own_keeps setup moment own message pending = post_keeps setup 0 moment own.post message pending
+pub own_keeps : (setup : Setup) (moment : ℕ) (own : Post) (message : InFlight) → own.pending ≡ Some message
+    → IfSome (happened_under Resend setup 0 moment own).value.pending (IsSame message)
+unfolding happened_under
+own_keeps setup moment own message pending = post_keeps setup 0 moment own message pending
 
 -- A response changes its own line alone, or the gateway itself
 
@@ -724,28 +723,28 @@ a_stranger_does_nothing setup endpoints moment response station at stranger =
     (ap (λ (heard : Heard). responded_as heard setup (line_of_id response.id) moment response station) (no_reply station.post response stranger))
 
 -- what is heard by the gateway itself
-pub nothing_heard : (setup : Setup) (endpoints : Endpoints) (moment : ℕ) (response : Response) → line_of_id response.id ≡ 0 → heard_on endpoints.own.post response ≡ Nothing
+pub nothing_heard : (setup : Setup) (endpoints : Endpoints) (moment : ℕ) (response : Response) → line_of_id response.id ≡ 0 → heard_on endpoints.own response ≡ Nothing
     → responded setup endpoints moment response ≡ silently endpoints
-unfolding own_responded replied
+unfolding replied_on replied
 nothing_heard setup endpoints moment response none nothing =
     is_own setup endpoints moment response none
-    ∙ ap (λ (heard : Heard). afterwards (effect_map (with_own endpoints) (own_posted endpoints.own (replied heard setup 0 moment response endpoints.own.post))) (λ next. lines_told heard setup moment next)) nothing
+    ∙ ap (λ (heard : Heard). afterwards (effect_map (with_own endpoints) (replied heard setup 0 moment response endpoints.own)) (λ next. lines_told heard setup moment next)) nothing
 
 pub a_stranger_to_itself : (setup : Setup) (endpoints : Endpoints) (moment : ℕ) (response : Response) → line_of_id response.id ≡ 0
-    → IfSome endpoints.own.post.pending (λ message. message.id ≢ response.id) → responded setup endpoints moment response ≡ silently endpoints
+    → IfSome endpoints.own.pending (λ message. message.id ≢ response.id) → responded setup endpoints moment response ≡ silently endpoints
 a_stranger_to_itself setup endpoints moment response none stranger =
-    nothing_heard setup endpoints moment response none (no_reply endpoints.own.post response stranger)
+    nothing_heard setup endpoints moment response none (no_reply endpoints.own response stranger)
 
-pub lines_keep : (setup : Setup) (endpoints : Endpoints) (moment : ℕ) (response : Response) → line_of_id response.id ≡ 0 → heard_on endpoints.own.post response ≡ PutOff
+pub lines_keep : (setup : Setup) (endpoints : Endpoints) (moment : ℕ) (response : Response) → line_of_id response.id ≡ 0 → heard_on endpoints.own response ≡ PutOff
     → (responded setup endpoints moment response).value.stations ≡ endpoints.stations
-unfolding own_responded replied
+unfolding replied_on replied
 lines_keep setup endpoints moment response none is =
     ap (λ (t : Effect Endpoints). t.value.stations) (is_own setup endpoints moment response none
-    ∙ ap (λ (heard : Heard). afterwards (effect_map (with_own endpoints) (own_posted endpoints.own (replied heard setup 0 moment response endpoints.own.post))) (λ next. lines_told heard setup moment next)) is)
+    ∙ ap (λ (heard : Heard). afterwards (effect_map (with_own endpoints) (replied heard setup 0 moment response endpoints.own)) (λ next. lines_told heard setup moment next)) is)
 
 -- once it serves nothing is heard any more
 pub a_served_gateway_hears_nothing : (setup : Setup) (endpoints : Endpoints) (moment : ℕ) (response : Response) → line_of_id response.id ≡ 0 → AreInOrder endpoints → serves endpoints ≡ true
     → responded setup endpoints moment response ≡ silently endpoints
 a_served_gateway_hears_nothing setup endpoints moment response none order served =
     nothing_heard setup endpoints moment response none
-    (ap (λ (p : Option InFlight). heard_by p endpoints.own.post.restart response) (own_free endpoints.own order.own served))
+    (ap (λ (p : Option InFlight). heard_by p endpoints.own.restart response) (own_free endpoints.own order.own served))

@@ -25,7 +25,7 @@ use Rattle.restart.specs.declared.heard.Heard.{Heard}
 use Rattle.restart.specs.declared.heard.Heard.TheVariants.{Nothing, PutOff, Redirected, Answered}
 use Rattle.timers.specs.declared.due_item.DueItem.{DueItem}
 use Rattle.command_forms.specs.declared.forms.Deed.{Deed}
-use Rattle.plain_machine.specs.declared.own.Own.{Own}
+use Rattle.plain_machine.specs.declared.post.Post.{Post}
 use Rattle.plain_machine.specs.declared.response.Response.{Response}
 use Rattle.plain_machine.specs.declared.setup.Setup.{Setup}
 use Rattle.plain_machine.specs.declared.station.Station.{Station}
@@ -36,13 +36,13 @@ use Rattle.plain_machine.specs.Calls.{standing_at, NumbersGoOn}
 use Rattle.plain_machine.specs.Connecting.{id_param, created_shown, showing, connected}
 use Rattle.plain_machine.specs.Done.{Done}
 use Rattle.plain_machine.specs.Event.{GatewayEvent}
-use Rattle.plain_machine.specs.Falling.{due_by, happened_on, own_happened, happened, go_on, passed, room, pass}
+use Rattle.plain_machine.specs.Falling.{due_by, happened_on, happened_under, happened, go_on, passed, room, pass}
 use Rattle.plain_machine.specs.Happening.{effect}
 use Rattle.plain_machine.specs.Machine.{Endpoints, Machine, station_at, on_line, on_lines, on_own, on_either}
-use Rattle.plain_machine.specs.Announcing.{heard_on}
+use Rattle.plain_machine.specs.Announcing.{heard_on, replied_on}
 use Rattle.plain_machine.specs.Posting.{line_of_id}
 use Rattle.plain_machine.specs.Requesting.{encoding_with, connected_on, refusal_by, refused_by, lines_meant, deed_on, shown_by, unless_refused, deed_done, line_with_place, done_there, done_for}
-use Rattle.plain_machine.specs.Responding.{responded_on, own_responded, redirected_on, opened_on, lines_told, own_heard, responded}
+use Rattle.plain_machine.specs.Responding.{responded_on, redirected_on, opened_on, lines_told, own_heard, responded}
 use Rattle.plain_machine.proofs.EffectLaws.{turned_lines, happened_lines, handled_lines, took_lines, pass_lines, effect_lines, on_nothing}
 use Rattle.gateway_laws.proofs.FlightLaws.{line_stays}
 use Rattle.gateway_laws.proofs.TurnLemmas.{Turns, Holds, of_line, acted_goes, happened_goes, pass_goes, handled_on_all, took_on_all, event_on_all}
@@ -67,7 +67,7 @@ on_line_same endpoints line other turn same = by_test (other == line) refl where
       subst (λ (x : ℕ). standing_at (on_line endpoints line turn).value x ≡ standing_at endpoints x) (sym ((Decides-eqb other line).0 e)) (by_station (station_at endpoints line) refl)
   by_test false e = ap connections_in (line_stays endpoints line other turn (λ same. (let t : (other == line) ≡ true = (Decides-eqb other line).1 same in absurd cc)))
 
-either_same : (endpoints : Endpoints) (line other : ℕ) (own_turn : Own → Effect Own) (turn : Station → Effect Station) → ((station : Station) → (turn station).value.connections ≡ station.connections)
+either_same : (endpoints : Endpoints) (line other : ℕ) (own_turn : Post → Effect Post) (turn : Station → Effect Station) → ((station : Station) → (turn station).value.connections ≡ station.connections)
     → standing_at (on_either endpoints line own_turn turn).value other ≡ standing_at endpoints other
 either_same endpoints line other own_turn turn same = by_test (line == 0) where
   by_test : (b : Bool) → standing_at (if b then on_own endpoints own_turn else on_line endpoints line turn).value other ≡ standing_at endpoints other
@@ -98,13 +98,13 @@ pub response_leaves : (setup : Setup) (endpoints : Endpoints) (moment : ℕ) (re
 response_leaves setup endpoints moment response other = by_test (line_of_id response.id == 0) where
   by_test : (b : Bool) → standing_at (if b then own_heard setup endpoints moment response
       else on_line endpoints (line_of_id response.id) (responded_on setup (line_of_id response.id) moment response)).value other ≡ standing_at endpoints other
-  by_test true = told_leaves (heard_on endpoints.own.post response) setup moment (on_own endpoints (own_responded setup moment response)).value other
+  by_test true = told_leaves (heard_on endpoints.own response) setup moment (on_own endpoints (replied_on setup 0 moment response)).value other
   by_test false = on_line_same endpoints (line_of_id response.id) other (responded_on setup (line_of_id response.id) moment response)
       (λ station. responded_same setup (line_of_id response.id) moment response station)
 
 pub due_leaves : (setup : Setup) (endpoints : Endpoints) (item : DueItem) (other : ℕ) → standing_at (happened setup endpoints item).value other ≡ standing_at endpoints other
 due_leaves setup endpoints item other =
-    either_same endpoints item.line other (own_happened item.kind setup item.moment) (happened_on item.kind setup item.line item.moment)
+    either_same endpoints item.line other (happened_under item.kind setup 0 item.moment) (happened_on item.kind setup item.line item.moment)
     (λ station. happened_same setup item.kind item.line item.moment station)
 
 passed_leaves : (n : ℕ) (setup : Setup) (endpoints : Endpoints) (moment other : ℕ) → standing_at (passed n setup endpoints moment).value other ≡ standing_at endpoints other

@@ -31,7 +31,6 @@ use Rattle.timers.specs.declared.kind.DueKind.{DueKind}
 use Rattle.timers.specs.declared.kind.DueKind.TheVariants.{OfLine, Resend, Announce}
 use Rattle.timers.specs.declared.due_item.DueItem.{DueItem}
 use Rattle.command_forms.specs.declared.forms.Deed.{Deed}
-use Rattle.plain_machine.specs.declared.own.Own.{Own}
 use Rattle.plain_machine.specs.declared.post.Post.{Post}
 use Rattle.plain_machine.specs.declared.response.Response.{Response}
 use Rattle.plain_machine.specs.declared.setup.Setup.{Setup}
@@ -40,16 +39,16 @@ use Rattle.transmission.specs.declared.output.OutDatagram.{OutDatagram}
 use Rattle.plain_machine.specs.Effect.{Effect}
 use Rattle.plain_machine.specs.Message.{Sent, is_answer, datagram_of, datagrams_of}
 use Rattle.plain_machine.specs.Posting.{line_of_id, repeated_as, resent_by, resent_on}
-use Rattle.plain_machine.specs.Announcing.{announced, announced_by, announced_on, heard_on, replied}
+use Rattle.plain_machine.specs.Announcing.{announced, announced_by, announced_on, heard_on, replied, replied_on}
 use Rattle.plain_machine.specs.Notifying.{posted, with_notice, noted}
-use Rattle.plain_machine.specs.Machine.{Endpoints, Machine, serves, station_at, turned_at, own_posted, on_line, on_own, on_either, on_lines}
+use Rattle.plain_machine.specs.Machine.{Endpoints, Machine, serves, station_at, turned_at, on_line, on_own, on_either, on_lines}
 use Rattle.plain_machine.specs.Acting.{acted_on, acted}
-use Rattle.plain_machine.specs.Falling.{due_by, happened_on, own_happened, happened, go_on, passed, room, pass}
+use Rattle.plain_machine.specs.Falling.{due_by, happened_on, happened_under, happened, go_on, passed, room, pass}
 use Rattle.plain_machine.specs.Done.{Done}
 use Rattle.plain_machine.specs.Requesting.{refused_by, with_entity, with_connections, asked_if, deed_on, lines_meant, unless_refused, deed_done, line_with_place, done_there, done_for}
 use Rattle.plain_machine.specs.Commanding.{done_by}
 use Rattle.transmission.specs.Acknowledging.{asks_for_acknowledgement}
-use Rattle.plain_machine.specs.Responding.{acknowledged, response_with, responded_as, responded_on, own_responded, redirected_on, opened_on, lines_told, own_heard, responded}
+use Rattle.plain_machine.specs.Responding.{acknowledged, response_with, responded_as, responded_on, redirected_on, opened_on, lines_told, own_heard, responded}
 use Rattle.plain_machine.specs.Answering.{transaction_of, heard_as}
 
 -- the answers among what is sent, each in a datagram of its own
@@ -101,11 +100,11 @@ happened_on_quiet (OfLine due) setup line moment station = noted_quiet setup lin
 happened_on_quiet Resend setup line moment station = resent_quiet setup line moment station.post
 happened_on_quiet Announce setup line moment station = announced_quiet setup line moment station.post
 
-own_happened_quiet : (due : DueKind) (setup : Setup) (moment : ℕ) (own : Own) → Quiet (own_happened due setup moment own).sent
-unfolding own_happened
+own_happened_quiet : (due : DueKind) (setup : Setup) (moment : ℕ) (own : Post) → Quiet (happened_under due setup 0 moment own).sent
+unfolding happened_under
 own_happened_quiet (OfLine due) setup moment own = refl
-own_happened_quiet Resend setup moment own = resent_quiet setup 0 moment own.post
-own_happened_quiet Announce setup moment own = announced_quiet setup 0 moment own.post
+own_happened_quiet Resend setup moment own = resent_quiet setup 0 moment own
+own_happened_quiet Announce setup moment own = announced_quiet setup 0 moment own
 
 deed_on_quiet : (setup : Setup) (deed : Deed) (moment line : ℕ) (station : Station) → Quiet (deed_on setup deed moment line station).sent
 unfolding deed_on
@@ -122,10 +121,10 @@ responded_on_quiet setup line moment response station = by_heard (heard_on stati
       let becomes = (posted station (replied (Answered agent) setup line moment response station.post)).value in
       noted_quiet setup line moment becomes (answered becomes.line moment)
 
-own_responded_quiet : (setup : Setup) (moment : ℕ) (response : Response) (own : Own) → Quiet (own_responded setup moment response own).sent
-unfolding own_responded replied announced
-own_responded_quiet setup moment response own = by_heard (heard_on own.post response) where
-  by_heard : (heard : Heard) → Quiet (own_posted own (replied heard setup 0 moment response own.post)).sent
+own_responded_quiet : (setup : Setup) (moment : ℕ) (response : Response) (own : Post) → Quiet (replied_on setup 0 moment response own).sent
+unfolding replied_on replied announced
+own_responded_quiet setup moment response own = by_heard (heard_on own response) where
+  by_heard : (heard : Heard) → Quiet (replied heard setup 0 moment response own).sent
   by_heard Nothing = refl
   by_heard PutOff = refl
   by_heard (Redirected agent) = refl
@@ -148,7 +147,7 @@ turned_quiet endpoints line turn quiet = by_station (station_at endpoints line) 
   by_station None = refl
   by_station (Some station) = quiet station
 
-either_quiet : (endpoints : Endpoints) (line : ℕ) (own_turn : Own → Effect Own) (turn : Station → Effect Station) → ((own : Own) → Quiet (own_turn own).sent)
+either_quiet : (endpoints : Endpoints) (line : ℕ) (own_turn : Post → Effect Post) (turn : Station → Effect Station) → ((own : Post) → Quiet (own_turn own).sent)
     → ((station : Station) → Quiet (turn station).sent) → Quiet (on_either endpoints line own_turn turn).sent
 either_quiet endpoints line own_turn turn own_quiet quiet = by_test (line == 0) where
   by_test : (b : Bool) → Quiet (if b then on_own endpoints own_turn else on_line endpoints line turn).sent
@@ -177,8 +176,8 @@ responded_quiet setup endpoints moment response = by_test (line_of_id response.i
   by_test : (b : Bool) → Quiet (if b then own_heard setup endpoints moment response
       else on_line endpoints (line_of_id response.id) (responded_on setup (line_of_id response.id) moment response)).sent
   by_test true =
-      quiet_both (own_responded setup moment response endpoints.own).sent _ (own_responded_quiet setup moment response endpoints.own)
-      (told_quiet (heard_on endpoints.own.post response) setup moment (on_own endpoints (own_responded setup moment response)).value)
+      quiet_both (replied_on setup 0 moment response endpoints.own).sent _ (own_responded_quiet setup moment response endpoints.own)
+      (told_quiet (heard_on endpoints.own response) setup moment (on_own endpoints (replied_on setup 0 moment response)).value)
   by_test false = turned_quiet endpoints (line_of_id response.id) (responded_on setup (line_of_id response.id) moment response) (responded_on_quiet setup (line_of_id response.id) moment response)
 
 acknowledged_quiet : (moment : ℕ) (source : SocketAddrV4) (code id : ℕ) (params : List Param) → Quiet (acknowledged moment source code id params)
@@ -198,7 +197,7 @@ heard_quiet (message (messages.Response code id params body)) setup m source =
 
 happened_quiet : (setup : Setup) (endpoints : Endpoints) (item : DueItem) → Quiet (happened setup endpoints item).sent
 happened_quiet setup endpoints item =
-    either_quiet endpoints item.line (own_happened item.kind setup item.moment) (happened_on item.kind setup item.line item.moment)
+    either_quiet endpoints item.line (happened_under item.kind setup 0 item.moment) (happened_on item.kind setup item.line item.moment)
     (own_happened_quiet item.kind setup item.moment) (λ station. happened_on_quiet item.kind setup item.line item.moment station)
 
 passed_quiet : (n : ℕ) (setup : Setup) (endpoints : Endpoints) (moment : ℕ) → Quiet (passed n setup endpoints moment).sent

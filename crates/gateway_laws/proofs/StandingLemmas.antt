@@ -27,7 +27,7 @@ use Rattle.endpoint_names.specs.declared.entity.Entity.{Entity}
 use Rattle.timers.specs.declared.kind.DueKind.{DueKind}
 use Rattle.timers.specs.declared.kind.DueKind.TheVariants.{OfLine, Resend, Announce}
 use Rattle.command_forms.specs.declared.forms.Deed.{Deed}
-use Rattle.plain_machine.specs.declared.own.Own.{Own}
+use Rattle.plain_machine.specs.declared.post.Post.{Post}
 use Rattle.plain_machine.specs.declared.response.Response.{Response}
 use Rattle.plain_machine.specs.declared.setup.Setup.{Setup}
 use Rattle.plain_machine.specs.declared.station.Station.{Station}
@@ -113,7 +113,7 @@ opened_same setup agent line moment station = noted_same setup line moment (with
 abbrev pub AnySent : Sent → Type 0
 AnySent sent = Unit {0}
 
-abbrev pub AnyOwn : Own → Type 0
+abbrev pub AnyOwn : Post → Type 0
 AnyOwn own = Unit {0}
 
 all_sent : (sent : List Sent) → All AnySent sent

@@ -38,7 +38,6 @@ use Rattle.restart.specs.Restarting.{is_serving, answer_by, answer_of, heard_of}
 use Rattle.timers.specs.declared.kind.DueKind.{DueKind}
 use Rattle.timers.specs.declared.kind.DueKind.TheVariants.{OfLine, Resend, Announce}
 use Rattle.timers.specs.declared.due_item.DueItem.{DueItem}
-use Rattle.plain_machine.specs.declared.own.Own.{Own}
 use Rattle.plain_machine.specs.declared.post.Post.{Post}
 use Rattle.plain_machine.specs.declared.response.Response.{Response}
 use Rattle.plain_machine.specs.declared.setup.Setup.{Setup}
@@ -47,15 +46,15 @@ use Rattle.plain_machine.specs.Effect.{Effect, silently, effect_map, afterwards}
 use Rattle.plain_machine.specs.Event.{GatewayEvent, datagram, phone, tick}
 use Rattle.plain_machine.specs.Message.{Sent}
 use Rattle.plain_machine.specs.Posting.{line_of_id, repeated_as, resent_by}
-use Rattle.plain_machine.specs.Announcing.{announced, announced_by, heard_by, heard_on, replied}
-use Rattle.plain_machine.specs.Machine.{Endpoints, Machine, serves, station_at, with_turn, turned_at, on_line, own_posted, with_own, on_own, on_lines}
+use Rattle.plain_machine.specs.Announcing.{announced, announced_by, heard_by, heard_on, replied, replied_on}
+use Rattle.plain_machine.specs.Machine.{Endpoints, Machine, serves, station_at, with_turn, turned_at, on_line, with_own, on_own, on_lines}
 use Rattle.transmission.specs.Texts.{texts_of}
 use Rattle.plain_machine.specs.Acting.{acted_on, acted}
-use Rattle.plain_machine.specs.Falling.{due_by, happened_on, own_happened, happened, go_on, passed, room, pass}
+use Rattle.plain_machine.specs.Falling.{due_by, happened_on, happened_under, happened, go_on, passed, room, pass}
 use Rattle.plain_machine.specs.Done.{Done}
 use Rattle.plain_machine.specs.Requesting.{refused_by, deed_on, lines_meant, unless_refused, deed_done, line_with_place, done_there, done_for}
 use Rattle.plain_machine.specs.Commanding.{done_by, commanded}
-use Rattle.plain_machine.specs.Responding.{response_with, responded_on, own_responded, redirected_on, opened_on, on_all, lines_told, own_heard, responded}
+use Rattle.plain_machine.specs.Responding.{response_with, responded_on, redirected_on, opened_on, on_all, lines_told, own_heard, responded}
 use Rattle.plain_machine.specs.Answering.{Transaction, executed, transacted_by, handled, took_all}
 use Rattle.plain_machine.specs.Happening.{effect}
 use Rattle.plain_machine.specs.Lists.{machine_after}
@@ -163,49 +162,49 @@ abbrev pub Always : (ℕ → Station → Type 0) → Bool → ℕ → Station �
 Always P serving line station = P line station
 
 -- while the gateway serves it has nothing in flight
-abbrev pub IsFree : Own → Type 0
-IsFree own = is_serving own.post.restart ≡ true → own.post.pending ≡ None
+abbrev pub IsFree : Post → Type 0
+IsFree own = is_serving own.restart ≡ true → own.pending ≡ None
 
 -- it is all the same whether the gateway serves
 abbrev pub IsEqual : (Bool → ℕ → Station → Type 0) → Type 0
 IsEqual P = (serving other : Bool) (line : ℕ) (station : Station) → P serving line station → P other line station
 
 -- and so does each turn of the gateway itself
-pub record OwnTurns (setup : Setup) (P : Bool → ℕ → Station → Type 0) (R : Own → Type 0) (Q : Sent → Type 0) : Type 1 where
-  pub free : (own : Own) → R own → IsFree own ⊎ IsEqual P
-  pub response : (moment : ℕ) (response : Response) (own : Own) → IsRead setup response → R own
-      → Gives R Q (own_responded setup moment response own)
-  pub happening : (due : DueKind) (moment : ℕ) (own : Own) → R own → Gives R Q (own_happened due setup moment own)
+pub record OwnTurns (setup : Setup) (P : Bool → ℕ → Station → Type 0) (R : Post → Type 0) (Q : Sent → Type 0) : Type 1 where
+  pub free : (own : Post) → R own → IsFree own ⊎ IsEqual P
+  pub response : (moment : ℕ) (response : Response) (own : Post) → IsRead setup response → R own
+      → Gives R Q (replied_on setup 0 moment response own)
+  pub happening : (due : DueKind) (moment : ℕ) (own : Post) → R own → Gives R Q (happened_under due setup 0 moment own)
 
 -- what falls due of the gateway itself leaves it serving, or not yet
-pub happening_serves : (setup : Setup) (due : DueKind) (moment : ℕ) (own : Own) → IsFree own → is_serving (own_happened due setup moment own).value.post.restart ≡ is_serving own.post.restart
-unfolding own_happened announced
+pub happening_serves : (setup : Setup) (due : DueKind) (moment : ℕ) (own : Post) → IsFree own → is_serving (happened_under due setup 0 moment own).value.restart ≡ is_serving own.restart
+unfolding happened_under announced
 happening_serves setup (OfLine due) moment own free = refl
-happening_serves setup Resend moment own free = by_serving (is_serving own.post.restart) refl where
-  by_repeat : (flight : InFlight) (repeat : Repeat) → is_serving own.post.restart ≡ false → is_serving (repeated_as repeat setup 0 moment own.post flight).value.restart ≡ is_serving own.post.restart
+happening_serves setup Resend moment own free = by_serving (is_serving own.restart) refl where
+  by_repeat : (flight : InFlight) (repeat : Repeat) → is_serving own.restart ≡ false → is_serving (repeated_as repeat setup 0 moment own flight).value.restart ≡ is_serving own.restart
   by_repeat flight SentAgain e = refl
   by_repeat flight GivenUp e = sym e
 
-  by_pending : (pending : Option InFlight) → is_serving own.post.restart ≡ false → is_serving (resent_by pending setup 0 moment own.post).value.restart ≡ is_serving own.post.restart
+  by_pending : (pending : Option InFlight) → is_serving own.restart ≡ false → is_serving (resent_by pending setup 0 moment own).value.restart ≡ is_serving own.restart
   by_pending None e = refl
   by_pending (Some flight) e = by_repeat flight (repeat_of flight moment) e
 
-  by_serving : (b : Bool) → is_serving own.post.restart ≡ b → is_serving (resent_by own.post.pending setup 0 moment own.post).value.restart ≡ is_serving own.post.restart
-  by_serving true e = ap (λ (pending : Option InFlight). is_serving (resent_by pending setup 0 moment own.post).value.restart) (free e)
-  by_serving false e = by_pending own.post.pending e
-happening_serves setup Announce moment own free = by_restart own.post.restart where
-  by_restart : (restart : Restart) → is_serving (announced_by restart setup 0 moment (record own.post { restart = restart })).value.restart ≡ is_serving restart
+  by_serving : (b : Bool) → is_serving own.restart ≡ b → is_serving (resent_by own.pending setup 0 moment own).value.restart ≡ is_serving own.restart
+  by_serving true e = ap (λ (pending : Option InFlight). is_serving (resent_by pending setup 0 moment own).value.restart) (free e)
+  by_serving false e = by_pending own.pending e
+happening_serves setup Announce moment own free = by_restart own.restart where
+  by_restart : (restart : Restart) → is_serving (announced_by restart setup 0 moment (record own { restart = restart })).value.restart ≡ is_serving restart
   by_restart (Waiting until) = refl
   by_restart Announced = refl
   by_restart Serving = refl
 
 -- of all stations, and of the gateway itself
-pub record Holds (P : Bool → ℕ → Station → Type 0) (R : Own → Type 0) (endpoints : Endpoints) : Type 0 where
+pub record Holds (P : Bool → ℕ → Station → Type 0) (R : Post → Type 0) (endpoints : Endpoints) : Type 0 where
   pub stations : OnAll (P (serves endpoints)) 1 endpoints.stations
   pub own : R endpoints.own
 
 -- the endpoints after it, and what is sent
-pub record GoesOn (P : Bool → ℕ → Station → Type 0) (R : Own → Type 0) (Q : Sent → Type 0) (is : Effect Endpoints) : Type 0 where
+pub record GoesOn (P : Bool → ℕ → Station → Type 0) (R : Post → Type 0) (Q : Sent → Type 0) (is : Effect Endpoints) : Type 0 where
   pub holds : Holds P R is.value
   pub sent : All Q is.sent
 
@@ -220,7 +219,7 @@ of_line P endpoints line station all at = by_zero (line == 0) refl at where
   by_zero true e at = absurd (none-some station at)
   by_zero false e at = subst (λ (i : ℕ). P i station) (one_more e) (on_one P 1 endpoints.stations (line - 1) station all at)
 
-turned : (P : Bool → ℕ → Station → Type 0) (R : Own → Type 0) (Q : Sent → Type 0) (endpoints : Endpoints) (line : ℕ) (station : Station) (turn : Effect Station) → Holds P R endpoints
+turned : (P : Bool → ℕ → Station → Type 0) (R : Post → Type 0) (Q : Sent → Type 0) (endpoints : Endpoints) (line : ℕ) (station : Station) (turn : Effect Station) → Holds P R endpoints
     → station_at endpoints line ≡ Some station → Good (P (serves endpoints)) Q line turn → GoesOn P R Q (with_turn endpoints line turn)
 turned P R Q endpoints line station turn all at good = by_zero (line == 0) refl at where
   one_more : (line == 0) ≡ false → line ≡ 1 + (line - 1)
@@ -234,7 +233,7 @@ turned P R Q endpoints line station turn all at good = by_zero (line == 0) refl 
         sent = good.1;
       }
 
-module _ (setup : Setup) (P : Bool → ℕ → Station → Type 0) (R : Own → Type 0) (Q : Sent → Type 0) (turns : Turns setup P Q) (own_turns : OwnTurns setup P R Q) where
+module _ (setup : Setup) (P : Bool → ℕ → Station → Type 0) (R : Post → Type 0) (Q : Sent → Type 0) (turns : Turns setup P Q) (own_turns : OwnTurns setup P R Q) where
   stays : (endpoints : Endpoints) → Holds P R endpoints → GoesOn P R Q (silently endpoints)
   stays endpoints all = record { holds = all; sent = All-nil Q }
 
@@ -252,7 +251,7 @@ module _ (setup : Setup) (P : Bool → ℕ → Station → Type 0) (R : Own → 
     by_station None e = stays endpoints all
     by_station (Some station) e = turned P R Q endpoints line station _ all e (good station (of_line (P (serves endpoints)) endpoints line station all.stations e))
 
-  -- it leaves what the gateway keeps for itself
+  -- it leaves the post of the gateway itself
   own_kept : (endpoints : Endpoints) (line : ℕ) (turn : Station → Effect Station) → (on_line endpoints line turn).value.own ≡ endpoints.own
   unfolding on_line
   own_kept endpoints line turn = by_station (station_at endpoints line) where
@@ -268,7 +267,7 @@ module _ (setup : Setup) (P : Bool → ℕ → Station → Type 0) (R : Own → 
   several_go serving (line ∷ lines) endpoints turn is all good =
       let here = subst (λ (b : Bool). (station : Station) → P b line station → Good (P b) Q line (turn line station)) (sym is) (good line) in
       let first = turned_goes endpoints line (turn line) all here in
-      let still : serves (on_line endpoints line (turn line)).value ≡ serving = ap (λ (own : Own). is_serving own.post.restart) (own_kept endpoints line (turn line)) ∙ is in
+      let still : serves (on_line endpoints line (turn line)).value ≡ serving = ap (λ (own : Post). is_serving own.restart) (own_kept endpoints line (turn line)) ∙ is in
       let rest = several_go serving lines (on_line endpoints line (turn line)).value turn still first.holds good in
       record { holds = rest.holds; sent = All-append Q (on_line endpoints line (turn line)).sent _ first.sent rest.sent }
 
@@ -278,8 +277,8 @@ module _ (setup : Setup) (P : Bool → ℕ → Station → Type 0) (R : Own → 
   -- A response
 
   -- to the gateway itself, by what it is
-  abbrev OwnAs : Heard → Endpoints → ℕ → Response → Effect Own
-  OwnAs heard endpoints moment response = own_posted endpoints.own (replied heard setup 0 moment response endpoints.own.post)
+  abbrev OwnAs : Heard → Endpoints → ℕ → Response → Effect Post
+  OwnAs heard endpoints moment response = replied heard setup 0 moment response endpoints.own
 
   abbrev HeardAs : Heard → Endpoints → ℕ → Response → Effect Endpoints
   HeardAs heard endpoints moment response =
@@ -289,30 +288,30 @@ module _ (setup : Setup) (P : Bool → ℕ → Station → Type 0) (R : Own → 
   then_all : (serving : Bool) (first : Effect Endpoints) (turn : ℕ → Station → Effect Station) → serves first.value ≡ serving → R first.value.own → All Q first.sent
       → AllGone (P serving) Q first.value (on_all first.value turn) → GoesOn P R Q (afterwards first (λ next. on_all next turn))
   then_all serving first turn is own sent gone =
-      let same : serves (on_all first.value turn).value ≡ serving = ap (λ (own : Own). is_serving own.post.restart) gone.own ∙ is in
+      let same : serves (on_all first.value turn).value ≡ serving = ap (λ (own : Post). is_serving own.restart) gone.own ∙ is in
       record {
         holds = record { stations = subst (λ (b : Bool). OnAll (P b) 1 (on_all first.value turn).value.stations) (sym same) gone.stations; own = subst R (sym gone.own) own };
         sent = All-append Q first.sent _ sent gone.sent;
       }
 
   own_heard_goes : (endpoints : Endpoints) (moment : ℕ) (response : Response) → IsRead setup response → Holds P R endpoints → GoesOn P R Q (own_heard setup endpoints moment response)
-  unfolding own_responded replied announced
+  unfolding replied_on replied announced
   own_heard_goes endpoints moment response read all =
-      by_heard (heard_on endpoints.own.post response) refl (heard_read setup endpoints.own.post response read) (own_turns.response moment response endpoints.own read all.own) where
+      by_heard (heard_on endpoints.own response) refl (heard_read setup endpoints.own response read) (own_turns.response moment response endpoints.own read all.own) where
         -- where it serves nothing is in flight
-        not_serving : (heard : Heard) → IsFree endpoints.own → heard_on endpoints.own.post response ≡ heard → heard ≢ Nothing → serves endpoints ≡ false
+        not_serving : (heard : Heard) → IsFree endpoints.own → heard_on endpoints.own response ≡ heard → heard ≢ Nothing → serves endpoints ≡ false
         not_serving heard free e some = by_serving (serves endpoints) refl where
           by_serving : (b : Bool) → serves endpoints ≡ b → b ≡ false
-          by_serving true is = absurd (some (sym e ∙ ap (λ (pending : Option InFlight). heard_by pending endpoints.own.post.restart response) (free is)))
+          by_serving true is = absurd (some (sym e ∙ ap (λ (pending : Option InFlight). heard_by pending endpoints.own.restart response) (free is)))
           by_serving false is = refl
 
-        closed : (heard : Heard) → heard_on endpoints.own.post response ≡ heard → heard ≢ Nothing → OnAll (P false) 1 endpoints.stations
+        closed : (heard : Heard) → heard_on endpoints.own response ≡ heard → heard ≢ Nothing → OnAll (P false) 1 endpoints.stations
         closed heard e some = by_free (own_turns.free endpoints.own all.own) where
           by_free : (IsFree endpoints.own ⊎ IsEqual P) → OnAll (P false) 1 endpoints.stations
           by_free (inl free) = subst (λ (b : Bool). OnAll (P b) 1 endpoints.stations) (not_serving heard free e some) all.stations
           by_free (inr equal) = moved (serves endpoints) false equal 1 endpoints.stations all.stations
 
-        by_heard : (heard : Heard) → heard_on endpoints.own.post response ≡ heard → HeardRead setup heard
+        by_heard : (heard : Heard) → heard_on endpoints.own response ≡ heard → HeardRead setup heard
             → Gives R Q (OwnAs heard endpoints moment response) → GoesOn P R Q (HeardAs heard endpoints moment response)
         by_heard Nothing e named goes =
             record { holds = record { stations = all.stations; own = goes.0 }; sent = All-append Q (OwnAs Nothing endpoints moment response).sent [] goes.1 (All-nil Q) }
@@ -343,13 +342,13 @@ module _ (setup : Setup) (P : Bool → ℕ → Station → Type 0) (R : Own → 
   pub happened_goes : (endpoints : Endpoints) (item : DueItem) → Holds P R endpoints → GoesOn P R Q (happened setup endpoints item)
   happened_goes endpoints item all = by_test (item.line == 0) where
     after : Bool
-    after = is_serving (own_happened item.kind setup item.moment endpoints.own).value.post.restart
+    after = is_serving (happened_under item.kind setup 0 item.moment endpoints.own).value.restart
 
     by_free : (IsFree endpoints.own ⊎ IsEqual P) → OnAll (P after) 1 endpoints.stations
     by_free (inl free) = subst (λ (b : Bool). OnAll (P b) 1 endpoints.stations) (sym (happening_serves setup item.kind item.moment endpoints.own free)) all.stations
     by_free (inr equal) = moved (serves endpoints) after equal 1 endpoints.stations all.stations
 
-    by_test : (b : Bool) → GoesOn P R Q (if b then on_own endpoints (own_happened item.kind setup item.moment) else on_line endpoints item.line (happened_on item.kind setup item.line item.moment))
+    by_test : (b : Bool) → GoesOn P R Q (if b then on_own endpoints (happened_under item.kind setup 0 item.moment) else on_line endpoints item.line (happened_on item.kind setup item.line item.moment))
     by_test true =
         let goes = own_turns.happening item.kind item.moment endpoints.own all.own in
         record { holds = record { stations = by_free (own_turns.free endpoints.own all.own); own = goes.0 }; sent = goes.1 }

@@ -20,7 +20,6 @@ ghost use Rattle.mg_line.specs.declared.phone.Act.{Act};
 ghost use Rattle.timers.specs.declared.kind.DueKind.TheVariants.{OfLine, Resend, Announce};
 ghost use Rattle.timers.specs.declared.due_item.DueItem.{DueItem};
 ghost use Rattle.command_forms.specs.declared.forms.Deed.{Deed};
-ghost use Rattle.plain_machine.specs.declared.own.Own.{Own};
 ghost use Rattle.plain_machine.specs.declared.post.Post.{Post};
 ghost use Rattle.plain_machine.specs.declared.response.Response.{Response};
 ghost use Rattle.plain_machine.specs.declared.setup.Setup.{Setup};
@@ -34,7 +33,7 @@ ghost use Rattle.plain_machine.specs.Machine.{Endpoints, serves};
 ghost use Rattle.plain_machine.specs.Acting.{acted_on, acted};
 ghost use Rattle.plain_machine.specs.Requesting.{deed_on};
 ghost use Rattle.plain_machine.specs.Commanding.{done_by, commanded};
-ghost use Rattle.plain_machine.specs.Falling.{post_due, own_due, happened_on, happened};
+ghost use Rattle.plain_machine.specs.Falling.{post_due, happened_on, happened};
 ghost use Rattle.plain_machine.specs.Responding.{responded_on, responded};
 ghost use Rattle.plain_machine.specs.Lists.{plain};
 ghost use Rattle.plain_machine.specs.Flights.{IsInOrder, OwnIsInOrder, AreInOrder, BeginsNothing};
@@ -79,10 +78,10 @@ pub fn a_gateway_serves_once_its_announcement_is_answered()
     ensures due { (setup : Setup) (endpoints : Endpoints) (item : DueItem) → OwnIsInOrder endpoints.own →
         serves (happened setup endpoints item).value ≡ serves endpoints }
     ensures answered { (setup : Setup) (endpoints : Endpoints) (moment : ℕ) (response : Response) (agent : Option Entity) →
-        line_of_id response.id ≡ 0 → heard_on endpoints.own.post response ≡ Answered agent →
+        line_of_id response.id ≡ 0 → heard_on endpoints.own response ≡ Answered agent →
         serves (responded setup endpoints moment response).value ≡ true }
     ensures other { (setup : Setup) (endpoints : Endpoints) (moment : ℕ) (response : Response) →
-        serves endpoints ≡ false → ((agent : Option Entity) → heard_on endpoints.own.post response ≢ Answered agent) →
+        serves endpoints ≡ false → ((agent : Option Entity) → heard_on endpoints.own response ≢ Answered agent) →
         serves (responded setup endpoints moment response).value ≡ false }
     ensures redirected { (post : Post) (message : InFlight) (response : Response) (agent : Entity) →
         post.restart ≡ Announced → post.pending ≡ Some message →
@@ -94,7 +93,7 @@ pub fn a_gateway_serves_once_its_announcement_is_answered()
 /// falls due at its moment, and then it goes out under the next id. Where it was given up it waits anew. So something of the
 /// gateway itself falls due as long as it doesn't serve.
 pub fn an_announcement_goes_on_until_it_is_answered()
-    ensures due { (own : Own) → OwnIsInOrder own → is_serving own.post.restart ≡ false → own_due own ≢ None }
+    ensures due { (own : Post) → OwnIsInOrder own → is_serving own.restart ≡ false → post_due 0 own ≢ None }
     ensures waits { (line until : ℕ) (post : Post) → post.restart ≡ Waiting until → post.pending ≡ None →
         post_due line post ≡ Some (record { moment = until; line = line; kind = Announce }) }
     ensures sent { (setup : Setup) (line moment until : ℕ) (post : Post) → post.restart ≡ Waiting until →

@@ -6,7 +6,7 @@ ghost use Rattle.std.specs.List.{list_all};
 ghost use Rattle.mgcp_text.specs.Writing.{is_writable_param, is_writable};
 ghost use Rattle.endpoint_names.specs.Table.{is_domain};
 ghost use Rattle.plain_machine.specs.Announcing.{announced_lines, method_of, announcement, announced, announced_on};
-ghost use Rattle.plain_machine.specs.Announcing.{heard_on, put_off, replied};
+ghost use Rattle.plain_machine.specs.Announcing.{heard_on, put_off, replied, replied_on};
 ghost use Rattle.restart.specs.declared.restart.Restart.TheVariants.{Serving};
 ghost use Rattle.gateway_stations.specs.Telling.{MayTell, HasId};
 ghost use Rattle.gateway_stations.specs.Effects.{HasEffect};
@@ -182,4 +182,24 @@ pub(crate) fn replied(
         Heard::Answered(agent) => end_flight(post, agent),
     }
     Ok(())
+}
+
+/// What becomes of a post at a response. An error is for want of memory only.
+#[tactic(auto, unfolding(plain_machine::specs::Announcing::replied_on))]
+pub fn replied_on(
+    context: Context<'_>,
+    occasion: Occasion,
+    post: &mut Post,
+    response: &Response,
+    out: &mut Vec<OutDatagram>,
+) -> Result<(), OutOfMemory>
+    requires id { HasId occasion.line post.old.number }
+    requires may { MayTell context.setup.now occasion.moment }
+    ensures turn { OnOk result (HasEffect
+        (replied_on context.entry.setup.now occasion.line occasion.moment response.now post.old)
+        post.new out.old.items out.new.items) }
+    ensures id { HasId occasion.line post.new.number }
+{
+    let heard = heard_on(post, response);
+    replied(context, occasion, post, response, heard, out)
 }

@@ -1,11 +1,11 @@
-//! What falls due on a station, and of the gateway itself: of a line the end of timer T and the ends of signals; and of
-//! both the repeats of the command in flight, and the announcement, each at its own moment (RFC 3435, 2.1.5, 2.1.7, 3.5.3
-//! and 4.4.6).
+//! What falls due on a station, and under a post: of a line the end of timer T and the ends of signals; and of a post the
+//! repeats of the command in flight, and the announcement, each at its own moment (RFC 3435, 2.1.5, 2.1.7, 3.5.3 and
+//! 4.4.6).
 ghost use Rattle.std.specs.Prelude.{◌≡◌, option_map, OnOk};
 ghost use Rattle.mg_line.specs.Falling.{due_of};
 ghost use Rattle.restart.specs.Restarting.{announced_at};
 ghost use Rattle.plain_machine.specs.Falling.{line_item, command_item, announcement_item, post_due, due_on};
-ghost use Rattle.plain_machine.specs.Falling.{happened_on, own_happened};
+ghost use Rattle.plain_machine.specs.Falling.{happened_on, happened_under};
 ghost use Rattle.gateway_stations.specs.Telling.{MayTell, IsLine, HasId};
 ghost use Rattle.gateway_stations.specs.Effects.{HasEffect};
 
@@ -14,7 +14,7 @@ use crate::context::Context;
 use crate::notifying::tell;
 use crate::posting::{Occasion, resent_on};
 use mg_bytes::OutOfMemory;
-use plain_machine::{OutDatagram, Own, Post, Station};
+use plain_machine::{OutDatagram, Post, Station};
 use timers::{DueItem, DueKind, earlier};
 
 // What falls due first of a line.
@@ -96,26 +96,25 @@ pub fn happened_on(
     }
 }
 
-/// What falls due of the gateway itself happens at this moment (in ms): nothing that falls due of lines. An error is
-/// for want of memory only.
-#[tactic(auto, unfolding(plain_machine::specs::Falling::own_happened))]
-pub fn own_happened(
+/// What falls due under a post happens: nothing that falls due of lines. An error is for want of memory only.
+#[tactic(auto, unfolding(plain_machine::specs::Falling::happened_under))]
+pub fn happened_under(
     context: Context<'_>,
-    moment: u64,
-    own: &mut Own,
+    occasion: Occasion,
+    post: &mut Post,
     kind: DueKind,
     out: &mut Vec<OutDatagram>,
 ) -> Result<(), OutOfMemory>
-    requires id { HasId 0 own.old.post.number }
-    requires may { MayTell context.setup.now moment }
-    ensures turn { OnOk result (HasEffect (own_happened kind context.entry.setup.now moment own.old)
-        own.new out.old.items out.new.items) }
-    ensures id { HasId 0 own.new.post.number }
+    requires id { HasId occasion.line post.old.number }
+    requires may { MayTell context.setup.now occasion.moment }
+    ensures turn { OnOk result (HasEffect
+        (happened_under kind context.entry.setup.now occasion.line occasion.moment post.old)
+        post.new out.old.items out.new.items) }
+    ensures id { HasId occasion.line post.new.number }
 {
-    let occasion = Occasion { line: 0, moment };
     match kind {
         DueKind::OfLine(_) => Ok(()),
-        DueKind::Resend => resent_on(context, occasion, &mut own.post, out),
-        DueKind::Announce => announced_on(context, occasion, &mut own.post, out),
+        DueKind::Resend => resent_on(context, occasion, post, out),
+        DueKind::Announce => announced_on(context, occasion, post, out),
     }
 }

@@ -2,7 +2,7 @@
 //!
 //! Each call changes a station in place; what it sends goes behind the messages that there are (RFC 3435, 2.3, 3.5 and
 //! 4.4). Where memory is refused half way, what the station is isn't said: its owner, the floor, puts it back. What is done
-//! under a post is done so for the gateway itself too.
+//! under a post is done so under that of the gateway itself too.
 #![tactic(auto)]
 
 mod acting;
@@ -17,11 +17,11 @@ mod responding;
 mod station;
 
 pub use crate::acting::acted_on;
-pub use crate::announcing::heard_on;
+pub use crate::announcing::{heard_on, replied_on};
 pub use crate::connecting::{News, answer_with};
 pub use crate::context::Context;
-pub use crate::falling::{due_on, happened_on, own_happened, post_due};
-pub use crate::posting::Occasion;
+pub use crate::falling::{due_on, happened_on, happened_under, post_due};
+pub use crate::posting::{Occasion, same_post};
 pub use crate::requesting::{deed_on, has_place, refusal_by};
-pub use crate::responding::{opened_on, own_responded, redirected_on, responded_on};
-pub use crate::station::{copy_station, same_own, same_station};
+pub use crate::responding::{opened_on, redirected_on, responded_on};
+pub use crate::station::{copy_station, same_station};

@@ -33,8 +33,8 @@ fn pending_of(pending: &Option<Pending>) -> Result<Option<Pending>, OutOfMemory>
     }
 }
 
-/// An equal post.
-pub(crate) fn copy_of(post: &Post) -> Result<Post, OutOfMemory>
+/// An equal post. An error is for want of memory only.
+pub fn same_post(post: &Post) -> Result<Post, OutOfMemory>
     ensures { IfOk result (λ copy. copy ≡ post.now) }
 {
     Ok(Post {

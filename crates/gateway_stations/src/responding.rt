@@ -1,10 +1,10 @@
-//! What a response does to a station, and to the gateway itself (RFC 3435, 3.5, 4.4.1, 4.4.6 and 4.4.7).
+//! What a response does to a station (RFC 3435, 3.5, 4.4.1, 4.4.6 and 4.4.7).
 ghost use Rattle.std.specs.Prelude.{◌≡◌, ℕ, OnOk};
 ghost use Rattle.mg_line.specs.Answering.{answered};
 ghost use Rattle.plain_machine.specs.Effect.{silently};
 ghost use Rattle.plain_machine.specs.Notifying.{noted};
-ghost use Rattle.plain_machine.specs.Responding.{responded_on, own_responded, redirected_on, opened_on};
-ghost use Rattle.gateway_stations.specs.Telling.{MayTell, IsLine, HasId};
+ghost use Rattle.plain_machine.specs.Responding.{responded_on, redirected_on, opened_on};
+ghost use Rattle.gateway_stations.specs.Telling.{MayTell, IsLine};
 ghost use Rattle.gateway_stations.specs.Effects.{HasEffect};
 
 use crate::announcing::{heard_on, replied};
@@ -13,7 +13,7 @@ use crate::notifying::tell;
 use crate::posting::{Occasion, redirect};
 use endpoint_names::Entity;
 use mg_bytes::OutOfMemory;
-use plain_machine::{OutDatagram, Own, Response, Station};
+use plain_machine::{OutDatagram, Response, Station};
 use restart::Heard;
 
 /// What a response does to a station. An error is for want of memory only.
@@ -61,27 +61,6 @@ fn answered_on(
 {
     let notice = station.line.answered(occasion.moment)?;
     tell(context, occasion, station, notice, out)
-}
-
-/// What a response does to what the gateway keeps for itself, at this moment (in ms). An error is for want of memory
-/// only.
-#[tactic(auto, unfolding(plain_machine::specs::Responding::own_responded))]
-pub fn own_responded(
-    context: Context<'_>,
-    moment: u64,
-    own: &mut Own,
-    response: &Response,
-    out: &mut Vec<OutDatagram>,
-) -> Result<(), OutOfMemory>
-    requires id { HasId 0 own.old.post.number }
-    requires may { MayTell context.setup.now moment }
-    ensures turn { OnOk result (HasEffect (own_responded context.entry.setup.now moment response.now own.old)
-        own.new out.old.items out.new.items) }
-    ensures id { HasId 0 own.new.post.number }
-{
-    let occasion = Occasion { line: 0, moment };
-    let heard = heard_on(&own.post, response);
-    replied(context, occasion, &mut own.post, response, heard, out)
 }
 
 /// The line of a station notifies this entity from now on.

@@ -1,9 +1,9 @@
-//! Equal stations, and equal values of what the gateway keeps for itself.
+//! Equal stations.
 ghost use Rattle.std.specs.Prelude.{◌≡◌, IfOk, OnOk};
 
-use crate::posting::{copy_of, copy_post};
+use crate::posting::{copy_post, same_post};
 use mg_bytes::OutOfMemory;
-use plain_machine::{Own, Station};
+use plain_machine::Station;
 
 /// An equal station. An error is for want of memory only.
 pub fn same_station(station: &Station) -> Result<Station, OutOfMemory>
@@ -11,7 +11,7 @@ pub fn same_station(station: &Station) -> Result<Station, OutOfMemory>
 {
     Ok(Station {
         line: station.line.try_copy()?,
-        post: copy_of(&station.post)?,
+        post: same_post(&station.post)?,
         encoding: station.encoding,
         connections: station.connections.copy(),
     })
@@ -27,13 +27,4 @@ pub fn copy_station(from: &Station, into: &mut Station) -> Result<(), OutOfMemor
     into.encoding = from.encoding;
     into.connections = from.connections.copy();
     Ok(())
-}
-
-/// An equal value of what the gateway keeps for itself. An error is for want of memory only.
-pub fn same_own(own: &Own) -> Result<Own, OutOfMemory>
-    ensures { IfOk result (λ copy. copy ≡ own.now) }
-{
-    Ok(Own {
-        post: copy_of(&own.post)?,
-    })
 }

@@ -11,7 +11,7 @@ use Rattle.command_forms.specs.Meaning.{is_for}
 use Rattle.mg_line.specs.declared.phone.Act.{Act}
 use Rattle.restart.specs.declared.heard.Heard.{Heard}
 use Rattle.restart.specs.declared.heard.Heard.TheVariants.{Nothing, PutOff, Redirected, Answered}
-use Rattle.plain_machine.specs.declared.own.Own.{Own}
+use Rattle.plain_machine.specs.declared.post.Post.{Post}
 use Rattle.plain_machine.specs.declared.response.Response.{Response}
 use Rattle.plain_machine.specs.declared.setup.Setup.{Setup}
 use Rattle.plain_machine.specs.declared.station.Station.{Station}
@@ -20,9 +20,9 @@ use Rattle.plain_machine.specs.Message.{of_none, acknowledgement, Sent}
 use Rattle.plain_machine.specs.Posting.{line_of_id}
 use Rattle.plain_machine.specs.Machine.{Endpoints, station_at, on_line, on_lines, on_own}
 use Rattle.plain_machine.specs.Acting.{acted_on, acted}
-use Rattle.plain_machine.specs.Announcing.{heard_on}
-use Rattle.plain_machine.specs.Falling.{own_due, pass}
-use Rattle.plain_machine.specs.Responding.{acknowledged, response_with, responded_on, own_responded, redirected_on, opened_on, on_all, lines_told, own_heard, responded, heard_from}
+use Rattle.plain_machine.specs.Announcing.{heard_on, replied_on}
+use Rattle.plain_machine.specs.Falling.{post_due, pass}
+use Rattle.plain_machine.specs.Responding.{acknowledged, response_with, responded_on, redirected_on, opened_on, on_all, lines_told, own_heard, responded, heard_from}
 use Rattle.machine_laws.proofs.LineLemmas.{own_stays_on, own_stays, passing_from}
 use Rattle.line_isolation.specs.Belonging.{is_of, of_line}
 use Rattle.line_isolation.specs.Passing.{seen, PassesAlone, line_due, line_happens, own_happens}
@@ -105,23 +105,23 @@ module _ (setup : Setup) (line : ℕ) where
   lines_told_alike (Answered agent) one other moment alike = all_alike one other (opened_on agent setup moment) (opened_owned agent setup moment) alike
 
   own_turn_alike : (one other : Endpoints) (moment : ℕ) (response : Response) → AreAlike line one other
-      → ToldAlike line (on_own one (own_responded setup moment response)) (on_own other (own_responded setup moment response))
+      → ToldAlike line (on_own one (replied_on setup 0 moment response)) (on_own other (replied_on setup 0 moment response))
   own_turn_alike one other moment response alike = record {
-    endpoints = record { own = ap (λ (own : Own). (own_responded setup moment response own).value) alike.own; station = alike.station };
-    sent = ap (λ (own : Own). of_line line (own_responded setup moment response own).sent) (sym alike.own);
+    endpoints = record { own = ap (λ (own : Post). (replied_on setup 0 moment response own).value) alike.own; station = alike.station };
+    sent = ap (λ (own : Post). of_line line (replied_on setup 0 moment response own).sent) (sym alike.own);
   }
 
   own_heard_alike : (one other : Endpoints) (moment : ℕ) (response : Response) → AreAlike line one other
       → ToldAlike line (own_heard setup one moment response) (own_heard setup other moment response)
   own_heard_alike one other moment response alike =
-      let heard : Heard = heard_on one.own.post response in
-      let same : heard_on other.own.post response ≡ heard = ap (λ (own : Own). heard_on own.post response) alike.own in
+      let heard : Heard = heard_on one.own response in
+      let same : heard_on other.own response ≡ heard = ap (λ (own : Post). heard_on own response) alike.own in
       let first = own_turn_alike one other moment response alike in
       subst (λ (h : Heard). ToldAlike line (own_heard setup one moment response)
-      (afterwards (on_own other (own_responded setup moment response)) (λ next. lines_told h setup moment next))) (sym same)
-      (afterwards_alike line (on_own one (own_responded setup moment response)) (on_own other (own_responded setup moment response))
+      (afterwards (on_own other (replied_on setup 0 moment response)) (λ next. lines_told h setup moment next))) (sym same)
+      (afterwards_alike line (on_own one (replied_on setup 0 moment response)) (on_own other (replied_on setup 0 moment response))
       (λ next. lines_told heard setup moment next) first
-      (lines_told_alike heard (on_own one (own_responded setup moment response)).value (on_own other (own_responded setup moment response)).value moment first.endpoints))
+      (lines_told_alike heard (on_own one (replied_on setup 0 moment response)).value (on_own other (replied_on setup 0 moment response)).value moment first.endpoints))
 
   responded_alike : (one other : Endpoints) (moment : ℕ) (response : Response) → AreAlike line one other
       → ToldAlike line (responded setup one moment response) (responded setup other moment response)
@@ -164,8 +164,8 @@ module _ (setup : Setup) (line : ℕ) where
       → seen (λ (e : Endpoints). e.own) 0 (pass setup other moment)
       ≡ seen (λ (e : Endpoints). e.own) 0 (pass setup one moment)
   own_passed one other moment alike =
-      passes_once own_due (own_happens setup) moment one.own _ _
-      (subst (λ (own : Own). PassesAlone own_due (own_happens setup) moment own
+      passes_once (post_due 0) (own_happens setup) moment one.own _ _
+      (subst (λ (own : Post). PassesAlone (post_due 0) (own_happens setup) moment own
       (seen (λ (e : Endpoints). e.own) 0 (pass setup other moment))) alike.own (own_passes setup moment other))
       (own_passes setup moment one)
 
@@ -189,13 +189,13 @@ module _ (setup : Setup) (line : ℕ) where
         let none : line ≡ 0 = (Decides-eqb line 0).0 e in
         subst (λ (n : ℕ). ToldAlike n (pass setup one moment) (pass setup other moment)) (sym none)
         (record {
-          endpoints = record { own = ap (λ (t : Effect Own). t.value) own; station = refl };
-          sent = sym (ap (λ (t : Effect Own). t.sent) own);
+          endpoints = record { own = ap (λ (t : Effect Post). t.value) own; station = refl };
+          sent = sym (ap (λ (t : Effect Post). t.sent) own);
         })
     by_zero false e =
         let apart : line ≡ 0 → ⊥ = λ none. (let t : (line == 0) ≡ true = (Decides-eqb line 0).1 none in cc) in
         let mine = line_passed one other moment (omega (arith, apart)) alike in
         record {
-          endpoints = record { own = ap (λ (t : Effect Own). t.value) own; station = ap (λ (t : Effect (Option Station)). t.value) mine };
+          endpoints = record { own = ap (λ (t : Effect Post). t.value) own; station = ap (λ (t : Effect (Option Station)). t.value) mine };
           sent = sym (ap (λ (t : Effect (Option Station)). t.sent) mine);
         }

@@ -18,7 +18,7 @@ use Rattle.command_forms.specs.declared.forms.Deed.{Deed}
 use Rattle.command_forms.specs.declared.forms.Target.{Target}
 use Rattle.command_forms.specs.declared.forms.Target.TheVariants.{One}
 use Rattle.restart.specs.Restarting.{is_serving}
-use Rattle.plain_machine.specs.declared.own.Own.{Own}
+use Rattle.plain_machine.specs.declared.post.Post.{Post}
 use Rattle.plain_machine.specs.declared.setup.Setup.{Setup}
 use Rattle.plain_machine.specs.declared.station.Station.{Station}
 use Rattle.plain_machine.specs.Effect.{Effect, silently}
@@ -151,7 +151,7 @@ module _ (setup : Setup) (line : ℕ) (one other : Endpoints) (alike : AreAlike 
       (sym serving) (asks_alike (form_while (serves one) command confirms setup.names) moment id
       (λ target audit e. by_name named is own (Reports target audit) e) (λ target deed e. by_name named is own (Does target deed) e)) where
         serving : serves other ≡ serves one
-        serving = ap (λ (o : Own). is_serving o.post.restart) alike.own
+        serving = ap (λ (o : Post). is_serving o.restart) alike.own
 
         by_name : (named : Option ℕ) → line_of_name setup command.name ≡ named → ((n : ℕ) → named ≡ Some n → n ≡ line) → (asks : Asks)
             → form_while (serves one) command confirms setup.names ≡ Ok asks → target_in asks ≡ One line

@@ -22,7 +22,6 @@ use Rattle.timers.specs.declared.kind.DueKind.{DueKind}
 use Rattle.timers.specs.declared.kind.DueKind.TheVariants.{OfLine, Resend, Announce}
 use Rattle.timers.specs.declared.due_item.DueItem.{DueItem}
 use Rattle.command_forms.specs.declared.forms.Deed.{Deed}
-use Rattle.plain_machine.specs.declared.own.Own.{Own}
 use Rattle.plain_machine.specs.declared.post.Post.{Post}
 use Rattle.plain_machine.specs.declared.response.Response.{Response}
 use Rattle.plain_machine.specs.declared.setup.Setup.{Setup}
@@ -30,13 +29,13 @@ use Rattle.plain_machine.specs.declared.station.Station.{Station}
 use Rattle.plain_machine.specs.Effect.{Effect, silently}
 use Rattle.plain_machine.specs.Message.{own_of, Sent}
 use Rattle.plain_machine.specs.Posting.{repeated_as, resent_by, resent_on}
-use Rattle.plain_machine.specs.Announcing.{announced, announced_by, announced_on, heard_on, replied}
+use Rattle.plain_machine.specs.Announcing.{announced, announced_by, announced_on, heard_on, replied, replied_on}
 use Rattle.plain_machine.specs.Notifying.{posted, with_notice, noted}
-use Rattle.plain_machine.specs.Machine.{Endpoints, station_at, own_posted, on_line, on_own, on_lines}
+use Rattle.plain_machine.specs.Machine.{Endpoints, station_at, on_line, on_own, on_lines}
 use Rattle.plain_machine.specs.Acting.{acted_on}
 use Rattle.plain_machine.specs.Requesting.{with_entity, with_connections, asked_if, deed_on}
-use Rattle.plain_machine.specs.Responding.{responded_as, responded_on, own_responded, redirected_on, opened_on}
-use Rattle.plain_machine.specs.Falling.{happened_on, own_happened, happened}
+use Rattle.plain_machine.specs.Responding.{responded_as, responded_on, redirected_on, opened_on}
+use Rattle.plain_machine.specs.Falling.{happened_on, happened_under, happened}
 use Rattle.plain_machine.proofs.EffectLaws.{on_this, on_nothing}
 use Rattle.machine_laws.proofs.LineLemmas.{others_stay_on, this_turns, not_among, among_from, none_stays, sent_in, stations_passing, sent_from_each, passing_from, place_of, all_there}
 use Rattle.line_isolation.specs.Belonging.{is_of, of_line}
@@ -96,11 +95,11 @@ happened_owned (OfLine due) setup line moment station = noted_owned setup line m
 happened_owned Resend setup line moment station = resent_owned setup line moment station.post
 happened_owned Announce setup line moment station = announced_owned setup line moment station.post
 
-pub own_happened_owned : (due : DueKind) (setup : Setup) (moment : ℕ) (own : Own) → OwnedBy 0 (own_happened due setup moment own).sent
-unfolding own_happened
+pub own_happened_owned : (due : DueKind) (setup : Setup) (moment : ℕ) (own : Post) → OwnedBy 0 (happened_under due setup 0 moment own).sent
+unfolding happened_under
 own_happened_owned (OfLine due) setup moment own = none_owned 0
-own_happened_owned Resend setup moment own = resent_owned setup 0 moment own.post
-own_happened_owned Announce setup moment own = announced_owned setup 0 moment own.post
+own_happened_owned Resend setup moment own = resent_owned setup 0 moment own
+own_happened_owned Announce setup moment own = announced_owned setup 0 moment own
 
 pub acted_owned : (setup : Setup) (line moment : ℕ) (act : Act) (station : Station) → OwnedBy line (acted_on setup line moment act station).sent
 acted_owned setup line moment act station = noted_owned setup line moment station (phoned station.line act moment)
@@ -121,10 +120,10 @@ responded_owned setup line moment response station = by_heard (heard_on station.
       let becomes = (posted station (replied (Answered agent) setup line moment response station.post)).value in
       noted_owned setup line moment becomes (answered becomes.line moment)
 
-pub own_responded_owned : (setup : Setup) (moment : ℕ) (response : Response) (own : Own) → OwnedBy 0 (own_responded setup moment response own).sent
-unfolding own_responded replied announced
-own_responded_owned setup moment response own = by_heard (heard_on own.post response) where
-  by_heard : (heard : Heard) → OwnedBy 0 (own_posted own (replied heard setup 0 moment response own.post)).sent
+pub own_responded_owned : (setup : Setup) (moment : ℕ) (response : Response) (own : Post) → OwnedBy 0 (replied_on setup 0 moment response own).sent
+unfolding replied_on replied announced
+own_responded_owned setup moment response own = by_heard (heard_on own response) where
+  by_heard : (heard : Heard) → OwnedBy 0 (replied heard setup 0 moment response own).sent
   by_heard Nothing = none_owned 0
   by_heard PutOff = none_owned 0
   by_heard (Redirected agent) = one_owned 0 _ refl
@@ -147,9 +146,9 @@ happening_owned setup endpoints item = by_test (item.line == 0) refl where
       (happened_owned item.kind setup item.line item.moment station)
 
   by_test : (b : Bool) → (item.line == 0) ≡ b
-      → OwnedBy item.line (if b then on_own endpoints (own_happened item.kind setup item.moment) else on_line endpoints item.line (happened_on item.kind setup item.line item.moment)).sent
+      → OwnedBy item.line (if b then on_own endpoints (happened_under item.kind setup 0 item.moment) else on_line endpoints item.line (happened_on item.kind setup item.line item.moment)).sent
   by_test true is =
-      subst (λ (n : ℕ). OwnedBy n (own_happened item.kind setup item.moment endpoints.own).sent) (sym ((Decides-eqb item.line 0).0 is))
+      subst (λ (n : ℕ). OwnedBy n (happened_under item.kind setup 0 item.moment endpoints.own).sent) (sym ((Decides-eqb item.line 0).0 is))
       (own_happened_owned item.kind setup item.moment endpoints.own)
   by_test false is = on_station (station_at endpoints item.line) refl
 

@@ -5,13 +5,12 @@ use Rattle.std.proofs.lemmas.Bool.{le-leb, leb-true}
 use Rattle.std.proofs.lemmas.Bool.Decides.{Decides-eqb}
 use Rattle.std.proofs.lemmas.Option.{none-some}
 use Rattle.timers.specs.declared.due_item.DueItem.{DueItem}
-use Rattle.plain_machine.specs.declared.own.Own.{Own}
 use Rattle.plain_machine.specs.declared.setup.Setup.{Setup}
 use Rattle.plain_machine.specs.declared.station.Station.{Station}
 use Rattle.plain_machine.specs.Effect.{Effect, behind}
 use Rattle.plain_machine.specs.Message.{Sent}
 use Rattle.plain_machine.specs.Machine.{Endpoints, station_at, on_line, on_own}
-use Rattle.plain_machine.specs.Falling.{due_on, own_due, due_at, due_by, if_by, happened_on, own_happened, happened, pass}
+use Rattle.plain_machine.specs.Falling.{due_on, post_due, due_at, due_by, if_by, happened_on, happened_under, happened, pass}
 use Rattle.plain_machine.proofs.EffectLaws.{either_own, either_line, on_this, on_nothing}
 use Rattle.plain_machine.proofs.FirstLemmas.{item_same, first_at, none_by}
 use Rattle.plain_machine.proofs.FallingLaws.{left, left_falls, pass_none, pass_some}
@@ -119,7 +118,7 @@ not_zero line some = by_test (line == 0) refl where
 
 due_at_line : (endpoints : Endpoints) (line : ℕ) → 1 ≤ line → due_at endpoints line ≡ line_due line (station_at endpoints line)
 due_at_line endpoints line some =
-    ap (λ (b : Bool). if b then own_due endpoints.own else option_and_then (λ (s : Station). due_on (line, s)) (station_at endpoints line)) (not_zero line some)
+    ap (λ (b : Bool). if b then post_due 0 endpoints.own else option_and_then (λ (s : Station). due_on (line, s)) (station_at endpoints line)) (not_zero line some)
 
 module _ (setup : Setup) (line moment : ℕ) (some : 1 ≤ line) where
   abbrev LineHere : Endpoints → DueItem → Type 0
@@ -139,7 +138,7 @@ module _ (setup : Setup) (line moment : ℕ) (some : 1 ≤ line) where
 
     turns : happened setup endpoints item ≡ on_line endpoints line (happened_on item.kind setup line item.moment)
     turns =
-        either_line endpoints item.line (own_happened item.kind setup item.moment) (happened_on item.kind setup item.line item.moment)
+        either_line endpoints item.line (happened_under item.kind setup 0 item.moment) (happened_on item.kind setup item.line item.moment)
         (ap (λ (n : ℕ). n == 0) same ∙ not_zero line some)
         ∙ ap (λ (n : ℕ). on_line endpoints n (happened_on item.kind setup n item.moment)) same
 
@@ -176,13 +175,13 @@ module _ (setup : Setup) (line moment : ℕ) (some : 1 ≤ line) where
 
 module _ (setup : Setup) (moment : ℕ) where
   own_here : (endpoints : Endpoints) (item : DueItem) → due_by endpoints moment ≡ Some item → item.line ≡ 0
-      → Here own_due (own_happens setup) setup moment 0 (λ (e : Endpoints). e.own) endpoints item
+      → Here (post_due 0) (own_happens setup) setup moment 0 (λ (e : Endpoints). e.own) endpoints item
   own_here endpoints item is same =
       let first = first_at endpoints moment item is in
-      let turns = either_own endpoints item.line (own_happened item.kind setup item.moment) (happened_on item.kind setup item.line item.moment)
+      let turns = either_own endpoints item.line (happened_under item.kind setup 0 item.moment) (happened_on item.kind setup item.line item.moment)
       (ap (λ (n : ℕ). n == 0) same) in
       record {
-        first = by_moment_is moment (own_due endpoints.own) item (ap (due_at endpoints) (sym same) ∙ first.0) first.1;
+        first = by_moment_is moment (post_due 0 endpoints.own) item (ap (due_at endpoints) (sym same) ∙ first.0) first.1;
         becomes = ap (λ (t : Effect Endpoints). t.value.own) turns;
         sends = ap (λ (t : Effect Endpoints). of_line 0 t.sent) turns ∙ owned_here 0 _ (own_happened_owned item.kind setup item.moment endpoints.own);
       }
@@ -194,10 +193,10 @@ module _ (setup : Setup) (moment : ℕ) where
     silent = owned_elsewhere item.line 0 (happened setup endpoints item).sent (happening_owned setup endpoints item) apart;
   }
 
-  own_none : (endpoints : Endpoints) → due_by endpoints moment ≡ None → if_by moment (own_due endpoints.own) ≡ None
-  own_none endpoints is = later_is moment (own_due endpoints.own) (λ other due. none_by endpoints moment 0 other is due)
+  own_none : (endpoints : Endpoints) → due_by endpoints moment ≡ None → if_by moment (post_due 0 endpoints.own) ≡ None
+  own_none endpoints is = later_is moment (post_due 0 endpoints.own) (λ other due. none_by endpoints moment 0 other is due)
 
   pub own_passes : (endpoints : Endpoints)
-      → PassesAlone own_due (own_happens setup) moment endpoints.own
+      → PassesAlone (post_due 0) (own_happens setup) moment endpoints.own
       (seen (λ (e : Endpoints). e.own) 0 (pass setup endpoints moment))
-  own_passes endpoints = passes own_due (own_happens setup) setup moment 0 (λ (e : Endpoints). e.own) own_here own_there own_none endpoints
+  own_passes endpoints = passes (post_due 0) (own_happens setup) setup moment 0 (λ (e : Endpoints). e.own) own_here own_there own_none endpoints

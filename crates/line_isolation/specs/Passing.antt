@@ -1,12 +1,12 @@
 -- What falls due on one line, or of the gateway itself, as if nothing else did (RFC 3435, 2.1.5, 2.1.7, 3.5.3 and 4.4.6).
 use Rattle.std.specs.Prelude.{◌≡◌, ℕ, Option, Some, None, option_and_then}
 use Rattle.timers.specs.declared.due_item.DueItem.{DueItem}
-use Rattle.plain_machine.specs.declared.own.Own.{Own}
+use Rattle.plain_machine.specs.declared.post.Post.{Post}
 use Rattle.plain_machine.specs.declared.setup.Setup.{Setup}
 use Rattle.plain_machine.specs.declared.station.Station.{Station}
 use Rattle.plain_machine.specs.Effect.{Effect, silently, effect_map, behind}
 use Rattle.plain_machine.specs.Machine.{Endpoints}
-use Rattle.plain_machine.specs.Falling.{due_on, own_due, if_by, happened_on, own_happened}
+use Rattle.plain_machine.specs.Falling.{due_on, if_by, happened_on, happened_under}
 use Rattle.line_isolation.specs.Belonging.{of_line}
 
 -- what is seen of an effect on the endpoints: what this shows of them, and what this line sends
@@ -29,5 +29,5 @@ line_happens setup line item None = silently None
 line_happens setup line item (Some station) = effect_map Some (happened_on item.kind setup line item.moment station)
 
 -- of the gateway itself
-abbrev pub own_happens : Setup → DueItem → Own → Effect Own
-own_happens setup item own = own_happened item.kind setup item.moment own
+abbrev pub own_happens : Setup → DueItem → Post → Effect Post
+own_happens setup item own = happened_under item.kind setup 0 item.moment own

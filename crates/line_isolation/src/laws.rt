@@ -1,12 +1,12 @@
 //! Laws of a line and of the others.
 ghost use Rattle.std.specs.Prelude.{◌≡◌, ◌≤◌, ℕ, List, Option};
 ghost use Rattle.timers.specs.declared.due_item.DueItem.{DueItem};
-ghost use Rattle.plain_machine.specs.declared.own.Own.{Own};
+ghost use Rattle.plain_machine.specs.declared.post.Post.{Post};
 ghost use Rattle.plain_machine.specs.declared.setup.Setup.{Setup};
 ghost use Rattle.plain_machine.specs.declared.station.Station.{Station};
 ghost use Rattle.plain_machine.specs.Effect.{Effect};
 ghost use Rattle.plain_machine.specs.Event.{GatewayEvent};
-ghost use Rattle.plain_machine.specs.Falling.{own_due, pass};
+ghost use Rattle.plain_machine.specs.Falling.{post_due, pass};
 ghost use Rattle.plain_machine.specs.Machine.{Endpoints, station_at};
 ghost use Rattle.line_isolation.specs.Apart.{LinesKeepApart};
 ghost use Rattle.line_isolation.specs.Isolation.{AsUnderItsOwn};
@@ -27,12 +27,12 @@ pub fn each_line_passes_alone()
         PassesAlone (line_due line) (line_happens setup line) moment (station_at endpoints line)
         (seen (λ (e : Endpoints). station_at e line) line (pass setup endpoints moment)) }
     ensures own { (setup : Setup) (endpoints : Endpoints) (moment : ℕ) →
-        PassesAlone own_due (own_happens setup) moment endpoints.own
+        PassesAlone (post_due 0) (own_happens setup) moment endpoints.own
         (seen (λ (e : Endpoints). e.own) 0 (pass setup endpoints moment)) }
     ensures line_once { (setup : Setup) (line moment : ℕ) (was : Option Station) (one other : Effect (Option Station)) →
         PassesAlone (line_due line) (line_happens setup line) moment was one →
         PassesAlone (line_due line) (line_happens setup line) moment was other → one ≡ other }
-    ensures own_once { (setup : Setup) (moment : ℕ) (was : Own) (one other : Effect Own) →
-        PassesAlone own_due (own_happens setup) moment was one →
-        PassesAlone own_due (own_happens setup) moment was other → one ≡ other }
+    ensures own_once { (setup : Setup) (moment : ℕ) (was : Post) (one other : Effect Post) →
+        PassesAlone (post_due 0) (own_happens setup) moment was one →
+        PassesAlone (post_due 0) (own_happens setup) moment was other → one ≡ other }
 {}

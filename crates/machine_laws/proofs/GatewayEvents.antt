@@ -22,7 +22,6 @@ use Rattle.history.specs.Kept.{firsts_in}
 use Rattle.history.specs.Looking.{Looked, new, repeat, confirmed, full, look_of}
 use Rattle.history.proofs.LookLaws.{repeat_kept}
 use Rattle.outbound.specs.Flight.{InFlight}
-use Rattle.plain_machine.specs.declared.own.Own.{Own as Itself}
 use Rattle.plain_machine.specs.declared.setup.Setup.{Setup}
 use Rattle.plain_machine.specs.declared.station.Station.{Station}
 use Rattle.plain_machine.specs.declared.refusal.Refusal.TheVariants.{ClockBack, TickTooFar}
@@ -261,7 +260,7 @@ stands_later now later past log endpoints s = record {
       s.stations;
   own = record {
     sound = s.own.sound;
-    post = record { below = s.own.post.below; counts = s.own.post.counts; flight = flight_later now later past log endpoints.own.post.pending s.own.post.flight };
+    post = record { below = s.own.post.below; counts = s.own.post.counts; flight = flight_later now later past log endpoints.own.pending s.own.post.flight };
   };
 }
 

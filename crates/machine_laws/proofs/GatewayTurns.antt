@@ -29,7 +29,6 @@ use Rattle.timers.specs.declared.kind.LineDue.{LineDue}
 use Rattle.mg_line.specs.declared.phone.Act.{Act}
 use Rattle.timers.specs.declared.kind.DueKind.TheVariants.{OfLine, Resend, Announce}
 use Rattle.timers.specs.declared.due_item.DueItem.{DueItem}
-use Rattle.plain_machine.specs.declared.own.Own.{Own as Itself}
 use Rattle.plain_machine.specs.declared.post.Post.{Post}
 use Rattle.plain_machine.specs.declared.response.Response.{Response}
 use Rattle.plain_machine.specs.declared.setup.Setup.{Setup}
@@ -37,12 +36,11 @@ use Rattle.plain_machine.specs.declared.station.Station.{Station}
 use Rattle.plain_machine.specs.Effect.{Effect, silently}
 use Rattle.plain_machine.specs.Setup.{IsSetUp}
 use Rattle.plain_machine.specs.Posting.{id_on, line_of_id, resent_on}
-use Rattle.plain_machine.specs.Announcing.{announced_on, heard_on, replied}
+use Rattle.plain_machine.specs.Announcing.{announced_on, heard_on, replied, replied_on}
 use Rattle.plain_machine.specs.Notifying.{posted, notification, with_notice, noted}
-use Rattle.plain_machine.specs.Machine.{own_posted}
 use Rattle.plain_machine.specs.Requesting.{with_entity, with_connections, asked_if, deed_on}
-use Rattle.plain_machine.specs.Falling.{due_on, own_due, happened_on, own_happened, post_due}
-use Rattle.plain_machine.specs.Responding.{responded_as, responded_on, own_responded, redirected_on, opened_on}
+use Rattle.plain_machine.specs.Falling.{due_on, happened_on, happened_under, post_due}
+use Rattle.plain_machine.specs.Responding.{responded_as, responded_on, redirected_on, opened_on}
 use Rattle.gateway_laws.proofs.CommandLaws.{Sound, OwnSound, sound_turns, sound_own_turns, noted_sound, responded_sound, own_responded_sound, asked_if_done}
 use Rattle.gateway_laws.proofs.NoticeLemmas.{IsDone, IsTold, phoned_done, answered_done, opened_done, fired_done}
 use Rattle.gateway_laws.proofs.NotificationLemmas.{told_writable}
@@ -57,9 +55,9 @@ pub record Stationed (until : ℕ) (log : List Begun) (line : ℕ) (station : St
   pub sound : Sound line station
   pub post : Posted until log line station.post
 
-pub record OwnStands (until : ℕ) (log : List Begun) (own : Itself) : Type 0 where
+pub record OwnStands (until : ℕ) (log : List Begun) (own : Post) : Type 0 where
   pub sound : OwnSound own
-  pub post : Posted until log 0 own.post
+  pub post : Posted until log 0 own
 
 abbrev GoodTurn : ℕ → List Begun → ℕ → Effect Station → Type 0
 GoodTurn until log line turn = Good (Stationed until) (Own until) (Logged until) log line turn
@@ -76,11 +74,10 @@ still : (until : ℕ) (log : List Begun) (line : ℕ) (station : Station) → Lo
 still until log line station logged s = silent_keeps (λ (x : List Begun). Stationed until x line) (Own until) (Logged until) log line station logged s
 
 -- the same of the gateway itself
-own_turn : (until : ℕ) (log : List Begun) (own : Itself) (turn : Effect Post) → OwnSound (own_posted own turn).value → PostGood until log 0 turn
-    → OwnGood (OwnStands until) (Own until) (Logged until) log (own_posted own turn)
-own_turn until log own turn sound good =
-    whole_keeps (λ (x : List Begun). Posted until x 0) (OwnStands until) (Own until) (Logged until) log 0
-    (λ (post : Post). record own { post = post }) turn (λ posted. record { sound = sound; post = posted }) good
+own_turn : (until : ℕ) (log : List Begun) (turn : Effect Post) → OwnSound turn.value → PostGood until log 0 turn
+    → OwnGood (OwnStands until) (Own until) (Logged until) log turn
+own_turn until log turn sound good =
+    record { log_holds = good.log_holds; of = good.of; holds = record { sound = sound; post = good.holds }; sent_holds = good.sent_holds }
 
 -- with another notified entity it stands as well
 entity_stands : (until : ℕ) (log : List Begun) (line : ℕ) (station : Station) (agent : Option Entity) → Stationed until log line station → Stationed until log line (with_entity agent station)
@@ -144,28 +141,28 @@ happening_good setup until set_up log line item station logged s due past = by_c
   by_case (inl of) = subst Happens of.same (λ by sound. of_line of.found.1 of.found.0 by) past sounds
   by_case (inr is) = by_post (post_cases line station.post item is)
 
-own_happening_good : (setup : Setup) (until : ℕ) → IsSetUp setup → (log : List Begun) (item : DueItem) (own : Itself) → Logged until log → OwnStands until log own
-    → own_due own ≡ Some item → item.moment ≤ until → OwnGood (OwnStands until) (Own until) (Logged until) log (own_happened item.kind setup item.moment own)
-unfolding own_happened
-own_happening_good setup until set_up log item own logged s due past = by_post (post_cases 0 own.post item due) where
-  sounds : OwnSound (own_happened item.kind setup item.moment own).value
+own_happening_good : (setup : Setup) (until : ℕ) → IsSetUp setup → (log : List Begun) (item : DueItem) (own : Post) → Logged until log → OwnStands until log own
+    → post_due 0 own ≡ Some item → item.moment ≤ until → OwnGood (OwnStands until) (Own until) (Logged until) log (happened_under item.kind setup 0 item.moment own)
+unfolding happened_under
+own_happening_good setup until set_up log item own logged s due past = by_post (post_cases 0 own item due) where
+  sounds : OwnSound (happened_under item.kind setup 0 item.moment own).value
   sounds = ((sound_own_turns setup set_up).happening item.kind item.moment own s.sound).0
 
   Happens : DueItem → Type 0
-  Happens i = i.moment ≤ until → OwnSound (own_happened i.kind setup i.moment own).value → OwnGood (OwnStands until) (Own until) (Logged until) log (own_happened i.kind setup i.moment own)
+  Happens i = i.moment ≤ until → OwnSound (happened_under i.kind setup 0 i.moment own).value → OwnGood (OwnStands until) (Own until) (Logged until) log (happened_under i.kind setup 0 i.moment own)
 
-  of_command : (message : InFlight) → own.post.pending ≡ Some message → message.due ≤ until → OwnSound (own_happened Resend setup message.due own).value
-      → OwnGood (OwnStands until) (Own until) (Logged until) log (own_happened Resend setup message.due own)
+  of_command : (message : InFlight) → own.pending ≡ Some message → message.due ≤ until → OwnSound (happened_under Resend setup 0 message.due own).value
+      → OwnGood (OwnStands until) (Own until) (Logged until) log (happened_under Resend setup 0 message.due own)
   of_command message pending by sound =
-      own_turn until log own (resent_on setup 0 message.due own.post) sound (resent_good setup until log 0 message.due own.post message pending refl by logged s.post)
+      own_turn until log (resent_on setup 0 message.due own) sound (resent_good setup until log 0 message.due own message pending refl by logged s.post)
 
-  of_announcement : (moment : ℕ) → moment ≤ until → OwnSound (own_happened Announce setup moment own).value
-      → OwnGood (OwnStands until) (Own until) (Logged until) log (own_happened Announce setup moment own)
+  of_announcement : (moment : ℕ) → moment ≤ until → OwnSound (happened_under Announce setup 0 moment own).value
+      → OwnGood (OwnStands until) (Own until) (Logged until) log (happened_under Announce setup 0 moment own)
   of_announcement moment by sound =
-      own_turn until log own (announced_on setup 0 moment own.post) sound
-      (announcing_good setup until log 0 moment own.post set_up (omega arith) s.sound.some by logged s.post)
+      own_turn until log (announced_on setup 0 moment own) sound
+      (announcing_good setup until log 0 moment own set_up (omega arith) s.sound.some by logged s.post)
 
-  by_post : OfItsCommand 0 own.post item ⊎ OfItsAnnouncement 0 own.post item → OwnGood (OwnStands until) (Own until) (Logged until) log (own_happened item.kind setup item.moment own)
+  by_post : OfItsCommand 0 own item ⊎ OfItsAnnouncement 0 own item → OwnGood (OwnStands until) (Own until) (Logged until) log (happened_under item.kind setup 0 item.moment own)
   by_post (inl of) = subst Happens of.same (λ by sound. of_command of.message of.pending by sound) past sounds
   by_post (inr of) = subst Happens of.same (λ by sound. of_announcement of.until by sound) past sounds
 
@@ -191,12 +188,12 @@ responded_good setup until set_up log line response station logged s = by_heard 
       })
       (answered_done station.line until s.sound.fine)
 
-own_responded_good : (setup : Setup) (until : ℕ) → IsSetUp setup → (log : List Begun) (response : Response) (own : Itself) → Logged until log → OwnStands until log own
-    → OwnGood (OwnStands until) (Own until) (Logged until) log (own_responded setup until response own)
-unfolding own_responded
+own_responded_good : (setup : Setup) (until : ℕ) → IsSetUp setup → (log : List Begun) (response : Response) (own : Post) → Logged until log → OwnStands until log own
+    → OwnGood (OwnStands until) (Own until) (Logged until) log (replied_on setup 0 until response own)
+unfolding replied_on
 own_responded_good setup until set_up log response own logged s =
-    own_turn until log own (replied (heard_on own.post response) setup 0 until response own.post) (own_responded_sound setup set_up until response own s.sound).0
-    (replied_good (heard_on own.post response) setup until log 0 response own.post set_up (omega arith) s.sound.some logged s.post)
+    own_turn until log (replied (heard_on own response) setup 0 until response own) (own_responded_sound setup set_up until response own s.sound).0
+    (replied_good (heard_on own response) setup until log 0 response own set_up (omega arith) s.sound.some logged s.post)
 
 -- The lines hear of the gateway's answer
 
@@ -237,6 +234,6 @@ log_turns setup until set_up = record {
   own_response = own_responded_good setup until set_up;
   own_happening = own_happening_good setup until set_up;
   others = λ log new line station apart s. record { sound = s.sound; post = others_stay until log new line station.post apart s.post };
-  own_others = λ log new own apart s. record { sound = s.sound; post = others_stay until log new 0 own.post apart s.post };
+  own_others = λ log new own apart s. record { sound = s.sound; post = others_stay until log new 0 own apart s.post };
   more = own_more until;
 }

@@ -52,7 +52,7 @@ this_turns endpoints line turn = by_station (station_at endpoints line) refl whe
   by_station None e = e
   by_station (Some station) e = by_zero (line == 0) station (turn station).value e
 
--- what the gateway keeps for itself stays
+-- the post of the gateway itself stays
 pub own_stays_on : (endpoints : Endpoints) (line : ℕ) (turn : Station → Effect Station) → (on_line endpoints line turn).value.own ≡ endpoints.own
 unfolding on_line
 own_stays_on endpoints line turn = by_station (station_at endpoints line) where

@@ -20,21 +20,21 @@ use Rattle.mg_line.specs.declared.phone.Act.{Act}
 use Rattle.restart.specs.declared.heard.Heard.{Heard}
 use Rattle.restart.specs.declared.heard.Heard.TheVariants.{Nothing, PutOff, Redirected, Answered}
 use Rattle.timers.specs.declared.due_item.DueItem.{DueItem}
-use Rattle.plain_machine.specs.declared.own.Own.{Own as Itself}
+use Rattle.plain_machine.specs.declared.post.Post.{Post}
 use Rattle.plain_machine.specs.declared.response.Response.{Response}
 use Rattle.plain_machine.specs.declared.setup.Setup.{Setup}
 use Rattle.plain_machine.specs.declared.station.Station.{Station}
 use Rattle.plain_machine.specs.Effect.{Effect, silently, behind}
 use Rattle.plain_machine.specs.Message.{Sent}
 use Rattle.plain_machine.specs.Posting.{line_of_id}
-use Rattle.plain_machine.specs.Announcing.{heard_on}
+use Rattle.plain_machine.specs.Announcing.{heard_on, replied_on}
 use Rattle.plain_machine.specs.Machine.{Endpoints, serves, station_at, with_turn, turned_at, on_line, on_own, on_lines}
 use Rattle.plain_machine.specs.Acting.{acted_on, acted}
-use Rattle.plain_machine.specs.Falling.{due_on, own_due, first_due, due_by, own_happened, happened_on, happened, go_on, passed, room, pass}
+use Rattle.plain_machine.specs.Falling.{due_on, post_due, first_due, due_by, happened_under, happened_on, happened, go_on, passed, room, pass}
 use Rattle.plain_machine.specs.Done.{Done}
 use Rattle.plain_machine.specs.Requesting.{refused_by, deed_on, lines_meant, unless_refused, deed_done, line_with_place, done_there, done_for}
 use Rattle.plain_machine.specs.Commanding.{done_by, commanded}
-use Rattle.plain_machine.specs.Responding.{responded_on, own_responded, redirected_on, opened_on, on_all, lines_told, own_heard, responded}
+use Rattle.plain_machine.specs.Responding.{responded_on, redirected_on, opened_on, on_all, lines_told, own_heard, responded}
 use Rattle.gateway_laws.proofs.AllLemmas.{OnAll}
 use Rattle.gateway_laws.proofs.TurnLemmas.{of_line}
 use Rattle.plain_machine.proofs.FirstLemmas.{IsDueOn, first_on, by_moment, station_is, post_line, station_line}
@@ -73,11 +73,11 @@ log_both log some more =
 abbrev pub Good : (List Begun → ℕ → Station → Type 0) → (List Begun → Sent → Type 0) → (List Begun → Type 0) → List Begun → ℕ → Effect Station → Type 0
 Good P Q L log line turn = EffectKeeps (λ (x : List Begun). P x line) Q L log line turn
 
-abbrev pub OwnGood : (List Begun → Itself → Type 0) → (List Begun → Sent → Type 0) → (List Begun → Type 0) → List Begun → Effect Itself → Type 0
+abbrev pub OwnGood : (List Begun → Post → Type 0) → (List Begun → Sent → Type 0) → (List Begun → Type 0) → List Begun → Effect Post → Type 0
 OwnGood R Q L log turn = EffectKeeps R Q L log 0 turn
 
 -- each turn by this moment keeps what holds
-pub record LogTurns (setup : Setup) (until : ℕ) (P : List Begun → ℕ → Station → Type 0) (R : List Begun → Itself → Type 0) (Q : List Begun → Sent → Type 0) (L : List Begun → Type 0) : Type 0 where
+pub record LogTurns (setup : Setup) (until : ℕ) (P : List Begun → ℕ → Station → Type 0) (R : List Begun → Post → Type 0) (Q : List Begun → Sent → Type 0) (L : List Begun → Type 0) : Type 0 where
   pub act : (log : List Begun) (line : ℕ) (act : Act) (station : Station) → L log → P log line station → Good P Q L log line (acted_on setup line until act station)
   pub deed : (command : Command) (confirms : KValue) (target : Target) (deed : Deed) → form_of command confirms setup.names ≡ Ok (Does target deed)
       → (log : List Begun) (line : ℕ) (station : Station) → L log → P log line station → Good P Q L log line (deed_on setup deed until line station)
@@ -86,15 +86,15 @@ pub record LogTurns (setup : Setup) (until : ℕ) (P : List Begun → ℕ → St
       → Good P Q L log line (happened_on item.kind setup line item.moment station)
   pub redirecting : (log : List Begun) (agent : Entity) (line : ℕ) (station : Station) → L log → P log line station → Good P Q L log line (redirected_on agent line station)
   pub opening : (log : List Begun) (agent : Option Entity) (line : ℕ) (station : Station) → L log → P log line station → Good P Q L log line (opened_on agent setup until line station)
-  pub own_response : (log : List Begun) (response : Response) (own : Itself) → L log → R log own → OwnGood R Q L log (own_responded setup until response own)
-  pub own_happening : (log : List Begun) (item : DueItem) (own : Itself) → L log → R log own → own_due own ≡ Some item → item.moment ≤ until
-      → OwnGood R Q L log (own_happened item.kind setup item.moment own)
+  pub own_response : (log : List Begun) (response : Response) (own : Post) → L log → R log own → OwnGood R Q L log (replied_on setup 0 until response own)
+  pub own_happening : (log : List Begun) (item : DueItem) (own : Post) → L log → R log own → post_due 0 own ≡ Some item → item.moment ≤ until
+      → OwnGood R Q L log (happened_under item.kind setup 0 item.moment own)
   -- what others begin changes nothing of it
   pub others : (log new : List Begun) (line : ℕ) (station : Station) → Each (λ (b : Begun). line_of_id b.id ≢ line) new → P log line station → P (log ++ new) line station
-  pub own_others : (log new : List Begun) (own : Itself) → Each (λ (b : Begun). line_of_id b.id ≢ 0) new → R log own → R (log ++ new) own
+  pub own_others : (log new : List Begun) (own : Post) → Each (λ (b : Begun). line_of_id b.id ≢ 0) new → R log own → R (log ++ new) own
   pub more : (log new : List Begun) (sent : Sent) → Q log sent → Q (log ++ new) sent
 
-module _ (setup : Setup) (until : ℕ) (P : List Begun → ℕ → Station → Type 0) (R : List Begun → Itself → Type 0) (Q : List Begun → Sent → Type 0) (L : List Begun → Type 0)
+module _ (setup : Setup) (until : ℕ) (P : List Begun → ℕ → Station → Type 0) (R : List Begun → Post → Type 0) (Q : List Begun → Sent → Type 0) (L : List Begun → Type 0)
     (turns : LogTurns setup until P R Q L) where
   pub record Stands (log : List Begun) (endpoints : Endpoints) : Type 0 where
     pub log_holds : L log
@@ -155,7 +155,7 @@ module _ (setup : Setup) (until : ℕ) (P : List Begun → ℕ → Station → T
     by_station (Some station) e = turned log endpoints line station _ s e (good station s.log_holds (of_line (P log) endpoints line station s.stations e))
 
   -- the gateway itself has its turn
-  own_turned : (log : List Begun) (endpoints : Endpoints) (turn : Itself → Effect Itself) → Stands log endpoints → OwnGood R Q L log (turn endpoints.own) → Goes log (on_own endpoints turn)
+  own_turned : (log : List Begun) (endpoints : Endpoints) (turn : Post → Effect Post) → Stands log endpoints → OwnGood R Q L log (turn endpoints.own) → Goes log (on_own endpoints turn)
   own_turned log endpoints turn s good = record {
     stands = record {
       log_holds = good.log_holds;
@@ -193,10 +193,10 @@ module _ (setup : Setup) (until : ℕ) (P : List Begun → ℕ → Station → T
 
   own_heard_goes : (log : List Begun) (endpoints : Endpoints) (response : Response) → Stands log endpoints → Goes log (own_heard setup endpoints until response)
   own_heard_goes log endpoints response s =
-      let first = own_turned log endpoints (own_responded setup until response) s (turns.own_response log response endpoints.own s.log_holds s.own) in
-      let here = on_own endpoints (own_responded setup until response) in
-      both_go log here (lines_told (heard_on endpoints.own.post response) setup until here.value) first
-      (lines_go (heard_on endpoints.own.post response) (log ++ begun_in here.sent) here.value first.stands)
+      let first = own_turned log endpoints (replied_on setup 0 until response) s (turns.own_response log response endpoints.own s.log_holds s.own) in
+      let here = on_own endpoints (replied_on setup 0 until response) in
+      both_go log here (lines_told (heard_on endpoints.own response) setup until here.value) first
+      (lines_go (heard_on endpoints.own response) (log ++ begun_in here.sent) here.value first.stands)
 
   pub responded_goes : (log : List Begun) (endpoints : Endpoints) (response : Response) → Stands log endpoints → Goes log (responded setup endpoints until response)
   responded_goes log endpoints response s = by_test (line_of_id response.id == 0) where
@@ -215,7 +215,7 @@ module _ (setup : Setup) (until : ℕ) (P : List Begun → ℕ → Station → T
     by = by_moment endpoints until item due
 
     Happens : Bool → Type 0
-    Happens b = Goes log (if b then on_own endpoints (own_happened item.kind setup item.moment) else on_line endpoints item.line (happened_on item.kind setup item.line item.moment))
+    Happens b = Goes log (if b then on_own endpoints (happened_under item.kind setup 0 item.moment) else on_line endpoints item.line (happened_on item.kind setup item.line item.moment))
 
     at_station : (on : IsDueOn 1 endpoints.stations item) → Goes log (on_line endpoints item.line (happened_on item.kind setup item.line item.moment))
     at_station on =
@@ -224,9 +224,9 @@ module _ (setup : Setup) (until : ℕ) (P : List Begun → ℕ → Station → T
         (turned log endpoints item.line on.station _ s at
         (turns.happening log item.line item on.station s.log_holds (of_line (P log) endpoints item.line on.station s.stations at) on.due by.1))
 
-    by_case : (own_due endpoints.own ≡ Some item) ⊎ IsDueOn 1 endpoints.stations item → Happens (item.line == 0)
-    by_case (inl is) = subst Happens (sym ((Decides-eqb item.line 0).1 (post_line 0 endpoints.own.post item is)))
-        (own_turned log endpoints (own_happened item.kind setup item.moment) s (turns.own_happening log item endpoints.own s.log_holds s.own is by.1))
+    by_case : (post_due 0 endpoints.own ≡ Some item) ⊎ IsDueOn 1 endpoints.stations item → Happens (item.line == 0)
+    by_case (inl is) = subst Happens (sym ((Decides-eqb item.line 0).1 (post_line 0 endpoints.own item is)))
+        (own_turned log endpoints (happened_under item.kind setup 0 item.moment) s (turns.own_happening log item endpoints.own s.log_holds s.own is by.1))
     by_case (inr on) = subst Happens (sym (station_line endpoints item on)) (at_station on)
 
   passed_goes : (n : ℕ) (log : List Begun) (endpoints : Endpoints) → Stands log endpoints → Goes log (passed n setup endpoints until)

@@ -12,7 +12,6 @@ use Rattle.mg_line.specs.Answering.{answered}
 use Rattle.timers.specs.declared.kind.DueKind.{DueKind}
 use Rattle.timers.specs.declared.kind.DueKind.TheVariants.{OfLine, Resend, Announce}
 use Rattle.command_forms.specs.declared.forms.Deed.{Deed}
-use Rattle.plain_machine.specs.declared.own.Own.{Own}
 use Rattle.plain_machine.specs.declared.post.Post.{Post}
 use Rattle.plain_machine.specs.declared.setup.Setup.{Setup}
 use Rattle.plain_machine.specs.declared.station.Station.{Station}
@@ -24,13 +23,13 @@ use Rattle.restart.specs.declared.heard.Heard.{Heard}
 use Rattle.restart.specs.declared.heard.Heard.TheVariants.{Nothing, PutOff, Redirected, Answered}
 use Rattle.mg_line.specs.Opening.{opened}
 use Rattle.plain_machine.specs.declared.response.Response.{Response}
-use Rattle.plain_machine.specs.Announcing.{announced, announced_by, announced_on, heard_on, replied}
+use Rattle.plain_machine.specs.Announcing.{announced, announced_by, announced_on, heard_on, replied, replied_on}
 use Rattle.plain_machine.specs.Notifying.{posted, with_notice, noted}
-use Rattle.plain_machine.specs.Falling.{happened_on, own_happened}
-use Rattle.plain_machine.specs.Machine.{Endpoints, own_posted}
+use Rattle.plain_machine.specs.Falling.{happened_on, happened_under}
+use Rattle.plain_machine.specs.Machine.{Endpoints}
 use Rattle.plain_machine.specs.Posting.{repeated_as, resent_by, resent_on}
 use Rattle.plain_machine.specs.Requesting.{with_entity, with_connections, asked_if, deed_on}
-use Rattle.plain_machine.specs.Responding.{responded_as, responded_on, own_responded, redirected_on, opened_on}
+use Rattle.plain_machine.specs.Responding.{responded_as, responded_on, redirected_on, opened_on}
 use Rattle.gateway_laws.proofs.AllLemmas.{OnAll}
 use Rattle.gateway_laws.proofs.TurnLemmas.{Turns, OwnTurns, Holds}
 use Rattle.machine_laws.specs.Owning.{is_acknowledgement}
@@ -39,7 +38,7 @@ use Rattle.machine_laws.specs.Owning.{is_acknowledgement}
 abbrev pub Any : Bool → ℕ → Station → Type 0
 Any serving line station = Unit {0}
 
-abbrev pub AnyOwn : Own → Type 0
+abbrev pub AnyOwn : Post → Type 0
 AnyOwn own = Unit {0}
 
 on_any : (n : ℕ) (stations : List Station) → OnAll (Any true) n stations
@@ -99,16 +98,16 @@ happened_none (OfLine due) setup line moment station = noted_none setup line mom
 happened_none Resend setup line moment station = resent_none setup line moment station.post
 happened_none Announce setup line moment station = announced_none setup line moment station.post
 
-own_happened_none : (due : DueKind) (setup : Setup) (moment : ℕ) (own : Own) → All NoAck (own_happened due setup moment own).sent
-unfolding own_happened
+own_happened_none : (due : DueKind) (setup : Setup) (moment : ℕ) (own : Post) → All NoAck (happened_under due setup 0 moment own).sent
+unfolding happened_under
 own_happened_none (OfLine due) setup moment own = All-nil NoAck
-own_happened_none Resend setup moment own = resent_none setup 0 moment own.post
-own_happened_none Announce setup moment own = announced_none setup 0 moment own.post
+own_happened_none Resend setup moment own = resent_none setup 0 moment own
+own_happened_none Announce setup moment own = announced_none setup 0 moment own
 
-own_responded_none : (setup : Setup) (moment : ℕ) (response : Response) (own : Own) → All NoAck (own_responded setup moment response own).sent
-unfolding own_responded replied announced
-own_responded_none setup moment response own = by_heard (heard_on own.post response) where
-  by_heard : (heard : Heard) → All NoAck (own_posted own (replied heard setup 0 moment response own.post)).sent
+own_responded_none : (setup : Setup) (moment : ℕ) (response : Response) (own : Post) → All NoAck (replied_on setup 0 moment response own).sent
+unfolding replied_on replied announced
+own_responded_none setup moment response own = by_heard (heard_on own response) where
+  by_heard : (heard : Heard) → All NoAck (replied heard setup 0 moment response own).sent
   by_heard Nothing = All-nil NoAck
   by_heard PutOff = All-nil NoAck
   by_heard (Redirected agent) = All-cons NoAck _ [] refl (All-nil NoAck)

@@ -16,7 +16,7 @@ use Rattle.plain_machine.specs.Effect.{Effect}
 use Rattle.plain_machine.specs.Acting.{acted}
 use Rattle.plain_machine.specs.Answering.{handled, took_all}
 use Rattle.plain_machine.specs.Event.{GatewayEvent}
-use Rattle.plain_machine.specs.Falling.{happened_on, own_happened, happened, pass}
+use Rattle.plain_machine.specs.Falling.{happened_on, happened_under, happened, pass}
 use Rattle.plain_machine.specs.Flights.{IsSame, Carries}
 use Rattle.plain_machine.specs.Lists.{plain}
 use Rattle.plain_machine.specs.Machine.{Endpoints, Machine, serves, opening, station_at, on_line, on_own}
@@ -91,7 +91,7 @@ texts_wait setup m source (text ∷ texts) keep =
 on_the_line : (setup : Setup) (endpoints : Endpoints) (item : DueItem) (station : Station) → station_at endpoints item.line ≡ Some station
     → happened setup endpoints item ≡ on_line endpoints item.line (happened_on item.kind setup item.line item.moment)
 on_the_line setup endpoints item station at =
-    either_line endpoints item.line (own_happened item.kind setup item.moment) (happened_on item.kind setup item.line item.moment) (some_line endpoints item.line station at)
+    either_line endpoints item.line (happened_under item.kind setup 0 item.moment) (happened_on item.kind setup item.line item.moment) (some_line endpoints item.line station at)
 
 line_turned : (setup : Setup) (endpoints : Endpoints) (item : DueItem) (due : DueKind) (station : Station) → item.kind ≡ due → station_at endpoints item.line ≡ Some station
     → station_at (happened setup endpoints item).value item.line ≡ Some (happened_on due setup item.line item.moment station).value
@@ -131,7 +131,7 @@ pub others_wait : (setup : Setup) (endpoints : Endpoints) (item : DueItem) (othe
     → station_at (happened setup endpoints item).value other ≡ station_at endpoints other
 others_wait setup endpoints item other apart = by_test (item.line == 0) where
   by_test : (b : Bool)
-      → station_at (if b then on_own endpoints (own_happened item.kind setup item.moment) else on_line endpoints item.line (happened_on item.kind setup item.line item.moment)).value other
+      → station_at (if b then on_own endpoints (happened_under item.kind setup 0 item.moment) else on_line endpoints item.line (happened_on item.kind setup item.line item.moment)).value other
       ≡ station_at endpoints other
   by_test true = refl
   by_test false = others_stay_on endpoints item.line other (happened_on item.kind setup item.line item.moment) apart
@@ -139,25 +139,25 @@ others_wait setup endpoints item other apart = by_test (item.line == 0) where
 -- The gateway itself
 
 abbrev AtOwn : Setup → Endpoints → DueItem → Type 0
-AtOwn setup endpoints item = happened setup endpoints item ≡ on_own endpoints (own_happened item.kind setup item.moment)
+AtOwn setup endpoints item = happened setup endpoints item ≡ on_own endpoints (happened_under item.kind setup 0 item.moment)
 
 at_own : (setup : Setup) (endpoints : Endpoints) (item : DueItem) → item.line ≡ 0 → AtOwn setup endpoints item
 at_own setup endpoints item is =
-    either_own endpoints item.line (own_happened item.kind setup item.moment) (happened_on item.kind setup item.line item.moment) ((Decides-eqb item.line 0).1 is)
+    either_own endpoints item.line (happened_under item.kind setup 0 item.moment) (happened_on item.kind setup item.line item.moment) ((Decides-eqb item.line 0).1 is)
 
 pub own_again : (setup : Setup) (endpoints : Endpoints) (item : DueItem) (message : InFlight) → item.kind ≡ Resend → item.line ≡ 0
-    → endpoints.own.post.pending ≡ Some message
-    → All (Carries 0 message) (happened setup endpoints item).sent × IfSome (happened setup endpoints item).value.own.post.pending (IsSame message)
+    → endpoints.own.pending ≡ Some message
+    → All (Carries 0 message) (happened setup endpoints item).sent × IfSome (happened setup endpoints item).value.own.pending (IsSame message)
 own_again setup endpoints item message is line flight =
-    let here : happened setup endpoints item ≡ on_own endpoints (own_happened Resend setup item.moment) =
-    at_own setup endpoints item line ∙ ap (λ (which : DueKind). on_own endpoints (own_happened which setup item.moment)) is in
-    subst (λ (x : Effect Endpoints). All (Carries 0 message) x.sent × IfSome x.value.own.post.pending (IsSame message)) (sym here)
+    let here : happened setup endpoints item ≡ on_own endpoints (happened_under Resend setup 0 item.moment) =
+    at_own setup endpoints item line ∙ ap (λ (which : DueKind). on_own endpoints (happened_under which setup 0 item.moment)) is in
+    subst (λ (x : Effect Endpoints). All (Carries 0 message) x.sent × IfSome x.value.own.pending (IsSame message)) (sym here)
     (own_carries setup item.moment endpoints.own message flight, own_keeps setup item.moment endpoints.own message flight)
 
 pub own_waits : (setup : Setup) (endpoints : Endpoints) (item : DueItem) → item.line ≢ 0 → (happened setup endpoints item).value.own ≡ endpoints.own
 own_waits setup endpoints item apart = by_test (item.line == 0) refl where
   by_test : (b : Bool) → (item.line == 0) ≡ b
-      → (if b then on_own endpoints (own_happened item.kind setup item.moment) else on_line endpoints item.line (happened_on item.kind setup item.line item.moment)).value.own
+      → (if b then on_own endpoints (happened_under item.kind setup 0 item.moment) else on_line endpoints item.line (happened_on item.kind setup item.line item.moment)).value.own
       ≡ endpoints.own
   by_test true e = absurd (apart ((Decides-eqb item.line 0).0 e))
   by_test false e = own_stays_on endpoints item.line (happened_on item.kind setup item.line item.moment)

@@ -16,7 +16,7 @@ next_number station = station.post.number
 -- the number of the next command of each line is one of a line's numbers, and so it is of the gateway itself
 pub record HaveNumbers (endpoints : Endpoints) : Type 0 where
   pub lines : (line : ℕ) (station : Station) → station_at endpoints line ≡ Some station → next_number station < numbers
-  pub own : endpoints.own.post.number < numbers
+  pub own : endpoints.own.number < numbers
 
 -- what is in flight agrees with where announcements are, and so it goes on to do, since the numbers are numbers
 pub record KeepOrder (endpoints : Endpoints) : Type 0 where

@@ -56,9 +56,9 @@ pub fn what_falls_due_begins_nothing_while_a_command_is_in_flight()
     ensures others { (setup : Setup) (endpoints : Endpoints) (item : DueItem) (other : ℕ) → other ≢ item.line →
         station_at (happened setup endpoints item).value other ≡ station_at endpoints other }
     ensures own_command { (setup : Setup) (endpoints : Endpoints) (item : DueItem) (message : InFlight) →
-        item.kind ≡ Resend → item.line ≡ 0 → endpoints.own.post.pending ≡ Some message →
+        item.kind ≡ Resend → item.line ≡ 0 → endpoints.own.pending ≡ Some message →
         All (Carries 0 message) (happened setup endpoints item).sent
-        × IfSome (happened setup endpoints item).value.own.post.pending (IsSame message) }
+        × IfSome (happened setup endpoints item).value.own.pending (IsSame message) }
     ensures own { (setup : Setup) (endpoints : Endpoints) (item : DueItem) → item.line ≢ 0 →
         (happened setup endpoints item).value.own ≡ endpoints.own }
 {}

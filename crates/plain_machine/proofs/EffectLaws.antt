@@ -9,7 +9,7 @@ use Rattle.mgcp_text.specs.declared.message.Message.TheVariants as messages
 use Rattle.mgcp_text.specs.declared.message.Param.{Param}
 use Rattle.mgcp_text.specs.Confirmation.{k_of}
 use Rattle.mgcp_text.specs.Reading.{Outcome, message, no_header, bad_version, bad_body, read_text}
-use Rattle.plain_machine.specs.declared.own.Own.{Own}
+use Rattle.plain_machine.specs.declared.post.Post.{Post}
 use Rattle.plain_machine.specs.declared.setup.Setup.{Setup}
 use Rattle.plain_machine.specs.declared.station.Station.{Station}
 use Rattle.plain_machine.specs.Effect.{Effect, silently}
@@ -20,10 +20,10 @@ use Rattle.plain_machine.specs.Arriving.{clock_after}
 use Rattle.history.specs.Memory.{most_firsts}
 use Rattle.history.specs.Looking.{Looked, new, repeat, confirmed, full, look_of}
 use Rattle.plain_machine.specs.Acting.{acted_on}
-use Rattle.plain_machine.specs.Falling.{due_by, happened_on, own_happened, happened, go_on, passed, room, pass}
+use Rattle.plain_machine.specs.Falling.{due_by, happened_on, happened_under, happened, go_on, passed, room, pass}
 use Rattle.plain_machine.specs.Posting.{line_of_id}
-use Rattle.plain_machine.specs.Announcing.{heard_on}
-use Rattle.plain_machine.specs.Responding.{response_with, responded_on, own_responded, redirected_on, opened_on, lines_told, own_heard, responded}
+use Rattle.plain_machine.specs.Announcing.{heard_on, replied_on}
+use Rattle.plain_machine.specs.Responding.{response_with, responded_on, redirected_on, opened_on, lines_told, own_heard, responded}
 use Rattle.restart.specs.declared.heard.Heard.{Heard}
 use Rattle.restart.specs.declared.heard.Heard.TheVariants.{Nothing, PutOff, Redirected, Answered}
 use Rattle.plain_machine.specs.declared.response.Response.{Response}
@@ -53,7 +53,7 @@ turned_lines endpoints line turn = by_station (station_at endpoints line) where
   by_station None = refl
   by_station (Some station) = set_same endpoints.stations (line - 1) _
 
-either_lines : (endpoints : Endpoints) (line : ℕ) (own_turn : Own → Effect Own) (turn : Station → Effect Station) → lines_in (on_either endpoints line own_turn turn).value ≡ lines_in endpoints
+either_lines : (endpoints : Endpoints) (line : ℕ) (own_turn : Post → Effect Post) (turn : Station → Effect Station) → lines_in (on_either endpoints line own_turn turn).value ≡ lines_in endpoints
 either_lines endpoints line own_turn turn = by_test (line == 0) where
   by_test : (b : Bool) → lines_in (if b then on_own endpoints own_turn else on_line endpoints line turn).value ≡ lines_in endpoints
   by_test true = refl
@@ -75,7 +75,7 @@ responded_lines : (setup : Setup) (endpoints : Endpoints) (moment : ℕ) (respon
 responded_lines setup endpoints moment response = by_test (line_of_id response.id == 0) where
   by_test : (b : Bool) → lines_in (if b then own_heard setup endpoints moment response
       else on_line endpoints (line_of_id response.id) (responded_on setup (line_of_id response.id) moment response)).value ≡ lines_in endpoints
-  by_test true = told_lines (heard_on endpoints.own.post response) setup moment (on_own endpoints (own_responded setup moment response)).value
+  by_test true = told_lines (heard_on endpoints.own response) setup moment (on_own endpoints (replied_on setup 0 moment response)).value
   by_test false = turned_lines endpoints (line_of_id response.id) (responded_on setup (line_of_id response.id) moment response)
 
 -- what is done at texts
@@ -143,7 +143,7 @@ took_lines setup m source texts = (took_keeps setup m source texts).lines
 -- what falls due changes a station, and adds none
 pub happened_lines : (setup : Setup) (endpoints : Endpoints) (item : DueItem) → lines_in (happened setup endpoints item).value ≡ lines_in endpoints
 happened_lines setup endpoints item =
-    either_lines endpoints item.line (own_happened item.kind setup item.moment) (happened_on item.kind setup item.line item.moment)
+    either_lines endpoints item.line (happened_under item.kind setup 0 item.moment) (happened_on item.kind setup item.line item.moment)
 
 passed_lines : (n : ℕ) (setup : Setup) (endpoints : Endpoints) (moment : ℕ) → lines_in (passed n setup endpoints moment).value ≡ lines_in endpoints
 unfolding passed
@@ -196,11 +196,11 @@ turned_still endpoints line station at =
     ap (λ (x : List Station). let e : Endpoints = record endpoints { stations = x } in silently e) same
 
 -- the gateway itself, and a line
-pub either_own : (endpoints : Endpoints) (line : ℕ) (own_turn : Own → Effect Own) (turn : Station → Effect Station) → (line == 0) ≡ true
+pub either_own : (endpoints : Endpoints) (line : ℕ) (own_turn : Post → Effect Post) (turn : Station → Effect Station) → (line == 0) ≡ true
     → on_either endpoints line own_turn turn ≡ on_own endpoints own_turn
 either_own endpoints line own_turn turn is = ap (λ (b : Bool). if b then on_own endpoints own_turn else on_line endpoints line turn) is
 
-pub either_line : (endpoints : Endpoints) (line : ℕ) (own_turn : Own → Effect Own) (turn : Station → Effect Station) → (line == 0) ≡ false
+pub either_line : (endpoints : Endpoints) (line : ℕ) (own_turn : Post → Effect Post) (turn : Station → Effect Station) → (line == 0) ≡ false
     → on_either endpoints line own_turn turn ≡ on_line endpoints line turn
 either_line endpoints line own_turn turn is = ap (λ (b : Bool). if b then on_own endpoints own_turn else on_line endpoints line turn) is
 

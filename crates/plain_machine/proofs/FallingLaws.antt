@@ -12,10 +12,10 @@ use Rattle.plain_machine.specs.declared.setup.Setup.{Setup}
 use Rattle.plain_machine.specs.declared.station.Station.{Station}
 use Rattle.plain_machine.specs.Effect.{Effect, silently, behind, afterwards}
 use Rattle.plain_machine.specs.Machine.{Endpoints, with_turn, with_own, on_own}
-use Rattle.plain_machine.specs.Falling.{due_on, own_due, first_due, due_by, happened_on, own_happened, happened, go_on, passed, room, pass, things_of_a_line, own_things}
+use Rattle.plain_machine.specs.Falling.{due_on, post_due, first_due, due_by, happened_on, happened_under, happened, go_on, passed, room, pass, things_of_a_line, own_things}
 use Rattle.plain_machine.proofs.EffectLaws.{happened_lines, other_station, either_own, either_line, on_this}
 use Rattle.plain_machine.proofs.FirstLemmas.{IsDueOn, first_on, post_line, by_moment, station_is, station_line, earliest_own, earliest_on}
-use Rattle.plain_machine.proofs.LeftLemmas.{post_has, Happens, has_by, first_happens, none_before, due_count, twelve_at_most, happens_less, own_first_happens, own_none_before, own_count, two_at_most, own_happens_less}
+use Rattle.plain_machine.proofs.LeftLemmas.{post_has, Happens, has_by, first_happens, none_before, due_count, twelve_at_most, happens_less, post_happens, own_none_before, own_count, two_at_most, own_happens_less}
 
 -- How much is due up to a moment
 
@@ -38,14 +38,14 @@ total_most moment endpoints = omega (arith, sum_most moment endpoints.stations, 
 happened_is : (setup : Setup) (endpoints : Endpoints) (item : DueItem) (is : IsDueOn 1 endpoints.stations item)
     → happened setup endpoints item ≡ with_turn endpoints item.line (happened_on item.kind setup item.line item.moment is.station)
 happened_is setup endpoints item is =
-    either_line endpoints item.line (own_happened item.kind setup item.moment) (happened_on item.kind setup item.line item.moment) (station_line endpoints item is)
+    either_line endpoints item.line (happened_under item.kind setup 0 item.moment) (happened_on item.kind setup item.line item.moment) (station_line endpoints item is)
     ∙ on_this endpoints item.line is.station (happened_on item.kind setup item.line item.moment) (station_is endpoints item is)
 
-own_happened_is : (setup : Setup) (endpoints : Endpoints) (item : DueItem) → own_due endpoints.own ≡ Some item
-    → happened setup endpoints item ≡ on_own endpoints (own_happened item.kind setup item.moment)
+own_happened_is : (setup : Setup) (endpoints : Endpoints) (item : DueItem) → post_due 0 endpoints.own ≡ Some item
+    → happened setup endpoints item ≡ on_own endpoints (happened_under item.kind setup 0 item.moment)
 own_happened_is setup endpoints item is =
-    either_own endpoints item.line (own_happened item.kind setup item.moment) (happened_on item.kind setup item.line item.moment)
-    (ap (λ (line : ℕ). line == 0) (post_line 0 endpoints.own.post item is))
+    either_own endpoints item.line (happened_under item.kind setup 0 item.moment) (happened_on item.kind setup item.line item.moment)
+    (ap (λ (line : ℕ). line == 0) (post_line 0 endpoints.own item is))
 
 less_sum : (moment : ℕ) (stations : List Station) (place : ℕ) (was is : Station) → slice_get stations place ≡ Some was → due_count moment is < due_count moment was
     → sum_by (due_count moment) (slice_set stations place is) < sum_by (due_count moment) stations
@@ -65,10 +65,10 @@ second_less a b c less = omega (arith, less)
 less_to_come : (setup : Setup) (endpoints : Endpoints) (item : DueItem) → first_due endpoints ≡ Some item
     → total item.moment (happened setup endpoints item).value < total item.moment endpoints
 less_to_come setup endpoints item first = by_case (first_on endpoints item first) where
-  by_case : (own_due endpoints.own ≡ Some item) ⊎ IsDueOn 1 endpoints.stations item → total item.moment (happened setup endpoints item).value < total item.moment endpoints
+  by_case : (post_due 0 endpoints.own ≡ Some item) ⊎ IsDueOn 1 endpoints.stations item → total item.moment (happened setup endpoints item).value < total item.moment endpoints
   by_case (inl is) =
       rw (own_happened_is setup endpoints item is)
-      (second_less _ _ _ (own_happens_less item.moment item.kind endpoints.own _ (own_first_happens setup endpoints.own item is)))
+      (second_less _ _ _ (own_happens_less item.moment item.kind endpoints.own _ (post_happens setup 0 endpoints.own item is)))
   by_case (inr is) =
       let place : item.line - 1 ≡ is.place = omega (arith, is.line) in
       rw (happened_is setup endpoints item is, place)
@@ -87,19 +87,19 @@ get_set_same stations place was is station at found =
     sym (get_or-set_same stations place is is (slice_get_within stations place was at)) ∙ get_or_from_slice_get (slice_set stations place is) place station is found
 
 -- after what happened to the gateway itself
-own_not_earlier : (setup : Setup) (endpoints : Endpoints) (item next : DueItem) → first_due endpoints ≡ Some item → own_due endpoints.own ≡ Some item
+own_not_earlier : (setup : Setup) (endpoints : Endpoints) (item next : DueItem) → first_due endpoints ≡ Some item → post_due 0 endpoints.own ≡ Some item
     → first_due (happened setup endpoints item).value ≡ Some next → item.moment ≤ next.moment
 own_not_earlier setup endpoints item next first is after =
-    by_case (first_on (with_own endpoints (own_happened item.kind setup item.moment endpoints.own).value) next
+    by_case (first_on (with_own endpoints (happened_under item.kind setup 0 item.moment endpoints.own).value) next
     (subst (λ (t : Effect Endpoints). first_due t.value ≡ Some next) (own_happened_is setup endpoints item is) after)) where
-      by_each : (post_has next.moment endpoints.own.post next.kind ≡ true) ⊎ (item.moment < next.moment) → item.moment ≤ next.moment
+      by_each : (post_has next.moment endpoints.own next.kind ≡ true) ⊎ (item.moment < next.moment) → item.moment ≤ next.moment
       by_each (inl before) = own_none_before endpoints.own item next.kind next.moment is before
       by_each (inr later) = omega (arith, later)
 
-      by_case : (own_due (own_happened item.kind setup item.moment endpoints.own).value ≡ Some next) ⊎ IsDueOn 1 endpoints.stations next → item.moment ≤ next.moment
+      by_case : (post_due 0 (happened_under item.kind setup 0 item.moment endpoints.own).value ≡ Some next) ⊎ IsDueOn 1 endpoints.stations next → item.moment ≤ next.moment
       by_case (inl own) =
-          by_each ((own_first_happens setup endpoints.own item is).each next.kind next.moment
-          (own_first_happens setup (own_happened item.kind setup item.moment endpoints.own).value next own).on)
+          by_each ((post_happens setup 0 endpoints.own item is).each next.kind next.moment
+          (post_happens setup 0 (happened_under item.kind setup 0 item.moment endpoints.own).value next own).on)
       by_case (inr on) =
           earliest_on endpoints item next on.place on.station first on.at (subst (λ (l : ℕ). due_on (l, on.station) ≡ Some next) on.line on.due)
 
@@ -135,13 +135,13 @@ line_not_earlier setup endpoints item next first is later =
 not_earlier : (setup : Setup) (endpoints : Endpoints) (item next : DueItem) → first_due endpoints ≡ Some item → first_due (happened setup endpoints item).value ≡ Some next
     → item.moment ≤ next.moment
 not_earlier setup endpoints item next first after = by_case (first_on endpoints item first) where
-  by_next : IsDueOn 1 endpoints.stations item → (own_due (happened setup endpoints item).value.own ≡ Some next) ⊎ IsDueOn 1 (happened setup endpoints item).value.stations next
+  by_next : IsDueOn 1 endpoints.stations item → (post_due 0 (happened setup endpoints item).value.own ≡ Some next) ⊎ IsDueOn 1 (happened setup endpoints item).value.stations next
       → item.moment ≤ next.moment
   by_next is (inl own) =
-      earliest_own endpoints item next first (subst (λ (t : Effect Endpoints). own_due t.value.own ≡ Some next) (happened_is setup endpoints item is) own)
+      earliest_own endpoints item next first (subst (λ (t : Effect Endpoints). post_due 0 t.value.own ≡ Some next) (happened_is setup endpoints item is) own)
   by_next is (inr later) = line_not_earlier setup endpoints item next first is later
 
-  by_case : (own_due endpoints.own ≡ Some item) ⊎ IsDueOn 1 endpoints.stations item → item.moment ≤ next.moment
+  by_case : (post_due 0 endpoints.own ≡ Some item) ⊎ IsDueOn 1 endpoints.stations item → item.moment ≤ next.moment
   by_case (inl is) = own_not_earlier setup endpoints item next first is after
   by_case (inr is) = by_next is (first_on (happened setup endpoints item).value next after)
 

@@ -73,3 +73,7 @@ replied PutOff setup line moment response post = silently (put_off response mome
 replied (Redirected agent) setup line moment response post = announced setup line moment (record post { entity = agent })
 replied (Answered agent) setup line moment response post =
     silently (record post { entity = unwrap_or agent post.entity; pending = None; restart = Serving })
+
+-- what becomes of it at a response: by what that is to its command in flight
+unfoldable pub replied_on : Setup → ℕ → ℕ → Response → Post → Effect Post
+replied_on setup line moment response post = replied (heard_on post response) setup line moment response post

@@ -9,7 +9,6 @@ use Rattle.timers.specs.declared.kind.DueKind.{DueKind}
 use Rattle.timers.specs.declared.kind.DueKind.TheVariants.{OfLine, Resend, Announce}
 use Rattle.timers.specs.declared.due_item.DueItem.{DueItem}
 use Rattle.timers.specs.Order.{earlier}
-use Rattle.plain_machine.specs.declared.own.Own.{Own}
 use Rattle.plain_machine.specs.declared.post.Post.{Post}
 use Rattle.plain_machine.specs.declared.setup.Setup.{Setup}
 use Rattle.plain_machine.specs.declared.station.Station.{Station}
@@ -17,7 +16,7 @@ use Rattle.plain_machine.specs.Effect.{Effect, silently, afterwards}
 use Rattle.plain_machine.specs.Posting.{resent_on}
 use Rattle.plain_machine.specs.Announcing.{announced_on}
 use Rattle.plain_machine.specs.Notifying.{posted, noted}
-use Rattle.plain_machine.specs.Machine.{Endpoints, station_at, own_posted, on_either, numbered}
+use Rattle.plain_machine.specs.Machine.{Endpoints, station_at, on_either, numbered}
 
 -- What falls due first
 
@@ -39,19 +38,15 @@ post_due line post =
 unfoldable pub due_on : ℕ × Station → Option DueItem
 due_on one = earlier (option_map (line_item one.0) (due_of one.1.line)) (post_due one.0 one.1.post)
 
--- what falls due of the gateway itself
-abbrev pub own_due : Own → Option DueItem
-own_due own = post_due 0 own.post
-
--- the same of the line with this number, if there is one, or of the gateway itself, which is line 0
+-- what falls due first of the line with this number, if there is one, or of the gateway itself, which is line 0
 abbrev pub due_at : Endpoints → ℕ → Option DueItem
 due_at endpoints line =
-    if line == 0 then own_due endpoints.own
+    if line == 0 then post_due 0 endpoints.own
     else option_and_then (λ station. due_on (line, station)) (station_at endpoints line)
 
 -- what falls due first of all: the earliest, and of several as early that of the least line
 unfoldable pub first_due : Endpoints → Option DueItem
-first_due endpoints = fold (λ first one. earlier first (due_on one)) (own_due endpoints.own) (numbered endpoints)
+first_due endpoints = fold (λ first one. earlier first (due_on one)) (post_due 0 endpoints.own) (numbered endpoints)
 
 abbrev pub if_by : ℕ → Option DueItem → Option DueItem
 if_by moment None = None
@@ -73,16 +68,16 @@ happened_on (OfLine due) setup line moment station = noted setup line moment sta
 happened_on Resend setup line moment station = posted station (resent_on setup line moment station.post)
 happened_on Announce setup line moment station = posted station (announced_on setup line moment station.post)
 
--- what falls due of the gateway itself, at this moment: of what falls due of lines there is nothing
-unfoldable pub own_happened : DueKind → Setup → ℕ → Own → Effect Own
-own_happened (OfLine due) setup moment own = own_posted own (silently own.post)
-own_happened Resend setup moment own = own_posted own (resent_on setup 0 moment own.post)
-own_happened Announce setup moment own = own_posted own (announced_on setup 0 moment own.post)
+-- what falls due under a post, at this moment: of what falls due of lines there is nothing
+unfoldable pub happened_under : DueKind → Setup → ℕ → ℕ → Post → Effect Post
+happened_under (OfLine due) setup line moment post = silently post
+happened_under Resend setup line moment post = resent_on setup line moment post
+happened_under Announce setup line moment post = announced_on setup line moment post
 
 -- what falls due happens at its own moment
 abbrev pub happened : Setup → Endpoints → DueItem → Effect Endpoints
 happened setup endpoints item =
-    on_either endpoints item.line (own_happened item.kind setup item.moment) (happened_on item.kind setup item.line item.moment)
+    on_either endpoints item.line (happened_under item.kind setup 0 item.moment) (happened_on item.kind setup item.line item.moment)
 
 abbrev pub go_on : Option DueItem → Setup → Endpoints → (Endpoints → Effect Endpoints) → Effect Endpoints
 go_on None setup endpoints next = silently endpoints

@@ -8,17 +8,16 @@ use Rattle.restart.specs.declared.restart.Restart.{Restart}
 use Rattle.restart.specs.declared.restart.Restart.TheVariants.{Serving}
 use Rattle.restart.specs.Restarting.{begun, is_serving}
 use Rattle.plain_machine.specs.declared.setup.Setup.{Setup}
-use Rattle.plain_machine.specs.declared.own.Own.{Own}
 use Rattle.plain_machine.specs.declared.post.Post.{Post}
 use Rattle.plain_machine.specs.declared.station.Station.{Station}
 use Rattle.history.specs.declared.entry.Entry.{Entry}
 use Rattle.plain_machine.specs.Effect.{Effect, silently, effect_map, afterwards}
 use Rattle.plain_machine.specs.Posting.{wait_of}
 
--- all that changes but the clock: the stations, of which the first is line 1, and what the gateway keeps for itself
+-- all that changes but the clock: the stations, of which the first is line 1, and the post of the gateway itself
 pub record Endpoints : Type 0 where
   pub stations : List Station
-  pub own : Own
+  pub own : Post
 
 -- its history has every first and what it confirmed, in order, and forgets nothing (RFC 3435, 3.5.1)
 pub record Machine : Type 0 where
@@ -49,8 +48,8 @@ opening_station setup line = record {
 }
 
 -- the numbers of the gateway itself begin with 1, and it waits to announce itself (RFC 3435, 4.4.6)
-abbrev pub opening_own : Setup → Own
-opening_own setup = record { post = opening_post setup 1 (begun 0 (wait_of setup 0)) }
+abbrev pub opening_own : Setup → Post
+opening_own setup = opening_post setup 1 (begun 0 (wait_of setup 0))
 
 abbrev pub opening_endpoints : Setup → Endpoints
 opening_endpoints setup = record {
@@ -63,7 +62,7 @@ opening setup = record { now = 0; endpoints = opening_endpoints setup; history =
 
 -- the gateway serves once its announcement is answered (RFC 3435, 4.4.6)
 abbrev pub serves : Endpoints → Bool
-serves endpoints = is_serving endpoints.own.post.restart
+serves endpoints = is_serving endpoints.own.restart
 
 -- the station of the line with this number, if there is one: the numbers begin with 1
 abbrev pub station_at : Endpoints → ℕ → Option Station
@@ -84,19 +83,15 @@ turned_at (Some station) endpoints line turn = with_turn endpoints line (turn st
 unfoldable pub on_line : Endpoints → ℕ → (Station → Effect Station) → Effect Endpoints
 on_line endpoints line turn = turned_at (station_at endpoints line) endpoints line turn
 
--- this becomes of the post of the gateway itself
-abbrev pub own_posted : Own → Effect Post → Effect Own
-own_posted own turn = effect_map (λ post. record own { post = post }) turn
-
-abbrev pub with_own : Endpoints → Own → Endpoints
+abbrev pub with_own : Endpoints → Post → Endpoints
 with_own endpoints own = record endpoints { own = own }
 
--- What comes to the gateway itself: this becomes of what it keeps.
-abbrev pub on_own : Endpoints → (Own → Effect Own) → Effect Endpoints
+-- What comes to the gateway itself: this becomes of its post.
+abbrev pub on_own : Endpoints → (Post → Effect Post) → Effect Endpoints
 on_own endpoints turn = effect_map (with_own endpoints) (turn endpoints.own)
 
 -- What comes to one of both: the gateway itself is line 0.
-abbrev pub on_either : Endpoints → ℕ → (Own → Effect Own) → (Station → Effect Station) → Effect Endpoints
+abbrev pub on_either : Endpoints → ℕ → (Post → Effect Post) → (Station → Effect Station) → Effect Endpoints
 on_either endpoints line own_turn turn = if line == 0 then on_own endpoints own_turn else on_line endpoints line turn
 
 -- What comes to several lines, one after the other.

@@ -13,7 +13,6 @@ use Rattle.mg_line.specs.Answering.{answered}
 use Rattle.mg_line.specs.Opening.{opened}
 use Rattle.restart.specs.declared.heard.Heard.{Heard}
 use Rattle.restart.specs.declared.heard.Heard.TheVariants.{Nothing, PutOff, Redirected, Answered}
-use Rattle.plain_machine.specs.declared.own.Own.{Own}
 use Rattle.plain_machine.specs.declared.response.Response.{Response}
 use Rattle.plain_machine.specs.declared.setup.Setup.{Setup}
 use Rattle.plain_machine.specs.declared.station.Station.{Station}
@@ -21,8 +20,8 @@ use Rattle.plain_machine.specs.Effect.{Effect, silently, behind, afterwards}
 use Rattle.plain_machine.specs.Message.{of_none, acknowledgement, Sent}
 use Rattle.plain_machine.specs.Posting.{line_of_id}
 use Rattle.plain_machine.specs.Notifying.{posted, noted}
-use Rattle.plain_machine.specs.Announcing.{heard_on, replied}
-use Rattle.plain_machine.specs.Machine.{Endpoints, own_posted, on_own, on_line, on_lines}
+use Rattle.plain_machine.specs.Announcing.{heard_on, replied, replied_on}
+use Rattle.plain_machine.specs.Machine.{Endpoints, on_own, on_line, on_lines}
 use Rattle.plain_machine.specs.Requesting.{with_entity, lines_meant}
 
 -- The acknowledgement
@@ -64,10 +63,6 @@ responded_on setup line moment response station =
 
 -- What it does to the gateway itself, and then to all lines
 
-unfoldable pub own_responded : Setup → ℕ → Response → Own → Effect Own
-own_responded setup moment response own =
-    own_posted own (replied (heard_on own.post response) setup 0 moment response own.post)
-
 -- the lines too have another notified entity
 unfoldable pub redirected_on : Entity → ℕ → Station → Effect Station
 redirected_on agent line station = silently (with_entity (Some agent) station)
@@ -90,8 +85,8 @@ lines_told (Answered agent) setup moment endpoints = on_all endpoints (opened_on
 -- the gateway's own post first
 abbrev pub own_heard : Setup → Endpoints → ℕ → Response → Effect Endpoints
 own_heard setup endpoints moment response =
-    afterwards (on_own endpoints (own_responded setup moment response))
-    (λ next. lines_told (heard_on endpoints.own.post response) setup moment next)
+    afterwards (on_own endpoints (replied_on setup 0 moment response))
+    (λ next. lines_told (heard_on endpoints.own response) setup moment next)
 
 -- A response comes
 

@@ -19,7 +19,7 @@ ghost use Rattle.plain_machine.specs.Example.{agent, example, two_lines, from_ag
 /// to announce.
 pub fn the_gateway_opens_waiting()
     ensures own { (opening example).endpoints.own
-        ≡ record { post = record { entity = example.agent; number = 1; pending = None; restart = Waiting 1 } } }
+        ≡ record { entity = example.agent; number = 1; pending = None; restart = Waiting 1 } }
     ensures due { due_at (opening_endpoints example) 0 ≡ Some (announcement_due 1 0) }
     ensures other_wait { due_at (opening_endpoints (record example { restart_wait = 600000 })) 0
         ≡ Some (announcement_due 600000 0) }
@@ -41,12 +41,10 @@ pub fn the_gateway_announces_itself()
         ≡ own_at 0 1 (command (messages.Command verbs.Rsip 1 (codes "*@rgw.example.net")
         ((record { code = codes "RM"; value = codes "restart" }) ∷ []) [])) ∷ [] }
     ensures in_flight { (machine_after example (opening example) (tick 1 ∷ [])).endpoints.own ≡ record {
-      post = record {
-        entity = example.agent;
-        number = 2;
-        pending = Some (record { id = 1; to = agent; text = announced; first = 1; repeats = 0; due = 501 });
-        restart = Announced;
-      };
+      entity = example.agent;
+      number = 2;
+      pending = Some (record { id = 1; to = agent; text = announced; first = 1; repeats = 0; due = 501 });
+      restart = Announced;
     } }
     ensures last { announcement example 0 9999999 ≡ messages.Command verbs.Rsip 9999999 (codes "*@rgw.example.net")
         ((record { code = codes "RM"; value = codes "restart" }) ∷ []) [] }

@@ -23,8 +23,8 @@ pub fn a_line_waits_while_its_command_flies()
 /// What the gateway itself has in flight is under an id of its own.
 pub fn the_gateway_has_ids_of_its_own()
     ensures own { HasOwnId (announcing (Some 1500)) }
-    ensures greatest { HasOwnId (record { post = flying 1 9999999 (announced_under 9999999) (Some 1500) }) }
-    ensures of_a_line { HasOwnId (record { post = flying 2 10000000 lifted (Some 1500) }) → ⊥ }
+    ensures greatest { HasOwnId (flying 1 9999999 (announced_under 9999999) (Some 1500)) }
+    ensures of_a_line { HasOwnId (flying 2 10000000 lifted (Some 1500)) → ⊥ }
     ensures nothing { HasOwnId (announcing None) }
 {}
 
@@ -58,7 +58,7 @@ pub fn what_is_in_flight_of_the_gateway_is_its_announcement()
     ensures serves_with { OwnInOrderBy Serving (Some (sent_first 1 agent announced 1000)) → ⊥ }
     ensures opening { OwnIsInOrder (opening_own example) }
     ensures flies { OwnIsInOrder (announcing (Some 1500)) }
-    ensures still_flies { OwnIsInOrder (record { post = flying 2 1 announced (Some 1500) }) → ⊥ }
+    ensures still_flies { OwnIsInOrder (flying 2 1 announced (Some 1500)) → ⊥ }
 {}
 
 /// Until the gateway serves its lines are closed, and from then on in order.
@@ -77,7 +77,7 @@ pub fn lines_are_closed_until_the_gateway_serves()
 
 /// Endpoints are in order where the gateway itself is, and each of its lines.
 pub fn each_line_has_its_order()
-    ensures own { AreInOrder (with_own (stations []) (record { post = flying 2 1 announced (Some 1500) })) → ⊥ }
+    ensures own { AreInOrder (with_own (stations []) (flying 2 1 announced (Some 1500))) → ⊥ }
     ensures line { AreInOrder (stations (ready_station example 1 ∷ ending None [] (Some 1500) ∷ [])) → ⊥ }
     ensures open { AreInOrder (stations_announcing (ready_station example 1 ∷ [])) → ⊥ }
 {}

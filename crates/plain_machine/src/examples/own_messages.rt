@@ -23,17 +23,17 @@ pub fn an_own_message_is_repeated_and_given_up()
     ensures before { announcing_sends (tick 1499 ∷ []) ≡ [] }
     ensures at { announcing_sends (tick 1499 ∷ tick 1500 ∷ tick 1500 ∷ []) ≡ to_agent_at 1500 announced ∷ [] }
     ensures message { sent_from example announcing_machine (tick 1500 ∷ []) ≡ own_at 0 1500 (resent announced) ∷ [] }
-    ensures repeated { (own_then (tick 1500 ∷ [])).post ≡ record {
+    ensures repeated { own_then (tick 1500 ∷ []) ≡ record {
       entity = example.agent;
       number = 2;
       pending = Some (record { id = 1; to = agent; text = announced; first = 1000; repeats = 1; due = 2500 });
       restart = Announced;
     } }
     ensures lines { (announcing_then (tick 1500 ∷ [])).endpoints.stations ≡ (opening_endpoints example).stations }
-    ensures still_in_flight { option_map (λ message. message.due) (own_then (tick 24499 ∷ [])).post.pending
+    ensures still_in_flight { option_map (λ message. message.due) (own_then (tick 24499 ∷ [])).pending
         ≡ Some 24500 }
     ensures given_up { own_then (tick 24500 ∷ [])
-        ≡ record { post = record (announcing None).post { restart = Waiting 24501 } } }
+        ≡ record (announcing None) { restart = Waiting 24501 } }
     ensures renewed { announcing_sends (tick 24499 ∷ tick 24500 ∷ tick 24501 ∷ [])
         ≡ to_agent_at 1500 announced ∷ to_agent_at 2500 announced ∷ to_agent_at 4500 announced
         ∷ to_agent_at 8500 announced ∷ to_agent_at 12500 announced ∷ to_agent_at 16500 announced
@@ -82,7 +82,7 @@ pub fn an_own_message_is_answered_by_its_id()
     ensures of_a_line { announcing_then (response 200 10000000 ∷ []) ≡ announcing_machine }
     ensures nothing_in_flight { machine_then (response 200 1 ∷ []) ≡ machine_at 1000 }
     ensures given_up { own_then (tick 24500 ∷ response 200 1 ∷ [])
-        ≡ record { post = record (announcing None).post { restart = Waiting 24501 } } }
+        ≡ record (announcing None) { restart = Waiting 24501 } }
     ensures acknowledged { announcing_sends (tick 1200 ∷ from_other (codes "200 1 OK\r\nK:\r\n") ∷ [])
         ≡ to_other_at 1200 (codes "000 1\r\n") ∷ [] }
 {}

@@ -15,9 +15,9 @@ ghost use Rattle.plain_machine.specs.Example.{other_agent, other_entity, example
 pub fn an_answer_names_whom_to_notify()
     ensures lines { entities_of (announcing_then (naming_other 200 1 ∷ [])) ≡ replicate 16 other_entity }
     ensures own { own_then (naming_other 200 1 ∷ [])
-        ≡ record { post = record (announcing None).post { entity = other_entity } } }
+        ≡ record (announcing None) { entity = other_entity } }
     ensures error { own_then (naming_other 500 1 ∷ [])
-        ≡ record { post = record (announcing None).post { entity = other_entity } } }
+        ≡ record (announcing None) { entity = other_entity } }
     ensures serves { serves (announcing_then (naming_other 520 1 ∷ [])).endpoints ≡ true }
     ensures notified { announcing_sends (phone 1 OffHook ∷ naming_other 200 1 ∷ []) ≡ to_other_at 1000 lifted ∷ [] }
     ensures nobody { entities_of (announcing_then (response 200 1 ∷ [])) ≡ replicate 16 example.agent }
@@ -47,12 +47,10 @@ pub fn an_announcement_is_redirected()
         ≡ to_agent_at 1 announced ∷ to_other_at 1 (announced_under 2) ∷ to_agent_at 1 (codes "405 7\r\n")
         ∷ to_agent_at 1 (codes "200 8 OK\r\n") ∷ [] }
     ensures own { own_then (tick 1200 ∷ naming_other 521 1 ∷ []) ≡ record {
-      post = record {
-        entity = other_entity;
-        number = 3;
-        pending = Some (record { id = 2; to = other_agent; text = announced_under 2; first = 1200; repeats = 0; due = 1700 });
-        restart = Announced;
-      };
+      entity = other_entity;
+      number = 3;
+      pending = Some (record { id = 2; to = other_agent; text = announced_under 2; first = 1200; repeats = 0; due = 1700 });
+      restart = Announced;
     } }
     ensures lines { entities_of (announcing_then (naming_other 521 1 ∷ [])) ≡ replicate 16 other_entity }
     ensures waits { announcing_sends (phone 1 OffHook ∷ naming_other 521 1 ∷ [])
@@ -86,7 +84,6 @@ pub fn some_responses_name_nobody()
 
 /// A redirected announcement that is given up goes to the other agent again.
 pub fn a_redirected_announcement_is_given_up()
-    ensures given_up { own_then (naming_other 521 1 ∷ tick 24500 ∷ []) ≡ record {
-      post = record { entity = other_entity; number = 3; pending = None; restart = Waiting 24501 };
-    } }
+    ensures given_up { own_then (naming_other 521 1 ∷ tick 24500 ∷ [])
+        ≡ record { entity = other_entity; number = 3; pending = None; restart = Waiting 24501 } }
 {}

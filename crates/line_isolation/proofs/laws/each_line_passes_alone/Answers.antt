@@ -1,4 +1,4 @@
-use Rattle.plain_machine.specs.Falling.{own_due}
+use Rattle.plain_machine.specs.Falling.{post_due}
 use Rattle.line_isolation.specs.Passing.{line_due, line_happens, own_happens}
 use Rattle.line_isolation.proofs.PassLemmas.{line_passes, own_passes, passes_once}
 use Rattle.line_isolation.proofs.laws.each_line_passes_alone.Goals as goal
@@ -13,4 +13,4 @@ pub returns-clause-line_once : goal.returns-clause-line_once
 returns-clause-line_once c = λ setup line moment was one other. passes_once (line_due line) (line_happens setup line) moment was one other
 
 pub returns-clause-own_once : goal.returns-clause-own_once
-returns-clause-own_once c = λ setup moment was one other. passes_once own_due (own_happens setup) moment was one other
+returns-clause-own_once c = λ setup moment was one other. passes_once (post_due 0) (own_happens setup) moment was one other

@@ -10,7 +10,7 @@ invariant-loop-place l = record {
   flags : length l.self-inside.touched.items ≡ length l.self-inside.endpoints.stations;
   marked : IsMarked l.self-inside.touched.items l.self-inside.saved.stations;
   room : HasRoom (length l.self-inside.saved.stations) l.self-inside.touched.items l.self-inside.saved.room;
-  own : IfSome l.self-inside.own_saved (λ own. HasId 0 own.post.number);
+  own : IfSome l.self-inside.own_saved (λ own. HasId 0 own.number);
 }
 
 abbrev pub decreases-loop-place : goal.decreases-loop-place
