@@ -8,7 +8,7 @@ ghost use Rattle.gateway_floor.specs.Tells.{Tells};
 use crate::floor::Floor;
 use gateway_stations::{Context, Occasion, happened_on, happened_under};
 use mg_bytes::OutOfMemory;
-use plain_machine::OutDatagram;
+use plain_machine::{OutDatagram, PostOwner, owner_of};
 use timers::{DueItem, DueKind};
 
 // What falls due first of all, where it is due up to a moment.
@@ -90,10 +90,11 @@ fn happen(
         floor.old floor.new out.old.items out.new.items }
 {
     let DueItem { moment, line, kind } = item;
-    if line == 0 {
-        happen_itself(context, floor, moment, kind, out)?;
-    } else {
-        happen_on_line(context, floor, Occasion { line, moment }, kind, out)?;
+    match owner_of(line) {
+        PostOwner::Gateway => happen_itself(context, floor, moment, kind, out)?,
+        PostOwner::Line(line) => {
+            happen_on_line(context, floor, Occasion { line, moment }, kind, out)?
+        }
     }
     Ok(())
 }

@@ -16,7 +16,7 @@ use crate::timed::Timed;
 use gateway_stations::same_post;
 use mg_bytes::OutOfMemory;
 use mg_line::Act;
-use plain_machine::{Post, Station};
+use plain_machine::{Post, PostOwner, Station, owner_of};
 use std::alloc::Global;
 use std::marker::Model;
 use timers::DueItem;
@@ -158,10 +158,10 @@ impl Floor {
         ensures line { OnSome result (IsLine line) }
         ensures within { OnSome result (line - 1 < length self.now.endpoints.stations) }
     {
-        if line == 0 {
-            return None;
+        match owner_of(line) {
+            PostOwner::Gateway => None,
+            PostOwner::Line(line) => self.endpoints.stations().get(usize::from(line) - 1),
         }
-        self.endpoints.stations().get(usize::from(line) - 1)
     }
 
     /// The station of the line with this number is changed in place, with what else the change is to see. Where memory for

@@ -14,7 +14,7 @@ use gateway_stations::{
     Context, Occasion, heard_on, opened_on, redirected_on, replied_on, responded_on,
 };
 use mg_bytes::OutOfMemory;
-use plain_machine::{OutDatagram, Response, line_of_id};
+use plain_machine::{OutDatagram, PostOwner, Response, line_of_id, owner_of};
 use restart::Heard;
 
 // What a response does to this line.
@@ -183,11 +183,11 @@ pub fn respond_to_its_id(
     ensures { Tells result (responded context.entry.setup.now floor.old.endpoints moment response.now)
         floor.old floor.new out.old.items out.new.items }
 {
-    let line = line_of_id(response.id);
-    if line == 0 {
-        respond_itself(context, floor, moment, response, out)?;
-    } else {
-        respond_on_line(context, floor, Occasion { line, moment }, response, out)?;
+    match owner_of(line_of_id(response.id)) {
+        PostOwner::Gateway => respond_itself(context, floor, moment, response, out)?,
+        PostOwner::Line(line) => {
+            respond_on_line(context, floor, Occasion { line, moment }, response, out)?
+        }
     }
     Ok(())
 }

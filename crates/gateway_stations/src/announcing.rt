@@ -16,17 +16,16 @@ use crate::posting::{Occasion, begin, redirect};
 use endpoint_names::{Entity, Pattern, write_name};
 use mg_bytes::OutOfMemory;
 use mgcp_text::{Bytes, Message, Param, Params, TransactionId, Verb};
-use plain_machine::{OutDatagram, Post, Response};
+use plain_machine::{OutDatagram, Post, PostOwner, Response, owner_of};
 use restart::{Heard, Restart};
 
 // Which lines are announced: the gateway itself announces all of its lines.
 fn announced_lines(line: u16) -> Pattern
     ensures { result ≡ announced_lines line }
 {
-    if line == 0 {
-        Pattern::All
-    } else {
-        Pattern::One(line)
+    match owner_of(line) {
+        PostOwner::Gateway => Pattern::All,
+        PostOwner::Line(line) => Pattern::One(line),
     }
 }
 
@@ -37,16 +36,15 @@ fn method_param(line: u16) -> Param<'static>
     ensures writable { is_writable_param result ≡ true }
 {
     let code = Bytes::of(b"RM");
-    if line == 0 {
-        Param {
+    match owner_of(line) {
+        PostOwner::Gateway => Param {
             code,
             value: Bytes::of(b"restart"),
-        }
-    } else {
-        Param {
+        },
+        PostOwner::Line(_) => Param {
             code,
             value: Bytes::of(b"disconnected"),
-        }
+        },
     }
 }
 

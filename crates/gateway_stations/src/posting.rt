@@ -12,7 +12,7 @@ use endpoint_names::Entity;
 use mg_bytes::{OutOfMemory, Text};
 use mgcp_text::{Message, write_message};
 use outbound::{Pending, Repeat};
-use plain_machine::{OutDatagram, Post, Setup};
+use plain_machine::{OutDatagram, Post, PostOwner, Setup, owner_of};
 use restart::Restart;
 use transmission::send;
 
@@ -95,10 +95,9 @@ pub(crate) fn begin(
 fn wait_of(setup: &Setup, line: u16) -> u32
     ensures { result ≡ wait_of setup.now line }
 {
-    if line == 0 {
-        setup.restart_wait
-    } else {
-        setup.disconnected_wait
+    match owner_of(line) {
+        PostOwner::Gateway => setup.restart_wait,
+        PostOwner::Line(_) => setup.disconnected_wait,
     }
 }
 

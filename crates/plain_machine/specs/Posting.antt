@@ -1,6 +1,6 @@
 -- What is sent under a post: a command begins, and is sent again or given up (RFC 3435, 3.2.1.2, 3.5 and 4.3). It is one
 -- rule for each line and for the gateway itself, which is line 0.
-use Rattle.std.specs.Prelude.{ℕ, ◌+◌, ◌*◌, ◌/◌, ◌==◌, if◌then◌else◌, [], ◌∷◌, Option, Some, None}
+use Rattle.std.specs.Prelude.{◌≡◌, ℕ, ◌+◌, ◌*◌, ◌/◌, ◌==◌, true, false, if◌then◌else◌, [], ◌∷◌, Option, Some, None}
 use Rattle.mgcp_text.specs.declared.message.Message.{Message}
 use Rattle.mgcp_text.specs.Writing.{written}
 use Rattle.outbound.specs.declared.repeat.Repeat.{Repeat}
@@ -8,9 +8,16 @@ use Rattle.outbound.specs.declared.repeat.Repeat.TheVariants.{Sent as SentAgain,
 use Rattle.outbound.specs.Flight.{InFlight, sent_first, repeat_of, repeated}
 use Rattle.restart.specs.Restarting.{begun}
 use Rattle.plain_machine.specs.declared.post.Post.{Post}
+use Rattle.plain_machine.specs.declared.post_owner.PostOwner.{PostOwner}
+use Rattle.plain_machine.specs.declared.post_owner.PostOwner.TheVariants.{Gateway, Line}
 use Rattle.plain_machine.specs.declared.setup.Setup.{Setup}
 use Rattle.plain_machine.specs.Effect.{Effect, silently}
 use Rattle.plain_machine.specs.Message.{own_of, command, resent}
+
+-- whose a post with this number is
+abbrev pub HasNumber : ℕ → PostOwner → Type 0
+HasNumber number Gateway = (number == 0) ≡ true
+HasNumber number (Line line) = ((number == 0) ≡ false) × (line ≡ number)
 
 -- Ids: so many numbers there are for the commands of one line, and it takes them in turn (this gateway's profile)
 
