@@ -1,0 +1,7 @@
+-- The definitions opened, so that worked examples compute.
+use Rattle.std.specs.Prelude.{⊤}
+use Rattle.routes.specs.Route.{at}
+
+unfoldable pub on_examples : ⊤
+unfolding at
+on_examples = tt

@@ -1,0 +1,2 @@
+pub mod RouteLemmas
+pub mod Computing

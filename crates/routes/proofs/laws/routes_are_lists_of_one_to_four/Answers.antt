@@ -1,0 +1,11 @@
+use Rattle.routes.proofs.RouteLemmas.{again, listed, none_of}
+use Rattle.routes.proofs.laws.routes_are_lists_of_one_to_four.Goals as goal
+
+pub returns-clause-again : goal.returns-clause-again
+returns-clause-again c = again
+
+pub returns-clause-all : goal.returns-clause-all
+returns-clause-all c = listed
+
+pub returns-clause-none : goal.returns-clause-none
+returns-clause-none c = none_of
