@@ -2,11 +2,13 @@
 use Rattle.std.proofs.Common.{◌≡◌, ◌+◌, ℕ, Bool, true, false, List, [], refl, ap, ◌∙◌}
 use Rattle.std.specs.Prelude.{Result, Ok, Err, IfOk}
 use Rattle.std.specs.declared.net.socket_addr.SocketAddrV4.{SocketAddrV4}
+use Rattle.routes.specs.declared.route.Route.{Route}
+use Rattle.routes.specs.Route.{at}
 use Rattle.outbound.specs.declared.repeat.Repeat.{Repeat}
 use Rattle.outbound.specs.declared.reply.Reply.{Reply}
 use Rattle.outbound.specs.declared.reply.Reply.TheVariants.{Answered, Provisional, Stranger}
 use Rattle.outbound.specs.Sends.{Sends, repeats_in, wait_after, due_of, may_repeat, repeat_at, after_repeat, after_reply}
-use Rattle.outbound.specs.Flight.{InFlight, Follows, sent_first, repeat_of, repeated, reply_of, heard}
+use Rattle.outbound.specs.Flight.{InFlight, Follows, sent_to, sent_first, repeat_of, repeated, reply_of, heard}
 
 -- what is sent again goes on to follow its sends
 repeat_follows : (message : InFlight) (sends : Sends) (moment : ℕ) (b : Bool) → may_repeat message.first message.repeats moment ≡ b → Follows message sends
@@ -33,14 +35,17 @@ reply_goes_on message sends id code moment f = reply_follows message sends id co
 
 -- The same of what a call answers and leaves
 
-begun_follows : (id : ℕ) (to : SocketAddrV4) (text : List ℕ) (moment : ℕ) → Follows (sent_first id to text moment) (record { first = moment; since = [] })
+begun_follows : (id : ℕ) (route : Route SocketAddrV4) (text : List ℕ) (moment : ℕ) → Follows (sent_first id route text moment) (record { first = moment; since = [] })
 unfolding due_of repeats_in
-begun_follows id to text moment = record { begins = refl; count = refl; next = refl }
+begun_follows id route text moment = record { begins = refl; count = refl; next = refl }
 
-pub started_follows : {E : Type 0} (id : ℕ) (to : SocketAddrV4) (text : List ℕ) (moment : ℕ) (given : Result InFlight E) → IfOk given (λ pending. pending ≡ sent_first id to text moment)
+pub started_follows : {E : Type 0} (id : ℕ) (route : Route SocketAddrV4) (text : List ℕ) (moment : ℕ) (given : Result InFlight E) → IfOk given (λ pending. pending ≡ sent_first id route text moment)
     → IfOk given (λ pending. Follows pending (record { first = moment; since = [] }))
-started_follows id to text moment (Ok pending) is = rw is (begun_follows id to text moment)
-started_follows id to text moment (Err fault) is = tt
+started_follows id route text moment (Ok pending) is = rw is (begun_follows id route text moment)
+started_follows id route text moment (Err fault) is = tt
+
+pub follows_to : (message : InFlight) (to : SocketAddrV4) → to ≡ sent_to message → (sends : Sends) → Follows message sends → to ≡ at message.route (repeats_in sends.since)
+follows_to message to is sends f = is ∙ ap (at message.route) f.count
 
 pub follows_due : (message : InFlight) (due : ℕ) → due ≡ message.due → (sends : Sends) → Follows message sends → due ≡ due_of sends
 follows_due message due is sends f = is ∙ f.next

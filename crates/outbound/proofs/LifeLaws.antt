@@ -1,7 +1,10 @@
 -- All that happens to a message in flight.
-use Rattle.std.proofs.Common.{◌≡◌, ◌≢◌, ◌≤◌, ◌<◌, ◌-◌, ◌+◌, ◌==◌, ◌&&◌, ℕ, Bool, true, false, List, [], ◌∷◌, length, refl, arith, subst}
+use Rattle.std.proofs.Common.{◌≡◌, ◌≢◌, ◌≤◌, ◌<◌, ◌-◌, ◌+◌, ◌==◌, ◌&&◌, ℕ, Bool, true, false, List, [], ◌∷◌, length, map, refl, ap, ◌∙◌, arith, subst}
 use Rattle.std.specs.Prelude.{nat_lt, nat_le, if◌then◌else◌, All}
+use Rattle.std.specs.List.{range_with_len}
 use Rattle.std.specs.declared.net.socket_addr.SocketAddrV4.{SocketAddrV4}
+use Rattle.routes.specs.declared.route.Route.{Route}
+use Rattle.routes.specs.Route.{at}
 use Rattle.std.proofs.lemmas.List.Elements.{All-nil, All-cons, All-head, All-tail}
 use Rattle.std.proofs.lemmas.Bool.{and_parts, leb-true}
 use Rattle.std.proofs.lemmas.Bool.Decides.{nat_tests}
@@ -10,31 +13,31 @@ use Rattle.outbound.specs.declared.repeat.Repeat.TheVariants.{Sent, GivenUp}
 use Rattle.outbound.specs.declared.reply.Reply.{Reply}
 use Rattle.outbound.specs.declared.reply.Reply.TheVariants.{Answered, Provisional, Stranger}
 use Rattle.outbound.specs.Sends.{wait_after, may_repeat}
-use Rattle.outbound.specs.Flight.{InFlight, sent_first, repeat_of, repeated, reply_by, reply_of, heard}
-use Rattle.outbound.specs.Life.{Happening, falls_due, responds, resent, is_answered, IsNoAnswer}
+use Rattle.outbound.specs.Flight.{InFlight, sent_to, sent_first, repeat_of, repeated, reply_by, reply_of, heard}
+use Rattle.outbound.specs.Life.{Happening, falls_due, responds, resent, resent_to, is_answered, IsNoAnswer}
 
 -- ---- one thing that happens
 
--- two have the same id, address, text and first send
+-- two have the same id, route, text and first send
 pub record IsSameMessage (one other : InFlight) : Type 0 where
   pub same_id : other.id ≡ one.id
-  pub same_place : other.to ≡ one.to
+  pub same_route : other.route ≡ one.route
   pub same_text : other.text ≡ one.text
   pub same_start : other.first ≡ one.first
 
 same_repeat : (message : InFlight) (moment : ℕ) (b : Bool) → may_repeat message.first message.repeats moment ≡ b → IsSameMessage message (repeated message moment)
 unfolding repeated
-same_repeat message moment true may = rw may (record { same_id = refl; same_place = refl; same_text = refl; same_start = refl })
-same_repeat message moment false may = rw may (record { same_id = refl; same_place = refl; same_text = refl; same_start = refl })
+same_repeat message moment true may = rw may (record { same_id = refl; same_route = refl; same_text = refl; same_start = refl })
+same_repeat message moment false may = rw may (record { same_id = refl; same_route = refl; same_text = refl; same_start = refl })
 
 pub repeat_same : (message : InFlight) (moment : ℕ) → IsSameMessage message (repeated message moment)
 repeat_same message moment = same_repeat message moment (may_repeat message.first message.repeats moment) refl
 
 same_reply : (message : InFlight) (id code moment : ℕ) (reply : Reply) → reply_of message id code ≡ reply → IsSameMessage message (heard message id code moment)
 unfolding heard
-same_reply message id code moment Answered is = rw is (record { same_id = refl; same_place = refl; same_text = refl; same_start = refl })
-same_reply message id code moment Provisional is = rw is (record { same_id = refl; same_place = refl; same_text = refl; same_start = refl })
-same_reply message id code moment Stranger is = rw is (record { same_id = refl; same_place = refl; same_text = refl; same_start = refl })
+same_reply message id code moment Answered is = rw is (record { same_id = refl; same_route = refl; same_text = refl; same_start = refl })
+same_reply message id code moment Provisional is = rw is (record { same_id = refl; same_route = refl; same_text = refl; same_start = refl })
+same_reply message id code moment Stranger is = rw is (record { same_id = refl; same_route = refl; same_text = refl; same_start = refl })
 
 pub reply_same : (message : InFlight) (id code moment : ℕ) → IsSameMessage message (heard message id code moment)
 reply_same message id code moment = same_reply message id code moment (reply_of message id code) refl
@@ -152,11 +155,59 @@ bounded message (responds id code moment ∷ more) few = by_reply (reply_of mess
       let rest = others (omega arith) in
       rw is (carried same start rest)
 
-pub eight_sends : (id : ℕ) (to : SocketAddrV4) (text : List ℕ) (first : ℕ) (happenings : List Happening) → length (first ∷ resent (sent_first id to text first) happenings) ≤ 8
-eight_sends id to text first happenings = let b = (bounded (sent_first id to text first) happenings (omega arith)).few in omega (arith, b)
+pub eight_sends : (id : ℕ) (route : Route SocketAddrV4) (text : List ℕ) (first : ℕ) (happenings : List Happening) → length (first ∷ resent (sent_first id route text first) happenings) ≤ 8
+eight_sends id route text first happenings = let b = (bounded (sent_first id route text first) happenings (omega arith)).few in omega (arith, b)
 
-pub within_time : (id : ℕ) (to : SocketAddrV4) (text : List ℕ) (first : ℕ) (happenings : List Happening) → All (λ moment. moment < first + 20000) (resent (sent_first id to text first) happenings)
-within_time id to text first happenings = (bounded (sent_first id to text first) happenings (omega arith)).soon
+pub within_time : (id : ℕ) (route : Route SocketAddrV4) (text : List ℕ) (first : ℕ) (happenings : List Happening) → All (λ moment. moment < first + 20000) (resent (sent_first id route text first) happenings)
+within_time id route text first happenings = (bounded (sent_first id route text first) happenings (omega arith)).soon
+
+-- ---- where the sends go
+
+-- after a send, those that follow have the numbers after its own
+one_more : (route route' : Route SocketAddrV4) (n n' : ℕ) (later : List SocketAddrV4) → route' ≡ route → n' ≡ n + 1 → later ≡ map (at route') (range_with_len (n' + 1) (length later))
+    → at route' n' ∷ later ≡ map (at route) (range_with_len (n + 1) (length (at route' n' ∷ later)))
+one_more route route' n n' later same count goes =
+    ap (λ (r : Route SocketAddrV4). at r n' ∷ later) same ∙ ap (λ (k : ℕ). at route k ∷ later) count
+    ∙ ap (λ (list : List SocketAddrV4). at route (n + 1) ∷ list) (
+    goes ∙ ap (λ (r : Route SocketAddrV4). map (at r) (range_with_len (n' + 1) (length later))) same
+    ∙ ap (λ (k : ℕ). map (at route) (range_with_len (k + 1) (length later))) count)
+
+as_before : (route route' : Route SocketAddrV4) (n n' : ℕ) (later : List SocketAddrV4) → route' ≡ route → n' ≡ n → later ≡ map (at route') (range_with_len (n' + 1) (length later))
+    → later ≡ map (at route) (range_with_len (n + 1) (length later))
+as_before route route' n n' later same count goes =
+    goes ∙ ap (λ (r : Route SocketAddrV4). map (at r) (range_with_len (n' + 1) (length later))) same
+    ∙ ap (λ (k : ℕ). map (at route) (range_with_len (k + 1) (length later))) count
+
+go_in_turn : (message : InFlight) (happenings : List Happening)
+    → resent_to message happenings ≡ map (at message.route) (range_with_len (message.repeats + 1) (length (resent_to message happenings)))
+unfolding resent_to
+go_in_turn message [] = refl
+go_in_turn message (falls_due moment ∷ more) = by_repeat (repeat_of message moment) refl (go_in_turn (repeated message moment) more) where
+  by_repeat : (r : Repeat) → repeat_of message moment ≡ r
+      → resent_to (repeated message moment) more ≡ map (at (repeated message moment).route) (range_with_len ((repeated message moment).repeats + 1) (length (resent_to (repeated message moment) more)))
+      → resent_to message (falls_due moment ∷ more) ≡ map (at message.route) (range_with_len (message.repeats + 1) (length (resent_to message (falls_due moment ∷ more))))
+  by_repeat Sent is others =
+      rw is (one_more message.route (repeated message moment).route message.repeats (repeated message moment).repeats (resent_to (repeated message moment) more)
+      (repeat_same message moment).same_route (allowed message moment is).counted others)
+  by_repeat GivenUp is others = rw is refl
+go_in_turn message (responds id code moment ∷ more) = by_reply (reply_of message id code) refl (go_in_turn (heard message id code moment) more) where
+  goes : (r : Reply) → reply_of message id code ≡ r
+      → resent_to (heard message id code moment) more ≡ map (at (heard message id code moment).route) (range_with_len ((heard message id code moment).repeats + 1) (length (resent_to (heard message id code moment) more)))
+      → resent_to (heard message id code moment) more ≡ map (at message.route) (range_with_len (message.repeats + 1) (length (resent_to (heard message id code moment) more)))
+  goes r is others =
+      as_before message.route (heard message id code moment).route message.repeats (heard message id code moment).repeats (resent_to (heard message id code moment) more)
+      (reply_same message id code moment).same_route (count_heard message id code moment r is) others
+
+  by_reply : (r : Reply) → reply_of message id code ≡ r
+      → resent_to (heard message id code moment) more ≡ map (at (heard message id code moment).route) (range_with_len ((heard message id code moment).repeats + 1) (length (resent_to (heard message id code moment) more)))
+      → resent_to message (responds id code moment ∷ more) ≡ map (at message.route) (range_with_len (message.repeats + 1) (length (resent_to message (responds id code moment ∷ more))))
+  by_reply Answered is others = rw is refl
+  by_reply Provisional is others = rw is (goes Provisional is others)
+  by_reply Stranger is others = rw is (goes Stranger is others)
+
+pub all_in_turn : (id : ℕ) (route : Route SocketAddrV4) (text : List ℕ) (moment : ℕ) (happenings : List Happening)
+    → let message = sent_first id route text moment in let sends = sent_to message ∷ resent_to message happenings in sends ≡ map (at route) (range_with_len 0 (length sends))
+all_in_turn id route text moment happenings = ap (λ (list : List SocketAddrV4). at route 0 ∷ list) (go_in_turn (sent_first id route text moment) happenings)
 
 pub never_answered : (message : InFlight) (happenings : List Happening) → All IsNoAnswer happenings → is_answered message happenings ≡ false
 unfolding is_answered

@@ -1,21 +1,27 @@
 -- A message of our own that is in flight: a command that was sent and isn't answered (RFC 3435, 3.5).
 use Rattle.std.specs.Prelude.{◌≡◌, ℕ, ◌+◌, ◌==◌, ◌&&◌, nat_le, if◌then◌else◌, List}
 use Rattle.std.specs.declared.net.socket_addr.SocketAddrV4.{SocketAddrV4}
+use Rattle.routes.specs.declared.route.Route.{Route}
+use Rattle.routes.specs.Route.{at}
 use Rattle.outbound.specs.declared.repeat.Repeat.{Repeat}
 use Rattle.outbound.specs.declared.repeat.Repeat.TheVariants.{Sent, GivenUp}
 use Rattle.outbound.specs.declared.reply.Reply.{Reply}
 use Rattle.outbound.specs.declared.reply.Reply.TheVariants.{Answered, Provisional, Stranger}
 use Rattle.outbound.specs.Sends.{Sends, repeats_in, wait_after, provisional_wait, due_of, may_repeat}
 
--- its transaction id, where it goes and its text; when it was first sent, how often it was repeated, and when something
--- is due next
+-- its transaction id, its route and its text; when it was first sent, how often it was repeated, and when something is due
+-- next
 pub record InFlight : Type 0 where
   pub id : ℕ
-  pub to : SocketAddrV4
+  pub route : Route SocketAddrV4
   pub text : List ℕ
   pub first : ℕ
   pub repeats : ℕ
   pub due : ℕ
+
+-- where it was sent last: the first send has the number 0, and each repeat the next (4.3)
+abbrev pub sent_to : InFlight → SocketAddrV4
+sent_to message = at message.route message.repeats
 
 -- what is kept of the message is what its sends say
 pub record Follows (message : InFlight) (sends : Sends) : Type 0 where
@@ -23,10 +29,10 @@ pub record Follows (message : InFlight) (sends : Sends) : Type 0 where
   pub count : message.repeats ≡ repeats_in sends.since
   pub next : message.due ≡ due_of sends
 
--- a message that is first sent at this moment
-abbrev pub sent_first : ℕ → SocketAddrV4 → List ℕ → ℕ → InFlight
-sent_first id to text moment =
-    record { id = id; to = to; text = text; first = moment; repeats = 0; due = moment + wait_after 0 }
+-- a message that is first sent at this moment, on this route
+abbrev pub sent_first : ℕ → Route SocketAddrV4 → List ℕ → ℕ → InFlight
+sent_first id route text moment =
+    record { id = id; route = route; text = text; first = moment; repeats = 0; due = moment + wait_after 0 }
 
 -- what is done with it where something is due: it is sent again, or given up
 abbrev pub repeat_of : InFlight → ℕ → Repeat

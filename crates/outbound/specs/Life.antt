@@ -1,21 +1,22 @@
 -- All that happens to a message in flight, up to its answer or to where it is given up.
 use Rattle.std.specs.Prelude.{ℕ, ◌<◌, Bool, true, false, List, [], ◌∷◌}
+use Rattle.std.specs.declared.net.socket_addr.SocketAddrV4.{SocketAddrV4}
 use Rattle.outbound.specs.declared.repeat.Repeat.{Repeat}
 use Rattle.outbound.specs.declared.repeat.Repeat.TheVariants.{Sent, GivenUp}
 use Rattle.outbound.specs.declared.reply.Reply.{Reply}
 use Rattle.outbound.specs.declared.reply.Reply.TheVariants.{Answered, Provisional, Stranger}
-use Rattle.outbound.specs.Flight.{InFlight, repeat_of, repeated, reply_of, heard}
+use Rattle.outbound.specs.Flight.{InFlight, sent_to, repeat_of, repeated, reply_of, heard}
 
 -- something falls due, or a response comes
 pub data Happening : Type 0 where
   falls_due : (moment : ℕ) → Happening
   responds : (id code moment : ℕ) → Happening
 
-abbrev pub resent_as : Repeat → ℕ → List ℕ → List ℕ
-resent_as Sent moment later = moment ∷ later
-resent_as GivenUp moment later = []
+abbrev pub resent_as : {A : Type 0} → Repeat → A → List A → List A
+resent_as Sent send later = send ∷ later
+resent_as GivenUp send later = []
 
-abbrev pub resent_with : Reply → List ℕ → List ℕ
+abbrev pub resent_with : {A : Type 0} → Reply → List A → List A
 resent_with Answered later = []
 resent_with Provisional later = later
 resent_with Stranger later = later
@@ -27,6 +28,14 @@ resent message (falls_due moment ∷ more) =
     resent_as (repeat_of message moment) moment (resent (repeated message moment) more)
 resent message (responds id code moment ∷ more) =
     resent_with (reply_of message id code) (resent (heard message id code moment) more)
+
+-- the addresses that it is sent again to, while these things happen
+unfoldable pub resent_to : InFlight → List Happening → List SocketAddrV4
+resent_to message [] = []
+resent_to message (falls_due moment ∷ more) =
+    resent_as (repeat_of message moment) (sent_to (repeated message moment)) (resent_to (repeated message moment) more)
+resent_to message (responds id code moment ∷ more) =
+    resent_with (reply_of message id code) (resent_to (heard message id code moment) more)
 
 abbrev pub ends_as : Repeat → Bool → Bool
 ends_as Sent later = later

@@ -2,12 +2,14 @@
 #![tactic(auto, unfolding(crate::proofs::Computing::on_examples))]
 
 ghost use Rattle.std.specs.Prelude.{◌≡◌, [], ◌∷◌, true, false, codes};
+ghost use Rattle.routes.specs.declared.route.Route.TheVariants.{One, Two, Three, Four};
+ghost use Rattle.routes.specs.Example.{agent_at};
 ghost use Rattle.outbound.specs.declared.repeat.Repeat.TheVariants as repeats;
 ghost use Rattle.outbound.specs.declared.reply.Reply.TheVariants as replies;
 ghost use Rattle.outbound.specs.Sends.{sent, provisional, repeats_in, wait_after, due_of, may_repeat, repeat_at, after_repeat, after_reply};
-ghost use Rattle.outbound.specs.Flight.{Follows, repeat_of, repeated, reply_by, reply_of, heard};
-ghost use Rattle.outbound.specs.Life.{falls_due, responds, resent, is_answered, IsNoAnswer};
-ghost use Rattle.outbound.specs.Example.{agent, notified_at, repeated_times, since, goes_out, is_given_up, told};
+ghost use Rattle.outbound.specs.Flight.{Follows, sent_to, repeat_of, repeated, reply_by, reply_of, heard};
+ghost use Rattle.outbound.specs.Life.{falls_due, responds, resent, resent_to, is_answered, IsNoAnswer};
+ghost use Rattle.outbound.specs.Example.{agent, notified_on, notified_at, repeated_times, since, goes_to, goes_out, is_given_up, told};
 
 /// The wait is doubled from 500 to 4,000 ms.
 pub fn waits_are_doubled()
@@ -37,7 +39,7 @@ pub fn what_is_due_counts_from_the_last_moment()
 pub fn a_message_begins_with_its_first_send()
     ensures { notified_at 1000 ≡ record {
       id = 10000000;
-      to = agent;
+      route = One agent;
       text = codes "NTFY 10000000 aaln/1@rgw.example.net MGCP 1.0\r\n";
       first = 1000;
       repeats = 0;
@@ -90,6 +92,27 @@ pub fn a_message_that_nobody_answers_is_given_up()
     ensures { told 20 (notified_at 1000)
         ≡ goes_out 1500 ∷ goes_out 2500 ∷ goes_out 4500 ∷ goes_out 8500 ∷ goes_out 12500 ∷ goes_out 16500 ∷ goes_out 20500
         ∷ is_given_up 24500 ∷ [] }
+{}
+
+/// It begins at the first address of its route, goes to each of them twice, and after the last to the first again.
+pub fn a_message_goes_to_its_addresses_in_turn()
+    ensures begins { sent_to (notified_on (Four (agent_at 1) (agent_at 2) (agent_at 3) (agent_at 4)) 1000) ≡ agent_at 1 }
+    ensures two { told 20 (notified_on (Two (agent_at 1) (agent_at 2)) 1000)
+        ≡ goes_to (agent_at 1) 1500 ∷ goes_to (agent_at 2) 2500 ∷ goes_to (agent_at 2) 4500 ∷ goes_to (agent_at 1) 8500
+        ∷ goes_to (agent_at 1) 12500 ∷ goes_to (agent_at 2) 16500 ∷ goes_to (agent_at 2) 20500 ∷ is_given_up 24500 ∷ [] }
+    ensures three { told 20 (notified_on (Three (agent_at 1) (agent_at 2) (agent_at 3)) 1000)
+        ≡ goes_to (agent_at 1) 1500 ∷ goes_to (agent_at 2) 2500 ∷ goes_to (agent_at 2) 4500 ∷ goes_to (agent_at 3) 8500
+        ∷ goes_to (agent_at 3) 12500 ∷ goes_to (agent_at 1) 16500 ∷ goes_to (agent_at 1) 20500 ∷ is_given_up 24500 ∷ [] }
+    ensures four { told 20 (notified_on (Four (agent_at 1) (agent_at 2) (agent_at 3) (agent_at 4)) 1000)
+        ≡ goes_to (agent_at 1) 1500 ∷ goes_to (agent_at 2) 2500 ∷ goes_to (agent_at 2) 4500 ∷ goes_to (agent_at 3) 8500
+        ∷ goes_to (agent_at 3) 12500 ∷ goes_to (agent_at 4) 16500 ∷ goes_to (agent_at 4) 20500 ∷ is_given_up 24500 ∷ [] }
+    // A provisional response moves no place.
+    ensures held { told 2 (heard (notified_on (Two (agent_at 1) (agent_at 2)) 1000) 10000000 100 1200)
+        ≡ goes_to (agent_at 1) 6200 ∷ goes_to (agent_at 2) 7200 ∷ [] }
+    ensures resent { resent_to (notified_on (Two (agent_at 1) (agent_at 2)) 1000) (falls_due 1500 ∷ responds 10000000 100 1600
+        ∷ falls_due 6600 ∷ responds 9 200 6700 ∷ falls_due 8600 ∷ falls_due 12600 ∷ responds 10000000 250 12700 ∷ falls_due 16600 ∷ [])
+        ≡ agent_at 1 ∷ agent_at 2 ∷ agent_at 2 ∷ agent_at 1 ∷ [] }
+    ensures given_up { resent_to (notified_on (Two (agent_at 1) (agent_at 2)) 1000) (falls_due 21000 ∷ falls_due 21500 ∷ []) ≡ [] }
 {}
 
 /// After a provisional response the message waits 5,000 ms, and then goes on as before.

@@ -1,13 +1,15 @@
 //! A message of our own that is in flight.
 ghost use Rattle.std.specs.Prelude.{◌≡◌, ◌<◌, ◌^◌, ◌==◌, if◌then◌else◌, [], IfOk};
+ghost use Rattle.routes.specs.Route.{at};
 ghost use Rattle.outbound.specs.declared.reply.Reply.TheVariants.{Stranger};
-ghost use Rattle.outbound.specs.Sends.{wait_after, may_repeat, Sends, due_of, repeat_at, after_repeat, after_reply};
-ghost use Rattle.outbound.specs.Flight.{Follows, sent_first, repeat_of, repeated, reply_by, reply_of, heard};
+ghost use Rattle.outbound.specs.Sends.{wait_after, may_repeat, Sends, repeats_in, due_of, repeat_at, after_repeat, after_reply};
+ghost use Rattle.outbound.specs.Flight.{Follows, sent_to, sent_first, repeat_of, repeated, reply_by, reply_of, heard};
 
 use crate::repeat::Repeat;
 use crate::reply::Reply;
 use mg_bytes::{OutOfMemory, Text};
 use mgcp_text::TransactionId;
+use routes::Route;
 use std::alloc::Global;
 use std::marker::Model;
 use std::net::SocketAddrV4;
@@ -30,7 +32,7 @@ const SENDING_TIME: u64 = 20_000;
 pub struct Pending {
     alloc: Global,
     id: TransactionId,
-    to: SocketAddrV4,
+    route: Route<SocketAddrV4>,
     text: Text,
     first: u64,
     repeats: u8,
@@ -42,24 +44,25 @@ impl Model for Pending {
 
     ghost Value = { InFlight };
 
-    ghost view = { λ p. record { id = p.id; to = p.to; text = p.text; first = p.first; repeats = p.repeats; due = p.due } };
+    ghost view = { λ p. record { id = p.id; route = p.route; text = p.text; first = p.first; repeats = p.repeats; due = p.due } };
 }
 
 impl Pending {
-    /// A message that is first sent at this moment, in ms, to this address (RFC 3435, 3.5.3). The text is copied.
+    /// A message that is first sent at this moment, in ms, to the first address of this route (RFC 3435, 3.5.3). The text is
+    /// copied.
     pub fn begin(
         alloc: Global,
         id: TransactionId,
-        to: SocketAddrV4,
+        route: Route<SocketAddrV4>,
         text: &[u8],
         moment: u64,
     ) -> Result<Pending, OutOfMemory>
         requires { moment < 2 ^ 62 }
-        ensures kept { IfOk result (λ pending. pending ≡ sent_first id to text.now moment) }
+        ensures kept { IfOk result (λ pending. pending ≡ sent_first id route text.now moment) }
         // It follows its sends: so far there is the first one.
         ensures sends { IfOk result (λ pending. Follows pending (record { first = moment; since = [] })) }
     {
-        started(alloc, id, to, text, moment)
+        started(alloc, id, route, text, moment)
     }
 
     /// An equal message. After an error nothing was done.
@@ -69,7 +72,7 @@ impl Pending {
         Ok(Pending {
             alloc: self.alloc,
             id: self.id,
-            to: self.to,
+            route: self.route,
             text: copied(self.alloc, self.text.as_bytes())?,
             first: self.first,
             repeats: self.repeats,
@@ -84,11 +87,13 @@ impl Pending {
         self.id
     }
 
-    /// Where it goes, each time that it is sent.
+    /// Where it was sent last (RFC 3435, 4.3): where it is sent now, after `begin` or a `repeat` that is `Sent`.
     pub fn to(&self) -> SocketAddrV4
-        ensures { result ≡ self.now.to }
+        ensures kept { result ≡ sent_to self.now }
+        // It is what the sends of the message say.
+        ensures sends { (sends : Sends) → Follows self.now sends → result ≡ at self.now.route (repeats_in sends.since) }
     {
-        self.to
+        self.route.at(u64::from(self.repeats))
     }
 
     /// Its text.
@@ -171,17 +176,17 @@ impl Pending {
 fn started(
     alloc: Global,
     id: TransactionId,
-    to: SocketAddrV4,
+    route: Route<SocketAddrV4>,
     text: &[u8],
     moment: u64,
 ) -> Result<Pending, OutOfMemory>
     requires { moment < 2 ^ 62 }
-    ensures { IfOk result (λ pending. pending ≡ sent_first id to text.now moment) }
+    ensures { IfOk result (λ pending. pending ≡ sent_first id route text.now moment) }
 {
     Ok(Pending {
         alloc,
         id,
-        to,
+        route,
         text: copied(alloc, text)?,
         first: moment,
         repeats: 0,
