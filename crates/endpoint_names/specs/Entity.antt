@@ -10,9 +10,12 @@ use Rattle.mg_bytes.specs.Blanks.{is_blank}
 use Rattle.mg_bytes.specs.Lines.{is_line_feed}
 use Rattle.mg_bytes.specs.Words.{split_once, in_brackets}
 use Rattle.mg_bytes.specs.Address.{ipv4_of, port_of}
+use Rattle.routes.specs.declared.route.Route.{Route}
+use Rattle.routes.specs.declared.route.Route.TheVariants.{One}
+use Rattle.routes.specs.Route.{with_port}
 use Rattle.endpoint_names.specs.declared.table.Host.{Host}
 use Rattle.endpoint_names.specs.declared.entity.Entity.{Entity}
-use Rattle.endpoint_names.specs.Table.{address_of}
+use Rattle.endpoint_names.specs.Table.{route_to}
 
 -- the most bytes of an entity, and of its local name (this gateway's profile)
 abbrev pub longest_entity : ℕ
@@ -25,37 +28,39 @@ longest_local = 64
 abbrev pub is_local : List ℕ → Bool
 is_local local = nat_le 1 (length local) && nat_le (length local) longest_local
 
-abbrev pub host_from : List Host → List ℕ → Option (List ℕ) → Option Ipv4Addr
-host_from hosts host None = address_of hosts host
-host_from hosts host (Some literal) = ipv4_of literal
+abbrev pub host_from : List Host → List ℕ → Option (List ℕ) → Option (Route Ipv4Addr)
+host_from hosts host None = route_to hosts host
+host_from hosts host (Some literal) = do
+  ip ← ipv4_of literal
+  Some (One ip)
 
--- the address of a host: `[a.b.c.d]`, or a name of the table
-abbrev pub host_of : List Host → List ℕ → Option Ipv4Addr
+-- the addresses of a host: one for `[a.b.c.d]`, and those that the table has for a name
+abbrev pub host_of : List Host → List ℕ → Option (Route Ipv4Addr)
 host_of hosts host = host_from hosts host (in_brackets host)
 
 -- the port where none is written (RFC 3435, 3.5)
 abbrev pub agent_port : ℕ
 agent_port = 2727
 
--- `host` or `host:port`
-abbrev pub place_from : List Host → List ℕ → Option (List ℕ × List ℕ) → Option SocketAddrV4
+-- `host` or `host:port`: all the host's addresses have that port
+abbrev pub place_from : List Host → List ℕ → Option (List ℕ × List ℕ) → Option (Route SocketAddrV4)
 place_from hosts text None = do
-  ip ← host_of hosts text
-  Some (record { ip = ip; port = agent_port })
+  host ← host_of hosts text
+  Some (with_port agent_port host)
 place_from hosts text (Some sides) = do
-  ip ← host_of hosts sides.0
+  host ← host_of hosts sides.0
   port ← port_of sides.1
-  Some (record { ip = ip; port = port })
+  Some (with_port port host)
 
-unfoldable pub place_of : List Host → List ℕ → Option SocketAddrV4
+unfoldable pub place_of : List Host → List ℕ → Option (Route SocketAddrV4)
 place_of hosts text = place_from hosts text (split_once colon text)
 
 -- the same, with a local name and `@` before it where there is an `@`
-abbrev pub agent_from : List Host → List ℕ → Option (List ℕ × List ℕ) → Option SocketAddrV4
+abbrev pub agent_from : List Host → List ℕ → Option (List ℕ × List ℕ) → Option (Route SocketAddrV4)
 agent_from hosts text None = place_of hosts text
 agent_from hosts text (Some sides) = if is_local sides.0 then place_of hosts sides.1 else None
 
-unfoldable pub agent_of : List Host → List ℕ → Option SocketAddrV4
+unfoldable pub agent_of : List Host → List ℕ → Option (Route SocketAddrV4)
 agent_of hosts text = agent_from hosts text (split_once at_sign text)
 
 -- at most 128 bytes, none of them a blank, and no line feed, since it is written as a word of a line
@@ -63,8 +68,8 @@ abbrev pub is_entity_text : List ℕ → Bool
 is_entity_text text =
     nat_le (length text) longest_entity && not (list_any is_blank text) && not (list_any is_line_feed text)
 
--- the entity that a text names: the text as it is given, and its address
+-- the entity that a text names: the text as it is given, and its addresses
 unfoldable pub entity_of : List Host → List ℕ → Option Entity
 entity_of hosts text =
     if is_entity_text text
-    then option_map (λ address. record { text = text; address = address }) (agent_of hosts text) else None
+    then option_map (λ route. record { text = text; route = route }) (agent_of hosts text) else None

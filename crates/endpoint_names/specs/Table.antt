@@ -1,8 +1,9 @@
--- The configured names of hosts, each with its address. They stand for DNS (this gateway's profile).
+-- The configured names of hosts, each with its addresses. They stand for DNS (this gateway's profile).
 use Rattle.std.specs.Prelude.{ℕ, nat_le, Bool, ◌&&◌, ◌||◌, ◌==◌, if◌then◌else◌, List, [], ◌∷◌, length, not, nat_lt, Option, Some, None}
 use Rattle.std.specs.List.{list_all, list_any}
 use Rattle.std.specs.Char.{is_ascii_alphanumeric}
 use Rattle.std.specs.declared.net.ipv4_addr.Ipv4Addr.{Ipv4Addr}
+use Rattle.routes.specs.declared.route.Route.{Route}
 use Rattle.mg_bytes.specs.Bytes.{hyphen, full_stop}
 use Rattle.mg_bytes.specs.Checks.{unless, first_fault}
 use Rattle.mg_bytes.specs.Case.{same_but_case}
@@ -25,11 +26,11 @@ most_hosts = 64
 abbrev pub is_domain : List ℕ → Bool
 is_domain text = nat_le 1 (length text) && nat_le (length text) longest_domain && list_all is_domain_byte text
 
--- the address of the first host with this name, without case
-unfoldable pub address_of : List Host → List ℕ → Option Ipv4Addr
-address_of [] name = None
-address_of (host ∷ hosts) name =
-    if same_but_case host.name name then Some host.address else address_of hosts name
+-- the addresses of the first host with this name, without case
+unfoldable pub route_to : List Host → List ℕ → Option (Route Ipv4Addr)
+route_to [] name = None
+route_to (host ∷ hosts) name =
+    if same_but_case host.name name then Some host.route else route_to hosts name
 
 -- a host of the table has this name, without case
 abbrev pub has_name : List Host → List ℕ → Bool

@@ -9,6 +9,7 @@ ghost use Rattle.endpoint_names.specs.Entity.{is_entity_text, is_local, host_of,
 use crate::fixed::FixedText;
 use crate::table::Table;
 use mg_bytes::{in_brackets, ipv4_address, port_number, split_once};
+use routes::Route;
 use std::net::{Ipv4Addr, SocketAddrV4};
 
 // The port of a call agent where its name gives none (RFC 3435, 3.5).
@@ -20,11 +21,11 @@ pub const LONGEST_ENTITY: usize = 128;
 /// The most bytes of its local name (this gateway's profile).
 const LONGEST_LOCAL: usize = 64;
 
-/// An entity that notifications go to (RFC 3435, 2.1.4): its name as it was given, and its address.
+/// An entity that notifications go to (RFC 3435, 2.1.4): its name as it was given, and its addresses.
 #[derive(Clone, Copy)]
 pub struct Entity {
     pub text: FixedText<LONGEST_ENTITY>,
-    pub address: SocketAddrV4,
+    pub route: Route<SocketAddrV4>,
 }
 
 fn any_blank(text: &[u8]) -> bool
@@ -51,27 +52,27 @@ fn is_local(local: &[u8]) -> bool
     local.len() >= 1 && local.len() <= LONGEST_LOCAL
 }
 
-fn host_of(table: &Table, host: &[u8]) -> Option<Ipv4Addr>
+fn host_of(table: &Table, host: &[u8]) -> Option<Route<Ipv4Addr>>
     ensures { result ≡ host_of table.now host.now }
 {
     match in_brackets(host) {
-        Some(literal) => ipv4_address(literal),
-        None => table.address_of(host),
+        Some(literal) => Some(Route::One(ipv4_address(literal)?)),
+        None => table.route_to(host),
     }
 }
 
 #[tactic(auto, unfolding(crate::specs::Entity::place_of))]
-fn place_of(table: &Table, text: &[u8]) -> Option<SocketAddrV4>
+fn place_of(table: &Table, text: &[u8]) -> Option<Route<SocketAddrV4>>
     ensures { result ≡ place_of table.now text.now }
 {
     match split_once(text, b':') {
-        Some((host, port)) => Some(SocketAddrV4::new(host_of(table, host)?, port_number(port)?)),
-        None => Some(SocketAddrV4::new(host_of(table, text)?, AGENT_PORT)),
+        Some((host, port)) => Some(host_of(table, host)?.with_port(port_number(port)?)),
+        None => Some(host_of(table, text)?.with_port(AGENT_PORT)),
     }
 }
 
 #[tactic(auto, unfolding(crate::specs::Entity::agent_of))]
-fn agent_of(table: &Table, text: &[u8]) -> Option<SocketAddrV4>
+fn agent_of(table: &Table, text: &[u8]) -> Option<Route<SocketAddrV4>>
     ensures { result ≡ agent_of table.now text.now }
 {
     match split_once(text, b'@') {
@@ -88,7 +89,7 @@ fn agent_of(table: &Table, text: &[u8]) -> Option<SocketAddrV4>
 /// The entity that a text names: `[local@]host[:port]` (RFC 3435, 2.1.4 and 3.2.1.3), at most 128 bytes without
 /// blanks and line feeds.
 ///
-/// The local name is 1 to 64 bytes. The host is `[a.b.c.d]` or a name of the table.
+/// The local name is 1 to 64 bytes. The host is `[a.b.c.d]`, or a name of the table with all its addresses.
 /// The port is 1 to 65535, or 2727 where none is given (RFC 3435, 3.5). Any other text is `None`.
 #[tactic(auto, unfolding(crate::specs::Entity::entity_of))]
 pub fn read_entity(text: &[u8], table: &Table) -> Option<Entity>
@@ -100,9 +101,9 @@ pub fn read_entity(text: &[u8], table: &Table) -> Option<Entity>
     if !is_entity_text(text) {
         return None;
     }
-    let address = agent_of(table, text)?;
+    let route = agent_of(table, text)?;
     Some(Entity {
         text: FixedText::of(text),
-        address,
+        route,
     })
 }

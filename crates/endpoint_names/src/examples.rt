@@ -3,10 +3,12 @@
 
 ghost use Rattle.std.specs.Prelude.{◌≡◌, ◌++◌, ◌∷◌, codes, replicate, true, false, Ok, Err, Some, None};
 ghost use Rattle.mg_bytes.specs.Bytes.{at_sign};
+ghost use Rattle.routes.specs.declared.route.Route.TheVariants.{One, Two, Three, Four};
+ghost use Rattle.routes.specs.Example.{local_address};
 ghost use Rattle.endpoint_names.specs.Name.{means_line, name_fault_number, name_text};
 ghost use Rattle.endpoint_names.specs.Table.{is_domain, fault_of, table_fault_number};
 ghost use Rattle.endpoint_names.specs.Entity.{entity_of};
-ghost use Rattle.endpoint_names.specs.Examples.{meaning, table_of, hosts_named, read_at, IsAt, IsNoEntity};
+ghost use Rattle.endpoint_names.specs.Examples.{meaning, table_of, hosts_named, at_port, read_at, IsAt, IsNoEntity, IsRouted};
 
 use crate::name::{NameFault, Pattern};
 use crate::table::TableFault;
@@ -99,6 +101,18 @@ pub fn entities_are_local_host_and_port()
     ensures carriage_return { IsAt (codes "a\rb@ca.example.net") 1 2727 }
     ensures smallest_port { IsAt (codes "ca.example.net:1") 1 1 }
     ensures largest_port { IsAt (codes "ca.example.net:65535") 1 65535 }
+{}
+
+/// An entity has all the addresses of its host, each with its port; an address in brackets is one.
+pub fn entities_have_the_addresses_of_their_host()
+    ensures two { IsRouted (Two (local_address 1) (local_address 2)) (codes "ca@ca.example.net")
+        (Two (at_port 1 2727) (at_port 2 2727)) }
+    ensures three { IsRouted (Three (local_address 3) (local_address 1) (local_address 2)) (codes "ca.example.net:2728")
+        (Three (at_port 3 2728) (at_port 1 2728) (at_port 2 2728)) }
+    ensures four { IsRouted (Four (local_address 1) (local_address 2) (local_address 1) (local_address 3))
+        (codes "a@CA.example.net") (Four (at_port 1 2727) (at_port 2 2727) (at_port 1 2727) (at_port 3 2727)) }
+    ensures literal { IsRouted (Two (local_address 1) (local_address 2)) (codes "ca@[127.0.0.2]:2728")
+        (One (at_port 2 2728)) }
 {}
 
 /// Any other text is no entity.

@@ -1,32 +1,34 @@
-//! The configured names of hosts, which stand for DNS (RFC 3435, 2.1.4).
+//! The configured names of hosts with their addresses, which stand for DNS (RFC 3435, 2.1.4).
 ghost use Rattle.std.specs.Prelude.{◌≡◌, ◌++◌, ◌∷◌, [], Some, None, OnOk, OnErr, IfErr, IsOk};
-ghost use Rattle.endpoint_names.specs.Table.{address_of, has_name, fault_of, table_fault_number};
+ghost use Rattle.routes.specs.declared.route.Route.TheVariants.{One};
+ghost use Rattle.endpoint_names.specs.Table.{route_to, has_name, fault_of, table_fault_number};
 
 use crate::domain::{LONGEST_DOMAIN, is_domain};
 use crate::fixed::FixedText;
 use arrayvec::ArrayVec;
 use mg_bytes::same_no_case;
+use routes::Route;
 use std::marker::Model;
 use std::net::Ipv4Addr;
 
 /// The most hosts of a table (this gateway's profile).
 pub const MOST_HOSTS: usize = 64;
 
-/// A host's configured name and its address.
+/// A host's configured name and its addresses.
 #[derive(Clone, Copy)]
 pub struct Host {
     pub name: FixedText<LONGEST_DOMAIN>,
-    pub address: Ipv4Addr,
+    pub route: Route<Ipv4Addr>,
 }
 
 // What stands in a place of the table that has no host yet.
 impl Default for Host {
-    ghost is_default = { λ host. host ≡ record { name = []; address = record { octets = 0 ∷ 0 ∷ 0 ∷ 0 ∷ [] } } };
+    ghost is_default = { λ host. host ≡ record { name = []; route = One (record { octets = 0 ∷ 0 ∷ 0 ∷ 0 ∷ [] }) } };
 
     fn default() -> Self {
         Host {
             name: FixedText::of(b""),
-            address: Ipv4Addr::new(0, 0, 0, 0),
+            route: Route::One(Ipv4Addr::new(0, 0, 0, 0)),
         }
     }
 }
@@ -59,14 +61,14 @@ fn has_name(hosts: &[Host], name: &[u8]) -> bool
         .any(|host| same_no_case(host.name.as_bytes(), name))
 }
 
-#[tactic(auto, unfolding(crate::specs::Table::address_of))]
-fn address_of(hosts: &[Host], name: &[u8]) -> Option<Ipv4Addr>
-    ensures { result ≡ address_of hosts.now name.now }
+#[tactic(auto, unfolding(crate::specs::Table::route_to))]
+fn route_to(hosts: &[Host], name: &[u8]) -> Option<Route<Ipv4Addr>>
+    ensures { result ≡ route_to hosts.now name.now }
 {
     let mut rest = hosts;
     while let [host, after @ ..] = rest {
         if same_no_case(host.name.as_bytes(), name) {
-            return Some(host.address);
+            return Some(host.route);
         }
         rest = after;
     }
@@ -106,14 +108,14 @@ impl Table {
         }
     }
 
-    /// Adds a host (RFC 3435, 2.1.4) after the others. After an error the table is as it was.
+    /// Adds a host with its addresses (RFC 3435, 2.1.4) after the others. After an error the table is as it was.
     ///
     /// `NotADomain` where the name is not 1 to 64 letters, digits, `-` and `.`; else `Twice` where the table has
     /// the name in some case; else `Full` where it has 64 names.
     #[tactic(auto, using(crate::proofs::FixedLemmas::domain_no_blanks, crate::proofs::FixedLemmas::domain_one_line))]
-    pub fn add(&mut self, name: &[u8], address: Ipv4Addr) -> Result<(), TableFault>
+    pub fn add(&mut self, name: &[u8], route: Route<Ipv4Addr>) -> Result<(), TableFault>
         ensures ok { OnOk result (self.new
-            ≡ self.old ++ (record { name = name.now; address = address }) ∷ []) }
+            ≡ self.old ++ (record { name = name.now; route = route }) ∷ []) }
         ensures err { OnErr result (self.new ≡ self.old) }
         ensures fault { IfErr result (λ fault. fault_of self.old name.now ≡ Some fault) }
         ensures taken { fault_of self.old name.now ≡ None → IsOk result }
@@ -130,15 +132,15 @@ impl Table {
         }
         self.hosts.push(Host {
             name: FixedText::of(name),
-            address,
+            route,
         });
         Ok(())
     }
 
-    /// The address of the host with this name (RFC 3435, 2.1.4), in any case; `None` where the table has none.
-    pub fn address_of(&self, name: &[u8]) -> Option<Ipv4Addr>
-        ensures { result ≡ address_of self.now name.now }
+    /// The addresses of the host with this name (RFC 3435, 2.1.4), in any case; `None` where the table has none.
+    pub fn route_to(&self, name: &[u8]) -> Option<Route<Ipv4Addr>>
+        ensures { result ≡ route_to self.now name.now }
     {
-        address_of(self.hosts.as_slice(), name)
+        route_to(self.hosts.as_slice(), name)
     }
 }
