@@ -9,8 +9,9 @@ use Rattle.event_values.specs.declared.handling.Notifying.TheVariants.{Loop}
 use Rattle.event_values.specs.declared.handling.Quarantined.TheVariants.{Discard}
 use Rattle.event_requests.specs.Example.{asked}
 use Rattle.signals.specs.Example.{until, endless}
+use Rattle.routes.specs.declared.route.Route.TheVariants.{One}
 use Rattle.endpoint_names.specs.declared.entity.Entity.{Entity}
-use Rattle.endpoint_names.specs.Examples.{local_address}
+use Rattle.routes.specs.Example.{local_address}
 use Rattle.connections.specs.declared.codec.Encoding.TheVariants.{Mu, A}
 use Rattle.connections.specs.declared.connection.Connection.{Connection}
 use Rattle.connections.specs.Example.{line, with_one, first_connection}
@@ -21,7 +22,7 @@ use Rattle.audits.specs.EndpointReport.{endpoint_report}
 use Rattle.audits.specs.ConnectionReport.{connection_report}
 
 abbrev pub agent : Entity
-agent = record { text = codes "ca@ca.example.net"; address = record { ip = local_address 1; port = 2727 } }
+agent = record { text = codes "ca@ca.example.net"; route = One (record { ip = local_address 1; port = 2727 }) }
 
 -- a line as it opens, with encoding mu and no connections
 abbrev pub opening : Endpoint

@@ -5,6 +5,7 @@ use Rattle.mgcp_text.specs.declared.message.Param.{Param}
 use Rattle.mgcp_text.specs.Reading.{Outcome, message, no_header, bad_version, bad_body, read_text}
 use Rattle.mgcp_text.specs.Confirmation.{k_of}
 use Rattle.mgcp_text.specs.Message.{params_in}
+use Rattle.routes.specs.declared.route.Route.TheVariants.{One as OnlyOne}
 use Rattle.endpoint_names.specs.declared.entity.Entity.{Entity}
 use Rattle.endpoint_names.specs.declared.names.Names.{Names}
 use Rattle.mg_packages.specs.declared.signal.Signal.{Signal}
@@ -58,7 +59,7 @@ abbrev pub gateway : Names
 gateway = record {
   domain = codes "rgw.example.net";
   lines = 16;
-  table = (record { name = codes "ca.example.net"; address = local_host }) ∷ [];
+  table = (record { name = codes "ca.example.net"; route = OnlyOne local_host }) ∷ [];
 }
 
 -- what is read, or the code, where a text is a message
@@ -166,7 +167,7 @@ request_changing map = requests (One 1) (record (only (codes "1")) { map = map }
 
 -- this entity at 127.0.0.1 and this port
 abbrev pub local_entity : List ℕ → ℕ → Entity
-local_entity text port = record { text = text; address = record { ip = local_host; port = port } }
+local_entity text port = record { text = text; route = OnlyOne (record { ip = local_host; port = port }) }
 
 -- the entity `ca` of the host that is known, at the port that is meant where none is said
 abbrev pub called_agent : Entity
