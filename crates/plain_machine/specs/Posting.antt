@@ -5,7 +5,8 @@ use Rattle.mgcp_text.specs.declared.message.Message.{Message}
 use Rattle.mgcp_text.specs.Writing.{written}
 use Rattle.outbound.specs.declared.repeat.Repeat.{Repeat}
 use Rattle.outbound.specs.declared.repeat.Repeat.TheVariants.{Sent as SentAgain, GivenUp}
-use Rattle.outbound.specs.Flight.{InFlight, sent_first, repeat_of, repeated}
+use Rattle.routes.specs.Route.{at}
+use Rattle.outbound.specs.Flight.{InFlight, sent_to, sent_first, repeat_of, repeated}
 use Rattle.restart.specs.Restarting.{begun}
 use Rattle.plain_machine.specs.declared.post.Post.{Post}
 use Rattle.plain_machine.specs.declared.post_owner.PostOwner.{PostOwner}
@@ -42,14 +43,14 @@ line_of_id id = id / numbers
 
 -- What becomes of a post, and what is sent under it
 
--- a command goes out under the next id at this moment, to the notified entity
+-- a command goes out under the next id at this moment, to the notified entity: to the addresses that this has then
 abbrev pub with_command : ℕ → ℕ → Post → Message → Effect Post
 with_command line moment post said = record {
   value = record post {
     number = number_after line post.number;
-    pending = Some (sent_first (id_on line post.number) post.entity.address (written said) moment);
+    pending = Some (sent_first (id_on line post.number) post.entity.route (written said) moment);
   };
-  sent = (record { to = post.entity.address; moment = moment; owner = own_of line; said = command said }) ∷ [];
+  sent = (record { to = at post.entity.route 0; moment = moment; owner = own_of line; said = command said }) ∷ [];
 }
 
 -- The command in flight falls due
@@ -62,11 +63,11 @@ wait_of setup line = if line == 0 then setup.restart_wait else setup.disconnecte
 abbrev pub given_up : Setup → ℕ → ℕ → Post → Post
 given_up setup line moment post = record post { pending = None; restart = begun moment (wait_of setup line) }
 
--- it is sent again, to where it went first, or given up (RFC 3435, 4.3)
+-- it is sent again, to the address of its route that is next, or given up (RFC 3435, 4.3)
 abbrev pub repeated_as : Repeat → Setup → ℕ → ℕ → Post → InFlight → Effect Post
 repeated_as SentAgain setup line moment post message = record {
   value = record post { pending = Some (repeated message moment) };
-  sent = (record { to = message.to; moment = moment; owner = own_of line; said = resent message.text }) ∷ [];
+  sent = (record { to = sent_to (repeated message moment); moment = moment; owner = own_of line; said = resent message.text }) ∷ [];
 }
 repeated_as GivenUp setup line moment post message = silently (given_up setup line moment post)
 

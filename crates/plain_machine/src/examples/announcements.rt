@@ -13,7 +13,7 @@ ghost use Rattle.plain_machine.specs.Machine.{opening, opening_endpoints, openin
 ghost use Rattle.plain_machine.specs.Falling.{due_at};
 ghost use Rattle.plain_machine.specs.Refusing.{takes_none};
 ghost use Rattle.plain_machine.specs.Lists.{machine_after, outputs_from, outputs_of, sent_of};
-ghost use Rattle.plain_machine.specs.Example.{agent, example, two_lines, from_agent, to_agent_at, to_other_at, ready, ready_endpoints, ready_machine, audit, rqnt, lifted, lifted_on_2, response, own_at, from_other, announcement_due, announced, announcing_machine, announcing_sends, announcing_then, asking_nothing, asking_of, crcx, mdcx, dlcx, epcf, says};
+ghost use Rattle.plain_machine.specs.Example.{agent_route, example, two_lines, from_agent, to_agent_at, to_other_at, ready, ready_endpoints, ready_machine, audit, rqnt, lifted, lifted_on_2, response, own_at, from_other, announcement_due, announced, announcing_machine, announcing_sends, announcing_then, asking_nothing, asking_of, crcx, mdcx, dlcx, epcf, says};
 
 /// At the opening the gateway waits before it announces itself under the id 1, and doesn't serve; its lines have nothing
 /// to announce.
@@ -43,7 +43,7 @@ pub fn the_gateway_announces_itself()
     ensures in_flight { (machine_after example (opening example) (tick 1 ∷ [])).endpoints.own ≡ record {
       entity = example.agent;
       number = 2;
-      pending = Some (record { id = 1; to = agent; text = announced; first = 1; repeats = 0; due = 501 });
+      pending = Some (record { id = 1; route = agent_route; text = announced; first = 1; repeats = 0; due = 501 });
       restart = Announced;
     } }
     ensures last { announcement example 0 9999999 ≡ messages.Command verbs.Rsip 9999999 (codes "*@rgw.example.net")

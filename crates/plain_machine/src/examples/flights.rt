@@ -2,6 +2,7 @@
 #![tactic(auto, unfolding(crate::proofs::Computing::on_examples))]
 
 ghost use Rattle.std.specs.Prelude.{codes, [], ◌∷◌, None, Some, false, true};
+ghost use Rattle.routes.specs.declared.route.Route.TheVariants.{Two};
 ghost use Rattle.outbound.specs.Flight.{sent_first};
 ghost use Rattle.mg_line.specs.declared.state.State.TheVariants.{Normal, Notification, Lockstep};
 ghost use Rattle.restart.specs.declared.restart.Restart.TheVariants.{Waiting, Announced, Serving};
@@ -9,7 +10,7 @@ ghost use Rattle.plain_machine.specs.Effect.{silently};
 ghost use Rattle.plain_machine.specs.Message.{resent};
 ghost use Rattle.plain_machine.specs.Flights.{Waits, HasOwnId, InOrderBy, IsInOrder, OwnInOrderBy, OwnIsInOrder, IsClosed, InOrderWhile, AreInOrder, BeginsNothing, IsSame, Carries};
 ghost use Rattle.plain_machine.specs.Machine.{opening_station, opening_own, with_own};
-ghost use Rattle.plain_machine.specs.Example.{example, agent, other_agent, announced, announced_under, announcing, lifted, own_at, flying, ending, waiting, ready_own, ready_post, ready_station, lost_station, stations, stations_announcing, disconnected};
+ghost use Rattle.plain_machine.specs.Example.{example, agent, other_agent, agent_route, other_route, announced, announced_under, announcing, lifted, own_at, flying, ending, waiting, ready_own, ready_post, ready_station, lost_station, stations, stations_announcing, disconnected};
 
 /// While a command of a line is in flight, under an id of that line, the line waits for the answer.
 pub fn a_line_waits_while_its_command_flies()
@@ -33,15 +34,15 @@ pub fn the_gateway_has_ids_of_its_own()
 pub fn what_is_in_flight_of_a_line_agrees_with_its_announcement()
     ensures waits { InOrderBy (Waiting 6000) 1 None Notification }
     ensures waits_normal { InOrderBy (Waiting 6000) 1 None Normal → ⊥ }
-    ensures waits_with { InOrderBy (Waiting 6000) 1 (Some (sent_first 10000000 agent lifted 1000)) Notification → ⊥ }
-    ensures announced { InOrderBy Announced 1 (Some (sent_first 10000001 agent lifted 1000)) Notification }
-    ensures announced_normal { InOrderBy Announced 1 (Some (sent_first 10000001 agent lifted 1000)) Normal → ⊥ }
+    ensures waits_with { InOrderBy (Waiting 6000) 1 (Some (sent_first 10000000 agent_route lifted 1000)) Notification → ⊥ }
+    ensures announced { InOrderBy Announced 1 (Some (sent_first 10000001 agent_route lifted 1000)) Notification }
+    ensures announced_normal { InOrderBy Announced 1 (Some (sent_first 10000001 agent_route lifted 1000)) Normal → ⊥ }
     ensures announced_without { InOrderBy Announced 1 None Notification → ⊥ }
-    ensures announced_by_another { InOrderBy Announced 2 (Some (sent_first 10000001 agent lifted 1000)) Notification → ⊥ }
-    ensures serves { InOrderBy Serving 1 (Some (sent_first 10000000 agent lifted 1000)) Notification }
+    ensures announced_by_another { InOrderBy Announced 2 (Some (sent_first 10000001 agent_route lifted 1000)) Notification → ⊥ }
+    ensures serves { InOrderBy Serving 1 (Some (sent_first 10000000 agent_route lifted 1000)) Notification }
     ensures serves_normal { InOrderBy Serving 1 None Normal }
-    ensures serves_in_lockstep { InOrderBy Serving 1 (Some (sent_first 10000000 agent lifted 1000)) Lockstep → ⊥ }
-    ensures serves_another { InOrderBy Serving 2 (Some (sent_first 10000000 agent lifted 1000)) Notification → ⊥ }
+    ensures serves_in_lockstep { InOrderBy Serving 1 (Some (sent_first 10000000 agent_route lifted 1000)) Lockstep → ⊥ }
+    ensures serves_another { InOrderBy Serving 2 (Some (sent_first 10000000 agent_route lifted 1000)) Notification → ⊥ }
     ensures station { IsInOrder 1 (lost_station 6000) }
     ensures station_with { IsInOrder 1 (waiting 6000 (record (lost_station 6000) { post = flying 1 10000000 lifted (Some 1500) })) → ⊥ }
     ensures station_normal { IsInOrder 1 (waiting 6000 (ready_station example 1)) → ⊥ }
@@ -50,12 +51,12 @@ pub fn what_is_in_flight_of_a_line_agrees_with_its_announcement()
 /// The gateway itself sends nothing but announcements.
 pub fn what_is_in_flight_of_the_gateway_is_its_announcement()
     ensures waits { OwnInOrderBy (Waiting 1) None }
-    ensures waits_with { OwnInOrderBy (Waiting 1) (Some (sent_first 1 agent announced 1000)) → ⊥ }
-    ensures announced { OwnInOrderBy Announced (Some (sent_first 1 agent announced 1000)) }
+    ensures waits_with { OwnInOrderBy (Waiting 1) (Some (sent_first 1 agent_route announced 1000)) → ⊥ }
+    ensures announced { OwnInOrderBy Announced (Some (sent_first 1 agent_route announced 1000)) }
     ensures announced_without { OwnInOrderBy Announced None → ⊥ }
-    ensures announced_by_a_line { OwnInOrderBy Announced (Some (sent_first 10000001 agent (disconnected 10000001) 1000)) → ⊥ }
+    ensures announced_by_a_line { OwnInOrderBy Announced (Some (sent_first 10000001 agent_route (disconnected 10000001) 1000)) → ⊥ }
     ensures serves { OwnInOrderBy Serving None }
-    ensures serves_with { OwnInOrderBy Serving (Some (sent_first 1 agent announced 1000)) → ⊥ }
+    ensures serves_with { OwnInOrderBy Serving (Some (sent_first 1 agent_route announced 1000)) → ⊥ }
     ensures opening { OwnIsInOrder (opening_own example) }
     ensures flies { OwnIsInOrder (announcing (Some 1500)) }
     ensures still_flies { OwnIsInOrder (flying 2 1 announced (Some 1500)) → ⊥ }
@@ -91,20 +92,26 @@ pub fn a_line_may_begin_nothing()
         (record { value = ending None [] (Some 1500); sent = own_at 1 1500 (resent lifted) ∷ [] }) → ⊥ }
 {}
 
-/// A message is the same where its id, its address and its bytes are, whenever it was sent and is due again.
+/// A message is the same where its id, its route and its bytes are, whenever it was sent and is due again.
 pub fn a_message_stays_the_same()
-    ensures same { IsSame (sent_first 10000000 agent lifted 1000)
-        (record { id = 10000000; to = agent; text = lifted; first = 1000; repeats = 1; due = 2500 }) }
-    ensures other_id { IsSame (sent_first 10000000 agent lifted 1000) (sent_first 10000001 agent lifted 1000) → ⊥ }
-    ensures other_address { IsSame (sent_first 10000000 agent lifted 1000) (sent_first 10000000 other_agent lifted 1000) → ⊥ }
-    ensures other_text { IsSame (sent_first 10000000 agent lifted 1000) (sent_first 10000000 agent announced 1000) → ⊥ }
+    ensures same { IsSame (sent_first 10000000 agent_route lifted 1000)
+        (record { id = 10000000; route = agent_route; text = lifted; first = 1000; repeats = 1; due = 2500 }) }
+    ensures other_id { IsSame (sent_first 10000000 agent_route lifted 1000) (sent_first 10000001 agent_route lifted 1000) → ⊥ }
+    ensures other_address { IsSame (sent_first 10000000 agent_route lifted 1000) (sent_first 10000000 other_route lifted 1000) → ⊥ }
+    ensures more_addresses { IsSame (sent_first 10000000 agent_route lifted 1000)
+        (sent_first 10000000 (Two agent other_agent) lifted 1000) → ⊥ }
+    ensures other_text { IsSame (sent_first 10000000 agent_route lifted 1000) (sent_first 10000000 agent_route announced 1000) → ⊥ }
 {}
 
-/// What is sent is a message in flight where it goes to its address, has its bytes and is a command of that line's own.
+/// What is sent is a message in flight where it goes to the address for the send's number, has the message's bytes and is a
+/// command of that line's own.
 pub fn what_is_sent_is_in_flight()
-    ensures carries { Carries 1 (sent_first 10000000 agent lifted 1000) (own_at 1 1500 (resent lifted)) }
-    ensures of_the_gateway { Carries 0 (sent_first 1 agent announced 1000) (own_at 0 1500 (resent announced)) }
-    ensures other_address { Carries 1 (sent_first 10000000 other_agent lifted 1000) (own_at 1 1500 (resent lifted)) → ⊥ }
-    ensures other_text { Carries 1 (sent_first 10000000 agent lifted 1000) (own_at 1 1500 (resent announced)) → ⊥ }
-    ensures other_line { Carries 1 (sent_first 10000000 agent lifted 1000) (own_at 2 1500 (resent lifted)) → ⊥ }
+    ensures carries { Carries 1 1 (sent_first 10000000 agent_route lifted 1000) (own_at 1 1500 (resent lifted)) }
+    ensures of_the_gateway { Carries 0 1 (sent_first 1 agent_route announced 1000) (own_at 0 1500 (resent announced)) }
+    ensures other_address { Carries 1 1 (sent_first 10000000 other_route lifted 1000) (own_at 1 1500 (resent lifted)) → ⊥ }
+    ensures in_turn { Carries 1 2 (sent_first 10000000 (Two other_agent agent) lifted 1000) (own_at 1 2500 (resent lifted)) }
+    ensures out_of_turn { Carries 1 1 (sent_first 10000000 (Two other_agent agent) lifted 1000)
+        (own_at 1 1500 (resent lifted)) → ⊥ }
+    ensures other_text { Carries 1 1 (sent_first 10000000 agent_route lifted 1000) (own_at 1 1500 (resent announced)) → ⊥ }
+    ensures other_line { Carries 1 1 (sent_first 10000000 agent_route lifted 1000) (own_at 2 1500 (resent lifted)) → ⊥ }
 {}

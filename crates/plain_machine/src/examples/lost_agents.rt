@@ -15,7 +15,7 @@ ghost use Rattle.plain_machine.specs.Announcing.{announcement};
 ghost use Rattle.plain_machine.specs.Machine.{serves, station_at};
 ghost use Rattle.plain_machine.specs.Refusing.{takes_none};
 ghost use Rattle.plain_machine.specs.Lists.{machine_after, outputs_from, sent_from};
-ghost use Rattle.plain_machine.specs.Example.{agent, other_agent, other_entity, example, from_agent, to_agent_at, to_other_at, ready_post, ready_station, rqnt, sends, ntfy, lifted, response, station_then, own_at, naming_other, entities_of, lost_station, losing, lost_machine, lost_sends, lost_then, lost_line_then, looping, disconnected, asking_nothing, says};
+ghost use Rattle.plain_machine.specs.Example.{agent_route, other_route, other_entity, example, from_agent, to_agent_at, to_other_at, ready_post, ready_station, rqnt, sends, ntfy, lifted, response, station_then, own_at, naming_other, entities_of, lost_station, losing, lost_machine, lost_sends, lost_then, lost_line_then, looping, disconnected, asking_nothing, says};
 
 /// Where a line gives its notification up nothing is in flight, and it waits before it announces itself; all else stays.
 pub fn a_line_waits_after_giving_up()
@@ -51,7 +51,7 @@ pub fn a_line_announces_itself()
       post = record {
         entity = example.agent;
         number = 2;
-        pending = Some (record { id = 10000001; to = agent; text = disconnected 10000001; first = 6000; repeats = 0; due = 6500 });
+        pending = Some (record { id = 10000001; route = agent_route; text = disconnected 10000001; first = 6000; repeats = 0; due = 6500 });
         restart = Announced;
       };
     }) }
@@ -129,7 +129,7 @@ pub fn a_line_is_redirected()
             number = 3;
             pending = Some (record {
               id = 10000002;
-              to = other_agent;
+              route = other_route;
               text = disconnected 10000002;
               first = 6000;
               repeats = 0;

@@ -11,7 +11,7 @@ ghost use Rattle.plain_machine.specs.Machine.{opening_endpoints};
 ghost use Rattle.plain_machine.specs.Falling.{due_at, first_due, due_by, happened, pass};
 ghost use Rattle.plain_machine.specs.Refusing.{takes_none};
 ghost use Rattle.plain_machine.specs.Lists.{sent_from};
-ghost use Rattle.plain_machine.specs.Example.{example, agent, from_agent, from_other, to_agent_at, to_other_at, lifted, response, machine_at, machine_then, own_at, line_end, command_due, ending, announced, announcing, stations_announcing, announcing_machine, announcing_sends, announcing_then, own_then, ready_endpoints};
+ghost use Rattle.plain_machine.specs.Example.{example, agent_route, from_agent, from_other, to_agent_at, to_other_at, lifted, response, machine_at, machine_then, own_at, line_end, command_due, ending, announced, announcing, stations_announcing, announcing_machine, announcing_sends, announcing_then, own_then, ready_endpoints};
 
 /// It is repeated at its moments, and given up, as a line's command is; the lines stay. It waits anew then, and goes out
 /// under the next id.
@@ -26,7 +26,7 @@ pub fn an_own_message_is_repeated_and_given_up()
     ensures repeated { own_then (tick 1500 ∷ []) ≡ record {
       entity = example.agent;
       number = 2;
-      pending = Some (record { id = 1; to = agent; text = announced; first = 1000; repeats = 1; due = 2500 });
+      pending = Some (record { id = 1; route = agent_route; text = announced; first = 1000; repeats = 1; due = 2500 });
       restart = Announced;
     } }
     ensures lines { (announcing_then (tick 1500 ∷ [])).endpoints.stations ≡ (opening_endpoints example).stations }

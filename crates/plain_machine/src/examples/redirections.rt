@@ -8,7 +8,7 @@ ghost use Rattle.plain_machine.specs.Event.{phone, tick};
 ghost use Rattle.plain_machine.specs.Machine.{opening_endpoints, with_own, serves};
 ghost use Rattle.plain_machine.specs.Responding.{entity_in};
 ghost use Rattle.plain_machine.specs.Lists.{outputs_of};
-ghost use Rattle.plain_machine.specs.Example.{other_agent, other_entity, example, from_agent, to_agent_at, to_other_at, rqnt, sends, lifted, response, machine_then, from_other, announced, announcing, announcing_machine, announcing_sends, announcing_then, own_then, announced_under, naming_other, entities_of, asking_nothing};
+ghost use Rattle.plain_machine.specs.Example.{other_entity, other_route, example, from_agent, to_agent_at, to_other_at, rqnt, sends, lifted, response, machine_then, from_other, announced, announcing, announcing_machine, announcing_sends, announcing_then, own_then, announced_under, naming_other, entities_of, asking_nothing};
 
 /// Whom the answer names the gateway and all of its lines notify from then on, whatever its code; what waited is told
 /// there.
@@ -49,7 +49,7 @@ pub fn an_announcement_is_redirected()
     ensures own { own_then (tick 1200 ∷ naming_other 521 1 ∷ []) ≡ record {
       entity = other_entity;
       number = 3;
-      pending = Some (record { id = 2; to = other_agent; text = announced_under 2; first = 1200; repeats = 0; due = 1700 });
+      pending = Some (record { id = 2; route = other_route; text = announced_under 2; first = 1200; repeats = 0; due = 1700 });
       restart = Announced;
     } }
     ensures lines { entities_of (announcing_then (naming_other 521 1 ∷ [])) ≡ replicate 16 other_entity }
