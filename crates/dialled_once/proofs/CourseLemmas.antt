@@ -37,6 +37,7 @@ use Rattle.restart.specs.declared.restart.Restart.TheVariants.{Waiting, Announce
 use Rattle.restart.specs.declared.heard.Heard.{Heard}
 use Rattle.restart.specs.declared.heard.Heard.TheVariants.{Nothing, PutOff, Redirected, Answered}
 use Rattle.restart.specs.Restarting.{is_serving}
+use Rattle.routes.specs.Route.{at}
 use Rattle.timers.specs.declared.kind.DueKind.{DueKind}
 use Rattle.timers.specs.declared.kind.DueKind.TheVariants.{OfLine, Resend, Announce}
 use Rattle.timers.specs.declared.due_item.DueItem.{DueItem}
@@ -301,7 +302,7 @@ module _ (setup : Setup) (H : Response → Type 0) (G : Bool → List Step → L
         let first : Effect Endpoints = FirstAs (Redirected agent) endpoints moment response in
         let next : Effect Endpoints = on_all first.value (redirected_on agent) in
         let apart : Redirected agent ≢ Nothing = λ same. absurd cc in
-        let out : Sent = record { to = agent.address; moment = moment; owner = own_of 0; said = own_command (announcement setup 0 (id_on 0 endpoints.own.number)) } in
+        let out : Sent = record { to = at agent.route 0; moment = moment; owner = own_of 0; said = own_command (announcement setup 0 (id_on 0 endpoints.own.number)) } in
         subst (λ (x : List Sent). Holds (course ++ steps_in x) (sent ++ x) next.value) (sym (behind_own out next.sent refl))
         (all_hold first.value course sent false (redirected_on agent)
         (λ s at. turns.redirecting false course sent agent line s (closed (Redirected agent) e apart s at))

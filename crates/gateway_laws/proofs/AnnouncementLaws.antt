@@ -5,6 +5,7 @@ use Rattle.std.specs.declared.net.socket_addr.SocketAddrV4.{SocketAddrV4}
 use Rattle.std.proofs.lemmas.Bool.Decides.{Decides-eqb}
 use Rattle.std.proofs.lemmas.List.Elements.{All-nil, All-cons}
 use Rattle.std.proofs.lemmas.Option.{none-some}
+use Rattle.routes.specs.Route.{at}
 use Rattle.endpoint_names.specs.declared.entity.Entity.{Entity}
 use Rattle.history.specs.Memory.{most_firsts}
 use Rattle.history.specs.Looking.{Looked, new, repeat, confirmed, full, look_of}
@@ -364,11 +365,11 @@ announce_keeps setup line moment station = refl
 
 -- what is told goes to the entity that is to be notified
 noted_to : (setup : Setup) (line moment : ℕ) (station : Station) (done : LineDone)
-    → ((noted setup line moment station done).value.post.entity ≡ station.post.entity) × All (λ (sent : Sent). sent.to ≡ station.post.entity.address) (noted setup line moment station done).sent
+    → ((noted setup line moment station done).value.post.entity ≡ station.post.entity) × All (λ (sent : Sent). sent.to ≡ at station.post.entity.route 0) (noted setup line moment station done).sent
 unfolding noted
 noted_to setup line moment station done = by_notice done.notice where
   To : Sent → Type 0
-  To sent = sent.to ≡ station.post.entity.address
+  To sent = sent.to ≡ at station.post.entity.route 0
 
   by_notice : (notice : Option Notice) → ((with_notice setup line moment (record station { line = done.line }) notice).value.post.entity ≡ station.post.entity)
       × All To (with_notice setup line moment (record station { line = done.line }) notice).sent
@@ -376,10 +377,10 @@ noted_to setup line moment station done = by_notice done.notice where
   by_notice (Some notice) = (refl, All-cons To _ [] refl (All-nil To))
 
 pub named_is_notified : (setup : Setup) (line moment : ℕ) (response : Response) (agent : Entity) (station : Station) → heard_on station.post response ≡ Answered (Some agent)
-    → ((responded_on setup line moment response station).value.post.entity ≡ agent) × All (λ (sent : Sent). sent.to ≡ agent.address) (responded_on setup line moment response station).sent
+    → ((responded_on setup line moment response station).value.post.entity ≡ agent) × All (λ (sent : Sent). sent.to ≡ at agent.route 0) (responded_on setup line moment response station).sent
 unfolding responded_on replied
 named_is_notified setup line moment response agent station is =
     let becomes : Station = record station { post = record station.post { entity = agent; pending = None; restart = Serving } } in
     subst (λ (heard : Heard). ((responded_as heard setup line moment response station).value.post.entity ≡ agent)
-    × All (λ (sent : Sent). sent.to ≡ agent.address) (responded_as heard setup line moment response station).sent) (sym is)
+    × All (λ (sent : Sent). sent.to ≡ at agent.route 0) (responded_as heard setup line moment response station).sent) (sym is)
     (noted_to setup line moment becomes (answered station.line moment))

@@ -8,6 +8,8 @@ use Rattle.std.proofs.lemmas.Bool.Decides.{Decides-eqb}
 use Rattle.std.proofs.lemmas.List.Elements.{All-nil, All-cons}
 use Rattle.std.proofs.lemmas.Nat.{div-mul-add}
 use Rattle.std.proofs.lemmas.Option.{none-some}
+use Rattle.routes.specs.declared.route.Route.{Route}
+use Rattle.routes.specs.Route.{at}
 use Rattle.endpoint_names.specs.declared.entity.Entity.{Entity}
 use Rattle.mgcp_text.specs.Writing.{written}
 use Rattle.mg_packages.specs.declared.event.Event.TheVariants as events
@@ -24,7 +26,7 @@ use Rattle.outbound.specs.declared.repeat.Repeat.TheVariants.{Sent as SentAgain,
 use Rattle.outbound.specs.declared.reply.Reply.{Reply}
 use Rattle.outbound.specs.declared.reply.Reply.TheVariants as replies
 use Rattle.outbound.specs.declared.reply.Reply.TheVariants.{Provisional, Stranger}
-use Rattle.outbound.specs.Flight.{InFlight, sent_first, repeat_of, repeated, again_as, reply_by, reply_of, heard, heard_as}
+use Rattle.outbound.specs.Flight.{InFlight, sent_to, sent_first, repeat_of, repeated, again_as, reply_by, reply_of, heard, heard_as}
 use Rattle.restart.specs.declared.restart.Restart.{Restart}
 use Rattle.restart.specs.declared.restart.Restart.TheVariants.{Waiting, Announced, Serving}
 use Rattle.restart.specs.declared.heard.Heard.{Heard}
@@ -120,16 +122,16 @@ pub repeated_same : (message : InFlight) (moment : ℕ) → IsSame message (repe
 unfolding repeated
 repeated_same message moment = by_repeat (repeat_of message moment) where
   by_repeat : (repeat : Repeat) → IsSame message (again_as repeat message moment)
-  by_repeat SentAgain = record { id = refl; to = refl; text = refl }
-  by_repeat GivenUp = record { id = refl; to = refl; text = refl }
+  by_repeat SentAgain = record { id = refl; route = refl; text = refl }
+  by_repeat GivenUp = record { id = refl; route = refl; text = refl }
 
 pub heard_same : (message : InFlight) (id code moment : ℕ) → IsSame message (heard message id code moment)
 unfolding heard
 heard_same message id code moment = by_reply (reply_of message id code) where
   by_reply : (reply : Reply) → IsSame message (heard_as reply message moment)
-  by_reply replies.Answered = record { id = refl; to = refl; text = refl }
-  by_reply replies.Provisional = record { id = refl; to = refl; text = refl }
-  by_reply replies.Stranger = record { id = refl; to = refl; text = refl }
+  by_reply replies.Answered = record { id = refl; route = refl; text = refl }
+  by_reply replies.Provisional = record { id = refl; route = refl; text = refl }
+  by_reply replies.Stranger = record { id = refl; route = refl; text = refl }
 
 -- Ids
 
@@ -202,9 +204,9 @@ flying_waits Announced line message state order =
 flying_waits Serving line message state order = order
 
 -- what begins is under an id of its line
-begins_with : (line number : ℕ) (to : SocketAddrV4) (text : List ℕ) (moment : ℕ) → number < numbers → IsWith line (Some (sent_first (id_on line number) to text moment))
-begins_with line number to text moment below =
-    record { message = sent_first (id_on line number) to text moment; flies = refl; own = line_of_its_id line number below }
+begins_with : (line number : ℕ) (route : Route SocketAddrV4) (text : List ℕ) (moment : ℕ) → number < numbers → IsWith line (Some (sent_first (id_on line number) route text moment))
+begins_with line number route text moment below =
+    record { message = sent_first (id_on line number) route text moment; flies = refl; own = line_of_its_id line number below }
 
 -- of a line, and the number of its next command
 pub record Orders (serving : Bool) (line : ℕ) (station : Station) : Type 0 where
@@ -235,7 +237,7 @@ noted_free setup line moment station done below serving none awaits = by_notice 
     below = below;
   }
   by_notice (Some notice) awaits = record {
-    order = subst (λ (r : Restart). InOrderBy r line (Some (sent_first (id_on line station.post.number) station.post.entity.address (written (notification setup line (id_on line station.post.number) notice)) moment)) done.line.state) (sym serving)
+    order = subst (λ (r : Restart). InOrderBy r line (Some (sent_first (id_on line station.post.number) station.post.entity.route (written (notification setup line (id_on line station.post.number) notice)) moment)) done.line.state) (sym serving)
         (awaits.state, line_of_its_id line station.post.number below);
     below = next_below line station.post.number below;
   }
@@ -575,7 +577,7 @@ other_is_no_answer post response message pending other =
       by_reply replies.Answered e = absurd (other e)
 
 it_stays : (post : Post) (message : InFlight) → post.pending ≡ Some message → IfSome post.pending (IsSame message)
-it_stays post message pending = subst (λ (p : Option InFlight). IfSome p (IsSame message)) (sym pending) (record { id = refl; to = refl; text = refl })
+it_stays post message pending = subst (λ (p : Option InFlight). IfSome p (IsSame message)) (sym pending) (record { id = refl; route = refl; text = refl })
 
 it_is_put_off : (response : Response) (moment : ℕ) (post : Post) (message : InFlight) → post.pending ≡ Some message → IfSome (put_off response moment post).pending (IsSame message)
 it_is_put_off response moment post message pending =
@@ -610,12 +612,19 @@ no_own_command_at_another_response setup moment response own message pending oth
 
 -- A repeat is the same message
 
-post_carries : (setup : Setup) (line moment : ℕ) (post : Post) (message : InFlight) → post.pending ≡ Some message → All (Carries line message) (resent_on setup line moment post).sent
+-- it goes to the address of its route that is next
+goes_on : (message : InFlight) (moment : ℕ) → repeat_of message moment ≡ SentAgain → sent_to (repeated message moment) ≡ at message.route (message.repeats + 1)
+unfolding repeated
+goes_on message moment again = ap (λ (r : Repeat). sent_to (again_as r message moment)) again
+
+post_carries : (setup : Setup) (line moment : ℕ) (post : Post) (message : InFlight) → post.pending ≡ Some message
+    → All (Carries line (message.repeats + 1) message) (resent_on setup line moment post).sent
 post_carries setup line moment post message pending =
-    subst (λ (p : Option InFlight). All (Carries line message) (resent_by p setup line moment post).sent) (sym pending) (by_repeat (repeat_of message moment)) where
-      by_repeat : (repeat : Repeat) → All (Carries line message) (repeated_as repeat setup line moment post message).sent
-      by_repeat SentAgain = All-cons (Carries line message) _ [] (record { to = refl; text = refl; owner = refl }) (All-nil (Carries line message))
-      by_repeat GivenUp = All-nil (Carries line message)
+    subst (λ (p : Option InFlight). All (Carries line (message.repeats + 1) message) (resent_by p setup line moment post).sent) (sym pending) (by_repeat (repeat_of message moment) refl) where
+      by_repeat : (repeat : Repeat) → repeat_of message moment ≡ repeat → All (Carries line (message.repeats + 1) message) (repeated_as repeat setup line moment post message).sent
+      by_repeat SentAgain again =
+          All-cons (Carries line (message.repeats + 1) message) _ [] (record { to = goes_on message moment again; text = refl; owner = refl }) (All-nil (Carries line (message.repeats + 1) message))
+      by_repeat GivenUp again = All-nil (Carries line (message.repeats + 1) message)
 
 post_keeps : (setup : Setup) (line moment : ℕ) (post : Post) (message : InFlight) → post.pending ≡ Some message → IfSome (resent_on setup line moment post).value.pending (IsSame message)
 post_keeps setup line moment post message pending =
@@ -625,7 +634,7 @@ post_keeps setup line moment post message pending =
       by_repeat GivenUp = tt
 
 pub repeat_carries : (setup : Setup) (line moment : ℕ) (station : Station) (message : InFlight) → station.post.pending ≡ Some message
-    → All (Carries line message) (happened_on Resend setup line moment station).sent
+    → All (Carries line (message.repeats + 1) message) (happened_on Resend setup line moment station).sent
 unfolding happened_on
 repeat_carries setup line moment station message pending = post_carries setup line moment station.post message pending
 
@@ -635,7 +644,7 @@ unfolding happened_on
 repeat_keeps setup line moment station message pending = post_keeps setup line moment station.post message pending
 
 pub own_carries : (setup : Setup) (moment : ℕ) (own : Post) (message : InFlight) → own.pending ≡ Some message
-    → All (Carries 0 message) (happened_under Resend setup 0 moment own).sent
+    → All (Carries 0 (message.repeats + 1) message) (happened_under Resend setup 0 moment own).sent
 unfolding happened_under
 own_carries setup moment own message pending = post_carries setup 0 moment own message pending
 

@@ -1,5 +1,6 @@
 //! Laws of announcements (RFC 3435, 2.3.12, 4.4.6 and 4.4.7), for every setup and every list of events.
 ghost use Rattle.std.specs.Prelude.{ℕ, ◌≡◌, ◌≢◌, ◌+◌, ◌++◌, true, false, List, All, Option, None, Some, Result, Ok, Err};
+ghost use Rattle.routes.specs.Route.{at};
 ghost use Rattle.endpoint_names.specs.declared.entity.Entity.{Entity};
 ghost use Rattle.mgcp_text.specs.declared.confirmation.KValue.{KValue};
 ghost use Rattle.mgcp_text.specs.Answer.{plain_code};
@@ -125,5 +126,5 @@ pub fn a_line_that_gave_up_waits_and_announces_itself()
     ensures named { (setup : Setup) (line moment : ℕ) (response : Response) (agent : Entity) (station : Station) →
         heard_on station.post response ≡ Answered (Some agent) →
         ((responded_on setup line moment response station).value.post.entity ≡ agent)
-        × All (λ (sent : Sent). sent.to ≡ agent.address) (responded_on setup line moment response station).sent }
+        × All (λ (sent : Sent). sent.to ≡ at agent.route 0) (responded_on setup line moment response station).sent }
 {}

@@ -21,7 +21,7 @@ use Rattle.outbound.specs.declared.repeat.Repeat.{Repeat}
 use Rattle.outbound.specs.declared.repeat.Repeat.TheVariants.{Sent as SentAgain, GivenUp}
 use Rattle.outbound.specs.declared.reply.Reply.{Reply}
 use Rattle.outbound.specs.declared.reply.Reply.TheVariants.{Answered as AnsweredReply, Provisional, Stranger}
-use Rattle.outbound.specs.Flight.{InFlight, sent_first, repeat_of, repeated, reply_of, heard_as, heard}
+use Rattle.outbound.specs.Flight.{InFlight, sent_to, sent_first, repeat_of, repeated, reply_of, heard_as, heard}
 use Rattle.outbound.proofs.LifeLaws.{repeat_same, sent_later, sent_soon}
 use Rattle.restart.specs.declared.restart.Restart.{Restart}
 use Rattle.restart.specs.declared.restart.Restart.TheVariants.{Waiting, Announced, Serving}
@@ -192,7 +192,7 @@ command_good until log line moment post verb name params body writable past logg
   b = record { id = id; moment = moment; text = text }
 
   flight : InFlight
-  flight = sent_first id post.entity.address text moment
+  flight = sent_first id post.entity.route text moment
 
   of_line : line_of_id (id_on line post.number) ≡ line
   of_line = line_is line post.number s.below
@@ -228,7 +228,7 @@ resent_good setup until log line moment post flight pending due past logged s =
                 past = omega (arith, in_log.past, same.same_start);
               };
             });
-            sent_holds = subst (λ (x : List Begun). Own until x (record { to = flight.to; moment = moment; owner = own_of line; said = resent flight.text }) × Unit {0}) (sym (append-nil log)) (
+            sent_holds = subst (λ (x : List Begun). Own until x (record { to = sent_to (repeated flight moment); moment = moment; owner = own_of line; said = resent flight.text }) × Unit {0}) (sym (append-nil log)) (
               record {
                 carries = one_weaker (IsSame flight) (Carries flight.text moment)
                     (λ one e. record { text = sym e.text; since = omega (arith, e.moment, in_log.later, due); within = omega (arith, e.moment, few, in_log.later, due) }) log in_log.known;

@@ -119,10 +119,10 @@ line_silent setup endpoints item due station message are is at flight =
 
 pub command_again : (setup : Setup) (endpoints : Endpoints) (item : DueItem) (station : Station) (message : InFlight) → item.kind ≡ Resend
     → station_at endpoints item.line ≡ Some station → in_flight station ≡ Some message
-    → All (Carries item.line message) (happened setup endpoints item).sent
+    → All (Carries item.line (message.repeats + 1) message) (happened setup endpoints item).sent
     × IfSome (station_at (happened setup endpoints item).value item.line) (λ after. IfSome (in_flight after) (IsSame message))
 command_again setup endpoints item station message is at flight = (
-  subst (All (Carries item.line message)) (sym (line_sent setup endpoints item Resend station is at)) (repeat_carries setup item.line item.moment station message flight),
+  subst (All (Carries item.line (message.repeats + 1) message)) (sym (line_sent setup endpoints item Resend station is at)) (repeat_carries setup item.line item.moment station message flight),
   subst (λ (x : Option Station). IfSome x (λ after. IfSome (in_flight after) (IsSame message))) (sym (line_turned setup endpoints item Resend station is at))
       (repeat_keeps setup item.line item.moment station message flight),
 )
@@ -147,11 +147,11 @@ at_own setup endpoints item is =
 
 pub own_again : (setup : Setup) (endpoints : Endpoints) (item : DueItem) (message : InFlight) → item.kind ≡ Resend → item.line ≡ 0
     → endpoints.own.pending ≡ Some message
-    → All (Carries 0 message) (happened setup endpoints item).sent × IfSome (happened setup endpoints item).value.own.pending (IsSame message)
+    → All (Carries 0 (message.repeats + 1) message) (happened setup endpoints item).sent × IfSome (happened setup endpoints item).value.own.pending (IsSame message)
 own_again setup endpoints item message is line flight =
     let here : happened setup endpoints item ≡ on_own endpoints (happened_under Resend setup 0 item.moment) =
     at_own setup endpoints item line ∙ ap (λ (which : DueKind). on_own endpoints (happened_under which setup 0 item.moment)) is in
-    subst (λ (x : Effect Endpoints). All (Carries 0 message) x.sent × IfSome x.value.own.pending (IsSame message)) (sym here)
+    subst (λ (x : Effect Endpoints). All (Carries 0 (message.repeats + 1) message) x.sent × IfSome x.value.own.pending (IsSame message)) (sym here)
     (own_carries setup item.moment endpoints.own message flight, own_keeps setup item.moment endpoints.own message flight)
 
 pub own_waits : (setup : Setup) (endpoints : Endpoints) (item : DueItem) → item.line ≢ 0 → (happened setup endpoints item).value.own ≡ endpoints.own

@@ -1,5 +1,5 @@
 //! A line has one command in flight at each thing that happens, within an event too (RFC 3435, 3.2.1.2, 3.5 and 4.4.1).
-ghost use Rattle.std.specs.Prelude.{◌≡◌, ◌≢◌, [], ℕ, List, Some, IfSome, All};
+ghost use Rattle.std.specs.Prelude.{◌≡◌, ◌≢◌, ◌+◌, [], ℕ, List, Some, IfSome, All};
 ghost use Rattle.std.specs.declared.net.socket_addr.SocketAddrV4.{SocketAddrV4};
 ghost use Rattle.timers.specs.declared.kind.LineDue.{LineDue};
 ghost use Rattle.mg_line.specs.declared.phone.Act.{Act};
@@ -37,8 +37,8 @@ pub fn lines_wait_at_each_thing_that_happens()
 {}
 
 /// What falls due on a line whose command is in flight begins no other: the end of a signal or of timer T sends nothing
-/// and leaves it in flight; what falls due of the command itself sends the same once more or nothing, and leaves it in
-/// flight or gives it up. Other lines stay as they are, and so does the gateway itself. Of its own command, which falls
+/// and leaves it in flight; what falls due of the command itself sends the same once more, to the address of its
+/// route that is next, or nothing, and leaves it in flight or gives it up. Other lines stay as they are, and so does the gateway itself. Of its own command, which falls
 /// due as that of line 0, the same holds.
 pub fn what_falls_due_begins_nothing_while_a_command_is_in_flight()
     ensures line { (setup : Setup) (endpoints : Endpoints) (item : DueItem) (due : LineDue) (station : Station)
@@ -50,14 +50,14 @@ pub fn what_falls_due_begins_nothing_while_a_command_is_in_flight()
     ensures command { (setup : Setup) (endpoints : Endpoints) (item : DueItem) (station : Station)
         (message : InFlight) → item.kind ≡ Resend →
         station_at endpoints item.line ≡ Some station → in_flight station ≡ Some message →
-        All (Carries item.line message) (happened setup endpoints item).sent
+        All (Carries item.line (message.repeats + 1) message) (happened setup endpoints item).sent
         × IfSome (station_at (happened setup endpoints item).value item.line)
         (λ after. IfSome (in_flight after) (IsSame message)) }
     ensures others { (setup : Setup) (endpoints : Endpoints) (item : DueItem) (other : ℕ) → other ≢ item.line →
         station_at (happened setup endpoints item).value other ≡ station_at endpoints other }
     ensures own_command { (setup : Setup) (endpoints : Endpoints) (item : DueItem) (message : InFlight) →
         item.kind ≡ Resend → item.line ≡ 0 → endpoints.own.pending ≡ Some message →
-        All (Carries 0 message) (happened setup endpoints item).sent
+        All (Carries 0 (message.repeats + 1) message) (happened setup endpoints item).sent
         × IfSome (happened setup endpoints item).value.own.pending (IsSame message) }
     ensures own { (setup : Setup) (endpoints : Endpoints) (item : DueItem) → item.line ≢ 0 →
         (happened setup endpoints item).value.own ≡ endpoints.own }
