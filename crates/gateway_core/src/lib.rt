@@ -26,5 +26,5 @@ pub use crate::stopped::Stopped;
 pub use crate::wire::{DATAGRAM_ROOM, Input, Wire, WireFault};
 pub use gateway_floor::key_at_fault;
 pub use plain_machine::{
-    Config, ConfigFault, ConfigKey, Event, NamedAddress, OutDatagram, Outputs, Refusal,
+    Config, ConfigFault, ConfigKey, Event, NamedRoute, OutDatagram, Outputs, Refusal,
 };

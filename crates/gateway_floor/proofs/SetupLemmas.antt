@@ -3,7 +3,7 @@ use Rattle.std.proofs.Common.{◌≡◌, ℕ, suc, ◌+◌, ◌<◌, List, [], �
 use Rattle.std.specs.Prelude.{None}
 use Rattle.endpoint_names.specs.declared.table.Host.{Host}
 use Rattle.endpoint_names.specs.Table.{fault_of}
-use Rattle.plain_machine.specs.declared.config.NamedAddress.{NamedAddress}
+use Rattle.plain_machine.specs.declared.config.NamedRoute.{NamedRoute}
 use Rattle.plain_machine.specs.Setup.{table_from}
 use Rattle.std.specs.List.{range_with_len}
 use Rattle.std.proofs.lemmas.List.FromFn.{map-range_with_len_more}
@@ -11,15 +11,15 @@ use Rattle.plain_machine.specs.declared.setup.Setup.{Setup}
 use Rattle.plain_machine.specs.declared.station.Station.{Station}
 use Rattle.plain_machine.specs.Machine.{opening_station}
 
-pub name_added : (hosts more : List Host) (name : NamedAddress) (names : List NamedAddress) → fault_of hosts name.name ≡ None
-    → more ≡ hosts ++ (record { name = name.name; address = name.address }) ∷ [] → table_from more names ≡ table_from hosts (name ∷ names)
+pub name_added : (hosts more : List Host) (name : NamedRoute) (names : List NamedRoute) → fault_of hosts name.name ≡ None
+    → more ≡ hosts ++ (record { name = name.name; route = name.route }) ∷ [] → table_from more names ≡ table_from hosts (name ∷ names)
 unfolding table_from
 name_added hosts more name names free is = rw (is, free) refl
 
 -- the name at a place, and those after it
-pub name_front : (names : List NamedAddress) (i : ℕ) (name : NamedAddress) → i < length names → name ≡ get_or names i name → drop i names ≡ name ∷ drop (i + 1) names
+pub name_front : (names : List NamedRoute) (i : ℕ) (name : NamedRoute) → i < length names → name ≡ get_or names i name → drop i names ≡ name ∷ drop (i + 1) names
 name_front names i name inside is =
-    drop-cons names i name inside ∙ ap (λ (x : NamedAddress). x ∷ drop (suc i) names) (sym is) ∙ ap (λ (n : ℕ). name ∷ drop n names) (sym (add-one i))
+    drop-cons names i name inside ∙ ap (λ (x : NamedRoute). x ∷ drop (suc i) names) (sym is) ∙ ap (λ (n : ℕ). name ∷ drop n names) (sym (add-one i))
 
 -- one station more at the opening
 pub stations_more : (setup : Setup) (place : ℕ) (stations more : List Station) (station : Station) → stations ≡ map (opening_station setup) (range_with_len 1 place)

@@ -10,7 +10,7 @@ use endpoint_names::{Entity, Names, Table, is_domain, read_entity};
 use mg_bytes::OutOfMemory;
 use mg_line::Line;
 use plain_machine::{
-    CommandNumber, Config, ConfigFault, ConfigKey, MOST_LINES, NamedAddress, Post, Setup, Station,
+    CommandNumber, Config, ConfigFault, ConfigKey, MOST_LINES, NamedRoute, Post, Setup, Station,
 };
 use restart::Restart;
 use std::alloc::Global;
@@ -18,12 +18,12 @@ use std::net::Ipv4Addr;
 
 // The table of these names, if each can be added.
 #[tactic(auto, unfolding(plain_machine::specs::Setup::table_from))]
-fn table_of(names: &[NamedAddress]) -> Option<Table>
+fn table_of(names: &[NamedRoute]) -> Option<Table>
     ensures { result ≡ table_from [] names.now }
 {
     let mut table = Table::new();
     for name in names {
-        match table.add(name.name.as_bytes(), name.address) {
+        match table.add(name.name.as_bytes(), name.route) {
             Ok(()) => {}
             Err(_) => return None,
         }

@@ -14,7 +14,7 @@ use Rattle.endpoint_names.specs.Name.{name_text}
 use Rattle.endpoint_names.specs.Table.{is_domain}
 use Rattle.outbound.specs.declared.repeat.Repeat.{Repeat}
 use Rattle.outbound.specs.declared.repeat.Repeat.TheVariants.{Sent as SentAgain, GivenUp}
-use Rattle.outbound.specs.Flight.{InFlight, repeat_of, again_as, repeated}
+use Rattle.outbound.specs.Flight.{InFlight, sent_to, repeat_of, again_as, repeated}
 use Rattle.transmission.specs.declared.output.OutDatagram.{OutDatagram}
 use Rattle.plain_machine.specs.declared.post.Post.{Post}
 use Rattle.plain_machine.specs.declared.setup.Setup.{Setup}
@@ -59,19 +59,18 @@ announcement_writable setup id line name params some short is small named all = 
 
 -- A command in flight is sent again
 
-kept_to : (message : InFlight) (moment : ℕ) → ((repeated message moment).to ≡ message.to) × ((repeated message moment).text ≡ message.text)
+kept_text : (message : InFlight) (moment : ℕ) → (repeated message moment).text ≡ message.text
 unfolding repeated
-kept_to message moment = by_repeat (repeat_of message moment) where
-  by_repeat : (repeat : Repeat) → ((again_as repeat message moment).to ≡ message.to) × ((again_as repeat message moment).text ≡ message.text)
-  by_repeat SentAgain = (refl, refl)
-  by_repeat GivenUp = (refl, refl)
+kept_text message moment = by_repeat (repeat_of message moment) where
+  by_repeat : (repeat : Repeat) → (again_as repeat message moment).text ≡ message.text
+  by_repeat SentAgain = refl
+  by_repeat GivenUp = refl
 
 pub sent_again : (setup : Setup) (line moment : ℕ) (post becomes : Post) (message again : InFlight) (to : SocketAddrV4) (text : List ℕ) (were are : List OutDatagram) → post.pending ≡ Some message
-    → SentAgain ≡ repeat_of message moment → again ≡ repeated message moment → to ≡ again.to → text ≡ again.text
+    → SentAgain ≡ repeat_of message moment → again ≡ repeated message moment → to ≡ sent_to again → text ≡ again.text
     → are ≡ were ++ (record { to = to; moment = moment; bytes = text }) ∷ [] → becomes ≡ record post { pending = Some again } → HasEffect (resent_on setup line moment post) becomes were are
 sent_again setup line moment post becomes message again to text were are flying goes is to_same text_same more same =
-    let kept = kept_to message moment in
     rw (flying, sym goes) (record {
       value = same ∙ ap (λ (m : InFlight). let p : Post = record post { pending = Some m } in p) is;
-      sent = more ∙ rw (to_same, text_same, is, kept.0, kept.1) refl;
+      sent = more ∙ rw (to_same, text_same, is, kept_text message moment) refl;
     })

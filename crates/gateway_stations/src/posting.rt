@@ -82,10 +82,10 @@ pub(crate) fn begin(
     ensures id { HasId occasion.line post.new.number }
 {
     let id = post.number.id_on(occasion.line);
-    let to = post.entity.address;
+    let route = post.entity.route;
     let text = write_message(context.alloc, said)?;
-    let pending = Pending::begin(context.alloc, id, to, text.as_bytes(), occasion.moment)?;
-    send(out, to, occasion.moment, text)?;
+    let pending = Pending::begin(context.alloc, id, route, text.as_bytes(), occasion.moment)?;
+    send(out, route.at(0), occasion.moment, text)?;
     post.number = post.number.after_on(occasion.line);
     post.pending = Some(pending);
     Ok(())
