@@ -3,6 +3,7 @@ use Rattle.std.proofs.Common.{◌≡◌, ℕ, ◌-◌, ◌<◌, ◌≤◌, Bool,
 use Rattle.std.specs.Prelude.{slice_get, nat_lt}
 use Rattle.std.proofs.lemmas.Bool.Decides.{nat_tests}
 use Rattle.std.specs.declared.net.socket_addr.SocketAddrV4.{SocketAddrV4}
+use Rattle.routes.specs.Route.{at}
 use Rattle.mg_line.specs.declared.phone.Act.{Act}
 use Rattle.plain_machine.specs.declared.setup.Setup.{Setup}
 use Rattle.plain_machine.specs.declared.refusal.Refusal.{Refusal}
@@ -22,7 +23,7 @@ use Rattle.agent_core.specs.declared.step.StepRefusal.{StepRefusal}
 use Rattle.agent_core.specs.declared.step.StepRefusal.TheVariants.{OutOfMemory, TickTooFar, ClockBack, NoSuchLine, PhoneState, NoMoreIds, BadCommand, NoSuchPacket, PacketTooOld}
 use Rattle.call_agent.specs.Issuing.{IssueRefusal, no_more_ids, bad_command, issue_refusal}
 use Rattle.call_agent.specs.Hearing.{AgentEvent, issues, hears, agent_effect, agent_refusal, issue_refused, hearing_refusal, plain_agent}
-use Rattle.agent_core.specs.World.{World, issuing, dialling, ticking, delivering, WorldRefusal, packet_too_old, agent_of, gateway_address, posted_as, to_gateway, to_agent, delivered_from, delivered, delivery_refusal, oldest_packet, agent_refused, gateway_refused, gateway_in, now_in, step_refusal, went}
+use Rattle.agent_core.specs.World.{World, issuing, dialling, ticking, delivering, WorldRefusal, packet_too_old, agent_of, gateway_address, posted_as, to_gateway, to_agent, is_among, delivered_from, delivered, delivery_refusal, oldest_packet, agent_refused, gateway_refused, gateway_in, now_in, step_refusal, went}
 use Rattle.call_agent.specs.AgentStands.{AgentState, AgentStands, AgentTook, AgentStays, IssueEnds}
 use Rattle.agent_core.specs.WorldStands.{WorldState, Keeps, Leaves, StepEnds}
 use Rattle.agent_core.specs.WorldWork.{EndStops, IssueStops, Goes, Remains, Ends, HandsOver, WantsMemory}
@@ -72,7 +73,7 @@ told_gateway setup w w' plain event end sender out is took same from by posts k 
     }
 
 pub told_agent : (setup : Setup) (w w' : WorldState) (plain : World) (event : AgentEvent) (end : End) (sender : SocketAddrV4) (out : List OutDatagram) → w.gateway.setup ≡ setup
-    → AgentTook w.agent event w'.agent out → w'.gateway ≡ w.gateway → end ≡ AgentEnd → sender ≡ w.agent.setup.own → Posts w w' end sender out → Keeps w plain
+    → AgentTook w.agent event w'.agent out → w'.gateway ≡ w.gateway → end ≡ AgentEnd → sender ≡ at w.agent.setup.own 0 → Posts w w' end sender out → Keeps w plain
     → Keeps w' (to_agent setup plain event)
 told_agent setup w w' plain event end sender out is took same from by posts k =
     let who : w.agent.setup ≡ agent_of setup = k.who ∙ ap agent_of is in
@@ -82,9 +83,9 @@ told_agent setup w w' plain event end sender out is took same from by posts k =
       posted = posts.posted
           ∙ ap (λ (x : List Posted). x ++ map (posted_as end sender) out) k.posted
           ∙ ap (λ (e : End). plain.posted ++ map (posted_as e sender) out) from
-          ∙ ap (λ (a : SocketAddrV4). plain.posted ++ map (posted_as AgentEnd a) out) (by ∙ ap (λ s. s.own) who)
-          ∙ ap (λ (x : List OutDatagram). plain.posted ++ map (posted_as AgentEnd setup.agent.address) x) (took.sent plain.agent_took k.agent)
-          ∙ ap (λ s. plain.posted ++ map (posted_as AgentEnd setup.agent.address) (packed (agent_effect s (plain_agent s plain.agent_took) event).sent)) who;
+          ∙ ap (λ (a : SocketAddrV4). plain.posted ++ map (posted_as AgentEnd a) out) (by ∙ ap (λ s. at s.own 0) who)
+          ∙ ap (λ (x : List OutDatagram). plain.posted ++ map (posted_as AgentEnd (at setup.agent.route 0)) x) (took.sent plain.agent_took k.agent)
+          ∙ ap (λ s. plain.posted ++ map (posted_as AgentEnd (at setup.agent.route 0)) (packed (agent_effect s (plain_agent s plain.agent_took) event).sent)) who;
       who = took.setup ∙ k.who ∙ sym (ap (λ (g : GatewayState). agent_of g.setup) same);
       fresh = posts.spent ∙ k.fresh;
     }
@@ -144,7 +145,7 @@ leaves_on PacketTooOld same other f s = f s
 -- ---- each step
 
 pub issue_goes : (w w' : WorldState) (verb name rest : List ℕ) (end : End) (sender : SocketAddrV4) (out : List OutDatagram) → AgentTook w.agent (issues verb name rest) w'.agent out
-    → w'.gateway ≡ w.gateway → end ≡ AgentEnd → sender ≡ w.agent.setup.own → Posts w w' end sender out
+    → w'.gateway ≡ w.gateway → end ≡ AgentEnd → sender ≡ at w.agent.setup.own 0 → Posts w w' end sender out
     → ((before : List AgentEvent) → AgentStands w.agent before → IssueStops (issue_refusal (plain_agent w.agent.setup before) verb name rest) None) → Goes w (issuing verb name rest) w'
 unfolding step_refusal went agent_refusal
 issue_goes w w' verb name rest end sender out took same from by posts ends = record {
@@ -191,7 +192,7 @@ dial_ends w line act given ends = λ world k. gateway_told (refusal_of (gateway_
 
 pub tick_goes : (w mid w' : WorldState) (moment : ℕ) (end end' : End) (sender sender' : SocketAddrV4) (out out' : List OutDatagram) → Took w.gateway (tick moment ∷ []) mid.gateway [] out
     → mid.agent ≡ w.agent → end ≡ GatewayEnd → sender ≡ gateway_address w.gateway.setup → Posts w mid end sender out → AgentTook mid.agent (hears (tick moment)) w'.agent out'
-    → w'.gateway ≡ mid.gateway → end' ≡ AgentEnd → sender' ≡ mid.agent.setup.own → Posts mid w' end' sender' out'
+    → w'.gateway ≡ mid.gateway → end' ≡ AgentEnd → sender' ≡ at mid.agent.setup.own 0 → Posts mid w' end' sender' out'
     → ((before : List GatewayEvent) → Stands w.gateway before → EndStops (refusal_of (plain w.gateway.setup before) (tick moment)) None) → Goes w (ticking moment) w'
 unfolding step_refusal went
 tick_goes w mid w' moment end end' sender sender' out out' took same from by posts took' same' from' by' posts' ends = record {
@@ -233,13 +234,13 @@ gave_gateway w w' number post end sender out at same took agent from by posts = 
   one_some a b same = ap (or_one a) same
 
 pub gave_agent : (w w' : WorldState) (number : ℕ) (post : Posted) (end : End) (sender : SocketAddrV4) (out : List OutDatagram) → slice_get w.posted number ≡ Some post
-    → same_address post.packet.to w.agent.setup.own ≡ true → AgentTook w.agent (hears (datagram post.packet.sender post.packet.bytes)) w'.agent out → w'.gateway ≡ w.gateway
-    → end ≡ AgentEnd → sender ≡ w.agent.setup.own → Posts w w' end sender out → HandsOver w number GatewayEnd w'
+    → is_among w.agent.setup.own post.packet.to ≡ true → AgentTook w.agent (hears (datagram post.packet.sender post.packet.bytes)) w'.agent out → w'.gateway ≡ w.gateway
+    → end ≡ AgentEnd → sender ≡ at w.agent.setup.own 0 → Posts w w' end sender out → HandsOver w number GatewayEnd w'
 gave_agent w w' number post end sender out at same took gateway from by posts = record {
   setup = ap (λ (g : GatewayState). g.setup) gateway;
   keeps = λ world other k found.
       let is : post ≡ other = one_some post other (sym at ∙ found) in
-      let same_as : same_address post.packet.to w.gateway.setup.agent.address ≡ true = sym (ap (λ s. same_address post.packet.to s.own) k.who) ∙ same in
+      let same_as : is_among w.gateway.setup.agent.route post.packet.to ≡ true = sym (ap (λ s. is_among s.own post.packet.to) k.who) ∙ same in
       subst (λ (p : Posted). Keeps w' (delivered_from GatewayEnd w.gateway.setup world p.packet)) is
       (rw same_as (told_agent w.gateway.setup w w' world (hears (datagram post.packet.sender post.packet.bytes)) end sender out refl took gateway from by posts k));
 } where

@@ -31,5 +31,5 @@ world_opens (Err fault) g w opens same agent who posted fresh = absurd cc
 
 -- whom the agent is made for
 pub made_for : (setup seen : Setup) (domain : List ℕ) (agent : AgentSetup) → seen ≡ setup → domain ≡ seen.names.domain
-    → agent ≡ record { own = seen.agent.address; gateway = gateway_address seen; domain = domain; lines = seen.names.lines; first = 1 } → agent ≡ agent_of setup
-made_for setup seen domain agent same is made = made ∙ ap (λ (d : List ℕ). record { own = seen.agent.address; gateway = gateway_address seen; domain = d; lines = seen.names.lines; first = 1 }) is ∙ ap agent_of same
+    → agent ≡ record { own = seen.agent.route; gateway = gateway_address seen; domain = domain; lines = seen.names.lines; first = 1 } → agent ≡ agent_of setup
+made_for setup seen domain agent same is made = made ∙ ap (λ (d : List ℕ). record { own = seen.agent.route; gateway = gateway_address seen; domain = d; lines = seen.names.lines; first = 1 }) is ∙ ap agent_of same

@@ -2,6 +2,7 @@
 use Rattle.std.proofs.Common.{◌≡◌, ℕ, List, [], ◌∷◌, Option, Some, None, refl, ap, ◌∙◌, subst}
 use Rattle.std.specs.Prelude.{OnOk, Result, Ok, Err}
 use Rattle.std.specs.declared.net.socket_addr.SocketAddrV4.{SocketAddrV4}
+use Rattle.routes.specs.Route.{at}
 use Rattle.plain_machine.specs.declared.setup.Setup.{Setup}
 use Rattle.plain_machine.specs.declared.refusal.Refusal.{Refusal}
 use Rattle.plain_machine.specs.Event.{GatewayEvent, tick}
@@ -29,7 +30,7 @@ gateway_ticks w w' moment end sender out took same from by posts = record {
 }
 
 pub agent_ticks : (w w' : WorldState) (moment : ℕ) (end : End) (sender : SocketAddrV4) (out : List OutDatagram) → AgentTook w.agent (hears (tick moment)) w'.agent out
-    → w'.gateway ≡ w.gateway → end ≡ AgentEnd → sender ≡ w.agent.setup.own → Posts w w' end sender out → AgentTicks w moment w'
+    → w'.gateway ≡ w.gateway → end ≡ AgentEnd → sender ≡ at w.agent.setup.own 0 → Posts w w' end sender out → AgentTicks w moment w'
 agent_ticks w w' moment end sender out took same from by posts = record {
   setup = ap (λ (g : GatewayState). g.setup) same;
   keeps = λ world k. told_agent w.gateway.setup w w' world (hears (tick moment)) end sender out refl took same from by posts k;

@@ -1,7 +1,10 @@
 -- A world: a gateway and an agent with one clock, and a network that may lose datagrams, hand them over late, out of order and
 -- more than once, but none that is older than ten seconds (RFC 3435, 3.5).
 use Rattle.std.specs.Prelude.{ℕ, ◌-◌, ◌&&◌, nat_lt, if◌then◌else◌, Bool, true, is_none, List, [], ◌∷◌, ◌++◌, map, Option, Some, None, slice_get}
+use Rattle.std.specs.List.{list_any}
 use Rattle.std.specs.declared.net.socket_addr.SocketAddrV4.{SocketAddrV4}
+use Rattle.routes.specs.declared.route.Route.{Route}
+use Rattle.routes.specs.Route.{addresses, at}
 use Rattle.mg_line.specs.declared.phone.Act.{Act}
 use Rattle.plain_machine.specs.declared.setup.Setup.{Setup}
 use Rattle.transmission.specs.declared.output.OutDatagram.{OutDatagram}
@@ -25,10 +28,10 @@ use Rattle.call_agent.specs.Hearing.{AgentEvent, issues, hears, AgentRefusal, ag
 abbrev pub gateway_address : Setup → SocketAddrV4
 gateway_address setup = record { ip = setup.media_address; port = 2427 }
 
--- the agent is the one that the gateway reports to; its ids begin with 1
+-- the agent is the one that the gateway reports to, with all its addresses; its ids begin with 1
 abbrev pub agent_of : Setup → AgentSetup
 agent_of setup = record {
-  own = setup.agent.address;
+  own = setup.agent.route;
   gateway = gateway_address setup;
   domain = setup.names.domain;
   lines = setup.names.lines;
@@ -67,7 +70,7 @@ now_in setup w = (gateway_in setup w).now
 abbrev pub posted_as : End → SocketAddrV4 → OutDatagram → Posted
 posted_as end from out = record { end = end; packet = record { moment = out.moment; sender = from; to = out.to; bytes = out.bytes } }
 
--- an end takes an event, and posts what it sends
+-- an end takes an event, and posts what it sends, an agent from its first address
 
 abbrev pub to_gateway : Setup → World → GatewayEvent → World
 to_gateway setup w event = record w {
@@ -78,15 +81,19 @@ to_gateway setup w event = record w {
 abbrev pub to_agent : Setup → World → AgentEvent → World
 to_agent setup w event = record w {
   agent_took = w.agent_took ++ event ∷ [];
-  posted = w.posted ++ map (posted_as agent_end setup.agent.address) (packed (agent_effect (agent_of setup) (agent_in setup w) event).sent);
+  posted = w.posted ++ map (posted_as agent_end (at setup.agent.route 0)) (packed (agent_effect (agent_of setup) (agent_in setup w) event).sent);
 }
+
+-- this address is one of the route's
+abbrev pub is_among : Route SocketAddrV4 → SocketAddrV4 → Bool
+is_among route address = list_any (same_address address) (addresses route)
 
 -- a packet goes to the end that didn't send it, where that has its address, and else is lost
 abbrev pub delivered_from : End → Setup → World → Packet → World
 delivered_from agent_end setup w packet =
     if same_address packet.to (gateway_address setup) then to_gateway setup w (datagram packet.sender packet.bytes) else w
 delivered_from gateway_end setup w packet =
-    if same_address packet.to setup.agent.address then to_agent setup w (hears (datagram packet.sender packet.bytes)) else w
+    if is_among setup.agent.route packet.to then to_agent setup w (hears (datagram packet.sender packet.bytes)) else w
 
 abbrev pub delivered : Option Posted → Setup → World → World
 delivered None setup w = w

@@ -6,9 +6,10 @@ ghost use Rattle.plain_machine.specs.Refusing.{refusal_of};
 ghost use Rattle.plain_machine.specs.Lists.{plain};
 ghost use Rattle.gateway_core.specs.Stands.{Stands, Took};
 ghost use Rattle.agent_core.specs.declared.packet.End.TheVariants.{GatewayEnd, AgentEnd};
+ghost use Rattle.routes.specs.Route.{at};
 ghost use Rattle.call_agent.specs.Issuing.{issue_refusal};
 ghost use Rattle.call_agent.specs.Hearing.{AgentEvent, issues, hears, hearing_refusal, plain_agent};
-ghost use Rattle.agent_core.specs.World.{gateway_address, posted_as};
+ghost use Rattle.agent_core.specs.World.{gateway_address, posted_as, is_among};
 ghost use Rattle.call_agent.specs.AgentStands.{AgentStands, AgentTook, AgentStays};
 ghost use Rattle.agent_core.specs.WorldStands.{Leaves};
 ghost use Rattle.agent_core.specs.WorldWork.{EndStops, IssueStops};
@@ -19,8 +20,10 @@ use call_agent::{Agent, Issued};
 use gateway_core::{Event, Gateway, OutDatagram, Outputs};
 use mg_bytes::OutOfMemory;
 use plain_machine::Setup;
+use routes::Route;
 use std::alloc::Global;
 use std::net::SocketAddrV4;
+use transmission::same_address;
 
 // The port of gateways (RFC 3435, 3.5).
 const GATEWAY_PORT: u16 = 2427;
@@ -30,6 +33,25 @@ pub(crate) fn gateway_address(setup: &Setup) -> SocketAddrV4
     ensures { result ≡ gateway_address setup.now }
 {
     SocketAddrV4::new(setup.media_address, GATEWAY_PORT)
+}
+
+/// Whether an address is one of a route.
+pub(crate) fn is_among(route: Route<SocketAddrV4>, address: SocketAddrV4) -> bool
+    ensures { result ≡ is_among route address }
+{
+    match route {
+        Route::One(a) => same_address(address, a),
+        Route::Two(a, b) => same_address(address, a) || same_address(address, b),
+        Route::Three(a, b, c) => {
+            same_address(address, a) || same_address(address, b) || same_address(address, c)
+        }
+        Route::Four(a, b, c, d) => {
+            same_address(address, a)
+                || same_address(address, b)
+                || same_address(address, c)
+                || same_address(address, d)
+        }
+    }
 }
 
 /// What an end sends.
@@ -84,12 +106,12 @@ pub(crate) fn at_gateway(gateway: &mut Gateway, event: Event<'_>) -> Result<Sent
 /// An event comes to the agent: what that sends.
 pub(crate) fn at_agent(agent: &mut Agent, event: Event<'_>) -> Result<Sent, StepRefusal>
     ensures ok { IfOk result (λ sent. AgentTook agent.old (hears (event_of event.entry)) agent.new sent.outputs) }
-    ensures from { IfOk result (λ sent. (sent.end ≡ AgentEnd) × (sent.sender ≡ agent.old.setup.own)) }
+    ensures from { IfOk result (λ sent. (sent.end ≡ AgentEnd) × (sent.sender ≡ at agent.old.setup.own 0)) }
     ensures err { OnErr result (AgentStays agent.old agent.new) }
     ensures ends { (before : List AgentEvent) → AgentStands agent.old before → EndStops
         (hearing_refusal (plain_agent agent.old.setup before) (event_of event.entry)) (result_err result) }
 {
-    let sender = agent.own();
+    let sender = agent.own().at(0);
     match agent.step(event) {
         Ok(outputs) => Ok(Sent {
             end: End::AgentEnd,
@@ -118,12 +140,12 @@ pub(crate) fn issued_by(
     rest: &[u8],
 ) -> Result<Sent, StepRefusal>
     ensures ok { IfOk result (λ sent. AgentTook agent.old (issues verb.now name.now rest.now) agent.new sent.outputs) }
-    ensures from { IfOk result (λ sent. (sent.end ≡ AgentEnd) × (sent.sender ≡ agent.old.setup.own)) }
+    ensures from { IfOk result (λ sent. (sent.end ≡ AgentEnd) × (sent.sender ≡ at agent.old.setup.own 0)) }
     ensures ends { (before : List AgentEvent) → AgentStands agent.old before → IssueStops
         (issue_refusal (plain_agent agent.old.setup before) verb.now name.now rest.now) (result_err result) }
     ensures err { IfErr result (λ refusal. Leaves refusal ⊤ (AgentStays agent.old agent.new)) }
 {
-    let sender = agent.own();
+    let sender = agent.own().at(0);
     let Issued { datagram, .. } = match agent.issue(verb, name, rest) {
         Ok(issued) => issued,
         Err(fault) => return Err(of_issue(fault)),

@@ -14,7 +14,7 @@ ghost use Rattle.plain_machine.specs.Event.{GatewayEvent, tick};
 ghost use Rattle.plain_machine.specs.Refusing.{refusal_of};
 ghost use Rattle.plain_machine.specs.Lists.{plain};
 
-use crate::ends::{Sent, at_agent, at_gateway, gateway_address, issued_by, post};
+use crate::ends::{Sent, at_agent, at_gateway, gateway_address, is_among, issued_by, post};
 use crate::packet::{End, Packet, Posted};
 use crate::step::{Step, StepRefusal, WorldStopped};
 use call_agent::Agent;
@@ -62,7 +62,8 @@ fn posted(posted: &mut Vec<Posted>, sent: Sent) -> Result<(), StepRefusal>
 }
 
 impl World {
-    /// A world at moment 0: the gateway of this configuration, and the agent that it reports to, whose ids begin with 1.
+    /// A world at moment 0: the gateway of this configuration, and the agent that it reports to, with all its addresses, whose
+    /// ids begin with 1.
     ///
     /// The faults are those of `Gateway::new`, in their order.
     pub fn new(alloc: Global, config: Config) -> Result<World, ConfigFault>
@@ -71,7 +72,7 @@ impl World {
         let gateway = Gateway::new(alloc, config)?;
         let setup = gateway.setup();
         let domain = Text::of(Vec::from_slice(alloc, setup.names.domain.as_bytes())?);
-        let own = setup.agent.address;
+        let own = setup.agent.route;
         let lines = setup.names.lines;
         let agent = Agent::new(alloc, own, gateway_address(setup), domain, lines, 1)?;
         Ok(World {
@@ -186,7 +187,7 @@ impl World {
         }
     }
 
-    // The same of the agent.
+    // The packet with this number comes to the agent, where one of its addresses is the packet's.
     fn hand_to_agent(&mut self, number: usize) -> Result<(), StepRefusal>
         requires { number < length self.old.posted }
         ensures ok { OnOk result (HandsOver self.old number GatewayEnd self.new) }
@@ -194,7 +195,7 @@ impl World {
         ensures ends { WantsMemory self.old (result_err result) }
     {
         let packet = &self.posted[number].packet;
-        if !same_address(packet.to, self.agent.own()) {
+        if !is_among(self.agent.own(), packet.to) {
             return Ok(());
         }
         let event = Event::Datagram {

@@ -8,7 +8,7 @@ use Rattle.std.proofs.lemmas.List.{drop_all}
 use Rattle.std.proofs.Math.Seq.{drop-cons}
 use Rattle.outbound.specs.declared.repeat.Repeat.{Repeat}
 use Rattle.outbound.specs.declared.repeat.Repeat.TheVariants.{Sent as SentAgain, GivenUp}
-use Rattle.outbound.specs.Flight.{InFlight, repeat_of, repeated}
+use Rattle.outbound.specs.Flight.{InFlight, sent_to, repeat_of, repeated}
 use Rattle.outbound.proofs.LifeLaws.{repeat_same}
 use Rattle.transmission.specs.declared.output.OutDatagram.{OutDatagram}
 use Rattle.transmission.specs.Transacting.{message_to}
@@ -20,7 +20,7 @@ use Rattle.call_agent.specs.State.{FlewOn}
 -- ---- one thing
 
 pub flew_again : (flight now : InFlight) (repeat : Repeat) (moment : ℕ) (was is : Grown InFlight) (were are : List OutDatagram) (to : SocketAddrV4) (text : List ℕ) → moment ≡ flight.due
-    → repeat ≡ repeat_of flight moment → repeat ≡ SentAgain → now ≡ repeated flight moment → is ≡ record was { is = with_flight now was.is } → to ≡ now.to → text ≡ now.text
+    → repeat ≡ repeat_of flight moment → repeat ≡ SentAgain → now ≡ repeated flight moment → is ≡ record was { is = with_flight now was.is } → to ≡ sent_to now → text ≡ now.text
     → are ≡ were ++ message_to to moment text ∷ [] → FlewOn (flown_on (repeat_of flight flight.due) was.is flight) was is were are
 flew_again flight now repeat moment was is were are to text at done again goes put where_to says sent =
     let same = repeat_same flight flight.due in
@@ -30,9 +30,9 @@ flew_again flight now repeat moment was is were are to text at done again goes p
       flights = ap (λ (g : Grown InFlight). g.is) put ∙ ap (λ (f : InFlight). with_flight f was.is) now_is;
       found = ap (λ (g : Grown InFlight). g.found) put;
       sent = sent
-          ∙ ap (λ (x : SocketAddrV4). were ++ message_to x moment text ∷ []) (where_to ∙ ap (λ (f : InFlight). f.to) now_is ∙ same.same_place)
-          ∙ ap (λ (x : List ℕ). were ++ message_to flight.to moment x ∷ []) (says ∙ ap (λ (f : InFlight). f.text) now_is ∙ same.same_text)
-          ∙ ap (λ (m : ℕ). were ++ message_to flight.to m flight.text ∷ []) at;
+          ∙ ap (λ (x : SocketAddrV4). were ++ message_to x moment text ∷ []) (where_to ∙ ap sent_to now_is)
+          ∙ ap (λ (x : List ℕ). were ++ message_to (sent_to (repeated flight flight.due)) moment x ∷ []) (says ∙ ap (λ (f : InFlight). f.text) now_is ∙ same.same_text)
+          ∙ ap (λ (m : ℕ). were ++ message_to (sent_to (repeated flight flight.due)) m flight.text ∷ []) at;
     })
 
 pub flew_up : (flight now : InFlight) (id : ℕ) (repeat : Repeat) (moment : ℕ) (was is : Grown InFlight) (out : List OutDatagram) → moment ≡ flight.due → repeat ≡ repeat_of flight moment

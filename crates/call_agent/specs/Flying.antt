@@ -2,7 +2,7 @@
 use Rattle.std.specs.Prelude.{ℕ, ◌*◌, ◌==◌, zero, suc, nat_le, if◌then◌else◌, Bool, List, [], ◌∷◌, ◌++◌, length, Option, Some, None}
 use Rattle.outbound.specs.declared.repeat.Repeat.{Repeat}
 use Rattle.outbound.specs.declared.repeat.Repeat.TheVariants.{Sent, GivenUp}
-use Rattle.outbound.specs.Flight.{InFlight, repeat_of, repeated}
+use Rattle.outbound.specs.Flight.{InFlight, sent_to, repeat_of, repeated}
 use Rattle.transmission.specs.declared.output.OutDatagram.{OutDatagram}
 use Rattle.transmission.specs.Transacting.{message_to}
 use Rattle.call_agent.specs.Agent.{AgentMachine, AgentEffect}
@@ -43,7 +43,8 @@ flown flights sent = record { flights = flights; sent = sent }
 -- a command goes out once more, at its own moment, or it is given up
 abbrev pub flown_on : Repeat → List InFlight → InFlight → Flown
 flown_on Sent flights flight =
-    flown (with_flight (repeated flight flight.due) flights) (message_to flight.to flight.due flight.text ∷ [])
+    flown (with_flight (repeated flight flight.due) flights)
+    (message_to (sent_to (repeated flight flight.due)) flight.due flight.text ∷ [])
 flown_on GivenUp flights flight = flown (without_flight flight.id flights) []
 
 abbrev pub afterwards : Flown → (List InFlight → Flown) → Flown

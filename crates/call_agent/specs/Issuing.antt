@@ -3,6 +3,7 @@ use Rattle.std.specs.Prelude.{ℕ, ◌+◌, ◌&&◌, nat_lt, codes, decimal, if
 use Rattle.mg_bytes.specs.Bytes.{space}
 use Rattle.mgcp_text.specs.Reading.{read_text}
 use Rattle.piggyback.specs.Packing.{is_joinable}
+use Rattle.routes.specs.declared.route.Route.TheVariants.{One}
 use Rattle.outbound.specs.Flight.{sent_first}
 use Rattle.transmission.specs.Texts.{largest_datagram}
 use Rattle.machine_laws.specs.Saying.{is_command_as}
@@ -38,7 +39,7 @@ issue_refusal m verb name rest =
 -- the command goes out at once, and is in flight; the next has the next id
 abbrev pub issued : AgentSetup → AgentMachine → List ℕ → AgentEffect
 issued setup m text = record {
-  machine = record m { next = m.next + 1; flights = m.flights ++ sent_first m.next setup.gateway text m.now ∷ [] };
+  machine = record m { next = m.next + 1; flights = m.flights ++ sent_first m.next (One setup.gateway) text m.now ∷ [] };
   sent = message_to setup.gateway m.now text ∷ [];
 }
 

@@ -23,6 +23,7 @@ use mg_bytes::{OutOfMemory, Text};
 use mgcp_text::TransactionId;
 use outbound::Pending;
 use plain_machine::{Event, OutDatagram, Outputs, Refusal};
+use routes::Route;
 use std::alloc::Global;
 use std::marker::Model;
 use std::net::SocketAddrV4;
@@ -58,11 +59,11 @@ fn answer_with(answers: &[Answered], id: u32) -> Option<&Answer>
 }
 
 impl Agent {
-    /// An agent with this address of its own, for the gateway at this address, which has this domain and so many lines. Its
-    /// ids begin with the first; at moment 0 nothing was issued and nothing came.
+    /// An agent with these addresses of its own, for the gateway at this address, which has this domain and so many lines. It
+    /// sends from the first of them. Its ids begin with the first; at moment 0 nothing was issued and nothing came.
     pub fn new(
         alloc: Global,
-        own: SocketAddrV4,
+        own: Route<SocketAddrV4>,
         gateway: SocketAddrV4,
         domain: Text,
         lines: u16,
@@ -97,8 +98,8 @@ impl Agent {
         })
     }
 
-    /// Its own address.
-    pub fn own(&self) -> SocketAddrV4
+    /// Its own addresses: it sends from the first, and receives at each (RFC 3435, 3.5).
+    pub fn own(&self) -> Route<SocketAddrV4>
         ensures { result ≡ self.now.setup.own }
     {
         self.setup.own
@@ -127,7 +128,7 @@ impl Agent {
         }
         let to = self.setup.gateway;
         let moment = self.state.clock;
-        let flight = Pending::begin(self.alloc, id, to, text.as_bytes(), moment)?;
+        let flight = Pending::begin(self.alloc, id, Route::One(to), text.as_bytes(), moment)?;
         self.state.flights.begin(flight)?;
         let id = self.state.next;
         self.state.next += 1;

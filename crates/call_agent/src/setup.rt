@@ -1,13 +1,14 @@
 //! Who an agent is.
 
 use mg_bytes::Text;
+use routes::Route;
 use std::net::SocketAddrV4;
 
-/// Who an agent is: its address, and the gateway that it works with.
+/// Who an agent is: its addresses, and the gateway that it works with.
 #[derive(Drop)]
 pub struct AgentSetup {
-    /// Its own address.
-    pub own: SocketAddrV4,
+    /// Its own addresses: it sends from the first, and receives at each (RFC 3435, 3.5).
+    pub own: Route<SocketAddrV4>,
     /// The gateway's address.
     pub gateway: SocketAddrV4,
     /// The gateway's domain.

@@ -17,7 +17,7 @@ use Rattle.agent_core.specs.declared.packet.End.TheVariants.{AgentEnd as agent_e
 use Rattle.agent_core.specs.declared.packet.Packet.{Packet}
 use Rattle.agent_core.specs.declared.packet.Posted.{Posted}
 use Rattle.call_agent.specs.Hearing.{AgentEvent, issues, hears}
-use Rattle.agent_core.specs.World.{World, WorldStep, issuing, dialling, ticking, delivering, delivered, delivered_from, gateway_address, to_agent, to_gateway, went}
+use Rattle.agent_core.specs.World.{World, WorldStep, issuing, dialling, ticking, delivering, delivered, delivered_from, is_among, gateway_address, to_agent, to_gateway, went}
 use Rattle.world_laws.specs.Reached.{Reached, added_by, as_arrival, executed_with, executed_of, reached, heard_in, taken_in}
 use Rattle.world_laws.proofs.LinkLaws.{heard_more}
 
@@ -78,7 +78,7 @@ delivered_moves setup w agent_end packet = by_test (same_address packet.to (gate
   by_test : (b : Bool) → Move w (if b then to_gateway setup w (datagram packet.sender packet.bytes) else w)
   by_test true = gateway_took (datagram packet.sender packet.bytes) refl refl
   by_test false = stays w
-delivered_moves setup w gateway_end packet = by_test (same_address packet.to setup.agent.address) where
+delivered_moves setup w gateway_end packet = by_test (is_among setup.agent.route packet.to) where
   by_test : (b : Bool) → Move w (if b then to_agent setup w (hears (datagram packet.sender packet.bytes)) else w)
   by_test true = agent_moves setup w (hears (datagram packet.sender packet.bytes))
   by_test false = stays w

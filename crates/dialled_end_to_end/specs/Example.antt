@@ -8,7 +8,7 @@ use Rattle.mg_line.specs.declared.phone.Key.TheVariants.{Five}
 use Rattle.outbound.specs.Flight.{InFlight, sent_first}
 use Rattle.plain_machine.specs.declared.station.Station.{Station}
 use Rattle.plain_machine.specs.Event.{GatewayEvent, phone}
-use Rattle.plain_machine.specs.Example.{agent, two_lines, ready}
+use Rattle.plain_machine.specs.Example.{agent, agent_route, two_lines, ready}
 use Rattle.plain_machine.specs.Lists.{plain, sent_of}
 use Rattle.plain_machine.specs.Machine.{opening_station, station_at}
 use Rattle.line_isolation.specs.Belonging.{of_line}
@@ -33,7 +33,7 @@ reporting verb id = verb ++ codes " " ++ decimal id ++ codes " aaln/1@rgw.exampl
 
 -- the notification with this id, in flight, and as it was taken
 abbrev pub flying : ℕ → InFlight
-flying id = sent_first id agent (reporting (codes "NTFY") id) 1000
+flying id = sent_first id agent_route (reporting (codes "NTFY") id) 1000
 
 abbrev pub taken_as : ℕ → Reached
 taken_as id = record {

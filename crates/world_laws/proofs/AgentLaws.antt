@@ -30,6 +30,7 @@ use Rattle.history.specs.Kept.{first_entry, firsts_in}
 use Rattle.history.proofs.LookLaws.{repeat_kept}
 use Rattle.history.specs.Memory.{most_firsts}
 use Rattle.history.specs.Looking.{Looked, new, repeat, confirmed, full, look_of}
+use Rattle.routes.specs.declared.route.Route.TheVariants.{One}
 use Rattle.outbound.specs.declared.repeat.Repeat.{Repeat}
 use Rattle.outbound.specs.declared.repeat.Repeat.TheVariants.{Sent as SentAgain, GivenUp}
 use Rattle.outbound.specs.declared.reply.Reply.{Reply}
@@ -439,9 +440,9 @@ issued_on : (setup : AgentSetup) (all : List Begun) (m : AgentMachine) (verb nam
     → AgentGoesOn (all ++ (record { id = m.next; moment = m.now; text = command_text verb m.next name rest }) ∷ []) m m.now (issued setup m (command_text verb m.next name rest))
 issued_on setup all m verb name rest h taken = record {
   holds = record {
-    flights = each_push (Flies (all ++ one ∷ []) m.now) m.flights (sent_first m.next setup.gateway text m.now)
+    flights = each_push (Flies (all ++ one ∷ []) m.now) m.flights (sent_first m.next (One setup.gateway) text m.now)
         (each_weaker (Flies all m.now) (Flies (all ++ one ∷ []) m.now) (flies_on all (one ∷ []) m.now m.now (omega arith)) m.flights h.flights)
-        (record { known = one_behind (IsSame (sent_first m.next setup.gateway text m.now)) all (one ∷ []) (inl (record { id = refl; text = refl; moment = refl })); later = omega arith; past = omega arith; goes = goes });
+        (record { known = one_behind (IsSame (sent_first m.next (One setup.gateway) text m.now)) all (one ∷ []) (inl (record { id = refl; text = refl; moment = refl })); later = omega arith; past = omega arith; goes = goes });
     issued = each_push (WasIssued m.now (m.next + 1)) all one
         (each_weaker (WasIssued m.now m.next) (WasIssued m.now (m.next + 1)) (λ b w. record { goes = w.goes; name = w.name; reads = w.reads; past = w.past; below = omega (arith, w.below) }) all h.issued)
         (record { goes = goes; name = name; reads = both.1; past = omega arith; below = omega arith });

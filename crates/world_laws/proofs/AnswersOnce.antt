@@ -9,6 +9,7 @@ use Rattle.mgcp_text.specs.declared.message.Message.TheVariants as messages
 use Rattle.mgcp_text.specs.Reading.{Outcome, message, no_header, bad_version, bad_body, read_text}
 use Rattle.history.specs.Memory.{most_firsts}
 use Rattle.history.specs.Looking.{Looked, new, repeat, confirmed, full, look_of}
+use Rattle.routes.specs.declared.route.Route.TheVariants.{One}
 use Rattle.outbound.specs.declared.repeat.Repeat.{Repeat}
 use Rattle.outbound.specs.declared.repeat.Repeat.TheVariants.{Sent as SentAgain, GivenUp}
 use Rattle.outbound.specs.declared.reply.Reply.{Reply}
@@ -212,7 +213,7 @@ event_on setup m (issues verb name rest) s = record {
   grown = sym (append-nil m.answers);
 } where
   both_free : (answers : List FinalAnswer) → Each (Free m.flights) answers → Each (λ (a : FinalAnswer). a.id < m.next) answers
-      → Each (Free (m.flights ++ sent_first m.next setup.gateway (command_text verb m.next name rest) m.now ∷ [])) answers
+      → Each (Free (m.flights ++ sent_first m.next (One setup.gateway) (command_text verb m.next name rest) m.now ∷ [])) answers
   both_free [] free below = tt
   both_free (a ∷ answers) free below =
       (each_push (λ (f : InFlight). f.id ≢ a.id) m.flights _ free.0 (λ e. absurd (let b : a.id < m.next = below.0 in omega (arith, b, e))), both_free answers free.1 below.1)

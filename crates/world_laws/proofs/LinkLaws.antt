@@ -17,6 +17,7 @@ use Rattle.outbound.specs.declared.reply.Reply.TheVariants.{Answered, Provisiona
 use Rattle.outbound.specs.Flight.{InFlight, reply_by, reply_of, heard}
 use Rattle.outbound.proofs.LifeLaws.{reply_same}
 use Rattle.transmission.specs.declared.output.OutDatagram.{OutDatagram}
+use Rattle.routes.specs.Route.{at}
 use Rattle.plain_machine.specs.Setup.{IsSetUp}
 use Rattle.plain_machine.specs.Event.{GatewayEvent, datagram, phone, tick}
 use Rattle.plain_machine.specs.Message.{Sent, datagram_of, datagrams_of}
@@ -45,7 +46,7 @@ use Rattle.agent_core.specs.declared.packet.End.{End}
 use Rattle.agent_core.specs.declared.packet.Packet.{Packet}
 use Rattle.agent_core.specs.declared.packet.Posted.{Posted}
 use Rattle.agent_core.specs.declared.packet.End.TheVariants.{AgentEnd as agent_end, GatewayEnd as gateway_end}
-use Rattle.agent_core.specs.World.{World, WorldStep, agent_in, agent_of, delivered, delivered_from, delivering, delivery_refusal, dialling, gateway_address, gateway_in, issuing, now_in, plain_world, posted_as, step_refusal, steps_are_taken, ticking, to_agent, to_gateway, went, world_after, world_opening}
+use Rattle.agent_core.specs.World.{World, WorldStep, agent_in, agent_of, delivered, is_among, delivered_from, delivering, delivery_refusal, dialling, gateway_address, gateway_in, issuing, now_in, plain_world, posted_as, step_refusal, steps_are_taken, ticking, to_agent, to_gateway, went, world_after, world_opening}
 use Rattle.call_agent.specs.Taking.{GatewayCommand, command_of, transacted_by}
 use Rattle.world_laws.specs.Reached.{Reached, heard_in, issued_in, own_in, reached, taken_in}
 use Rattle.call_agent.specs.Responding.{replied, responded, responded_to}
@@ -309,7 +310,7 @@ agent_links : (setup : Setup) (w : World) (event : AgentEvent) (log : List Begun
     → Links setup (to_agent setup w event) log g (agent_effect (agent_of setup) m event).machine
 agent_links setup w event log g m all l h taken came answers = record {
   gateway = l.gateway;
-  posted = each_both (GatewaySends log (firsts_in g.history) g.now) w.posted _ l.posted (agent_posts log (firsts_in g.history) g.now setup.agent.address _);
+  posted = each_both (GatewaySends log (firsts_in g.history) g.now) w.posted _ l.posted (agent_posts log (firsts_in g.history) g.now (at setup.agent.route 0) _);
   came = subst (λ (x : List TextArrival). Each (Came log) (flat_map reached x)) (sym (agent_arrivals w setup event m.now l.time))
       (subst (Each (Came log)) (sym (flat_map-append reached (arrivals_of (heard_in w)) (arrives_with m.now event)))
       (each_both (Came log) (flat_map reached (arrivals_of (heard_in w))) (flat_map reached (arrives_with m.now event)) l.came came));
@@ -395,7 +396,7 @@ delivered_links setup w post l late from_agent from_gateway = by_end post.end po
   by_end : (end : End) (packet : Packet) → now_in setup w - packet.moment ≤ 10000 → Posts (issued_in setup w) (firsts_in (agent_in setup w).history) (agent_in setup w).now end packet
       → GatewayPosts (own_in setup w) (firsts_in (gateway_in setup w).history) (now_in setup w) end packet → LinksIn setup (delivered_from end setup w packet)
   by_end agent_end packet late sends none = by_gateway (same_address packet.to (gateway_address setup)) packet sends
-  by_end gateway_end packet late none sends = by_agent (same_address packet.to setup.agent.address) packet late sends
+  by_end gateway_end packet late none sends = by_agent (is_among setup.agent.route packet.to) packet late sends
 
 pub step_links : (setup : Setup) (w : World) (step : WorldStep) → Linked setup w → step_refusal setup w step ≡ None → LinksIn setup (went setup w step)
 unfolding step_refusal went

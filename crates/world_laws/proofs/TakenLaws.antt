@@ -26,7 +26,7 @@ use Rattle.agent_core.specs.declared.packet.End.{End}
 use Rattle.agent_core.specs.declared.packet.Packet.{Packet}
 use Rattle.agent_core.specs.declared.packet.Posted.{Posted}
 use Rattle.agent_core.specs.declared.packet.End.TheVariants.{AgentEnd as agent_end, GatewayEnd as gateway_end}
-use Rattle.agent_core.specs.World.{World, WorldStep, agent_in, agent_of, delivered, delivered_from, delivering, dialling, gateway_address, gateway_in, issuing, plain_world, step_refusal, steps_are_taken, ticking, to_agent, to_gateway, went, world_after, world_opening}
+use Rattle.agent_core.specs.World.{World, WorldStep, agent_in, agent_of, delivered, is_among, delivered_from, delivering, dialling, gateway_address, gateway_in, issuing, plain_world, step_refusal, steps_are_taken, ticking, to_agent, to_gateway, went, world_after, world_opening}
 use Rattle.world_laws.specs.Reached.{Reached, executed_in, heard_in, key_kept, key_reached, reached, taken_in, taken_with}
 use Rattle.call_agent.proofs.EventLemmas.{after_on}
 use Rattle.world_laws.proofs.AgentLaws.{alone}
@@ -53,7 +53,7 @@ delivered_keeps setup w agent_end packet time k = by_test (same_address packet.t
   by_test : (b : Bool) → KeepsIn setup (if b then to_gateway setup w (datagram packet.sender packet.bytes) else w)
   by_test true = k
   by_test false = k
-delivered_keeps setup w gateway_end packet time k = by_test (same_address packet.to setup.agent.address) where
+delivered_keeps setup w gateway_end packet time k = by_test (is_among setup.agent.route packet.to) where
   by_test : (b : Bool) → KeepsIn setup (if b then to_agent setup w (hears (datagram packet.sender packet.bytes)) else w)
   by_test true = agent_keeps setup w (hears (datagram packet.sender packet.bytes)) time k
   by_test false = k

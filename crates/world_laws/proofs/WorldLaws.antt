@@ -12,6 +12,7 @@ use Rattle.mgcp_text.specs.declared.message.Message.TheVariants as messages
 use Rattle.mgcp_text.specs.Reading.{Outcome, message, no_header, bad_version, bad_body, read_text}
 use Rattle.piggyback.specs.Parts.{parts_of}
 use Rattle.transmission.specs.declared.output.OutDatagram.{OutDatagram}
+use Rattle.routes.specs.Route.{at}
 use Rattle.plain_machine.specs.Event.{GatewayEvent, datagram, phone, tick}
 use Rattle.transmission.specs.Texts.{texts_of, largest_datagram}
 use Rattle.plain_machine.specs.Arriving.{arrival, clock_after, arrivals_at, arrivals_from, arrivals_of}
@@ -36,7 +37,7 @@ use Rattle.agent_core.specs.declared.packet.End.{End}
 use Rattle.agent_core.specs.declared.packet.Packet.{Packet}
 use Rattle.agent_core.specs.declared.packet.Posted.{Posted}
 use Rattle.agent_core.specs.declared.packet.End.TheVariants.{AgentEnd as agent_end, GatewayEnd as gateway_end}
-use Rattle.agent_core.specs.World.{World, WorldStep, agent_in, agent_of, agent_refused, delivered, delivered_from, delivering, delivery_refusal, dialling, gateway_address, gateway_in, gateway_refused, issuing, now_in, packet_too_old, plain_world, posted_as, step_refusal, steps_are_taken, ticking, to_agent, to_gateway, went, world_after, world_opening}
+use Rattle.agent_core.specs.World.{World, WorldStep, agent_in, agent_of, agent_refused, delivered, is_among, delivered_from, delivering, delivery_refusal, dialling, gateway_address, gateway_in, gateway_refused, issuing, now_in, packet_too_old, plain_world, posted_as, step_refusal, steps_are_taken, ticking, to_agent, to_gateway, went, world_after, world_opening}
 use Rattle.world_laws.specs.Reached.{Reached, executed_in, issued_in, reached, reached_as}
 use Rattle.call_agent.proofs.EventLemmas.{agent_clock, after_on, forward}
 use Rattle.world_laws.proofs.AgentLaws.{Goes, Speaks, WasIssued, Fine, Holds, AgentGoesOn, event_on, opening_holds, issued_more, alone, never, tick_taken}
@@ -121,7 +122,7 @@ agent_agrees setup w event a taken =
           (subst (λ (f : List KeptFirst). Each (Sends more f then') w.posted) (sym goes.grown)
           (each_weaker (Sends all (firsts_in m.history) m.now) (Sends more (firsts_in m.history ++ goes.more) then')
           (sends_on all (issued_with m event) (firsts_in m.history) goes.more m.now then' (clock_on m event taken)) w.posted a.posted))
-          (each_mapped (Sends more after then') (posted_as agent_end setup.agent.address) (packed (agent_effect (agent_of setup) m event).sent)
+          (each_mapped (Sends more after then') (posted_as agent_end (at setup.agent.route 0)) (packed (agent_effect (agent_of setup) m event).sent)
           (packed_hold (Tells more after) then' (agent_effect (agent_of setup) m event).sent
           (each_weaker (Speaks more after then') (λ (sent : OutDatagram). Goes sent.bytes) (λ sent s. s.goes) (agent_effect (agent_of setup) m event).sent goes.sent)
           (each_weaker (Speaks more after then') (λ (sent : OutDatagram). Tells more after sent.bytes sent.moment × (sent.moment ≤ then'))
@@ -255,7 +256,7 @@ delivered_agrees setup w post a one sends late = by_end post.end post.packet sen
   by_end : (end : End) (packet : Packet) → Posts (issued_in setup w) (firsts_in (agent_in setup w).history) (agent_in setup w).now end packet → now_in setup w - packet.moment ≤ 10000
       → AgreesIn setup (delivered_from end setup w packet)
   by_end agent_end packet sends late = by_gateway (same_address packet.to (gateway_address setup)) packet sends late
-  by_end gateway_end packet sends late = by_agent (same_address packet.to setup.agent.address) packet
+  by_end gateway_end packet sends late = by_agent (is_among setup.agent.route packet.to) packet
 
 pub not_late : (post : Posted) (now : ℕ) → delivery_refusal (Some post) now ≡ None → now - post.packet.moment ≤ 10000
 not_late post now taken = by_test (nat_lt 10000 (now - post.packet.moment)) refl taken where
@@ -307,7 +308,7 @@ delivered_clock setup w post a one = by_end post.end post.packet where
 
   by_end : (end : End) (packet : Packet) → OneClock setup (delivered_from end setup w packet)
   by_end agent_end packet = by_gateway (same_address packet.to (gateway_address setup)) packet
-  by_end gateway_end packet = by_agent (same_address packet.to setup.agent.address) packet
+  by_end gateway_end packet = by_agent (is_among setup.agent.route packet.to) packet
 
 pub step_sound : (setup : Setup) (w : World) (step : WorldStep) → Sound setup w → step_refusal setup w step ≡ None → Sound setup (went setup w step)
 unfolding step_refusal went

@@ -5,7 +5,8 @@ use Rattle.event_values.specs.declared.observed.Observed.{Observed}
 use Rattle.mg_line.specs.declared.phone.Act.TheVariants.{OffHook}
 use Rattle.plain_machine.specs.declared.setup.Setup.{Setup}
 use Rattle.plain_machine.specs.Event.{datagram, tick}
-use Rattle.plain_machine.specs.Example.{two_lines, other_agent}
+use Rattle.routes.specs.declared.route.Route.TheVariants.{One, Two, Four}
+use Rattle.plain_machine.specs.Example.{two_lines, other_agent, agent, second_agent, third_agent, fourth_agent}
 use Rattle.transmission.specs.declared.output.OutDatagram.{OutDatagram}
 use Rattle.call_agent.specs.declared.setup.AgentSetup.{AgentSetup}
 use Rattle.call_agent.specs.Agent.{AgentMachine, FinalAnswer, agent_opening, answer_for, observed_on}
@@ -57,7 +58,18 @@ repeated_audit = announced ++ audits ∷ ticking 501 ∷ delivering 3 ∷ delive
 
 -- the same gateway where its agent has its own address
 abbrev pub shared_address : Setup
-shared_address = record two_lines { agent = record two_lines.agent { address = gateway_address two_lines } }
+shared_address = record two_lines { agent = record two_lines.agent { route = One (gateway_address two_lines) } }
+
+-- the same gateway where its agent has two addresses, and where it has four
+abbrev pub two_addresses : Setup
+two_addresses = record two_lines { agent = record two_lines.agent { route = Two agent second_agent } }
+
+abbrev pub four_addresses : Setup
+four_addresses = record two_lines { agent = record two_lines.agent { route = Four agent second_agent third_agent fourth_agent } }
+
+-- it is ready at 1,000, line 1 goes off hook, and its notification, packet 2, is repeated twice, in packets 3 and 4
+abbrev pub notified_twice : List WorldStep
+notified_twice = ticking 1 ∷ delivering 0 ∷ delivering 1 ∷ ticking 1000 ∷ dialling 1 OffHook ∷ ticking 1500 ∷ ticking 2500 ∷ []
 
 -- the texts of all packets there
 abbrev pub texts_with : Setup → List WorldStep → List (List ℕ)

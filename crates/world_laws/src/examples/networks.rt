@@ -2,27 +2,29 @@
 //! what is refused.
 #![tactic(auto, unfolding(crate::proofs::Computing::on_examples))]
 
-ghost use Rattle.std.specs.Prelude.{◌≡◌, ◌++◌, codes, [], ◌∷◌, true, false, None, Some};
+ghost use Rattle.std.specs.Prelude.{◌≡◌, ◌++◌, codes, [], ◌∷◌, map, true, false, None, Some};
 ghost use Rattle.std.specs.Borrow.{Bor};
 ghost use Rattle.std.specs.Prelude.{ℕ, List};
 ghost use Rattle.mg_packages.specs.declared.event.Event.TheVariants as events;
 ghost use Rattle.mg_line.specs.declared.phone.Act.TheVariants as acts;
 ghost use Rattle.event_values.specs.declared.observed.Observed.TheVariants.{Happened};
-ghost use Rattle.plain_machine.specs.Example.{two_lines, agent, local_host, other_host, other_agent};
+ghost use Rattle.routes.specs.declared.route.Route.TheVariants.{One, Two, Four};
+ghost use Rattle.plain_machine.specs.Example.{two_lines, agent, local_host, other_host, other_agent, second_agent, third_agent, fourth_agent};
 ghost use Rattle.agent_core.specs.declared.packet.End.TheVariants.{GatewayEnd, AgentEnd};
 ghost use Rattle.agent_core.specs.declared.step.Step.TheVariants as steps;
 ghost use Rattle.call_agent.specs.Agent.{observed_on};
 ghost use Rattle.call_agent.specs.Issuing.{bad_command};
-ghost use Rattle.call_agent.specs.Hearing.{as_issue};
-ghost use Rattle.agent_core.specs.World.{world_opening, steps_are_taken, gateway_address, agent_of, gateway_in, delivered_from, issuing, dialling, ticking, delivering, by_agent};
+ghost use Rattle.plain_machine.specs.Event.{datagram};
+ghost use Rattle.call_agent.specs.Hearing.{hears, as_issue};
+ghost use Rattle.agent_core.specs.World.{world_opening, steps_are_taken, gateway_address, agent_of, agent_in, gateway_in, is_among, to_agent, delivered_from, plain_world, issuing, dialling, ticking, delivering, by_agent};
 ghost use Rattle.agent_core.specs.WorldStands.{step_of, steps_before};
-ghost use Rattle.world_laws.specs.Example.{world, agent_after_steps, texts_in, texts_with, shared_address, code_in, refused_after, announced, audits};
+ghost use Rattle.world_laws.specs.Example.{world, agent_after_steps, texts_in, texts_with, shared_address, two_addresses, four_addresses, notified_twice, code_in, refused_after, announced, audits};
 
 /// A gateway has its media address and the port 2427; its agent is the one that it reports to, and begins with the id 1.
 pub fn both_ends_are_of_one_configuration()
     ensures gateway { gateway_address (record two_lines { media_address = other_host }) ≡ record { ip = other_host; port = 2427 } }
     ensures agent { agent_of (record two_lines { media_address = other_host })
-        ≡ record { own = agent; gateway = record { ip = other_host; port = 2427 }; domain = codes "rgw.example.net"; lines = 2; first = 1 } }
+        ≡ record { own = One agent; gateway = record { ip = other_host; port = 2427 }; domain = codes "rgw.example.net"; lines = 2; first = 1 } }
 {}
 
 /// A packet has its moment, the address of its sender, that to which it goes, and its bytes.
@@ -77,6 +79,26 @@ pub fn what_no_end_has_for_an_address_is_lost()
     ensures to_gateway { delivered_from GatewayEnd two_lines (world announced)
         (record { moment = 1; sender = gateway_address two_lines; to = gateway_address two_lines; bytes = codes "RSIP 1 *@rgw.example.net MGCP 1.0\r\n" })
         ≡ world announced }
+{}
+
+/// Of an agent with several addresses a packet to any of them arrives, and one to another is lost. It sends from the first. What
+/// comes at two of them is taken once.
+pub fn packets_arrive_at_each_address_of_an_agent()
+    ensures last { is_among (Four agent second_agent third_agent fourth_agent) fourth_agent ≡ true }
+    ensures second { is_among (Two agent second_agent) second_agent ≡ true }
+    ensures no_other { is_among (Two agent second_agent) third_agent ≡ false }
+    ensures no_other_port { is_among (Two agent second_agent) other_agent ≡ false }
+    ensures arrives { delivered_from GatewayEnd four_addresses world_opening
+        (record { moment = 1; sender = gateway_address two_lines; to = third_agent; bytes = codes "RSIP 1 *@rgw.example.net MGCP 1.0\r\n" })
+        ≡ to_agent four_addresses world_opening
+        (hears (datagram (gateway_address two_lines) (codes "RSIP 1 *@rgw.example.net MGCP 1.0\r\n"))) }
+    ensures places { map (λ post. post.packet.to) (plain_world two_addresses notified_twice).posted
+        ≡ agent ∷ gateway_address two_lines ∷ agent ∷ agent ∷ second_agent ∷ [] }
+    ensures once { observed_on 1 (agent_in two_addresses (plain_world two_addresses (notified_twice ++ delivering 2 ∷ delivering 4 ∷ [])))
+        ≡ Happened events.OffHook ∷ [] }
+    ensures from { map (λ post. post.packet.sender) (plain_world two_addresses (notified_twice ++ delivering 4 ∷ [])).posted
+        ≡ gateway_address two_lines ∷ agent ∷ gateway_address two_lines ∷ gateway_address two_lines ∷ gateway_address two_lines
+        ∷ agent ∷ [] }
 {}
 
 /// Where both ends have one address, each still gets what the other sent.

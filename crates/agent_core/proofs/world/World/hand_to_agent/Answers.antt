@@ -3,8 +3,9 @@ use Rattle.std.specs.Prelude.{slice_get}
 use Rattle.std.proofs.lemmas.Option.{slice_get-get_or}
 use Rattle.std.specs.declared.net.socket_addr.SocketAddrV4.{SocketAddrV4}
 use Rattle.plain_machine.specs.Event.{datagram}
-use Rattle.transmission.specs.Packing.{same_address}
+use Rattle.routes.specs.declared.route.Route.{Route}
 use Rattle.call_agent.specs.Hearing.{hears}
+use Rattle.agent_core.specs.World.{is_among}
 use Rattle.call_agent.specs.AgentStands.{AgentTook}
 use Rattle.agent_core.specs.WorldStands.{WorldState}
 use Rattle.agent_core.proofs.EndLemmas.{gave_agent, agent_wants}
@@ -17,9 +18,9 @@ returns-in-Ok-clause-ok c =
     subst (λ (w : WorldState). c.args.number < length w.posted) (sym c.self.view_is) c.requires in
     let at : slice_get c.self.inside.posted.items c.args.number ≡ Some c.index.result.now =
     slice_get-get_or c.self.inside.posted.items c.args.number c.index.result.now inside ∙ ap Some (sym c.index.ensures) in
-    let same : same_address c.index.result.now.packet.to c.self.inside.agent.setup.own ≡ true =
-    ap (λ (a : SocketAddrV4). same_address c.index.result.now.packet.to a) (sym c.own.ensures)
-    ∙ sym c.if-not-same_address.ensures in
+    let same : is_among c.self.inside.agent.setup.own c.index.result.now.packet.to ≡ true =
+    ap (λ (own : Route SocketAddrV4). is_among own c.index.result.now.packet.to) (sym c.own.ensures)
+    ∙ sym c.if-not-is_among.ensures in
     let took = subst (λ (bytes : List ℕ). AgentTook c.self.inside.agent (hears (datagram c.index.result.now.packet.sender bytes)) c.at_agent.new.agent c.in-Ok.sent.outputs)
     c.as_bytes.ensures c.in-Ok.ensures.ok in
     post_ok c.posted.result _ _ c.posted.ensures.ok (λ posts. rw (← c.self.view_is)

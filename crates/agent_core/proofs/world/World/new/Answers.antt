@@ -7,7 +7,7 @@ use Rattle.agent_core.proofs.world.World.new.Goals as goal
 pub returns : goal.returns
 returns c =
     let given : SocketAddrV4 → AgentSetup = λ a. record {
-      own = c.setup-setup.result.now.agent.address;
+      own = c.setup-setup.result.now.agent.route;
       gateway = a;
       domain = c.of-domain.result;
       lines = c.setup-setup.result.now.names.lines;
