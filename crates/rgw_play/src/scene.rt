@@ -1,14 +1,15 @@
 //! Judges an input: its gateway and its steps, or its first fault.
-ghost use Rattle.std.specs.Prelude.{◌≡◌, ◌≢◌, List, [], Ok, ℕ, Result, IfOk, IfErr, option_and_then};
-ghost use Rattle.plain_machine.specs.Setup.{key_at_fault};
+ghost use Rattle.std.specs.Prelude.{◌≡◌, ◌≢◌, List, [], Ok, ℕ, Result, IfOk, IfErr};
 ghost use Rattle.gateway_core.specs.Stands.{Stands};
 ghost use Rattle.rgw_scripts.specs.declared.step.Step.{Step};
-ghost use Rattle.rgw_scripts.specs.Configuration.{config_in};
+ghost use Rattle.rgw_scripts.specs.Configuration.{config_in, key_in};
 ghost use Rattle.rgw_scripts.specs.Play.{scene_of, configured, judged, Explains};
 
 use gateway_core::{ConfigFault, ConfigKey, Gateway, key_at_fault};
 use mg_bytes::OutOfMemory;
-use rgw_scripts::{PlayFault, ScriptFault, Step, is_too_long, parts_of, read_config, read_script};
+use rgw_scripts::{
+    PlayFault, ScriptFault, Step, is_too_long, parts_of, read_config, read_script, read_unread_key,
+};
 use std::alloc::Global;
 
 // The number of the fault that a configuration can't be read.
@@ -44,14 +45,15 @@ pub fn gateway_of(alloc: Global, text: &[u8]) -> Result<Gateway, PlayFault>
     }
 }
 
-/// The key that the first fault of a configuration's text is about, for people; `None` where it has no fault, or can't be
-/// read. Its only error is want of memory.
+/// The key that the first fault of a configuration's text is about, for people: of one that can't be read the first key that
+/// is missing, or whose value is of another kind. `None` where it has no fault, or one that is about no key. Its only error is
+/// want of memory.
 pub fn read_key_at_fault(alloc: Global, text: &[u8]) -> Result<Option<ConfigKey>, OutOfMemory>
-    ensures { IfOk result (λ key. key ≡ option_and_then key_at_fault (config_in text.now)) }
+    ensures { IfOk result (λ key. key ≡ key_in text.now) }
 {
     match read_config(alloc, text)? {
         Some(config) => Ok(key_at_fault(&config)),
-        None => Ok(None),
+        None => read_unread_key(alloc, text),
     }
 }
 

@@ -1,6 +1,7 @@
 pub mod WholeInput
 pub mod PartLemmas
 pub mod ConfigLemmas
+pub mod HostLemmas
 pub mod MoveLemmas
 pub mod JudgedLemmas
 pub mod HexLemmas

@@ -1,13 +1,20 @@
 -- A configuration: a TOML text with these eight keys and no others.
-use Rattle.std.specs.Prelude.{ℕ, suc, ℤ, pos, negsuc, ◌==◌, nat_le, codes, if◌then◌else◌, List, [], ◌∷◌, Option, Some, None, option_and_then}
+use Rattle.std.specs.Prelude.{ℕ, suc, ℤ, pos, negsuc, ◌==◌, nat_le, codes, if◌then◌else◌, List, [], ◌∷◌, Option, Some, None, is_some, option_and_then}
 use Rattle.std.specs.Str.{is_utf8}
 use Rattle.std.specs.declared.net.ipv4_addr.Ipv4Addr.{Ipv4Addr}
-use Rattle.toml.specs.Data.{Data, Members, no_members, member, get_member, as_integer, as_str, as_table}
+use Rattle.toml.specs.Data.{Data, Items, no_items, item, Members, no_members, member, get_member, as_integer, as_str, as_array, as_table}
 use Rattle.toml.specs.Parse.{parse_document}
 use Rattle.mg_bytes.specs.Option.{◌>>=◌}
 use Rattle.mg_bytes.specs.Address.{ipv4_of}
+use Rattle.mg_bytes.specs.Checks.{unless, first_fault}
+use Rattle.routes.specs.declared.route.Route.{Route}
+use Rattle.routes.specs.declared.route.Route.TheVariants.{One}
+use Rattle.routes.specs.Route.{route_of}
 use Rattle.plain_machine.specs.declared.config.Config.{Config}
-use Rattle.plain_machine.specs.declared.config.NamedAddress.{NamedAddress}
+use Rattle.plain_machine.specs.declared.config.ConfigKey.{ConfigKey}
+use Rattle.plain_machine.specs.declared.config.ConfigKey.TheVariants as keys
+use Rattle.plain_machine.specs.Setup.{key_at_fault}
+use Rattle.plain_machine.specs.declared.config.NamedRoute.{NamedRoute}
 
 abbrev pub count_of : Members → ℕ
 count_of no_members = 0
@@ -34,13 +41,31 @@ address_in value = as_str value >>= ipv4_of
 abbrev pub address_at : List ℕ → Members → Option Ipv4Addr
 address_at key members = option_and_then address_in (get_member key members)
 
--- names, each with its address
-unfoldable pub names_from : Members → Option (List NamedAddress)
+-- the addresses that these values are, where each is one
+unfoldable pub addresses_in : Items → Option (List Ipv4Addr)
+addresses_in no_items = Some []
+addresses_in (item value values) = do
+  address ← address_in value
+  others ← addresses_in values
+  Some (address ∷ others)
+
+abbrev pub route_from : Data → Option Items → Option (Route Ipv4Addr)
+route_from value None = do
+  address ← address_in value
+  Some (One address)
+route_from value (Some values) = addresses_in values >>= route_of
+
+-- the addresses of a host: one as a text, or a list of 1 to 4 texts
+abbrev pub route_in : Data → Option (Route Ipv4Addr)
+route_in value = route_from value (as_array value)
+
+-- names, each with its addresses
+unfoldable pub names_from : Members → Option (List NamedRoute)
 names_from no_members = Some []
 names_from (member name value members) = do
-  address ← address_in value
+  route ← route_in value
   others ← names_from members
-  Some ((record { name = name; address = address }) ∷ others)
+  Some ((record { name = name; route = route }) ∷ others)
 
 abbrev pub names_at : Members → Option Members
 names_at members = option_and_then as_table (get_member (codes "names") members)
@@ -78,7 +103,7 @@ settings_of members = do
     hosts = hosts;
   })
 
-abbrev pub config_from : Settings → List NamedAddress → Config
+abbrev pub config_from : Settings → List NamedRoute → Config
 config_from settings names = record {
   domain = settings.domain;
   lines = settings.lines;
@@ -100,3 +125,28 @@ config_of members = if count_of members == 8 then (do
 -- the configuration that a text writes, if it is UTF-8, TOML and has such settings
 unfoldable pub config_in : List ℕ → Option Config
 config_in text = if is_utf8 text then parse_document text >>= config_of else None
+
+-- the first key of a document that is missing, or whose value is of another kind
+unfoldable pub unread_key : Members → Option ConfigKey
+unread_key members = first_fault
+    (unless (is_some (text_at (codes "domain") members)) keys.Domain
+    ∷ unless (is_some (number_at (codes "lines") members)) keys.Lines
+    ∷ unless (is_some (option_and_then names_from (names_at members))) keys.Names
+    ∷ unless (is_some (text_at (codes "agent") members)) keys.Agent
+    ∷ unless (is_some (number_at (codes "restart_wait") members)) keys.RestartWait
+    ∷ unless (is_some (number_at (codes "disconnected_wait") members)) keys.DisconnectedWait
+    ∷ unless (is_some (address_at (codes "media_address") members)) keys.MediaAddress
+    ∷ unless (is_some (number_at (codes "media_base") members)) keys.MediaBase
+    ∷ [])
+
+-- that of a text, where it is UTF-8 and TOML
+unfoldable pub unread_key_in : List ℕ → Option ConfigKey
+unread_key_in text = if is_utf8 text then parse_document text >>= unread_key else None
+
+abbrev pub key_from : Option Config → List ℕ → Option ConfigKey
+key_from None text = unread_key_in text
+key_from (Some config) text = key_at_fault config
+
+-- the key that the first fault of a configuration's text is about, where it is about one
+abbrev pub key_in : List ℕ → Option ConfigKey
+key_in text = key_from (config_in text) text

@@ -1,9 +1,11 @@
 -- The configuration and the addresses of the worked examples, and what their scripts say and show.
 use Rattle.std.specs.Prelude.{ℕ, pos, codes, decimal, List, [], ◌∷◌, ◌++◌, replicate, Option, None, Result}
 use Rattle.std.specs.List.{flat_map}
+use Rattle.std.specs.declared.net.ipv4_addr.Ipv4Addr.{Ipv4Addr}
 use Rattle.std.specs.declared.net.socket_addr.SocketAddrV4.{SocketAddrV4}
 use Rattle.toml.specs.Data.{Data, string, integer, table, Members, no_members, member}
 use Rattle.mg_bytes.specs.Lines.{lines_of}
+use Rattle.routes.specs.declared.route.Route.{Route}
 use Rattle.mg_bytes.specs.Words.{words}
 use Rattle.mg_packages.specs.declared.hook.Hook.{Hook}
 use Rattle.connections.specs.declared.connection.Connection.{Connection}
@@ -86,6 +88,10 @@ settings_with lines_key lines media names =
 abbrev pub local : Data
 local = string (codes "127.0.0.1")
 
+-- 127.0.0.2 as text
+abbrev pub other : Data
+other = string (codes "127.0.0.2")
+
 -- the example's settings with these lines
 abbrev pub with_lines : Data → Members
 with_lines lines = settings_with (codes "lines") lines local (host_at local)
@@ -101,3 +107,7 @@ with_names names = settings_with (codes "lines") (integer (pos 16)) local names
 -- the example's configuration with these lines
 abbrev pub example_config : ℕ → Config
 example_config lines = record configuration { lines = lines }
+
+-- the same, where the agent's host has these addresses
+abbrev pub config_with : Route Ipv4Addr → Config
+config_with route = record configuration { names = (record { name = codes "ca.example.net"; route = route }) ∷ [] }

@@ -2,16 +2,19 @@
 #![tactic(auto, unfolding(crate::proofs::Computing::on_examples))]
 
 ghost use Rattle.std.specs.Prelude.{◌≡◌, codes, pos, negsuc, true, false, [], ◌∷◌, Some, None, Ok, Err, replicate};
-ghost use Rattle.toml.specs.Data.{string, integer, boolean, table, no_members, member};
+ghost use Rattle.toml.specs.Data.{string, integer, boolean, array, table, no_items, item, no_members, member};
+ghost use Rattle.routes.specs.declared.route.Route.TheVariants.{Two, Three, Four};
 ghost use Rattle.mg_line.specs.declared.phone.Act.TheVariants as acts;
 ghost use Rattle.mg_packages.specs.declared.hook.Hook.TheVariants as hooks;
 ghost use Rattle.mg_line.specs.declared.phone.Key.TheVariants as keys;
 ghost use Rattle.plain_machine.specs.declared.refusal.Refusal.TheVariants as refusals;
 ghost use Rattle.plain_machine.specs.Event.{datagram, phone, tick};
+ghost use Rattle.plain_machine.specs.Example.{local_host, other_host};
 ghost use Rattle.rgw_scripts.specs.declared.step.Step.TheVariants as steps;
 ghost use Rattle.rgw_scripts.specs.declared.step.ScriptLine.TheVariants as lines;
 ghost use Rattle.rgw_scripts.specs.Input.{config_text, script_lines};
-ghost use Rattle.rgw_scripts.specs.Configuration.{config_of};
+ghost use Rattle.plain_machine.specs.declared.config.ConfigKey.TheVariants as keys_of_configurations;
+ghost use Rattle.rgw_scripts.specs.Configuration.{config_of, unread_key};
 ghost use Rattle.rgw_scripts.specs.Script.{act_of};
 ghost use Rattle.rgw_scripts.specs.Fault.{name_of_config_fault};
 ghost use Rattle.mg_packages.specs.declared.signal.Signal.TheVariants as signals;
@@ -19,7 +22,7 @@ ghost use Rattle.connections.specs.declared.mode.Mode.TheVariants as modes;
 ghost use Rattle.rgw_scripts.specs.Printing.{connections_shown};
 ghost use Rattle.rgw_scripts.specs.Moves.{give, pass, ask, sends, refuses, tells, moves_of, printed, is_refused};
 ghost use Rattle.rgw_scripts.specs.Example.{idle, numbered, in_mode, creates, told_after};
-ghost use Rattle.rgw_scripts.specs.Example.{address, agent, line_says, script_says, output_of, taken_by, to_agent, host_at, settings_with, local, with_lines, with_media, with_names, example_config};
+ghost use Rattle.rgw_scripts.specs.Example.{address, agent, line_says, script_says, output_of, taken_by, to_agent, host_at, settings_with, local, other, with_lines, with_media, with_names, example_config, config_with};
 
 /// Each key has its sign, in upper case.
 pub fn keys_have_their_signs()
@@ -179,8 +182,35 @@ pub fn configurations_are_read()
     ensures names_text { config_of (with_names (string (codes "ca.example.net"))) ≡ None }
     ensures host_number { config_of (with_names (host_at (integer (pos 1)))) ≡ None }
     ensures host_past { config_of (with_names (host_at (string (codes "127.0.0.256")))) ≡ None }
+    ensures one_host { config_of (with_names (host_at (array (item local no_items)))) ≡ Some (example_config 16) }
+    ensures two_hosts { config_of (with_names (host_at (array (item local (item other no_items)))))
+        ≡ Some (config_with (Two local_host other_host)) }
+    ensures equal_hosts { config_of (with_names (host_at (array (item other (item local (item other no_items))))))
+        ≡ Some (config_with (Three other_host local_host other_host)) }
+    ensures four_hosts { config_of (with_names (host_at (array (item local (item local (item other (item local no_items)))))))
+        ≡ Some (config_with (Four local_host local_host other_host local_host)) }
+    ensures five_hosts { config_of (with_names (host_at
+        (array (item local (item local (item local (item local (item local no_items)))))))) ≡ None }
+    ensures no_hosts { config_of (with_names (host_at (array no_items))) ≡ None }
+    ensures host_of_a_list { config_of (with_names (host_at (array (item local (item (array (item other no_items)) no_items))))) ≡ None }
+    ensures no_address { config_of (with_names (host_at (array (item local (item (string (codes "localhost")) no_items))))) ≡ None }
     ensures no_names { config_of (with_names (table no_members)) ≡ Some (record (example_config 16) { names = [] }) }
     ensures nothing { config_of no_members ≡ None }
+{}
+
+/// Of a configuration that can't be read the first key is told that is missing, or whose value is of another kind.
+pub fn keys_that_cannot_be_read_are_told()
+    ensures none { unread_key (with_lines (integer (pos 16))) ≡ None }
+    ensures missing { unread_key no_members ≡ Some keys_of_configurations.Domain }
+    ensures number { unread_key (with_lines (string (codes "16"))) ≡ Some keys_of_configurations.Lines }
+    ensures media { unread_key (with_media (string (codes "localhost"))) ≡ Some keys_of_configurations.MediaAddress }
+    ensures names { unread_key (with_names (string (codes "ca.example.net"))) ≡ Some keys_of_configurations.Names }
+    ensures five_hosts { unread_key (with_names (host_at
+        (array (item local (item local (item local (item local (item local no_items)))))))) ≡ Some keys_of_configurations.Names }
+    ensures no_hosts { unread_key (with_names (host_at (array no_items))) ≡ Some keys_of_configurations.Names }
+    ensures first { unread_key (settings_with (codes "lines") (integer (negsuc 0)) local (host_at (array no_items)))
+        ≡ Some keys_of_configurations.Lines }
+    ensures ninth { unread_key (member (codes "Lines") (integer (pos 1)) (with_lines (integer (pos 16)))) ≡ None }
 {}
 
 /// The faults of a configuration have their names.

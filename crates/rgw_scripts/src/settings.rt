@@ -1,12 +1,15 @@
 //! Reads a configuration from TOML.
-ghost use Rattle.std.specs.Prelude.{◌≡◌, IfOk, MatchOption, Some, None, option_map, string_bytes};
-ghost use Rattle.toml.specs.View.{table_view, view};
+ghost use Rattle.std.specs.Prelude.{◌≡◌, IfOk, MatchOption, Some, None, is_some, option_and_then, option_map, string_bytes};
+ghost use Rattle.mg_bytes.specs.Option.{◌>>=◌};
+ghost use Rattle.toml.specs.View.{items_view, table_view, view};
 ghost use Rattle.toml.specs.Data.{get_member, as_str};
-ghost use Rattle.rgw_scripts.specs.Configuration.{count_of, text_at, number_in, number_at, address_in, address_at, names_from, names_at, settings_of, config_of, config_in};
+ghost use Rattle.routes.specs.Route.{route_of};
+ghost use Rattle.rgw_scripts.specs.Configuration.{count_of, text_at, number_in, number_at, address_in, address_at, addresses_in, route_in, names_from, names_at, settings_of, config_of, config_in, unread_key, unread_key_in};
 ghost use Rattle.rgw_scripts.specs.SettingsSeen.{settings_seen};
 
 use mg_bytes::{OutOfMemory, Sequence, Text, ipv4_address};
-use plain_machine::{Config, NamedAddress};
+use plain_machine::{Config, ConfigKey, NamedRoute};
+use routes::Route;
 use std::alloc::{AllocError, Global};
 use std::net::Ipv4Addr;
 use toml::{Table, Value};
@@ -70,6 +73,35 @@ fn address_at(table: &Table, key: &str) -> Option<Ipv4Addr>
     }
 }
 
+// The addresses of a host that a list gives: 1 to 4 texts.
+#[tactic(auto, using(crate::proofs::HostLemmas::other_numbers), unfolding(crate::specs::Configuration::addresses_in))]
+fn route_of(values: &[Value]) -> Option<Route<Ipv4Addr>>
+    ensures { result ≡ (addresses_in (items_view values.now) >>= route_of) }
+{
+    match values {
+        [a] => Some(Route::One(address_in(a)?)),
+        [a, b] => Some(Route::Two(address_in(a)?, address_in(b)?)),
+        [a, b, c] => Some(Route::Three(address_in(a)?, address_in(b)?, address_in(c)?)),
+        [a, b, c, d] => Some(Route::Four(
+            address_in(a)?,
+            address_in(b)?,
+            address_in(c)?,
+            address_in(d)?,
+        )),
+        _ => None,
+    }
+}
+
+// The addresses of a host that a value gives: a text is one, a list has 1 to 4 of them.
+fn route_in(value: &Value) -> Option<Route<Ipv4Addr>>
+    ensures { result ≡ route_in (view value.now) }
+{
+    match value.as_array() {
+        Some(values) => route_of(values.as_slice()),
+        None => Some(Route::One(address_in(value)?)),
+    }
+}
+
 fn names_at(table: &Table) -> Option<&Table>
     ensures { option_map (λ t. table_view t.now) result ≡ names_at (table_view table.now) }
 {
@@ -85,20 +117,20 @@ fn owned(alloc: Global, text: &str) -> Result<Text, OutOfMemory>
     Ok(Text::of(Vec::from_slice(alloc, text.as_bytes())?))
 }
 
-// The names of a table with their addresses, if each has one.
+// The names of a table with their addresses, if each has such.
 #[tactic(auto, unfolding(crate::specs::Configuration::names_from))]
-fn names_of(alloc: Global, table: &Table) -> Result<Option<Sequence<NamedAddress>>, OutOfMemory>
+fn names_of(alloc: Global, table: &Table) -> Result<Option<Sequence<NamedRoute>>, OutOfMemory>
     ensures { IfOk result (λ found.
         MatchOption found (names_from (table_view table.now) ≡ None)
         (λ names. names_from (table_view table.now) ≡ Some names)) }
 {
     let mut names = Sequence::new(alloc);
     for (name, value) in table.iter() {
-        let Some(address) = address_in(value) else {
+        let Some(route) = route_in(value) else {
             return Ok(None);
         };
         let name = owned(alloc, name.as_str())?;
-        names.push(NamedAddress { name, address })?;
+        names.push(NamedRoute { name, route })?;
     }
     Ok(Some(names))
 }
@@ -172,6 +204,77 @@ pub fn read_config(alloc: Global, text: &[u8]) -> Result<Option<Config>, OutOfMe
     };
     match toml::table_from_str(alloc, text) {
         Ok(table) => config_of(alloc, &table),
+        Err(e) if e.is_memory() => Err(AllocError),
+        Err(_) => Ok(None),
+    }
+}
+
+// Whether each host of a table has its addresses.
+#[tactic(auto, unfolding(crate::specs::Configuration::names_from))]
+fn are_hosts(table: &Table) -> bool
+    ensures { result ≡ is_some (names_from (table_view table.now)) }
+{
+    for (_name, value) in table.iter() {
+        if route_in(value).is_none() {
+            return false;
+        }
+    }
+    true
+}
+
+// Whether a document has names, each with its addresses.
+fn has_names(table: &Table) -> bool
+    ensures { result ≡ is_some (option_and_then names_from (names_at (table_view table.now))) }
+{
+    match names_at(table) {
+        Some(hosts) => are_hosts(hosts),
+        None => false,
+    }
+}
+
+// The first key of a document that is missing, or whose value is of another kind.
+#[tactic(auto, unfolding(crate::specs::Configuration::unread_key))]
+fn unread_key(table: &Table) -> Option<ConfigKey>
+    ensures { result ≡ unread_key (table_view table.now) }
+{
+    if text_at(table, "domain").is_none() {
+        return Some(ConfigKey::Domain);
+    }
+    if number_at(table, "lines").is_none() {
+        return Some(ConfigKey::Lines);
+    }
+    if !has_names(table) {
+        return Some(ConfigKey::Names);
+    }
+    if text_at(table, "agent").is_none() {
+        return Some(ConfigKey::Agent);
+    }
+    if number_at(table, "restart_wait").is_none() {
+        return Some(ConfigKey::RestartWait);
+    }
+    if number_at(table, "disconnected_wait").is_none() {
+        return Some(ConfigKey::DisconnectedWait);
+    }
+    if address_at(table, "media_address").is_none() {
+        return Some(ConfigKey::MediaAddress);
+    }
+    if number_at(table, "media_base").is_none() {
+        return Some(ConfigKey::MediaBase);
+    }
+    None
+}
+
+/// The first key that a text lacks, or whose value is of another kind, for people; `None` where the text isn't TOML, or where
+/// nothing is wrong but that it has other keys too. Its only error is want of memory.
+#[tactic(auto, unfolding(crate::specs::Configuration::unread_key_in))]
+pub fn read_unread_key(alloc: Global, text: &[u8]) -> Result<Option<ConfigKey>, OutOfMemory>
+    ensures { IfOk result (λ key. key ≡ unread_key_in text.now) }
+{
+    let Ok(text) = std::str::from_utf8(text) else {
+        return Ok(None);
+    };
+    match toml::table_from_str(alloc, text) {
+        Ok(table) => Ok(unread_key(&table)),
         Err(e) if e.is_memory() => Err(AllocError),
         Err(_) => Ok(None),
     }
