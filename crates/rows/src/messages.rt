@@ -1,11 +1,12 @@
-//! A message of ours in flight, a row each. It goes to 127.0.0.1:2727.
+//! A message of ours in flight, a row each. It goes to 127.0.0.1, port 2727.
 //!
+//! - `hosts 3` what begins from now on goes to 127.0.0.1, 127.0.0.2 and 127.0.0.3, 4 at most;
 //! - `begins 10000000 at 1000  TEXT` the message with this id, as it is first sent;
 //! - `due 1500` when it is repeated or given up;
 //! - `repeat 1500 sent` it is due then, and is sent again, or `given up`;
 //! - `answer 10000000 100 at 1200 provisional` what a response with this id and return code is to it: `provisional`,
 //!   `answered` or `stranger`;
-//! - `is  10000000  127.0.0.1:2727  TEXT` its id, where it goes, and its text;
+//! - `is  10000000  127.0.0.1:2727  TEXT` its id, where it was sent last, and its text; `to 127.0.0.1:2727` where alone;
 //! - `keep` and `back`: the message as it was once.
 ghost use Rattle.std.specs.Prelude.{◌<◌, ◌^◌};
 
@@ -13,6 +14,7 @@ use crate::keeping::Thing;
 use crate::texts::number_text;
 use mgcp_text::TransactionId;
 use outbound::{Pending, Repeat, Reply};
+use routes::Route;
 use std::alloc::Global;
 use std::io;
 use std::net::{Ipv4Addr, SocketAddrV4};
@@ -34,10 +36,26 @@ fn moment_in(row: &mut Row<'_>) -> io::Result<u32> {
     }
 }
 
-/// A message.
+// The address 127.0.0.n, port 2727.
+fn agent_at(host: u8) -> SocketAddrV4 {
+    SocketAddrV4::new(Ipv4Addr::new(127, 0, 0, host), 2727)
+}
+
+// The route to 127.0.0.1 and those after it, so many in all.
+fn route_to(hosts: u32) -> Route<SocketAddrV4> {
+    match hosts {
+        2 => Route::Two(agent_at(1), agent_at(2)),
+        3 => Route::Three(agent_at(1), agent_at(2), agent_at(3)),
+        4 => Route::Four(agent_at(1), agent_at(2), agent_at(3), agent_at(4)),
+        _ => Route::One(agent_at(1)),
+    }
+}
+
+/// A message, and how many addresses the next one has.
 #[derive(Drop)]
 pub struct MessageTale {
     message: Pending,
+    hosts: u32,
 }
 
 impl MessageTale {
@@ -45,8 +63,8 @@ impl MessageTale {
     fn begins(&mut self, alloc: Global, row: &mut Row<'_>) -> io::Result<()> {
         let (id, moment) = (id_in(row)?, u64::from(moment_in(row)?));
         let text = value_of(alloc, row.rest().trim_start())?;
-        let agent = SocketAddrV4::new(Ipv4Addr::LOCALHOST, 2727);
-        self.message = Pending::begin(alloc, id, agent, text.as_bytes(), moment)?;
+        let route = route_to(self.hosts);
+        self.message = Pending::begin(alloc, id, route, text.as_bytes(), moment)?;
         Ok(())
     }
 
@@ -77,18 +95,24 @@ impl MessageTale {
 
 impl Thing for MessageTale {
     fn begin(alloc: Global) -> io::Result<MessageTale> {
-        let agent = SocketAddrV4::new(Ipv4Addr::LOCALHOST, 2727);
-        let message = Pending::begin(alloc, TransactionId::of(1), agent, b"", 0)?;
-        Ok(MessageTale { message })
+        let message = Pending::begin(alloc, TransactionId::of(1), route_to(1), b"", 0)?;
+        Ok(MessageTale { message, hosts: 1 })
     }
 
     fn copy(&self, _alloc: Global) -> io::Result<MessageTale> {
         let message = self.message.try_copy()?;
-        Ok(MessageTale { message })
+        Ok(MessageTale {
+            message,
+            hosts: self.hosts,
+        })
     }
 
     fn turn(&mut self, alloc: Global, row: &mut Row<'_>) -> io::Result<String> {
         match row.before(" ") {
+            "hosts" => {
+                self.hosts = row.number()?;
+                Ok(String::new(alloc))
+            }
             "begins" => {
                 self.begins(alloc, row)?;
                 Ok(String::new(alloc))
@@ -96,6 +120,7 @@ impl Thing for MessageTale {
             "repeat" => Ok(self.repeat(row)?.to_string(alloc)?),
             "answer" => Ok(self.answer(row)?.to_string(alloc)?),
             "due" => number_text(alloc, self.message.due()),
+            "to" => Ok(self.message.to().to_string(alloc)?),
             "is" => {
                 let (id, to) = (self.message.id().number(), self.message.to());
                 let text = said(alloc, self.message.text())?;

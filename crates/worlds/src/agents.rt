@@ -20,6 +20,7 @@ use crate::outputs::is_just_200;
 use agent_core::{Agent, IssueFault, Issued};
 use gateway_core::{Event, Outputs, Refusal};
 use mg_bytes::{Sequence, Text};
+use routes::Route;
 use std::alloc::Global;
 use std::io;
 use tales::{
@@ -50,7 +51,8 @@ fn agent_from(alloc: Global, first: u32) -> io::Result<Box<Agent>> {
         1
     };
     let domain = Text::of(bytes_of(alloc, "rgw.example.net")?);
-    let agent = Agent::new(alloc, agent_address(), gateway_address(), domain, 2, first)?;
+    let own = Route::One(agent_address());
+    let agent = Agent::new(alloc, own, gateway_address(), domain, 2, first)?;
     Ok(Box::new(alloc, agent)?)
 }
 

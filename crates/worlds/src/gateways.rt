@@ -1,7 +1,8 @@
 //! The gateway that tales are about, its configuration, the addresses of both ends, and what rows ask of a gateway.
-use gateway_core::{Config, Gateway, NamedAddress};
+use gateway_core::{Config, Gateway, NamedRoute};
 use mg_bytes::{OutOfMemory, Sequence, Text};
 use mg_line::Hook;
+use routes::Route;
 use std::alloc::Global;
 use std::io;
 use std::net::{Ipv4Addr, SocketAddrV4};
@@ -27,12 +28,30 @@ fn owned(alloc: Global, bytes: &[u8]) -> Result<Text, OutOfMemory> {
     Ok(Text::of(Vec::from_slice(alloc, bytes)?))
 }
 
-/// The usual settings, but for the number of lines and the entity that the gateway reports to.
-pub fn config_with(alloc: Global, lines: u32, entity: &[u8]) -> Result<Config, OutOfMemory> {
+// The address 127.0.0.n.
+fn local(host: u8) -> Ipv4Addr {
+    Ipv4Addr::new(127, 0, 0, host)
+}
+
+// A host with its addresses.
+fn named(alloc: Global, name: &[u8], route: Route<Ipv4Addr>) -> Result<NamedRoute, OutOfMemory> {
+    let name = owned(alloc, name)?;
+    Ok(NamedRoute { name, route })
+}
+
+// The usual host, and two with as many addresses as their names say, from 127.0.0.1 on.
+fn hosts(alloc: Global) -> Result<Sequence<NamedRoute>, OutOfMemory> {
     let mut names = Sequence::new(alloc);
-    let name = owned(alloc, b"ca.example.net")?;
-    let address = Ipv4Addr::LOCALHOST;
-    names.push(NamedAddress { name, address })?;
+    let four = Route::Four(local(1), local(2), local(3), local(4));
+    names.push(named(alloc, b"ca.example.net", Route::One(local(1)))?)?;
+    names.push(named(alloc, b"two.example.net", Route::Two(local(1), local(2)))?)?;
+    names.push(named(alloc, b"four.example.net", four)?)?;
+    Ok(names)
+}
+
+/// The usual settings, but for the number of lines, the entity that the gateway reports to, and two hosts more.
+pub fn config_with(alloc: Global, lines: u32, entity: &[u8]) -> Result<Config, OutOfMemory> {
+    let names = hosts(alloc)?;
     Ok(Config {
         domain: owned(alloc, b"rgw.example.net")?,
         lines,

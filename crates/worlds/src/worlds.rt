@@ -1,6 +1,7 @@
 //! A world of a gateway and a call agent, with a bad network between them, a row each. It has 16 lines.
 //!
-//! - `world 2` a new world with so many lines; `world 2  ca@[127.0.0.1]:2427` the same with this configured agent;
+//! - `world 2` a new world with so many lines; `world 2  ca@[127.0.0.1]:2427` the same with this configured agent; the host
+//!   two.example.net has two addresses, and four.example.net four, from 127.0.0.1 on;
 //! - `issue AUEP  aaln/1@rgw.example.net` the agent issues a command; `issue RQNT  aaln/1@rgw.example.net  X: 1¶` one with
 //!   these bytes behind its line;
 //! - `dial 1 off`, `tick 1000`, `deliver 0` the other steps; `deliver 9  8 NoSuchPacket` one that is refused;

@@ -4,10 +4,12 @@ use crate::values::numbered;
 use endpoint_names::{
     NameFault, Pattern, Table, TableFault, is_domain, matches, read_entity, read_name, write_name,
 };
+use routes::Route;
 use std::alloc::Global;
+use std::fmt::Display;
 use std::io;
 use std::net::Ipv4Addr;
-use tales::{or_none, said, unread};
+use tales::{said, unread};
 
 /// The domain of the endpoints.
 pub const DOMAIN: &[u8] = b"rgw.example.net";
@@ -52,13 +54,36 @@ fn means(name: &[u8], line: u16) -> bool {
     }
 }
 
+// The addresses of a route, with commas between them, or `none`.
+fn route_text<A: Display + Copy>(alloc: Global, route: Option<Route<A>>) -> io::Result<String> {
+    Ok(match route {
+        None => "none".to_string(alloc)?,
+        Some(Route::One(a)) => format!(in alloc; "{a}")?,
+        Some(Route::Two(a, b)) => format!(in alloc; "{a},{b}")?,
+        Some(Route::Three(a, b, c)) => format!(in alloc; "{a},{b},{c}")?,
+        Some(Route::Four(a, b, c, d)) => format!(in alloc; "{a},{b},{c},{d}")?,
+    })
+}
+
+// The route to 127.0.0.1 and those after it, so many in all.
+fn route_to(hosts: u16) -> Route<Ipv4Addr> {
+    let [one, two] = [Ipv4Addr::new(127, 0, 0, 1), Ipv4Addr::new(127, 0, 0, 2)];
+    let [three, four] = [Ipv4Addr::new(127, 0, 0, 3), Ipv4Addr::new(127, 0, 0, 4)];
+    match hosts {
+        2 => Route::Two(one, two),
+        3 => Route::Three(one, two, three),
+        4 => Route::Four(one, two, three, four),
+        _ => Route::One(one),
+    }
+}
+
 // A table of so many hosts: `h00` at 127.0.0.0, `h01` at 127.0.0.1, and so on.
 fn hosts(alloc: Global, count: u16) -> io::Result<Table> {
     let mut table = Table::new();
     for place in 0..count {
         let name = format!(in alloc; "h{place:02}")?;
         let [_, octet] = place.to_be_bytes();
-        let added = table.add(name.as_bytes(), Ipv4Addr::new(127, 0, 0, octet));
+        let added = table.add(name.as_bytes(), Route::One(Ipv4Addr::new(127, 0, 0, octet)));
         added.ok().ok_or(unread())?;
     }
     Ok(table)
@@ -66,7 +91,7 @@ fn hosts(alloc: Global, count: u16) -> io::Result<Table> {
 
 // What becomes of a host that is added to a table.
 fn added(alloc: Global, table: &mut Table, name: &[u8]) -> io::Result<String> {
-    let Err(fault) = table.add(name, Ipv4Addr::LOCALHOST) else {
+    let Err(fault) = table.add(name, Route::One(Ipv4Addr::LOCALHOST)) else {
         return said(alloc, b"taken");
     };
     let text = match fault {
@@ -82,20 +107,20 @@ fn of_host(alloc: Global, call: &str, name: &[u8], count: u16) -> io::Result<Str
     let mut table = hosts(alloc, count)?;
     match call {
         "host added to" => added(alloc, &mut table, name),
-        _ => or_none(alloc, table.address_of(name)),
+        _ => route_text(alloc, table.route_to(name)),
     }
 }
 
-// Where the entity is that a text names, where ca.example.net is known to be at 127.0.0.1, or no host is known.
-fn place_of(alloc: Global, text: &[u8], is_host_known: bool) -> io::Result<String> {
+// Where the entity is that a text names, where ca.example.net has so many addresses; no host is known where that is 0.
+fn place_of(alloc: Global, text: &[u8], hosts: u16) -> io::Result<String> {
     let mut table = Table::new();
-    if is_host_known {
-        let added = table.add(b"ca.example.net", Ipv4Addr::LOCALHOST);
+    if hosts > 0 {
+        let added = table.add(b"ca.example.net", route_to(hosts));
         added.ok().ok_or(unread())?;
     }
     match read_entity(text, &table) {
         Some(entity) if entity.text.as_bytes() != text => Ok("another text".to_string(alloc)?),
-        Some(entity) => or_none(alloc, Some(entity.address)),
+        Some(entity) => route_text(alloc, Some(entity.route)),
         None => Ok("none".to_string(alloc)?),
     }
 }
@@ -109,8 +134,9 @@ pub fn answer(alloc: Global, call: &str, value: &[u8]) -> Option<io::Result<Stri
         "means line" => judged(alloc, means(value, number)),
         "domain" => judged(alloc, is_domain(value)),
         "host added to" | "host among" => of_host(alloc, call, value, number),
-        "entity" => place_of(alloc, value, true),
-        "entity without hosts" => place_of(alloc, value, false),
+        "entity" => place_of(alloc, value, 1),
+        "entity at" => place_of(alloc, value, number),
+        "entity without hosts" => place_of(alloc, value, 0),
         _ => return None,
     })
 }
