@@ -21,6 +21,7 @@ use Rattle.outbound.specs.declared.repeat.Repeat.{Repeat}
 use Rattle.outbound.specs.declared.repeat.Repeat.TheVariants.{Sent as SentAgain, GivenUp}
 use Rattle.outbound.specs.declared.reply.Reply.{Reply}
 use Rattle.outbound.specs.declared.reply.Reply.TheVariants.{Answered as AnsweredReply, Provisional, Stranger}
+use Rattle.outbound.specs.Sends.{sending_time}
 use Rattle.outbound.specs.Flight.{InFlight, sent_to, sent_first, repeat_of, repeated, reply_of, heard_as, heard}
 use Rattle.outbound.proofs.LifeLaws.{repeat_same, sent_later, sent_soon}
 use Rattle.restart.specs.declared.restart.Restart.{Restart}
@@ -214,7 +215,7 @@ resent_good setup until log line moment post flight pending due past logged s =
       by_repeat SentAgain is =
           let same = repeat_same flight moment in
           let later = sent_later flight moment is in
-          let few : moment - flight.first < 20000 = sent_soon flight moment is in
+          let few : moment - flight.first < sending_time = sent_soon flight moment is in
           record {
             log_holds = subst (Logged until) (sym (append-nil log)) logged;
             of = tt;

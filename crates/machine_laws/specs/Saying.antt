@@ -5,6 +5,7 @@ use Rattle.mgcp_text.specs.declared.message.Param.{Param}
 use Rattle.mgcp_text.specs.declared.message.Message.TheVariants as messages
 use Rattle.mgcp_text.specs.Reading.{Outcome, message, no_header, bad_version, bad_body, read_text}
 use Rattle.mgcp_text.specs.Writing.{written}
+use Rattle.outbound.specs.Sends.{sending_time}
 use Rattle.history.specs.declared.entry.KeptFirst.{KeptFirst}
 use Rattle.plain_machine.specs.Message.{Said, answer, again, command, resent, acknowledgement, Sent}
 use Rattle.plain_machine.specs.Posting.{numbers, first_number, line_of_id}
@@ -58,7 +59,7 @@ OneOf P (x ∷ xs) = P x ⊎ OneOf P xs
 pub record Carries (bytes : List ℕ) (moment : ℕ) (one : Begun) : Type 0 where
   pub text : bytes ≡ one.text
   pub since : one.moment ≤ moment
-  pub within : moment < one.moment + 20000
+  pub within : moment < one.moment + sending_time
 
 -- an answer that is kept is a response in its transaction
 pub record IsAnswerTo (id : ℕ) (text : List ℕ) : Type 0 where

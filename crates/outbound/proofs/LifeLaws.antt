@@ -12,7 +12,7 @@ use Rattle.outbound.specs.declared.repeat.Repeat.{Repeat}
 use Rattle.outbound.specs.declared.repeat.Repeat.TheVariants.{Sent, GivenUp}
 use Rattle.outbound.specs.declared.reply.Reply.{Reply}
 use Rattle.outbound.specs.declared.reply.Reply.TheVariants.{Answered, Provisional, Stranger}
-use Rattle.outbound.specs.Sends.{wait_after, may_repeat}
+use Rattle.outbound.specs.Sends.{wait_after, sending_time, may_repeat}
 use Rattle.outbound.specs.Flight.{InFlight, sent_to, sent_first, repeat_of, repeated, reply_by, reply_of, heard}
 use Rattle.outbound.specs.Life.{Happening, falls_due, responds, resent, resent_to, is_answered, IsNoAnswer}
 
@@ -52,7 +52,7 @@ count_heard message id code moment Stranger is = rw is refl
 -- what is sent again was allowed, and is counted
 record IsAllowed (message : InFlight) (moment : ℕ) : Type 0 where
   few : message.repeats < 7
-  soon : moment - message.first < 20000
+  soon : moment - message.first < sending_time
   counted : (repeated message moment).repeats ≡ message.repeats + 1
   later : moment < (repeated message moment).due
 
@@ -73,9 +73,9 @@ wait_some repeats = by_none (repeats == 0) refl where
 allowed_by : (message : InFlight) (moment : ℕ) → may_repeat message.first message.repeats moment ≡ true → IsAllowed message moment
 unfolding repeated
 allowed_by message moment may =
-    let both = and_parts (nat_lt message.repeats 7) (nat_lt (moment - message.first) 20000) may in
+    let both = and_parts (nat_lt message.repeats 7) (nat_lt (moment - message.first) sending_time) may in
     let few : nat_lt message.repeats 7 ≡ true = both.0 in
-    let soon : nat_lt (moment - message.first) 20000 ≡ true = both.1 in
+    let soon : nat_lt (moment - message.first) sending_time ≡ true = both.1 in
     let wait : 0 < wait_after (message.repeats + 1) = wait_some (message.repeats + 1) in
     record { few = grind (arith, nat_tests, few); soon = grind (arith, nat_tests, soon); counted = rw may refl; later = rw may (omega arith) }
 
@@ -87,7 +87,7 @@ allowed : (message : InFlight) (moment : ℕ) → repeat_of message moment ≡ S
 allowed message moment is = allowed_by message moment (sent_by (may_repeat message.first message.repeats moment) is)
 
 -- what is sent again was first sent less than 20,000 ms ago
-pub sent_soon : (message : InFlight) (moment : ℕ) → repeat_of message moment ≡ Sent → moment - message.first < 20000
+pub sent_soon : (message : InFlight) (moment : ℕ) → repeat_of message moment ≡ Sent → moment - message.first < sending_time
 sent_soon message moment is = (allowed message moment is).soon
 
 pub sent_later : (message : InFlight) (moment : ℕ) → repeat_of message moment ≡ Sent → moment < (repeated message moment).due
@@ -116,14 +116,14 @@ low_code message id code low = by_id (message.id == id) where
 
 pub record Bounded (count first : ℕ) (moments : List ℕ) : Type 0 where
   pub few : count + length moments ≤ 7
-  pub soon : All (λ moment. moment < first + 20000) moments
+  pub soon : All (λ moment. moment < first + sending_time) moments
 
 carried : {was is first start : ℕ} {moments : List ℕ} → is ≡ was → start ≡ first → Bounded is start moments → Bounded was first moments
 carried count begin b = rw (← count, ← begin) b
 
 pub bounded : (message : InFlight) (happenings : List Happening) → message.repeats ≤ 7 → Bounded message.repeats message.first (resent message happenings)
 unfolding resent
-bounded message [] few = record { few = omega arith; soon = All-nil (λ moment. moment < message.first + 20000) }
+bounded message [] few = record { few = omega arith; soon = All-nil (λ moment. moment < message.first + sending_time) }
 bounded message (falls_due moment ∷ more) few = by_repeat (repeat_of message moment) refl (λ h. bounded (repeated message moment) more h) where
   by_repeat : (r : Repeat) → repeat_of message moment ≡ r
       → ((repeated message moment).repeats ≤ 7 → Bounded (repeated message moment).repeats (repeated message moment).first (resent (repeated message moment) more))
@@ -131,19 +131,19 @@ bounded message (falls_due moment ∷ more) few = by_repeat (repeat_of message m
   by_repeat Sent is others =
       let a = allowed message moment is in
       let few : message.repeats < 7 = a.few in
-      let near : moment - message.first < 20000 = a.soon in
+      let near : moment - message.first < sending_time = a.soon in
       let counted : (repeated message moment).repeats ≡ message.repeats + 1 = a.counted in
       let start : (repeated message moment).first ≡ message.first = (repeat_same message moment).same_start in
       let rest = others (omega arith) in
       let count : (repeated message moment).repeats + length (resent (repeated message moment) more) ≤ 7 = rest.few in
-      let later : All (λ m. m < message.first + 20000) (resent (repeated message moment) more) = subst (λ (first : ℕ). All (λ m. m < first + 20000) (resent (repeated message moment) more)) start rest.soon in
-      rw is (record { few = omega arith; soon = All-cons (λ m. m < message.first + 20000) moment (resent (repeated message moment) more) (omega arith) later })
-  by_repeat GivenUp is others = rw is (record { few = omega arith; soon = All-nil (λ moment. moment < message.first + 20000) })
+      let later : All (λ m. m < message.first + sending_time) (resent (repeated message moment) more) = subst (λ (first : ℕ). All (λ m. m < first + sending_time) (resent (repeated message moment) more)) start rest.soon in
+      rw is (record { few = omega arith; soon = All-cons (λ m. m < message.first + sending_time) moment (resent (repeated message moment) more) (omega arith) later })
+  by_repeat GivenUp is others = rw is (record { few = omega arith; soon = All-nil (λ moment. moment < message.first + sending_time) })
 bounded message (responds id code moment ∷ more) few = by_reply (reply_of message id code) refl (λ h. bounded (heard message id code moment) more h) where
   by_reply : (r : Reply) → reply_of message id code ≡ r
       → ((heard message id code moment).repeats ≤ 7 → Bounded (heard message id code moment).repeats (heard message id code moment).first (resent (heard message id code moment) more))
       → Bounded message.repeats message.first (resent message (responds id code moment ∷ more))
-  by_reply Answered is others = rw is (record { few = omega arith; soon = All-nil (λ moment. moment < message.first + 20000) })
+  by_reply Answered is others = rw is (record { few = omega arith; soon = All-nil (λ moment. moment < message.first + sending_time) })
   by_reply Provisional is others =
       let same : (heard message id code moment).repeats ≡ message.repeats = count_heard message id code moment Provisional is in
       let start : (heard message id code moment).first ≡ message.first = (reply_same message id code moment).same_start in
@@ -158,7 +158,7 @@ bounded message (responds id code moment ∷ more) few = by_reply (reply_of mess
 pub eight_sends : (id : ℕ) (route : Route SocketAddrV4) (text : List ℕ) (first : ℕ) (happenings : List Happening) → length (first ∷ resent (sent_first id route text first) happenings) ≤ 8
 eight_sends id route text first happenings = let b = (bounded (sent_first id route text first) happenings (omega arith)).few in omega (arith, b)
 
-pub within_time : (id : ℕ) (route : Route SocketAddrV4) (text : List ℕ) (first : ℕ) (happenings : List Happening) → All (λ moment. moment < first + 20000) (resent (sent_first id route text first) happenings)
+pub within_time : (id : ℕ) (route : Route SocketAddrV4) (text : List ℕ) (first : ℕ) (happenings : List Happening) → All (λ moment. moment < first + sending_time) (resent (sent_first id route text first) happenings)
 within_time id route text first happenings = (bounded (sent_first id route text first) happenings (omega arith)).soon
 
 -- ---- where the sends go
