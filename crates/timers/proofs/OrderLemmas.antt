@@ -14,9 +14,9 @@ use Rattle.timers.specs.declared.kind.LineDue.TheVariants.{DigitTimer, SignalEnd
 use Rattle.timers.specs.declared.kind.DueKind.{DueKind}
 use Rattle.timers.specs.declared.kind.DueKind.TheVariants.{OfLine, Resend, Announce}
 use Rattle.timers.specs.declared.due_item.DueItem.{DueItem}
-use Rattle.timers.specs.Order.{place_of, kind_number, kind_count, kind_cmp, place_cmp, item_cmp}
+use Rattle.timers.specs.Order.{place_of, signal_count, kind_number, kind_count, kind_cmp, place_cmp, item_cmp}
 
-pub place_within : (signal : Signal) → place_of signal < 9
+pub place_within : (signal : Signal) → place_of signal < signal_count
 place_within DialTone = omega arith
 place_within Busy = omega arith
 place_within Reorder = omega arith

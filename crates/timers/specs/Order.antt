@@ -21,6 +21,10 @@ place_of Ringback = 6
 place_of Congestion = 7
 place_of Confirm = 8
 
+-- how many signals the table has
+abbrev pub signal_count : ℕ
+signal_count = 9
+
 -- the kinds come in this order: timer T, the signals in the order of their table, the command in flight, the announcement
 abbrev pub kind_number : DueKind → ℕ
 kind_number (OfLine DigitTimer) = 0

@@ -1,6 +1,6 @@
 //! What can fall due.
 ghost use Rattle.std.specs.Prelude.{◌≡◌, ◌<◌};
-ghost use Rattle.timers.specs.Order.{place_of, kind_number, kind_count};
+ghost use Rattle.timers.specs.Order.{place_of, signal_count, kind_number, kind_count};
 
 use mg_packages::Signal;
 
@@ -31,7 +31,7 @@ pub(crate) const KIND_COUNT: usize = 12;
 // The place of a signal in the table of signals.
 fn place_of(signal: Signal) -> usize
     ensures value { result ≡ place_of signal }
-    ensures within { result < 9 }
+    ensures within { result < signal_count }
 {
     signal as usize
 }
