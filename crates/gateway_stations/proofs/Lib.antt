@@ -1,3 +1,2 @@
 pub mod TellLemmas
-pub mod NewsLemmas
 pub mod ResponseLemmas

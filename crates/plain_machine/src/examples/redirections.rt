@@ -1,7 +1,7 @@
 //! Whom the answer to the gateway's own announcement names (RFC 3435, 2.3.12, 2.4 and 4.4.6), as theorems.
 #![tactic(auto, unfolding(crate::proofs::Computing::on_examples))]
 
-ghost use Rattle.std.specs.Prelude.{◌≡◌, ◌++◌, codes, [], ◌∷◌, map, replicate, option_map, true, false, None, Some};
+ghost use Rattle.std.specs.Prelude.{◌≡◌, ◌++◌, codes, [], ◌∷◌, map, replicate, true, false, None, Some};
 ghost use Rattle.mg_line.specs.declared.phone.Act.TheVariants.{OffHook};
 ghost use Rattle.restart.specs.declared.restart.Restart.TheVariants.{Waiting, Announced};
 ghost use Rattle.plain_machine.specs.Event.{phone, tick};
