@@ -81,7 +81,8 @@ to_gateway setup w event = record w {
 abbrev pub to_agent : Setup → World → AgentEvent → World
 to_agent setup w event = record w {
   agent_took = w.agent_took ++ event ∷ [];
-  posted = w.posted ++ map (posted_as agent_end (at setup.agent.route 0)) (packed (agent_effect (agent_of setup) (agent_in setup w) event).sent);
+  posted = w.posted
+      ++ map (posted_as agent_end (at setup.agent.route 0)) (packed (agent_effect (agent_of setup) (agent_in setup w) event).sent);
 }
 
 -- this address is one of the route's

@@ -24,7 +24,8 @@ IssueStops None given = IfSome given (λ refusal. refusal ≡ OutOfMemory)
 -- a step was done: each plain world that is kept goes on so
 pub record Goes (w : WorldState) (step : WorldStep) (w' : WorldState) : Type 0 where
   pub setup : w'.gateway.setup ≡ w.gateway.setup
-  pub keeps : (plain : World) → Keeps w plain → (step_refusal w.gateway.setup plain step ≡ None) × Keeps w' (went w.gateway.setup plain step)
+  pub keeps : (plain : World) → Keeps w plain
+      → (step_refusal w.gateway.setup plain step ≡ None) × Keeps w' (went w.gateway.setup plain step)
 
 -- nothing was done
 pub record Remains (w w' : WorldState) : Type 0 where

@@ -10,7 +10,8 @@ use connections::{Encoding, Mode};
 
 /// Each item of a line has its value: of one that opens, and of one where all differ.
 pub fn each_item_of_a_line_is_told()
-    ensures capabilities { told opening (codes "A") ≡ Ok (codes "200 9 OK\r\nA: a:PCMU;PCMA, p:10-30, v:L;G;D, m:sendonly;recvonly;sendrecv;confrnce;inactive\r\n") }
+    ensures capabilities { told opening (codes "A")
+        ≡ Ok (codes "200 9 OK\r\nA: a:PCMU;PCMA, p:10-30, v:L;G;D, m:sendonly;recvonly;sendrecv;confrnce;inactive\r\n") }
     ensures mu { told opening (codes "B") ≡ Ok (codes "200 9 OK\r\nB: e:mu\r\n") }
     ensures a_law { told lifted (codes "B") ≡ Ok (codes "200 9 OK\r\nB: e:A\r\n") }
     ensures map { told lifted (codes "D") ≡ Ok (codes "200 9 OK\r\nD: (12T|34)\r\n") }
@@ -105,7 +106,8 @@ pub fn descriptions_stand_behind_empty_lines()
         ≡ Ok (codes "200 9 OK\r\nM: recvonly\r\n\r\nv=0\r\nc=IN IP4 10.0.0.9\r\nm=audio 4000 RTP/AVP 8\r\n") }
     ensures both { told_of (calling cut_connection) (codes "1") (codes "lc,C,RC,LC")
         ≡ Ok (codes "200 9 OK\r\nC: 1A\r\n\r\nv=0\r\no=- 1 2 IN IP4 127.0.0.1\r\ns=-\r\nc=IN IP4 127.0.0.1\r\nt=0 0\r\nm=audio 3000 RTP/AVP 8\r\na=ptime:20\r\n\r\nv=0\r\nc=IN IP4 10.0.0.9\r\nm=audio 4000 RTP/AVP 8\r\n") }
-    ensures turned { told_of (calling cut_connection) (codes "1") (codes "RC,LC") ≡ told_of (calling cut_connection) (codes "1") (codes "LC,RC") }
+    ensures turned { told_of (calling cut_connection) (codes "1") (codes "RC,LC")
+        ≡ told_of (calling cut_connection) (codes "1") (codes "LC,RC") }
     ensures unknown { told_of (calling first_connection) (codes "1") (codes "RC") ≡ Ok (codes "200 9 OK\r\n\r\nv=0\r\n") }
     ensures both_unknown { told_of (calling first_connection) (codes "1") (codes "RC,LC")
         ≡ Ok (codes "200 9 OK\r\n\r\nv=0\r\no=- 1 1 IN IP4 127.0.0.1\r\ns=-\r\nc=IN IP4 127.0.0.1\r\nt=0 0\r\nm=audio 3000 RTP/AVP 0 8\r\na=ptime:20\r\n\r\nv=0\r\n") }

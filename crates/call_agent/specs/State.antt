@@ -109,7 +109,8 @@ pub record FlewOn (passage : Flown) (was is : Grown InFlight) (were are : List O
   pub found : is.found ≡ was.found
   pub sent : are ≡ were ++ passage.sent
 
-abbrev pub Flies : {A : Type 0} → Result A AllocError → Flown → Grown InFlight → Grown InFlight → List OutDatagram → List OutDatagram → Type 0
+abbrev pub Flies : {A : Type 0} → Result A AllocError → Flown → Grown InFlight → Grown InFlight → List OutDatagram
+    → List OutDatagram → Type 0
 Flies (Ok x) passage was is were are = FlewOn passage was is were are
 Flies (Err fault) passage was is were are = is.found ≡ was.found
 

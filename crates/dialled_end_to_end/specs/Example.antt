@@ -60,7 +60,8 @@ lifted = phone 1 OffHook ∷ []
 -- and accepts that, packet 3
 abbrev pub asked : List WorldStep
 asked = ticking 1 ∷ delivering 0 ∷ delivering 1
-    ∷ issuing (codes "RQNT") (codes "aaln/1@rgw.example.net") (codes "X: C2\r\nR: L/hd(N),L/hu(N),L/hf(N),D/[0-9*#ABCD](N)\r\nQ: loop,process\r\n")
+    ∷ issuing (codes "RQNT") (codes "aaln/1@rgw.example.net")
+    (codes "X: C2\r\nR: L/hd(N),L/hu(N),L/hf(N),D/[0-9*#ABCD](N)\r\nQ: loop,process\r\n")
     ∷ delivering 2 ∷ delivering 3 ∷ []
 
 -- it is lifted, packet 4, and dials 5

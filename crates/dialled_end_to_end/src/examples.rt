@@ -96,7 +96,8 @@ pub fn all_that_the_law_asks_for_may_hold()
     ensures line { station_at (gateway_in two_lines (world answered)).endpoints 1 ≡ Some (station_then answered) }
     ensures asked { IsAskedForAll (course_of two_lines 1 up_to_the_request)
         (course_from two_lines (plain two_lines up_to_the_request) 1 since_the_request) (station_then answered).line }
-    ensures nothing_given_up { has_given_up (of_line 1 (sent_of two_lines (world answered).gateway_took)) (station_then answered).post ≡ false }
+    ensures nothing_given_up { has_given_up (of_line 1 (sent_of two_lines (world answered).gateway_took)) (station_then answered).post
+        ≡ false }
     ensures whole { done_then answered ≡ happened_in (told_then answered) ++ (happened_in (untaken_then answered) ++ left_then answered) }
     ensures told { told_then answered ≡ off_hook ∷ [] }
     ensures sent { untaken_then answered ≡ five ∷ [] }

@@ -120,7 +120,8 @@ pub fn else_an_act_may_be_skipped()
     ensures embedded_skipped { ¬ ToldOnce (flash_embeds ∷ phone 1 acts.OffHook ∷ response 200 10000000 ∷ phone 1 acts.Flash ∷ []) }
     ensures collected { told_then (keys_are_collected ∷ phone 1 acts.OffHook ∷ response 200 10000000 ∷ phone 1 (acts.Key keys.Five) ∷ [])
         ≡ lifted ∷ [] }
-    ensures collected_left { left_then (keys_are_collected ∷ phone 1 acts.OffHook ∷ response 200 10000000 ∷ phone 1 (acts.Key keys.Five) ∷ [])
+    ensures collected_left { left_then (keys_are_collected ∷ phone 1 acts.OffHook ∷ response 200 10000000
+        ∷ phone 1 (acts.Key keys.Five) ∷ [])
         ≡ Some [] }
     ensures collected_skipped { ¬ ToldOnce (keys_are_collected ∷ phone 1 acts.OffHook ∷ response 200 10000000
         ∷ phone 1 (acts.Key keys.Five) ∷ []) }
@@ -177,9 +178,11 @@ pub fn notifications_follow_requests()
 /// A course is in step where each of its requests is; then a request comes between two notifications.
 pub fn courses_are_in_step()
     ensures step { AreInStep (accepts (requests (codes "A1") []) ∷ does acts.Flash ∷ accepts (requests (codes "A2") []) ∷ []) }
-    ensures in_loop { ¬ AreInStep (accepts (requests (codes "A1") []) ∷ accepts (with_handling (codes "loop") (requests (codes "A2") [])) ∷ []) }
+    ensures in_loop { ¬ AreInStep (accepts (requests (codes "A1") [])
+        ∷ accepts (with_handling (codes "loop") (requests (codes "A2") [])) ∷ []) }
     ensures once { OnceForEach (notifies (codes "0") [] ∷ accepts (requests (codes "A1") []) ∷ notifies (codes "A1") [] ∷ []) }
-    ensures twice { ¬ OnceForEach (accepts (requests (codes "A1") []) ∷ notifies (codes "A1") [] ∷ does acts.Flash ∷ notifies (codes "A1") [] ∷ []) }
+    ensures twice { ¬ OnceForEach (accepts (requests (codes "A1") []) ∷ notifies (codes "A1") [] ∷ does acts.Flash
+        ∷ notifies (codes "A1") [] ∷ []) }
 {}
 
 /// In step a line notifies once, and then again once a request came; in loop it goes on by itself.

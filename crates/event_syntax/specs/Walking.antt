@@ -185,7 +185,8 @@ behind_embedded_stepped Closing rest = on BehindActions rest
 abbrev pub behind_signals : Seen → Option (List ℕ × List ℕ) → Stepped
 behind_signals seen None = wrong
 behind_signals seen (Some sides) =
-    if nat_le 1 (length (trimmed sides.0)) && are_signals (trimmed sides.0) then on (BehindPart (record seen { signals = true })) sides.1 else wrong
+    if nat_le 1 (length (trimmed sides.0)) && are_signals (trimmed sides.0)
+    then on (BehindPart (record seen { signals = true })) sides.1 else wrong
 
 abbrev pub behind_map : Seen → Option (List ℕ × List ℕ) → Stepped
 behind_map seen None = wrong

@@ -127,10 +127,14 @@ pub fn misspelled_requests_are_510()
 pub fn faults_of_requests_have_an_order()
     ensures spelling_first { requested_of (codes "Q/a,D/[9-1]") ≡ Err 510 }
     ensures inner_spelling_first { requested_of (codes "Q/a,L/hd(E(R(L/hu())))") ≡ Err 510 }
-    ensures spelling_before_number { requested_of (codes "hd,hd,hd,hd,hd,hd,hd,hd,hd,hd,hd,hd,hd,hd,hd,hd,hd,hd,hd,hd,hd,hd,hd,hd,hd,hd,hd,hd,hd,hd,hd,hd,hd,") ≡ Err 510 }
-    ensures number { requested_of (codes "hd,hd,hd,hd,hd,hd,hd,hd,hd,hd,hd,hd,hd,hd,hd,hd,hd,hd,hd,hd,hd,hd,hd,hd,hd,hd,hd,hd,hd,hd,hd,hd,hd") ≡ Err 502 }
-    ensures number_before_entries { requested_of (codes "Q/a,hd,hd,hd,hd,hd,hd,hd,hd,hd,hd,hd,hd,hd,hd,hd,hd,hd,hd,hd,hd,hd,hd,hd,hd,hd,hd,hd,hd,hd,hd,hd,hd") ≡ Err 502 }
-    ensures entries_of_32 { requested_of (codes "Q/a,hd,hd,hd,hd,hd,hd,hd,hd,hd,hd,hd,hd,hd,hd,hd,hd,hd,hd,hd,hd,hd,hd,hd,hd,hd,hd,hd,hd,hd,hd,hd") ≡ Err 518 }
+    ensures spelling_before_number { requested_of
+        (codes "hd,hd,hd,hd,hd,hd,hd,hd,hd,hd,hd,hd,hd,hd,hd,hd,hd,hd,hd,hd,hd,hd,hd,hd,hd,hd,hd,hd,hd,hd,hd,hd,hd,") ≡ Err 510 }
+    ensures number { requested_of
+        (codes "hd,hd,hd,hd,hd,hd,hd,hd,hd,hd,hd,hd,hd,hd,hd,hd,hd,hd,hd,hd,hd,hd,hd,hd,hd,hd,hd,hd,hd,hd,hd,hd,hd") ≡ Err 502 }
+    ensures number_before_entries { requested_of
+        (codes "Q/a,hd,hd,hd,hd,hd,hd,hd,hd,hd,hd,hd,hd,hd,hd,hd,hd,hd,hd,hd,hd,hd,hd,hd,hd,hd,hd,hd,hd,hd,hd,hd,hd") ≡ Err 502 }
+    ensures entries_of_32 { requested_of
+        (codes "Q/a,hd,hd,hd,hd,hd,hd,hd,hd,hd,hd,hd,hd,hd,hd,hd,hd,hd,hd,hd,hd,hd,hd,hd,hd,hd,hd,hd,hd,hd,hd,hd") ≡ Err 518 }
     ensures package { requested_of (codes "Q/a(N)") ≡ Err 518 }
     ensures package_first { requested_of (codes "Q/a@1(Z)(p)") ≡ Err 518 }
     ensures connection { requested_of (codes "L/hd@1(N)") ≡ Err 512 }
@@ -170,8 +174,11 @@ pub fn faults_of_embedded_requests_have_an_order()
     ensures accumulate_and_embed_in_embed { requested_of (codes "L/hd(E(R(L/hu(A,E(R(L/hf))))))") ≡ Err 523 }
     ensures name_before_embed_in_embed { requested_of (codes "L/hd(E(R(L/wt(E(R(L/hf))))))") ≡ Err 512 }
     ensures embed_in_embed_before_right { requested_of (codes "L/hd(E(R(L/hu(E(R(L/hf))),Q/a)))") ≡ Err 523 }
-    ensures most_events { requested_of (codes "L/hd(E(R(Q/a,hd,hd,hd,hd,hd,hd,hd,hd,hd,hd,hd,hd,hd,hd,hd,hd,hd,hd,hd,hd,hd,hd,hd,hd,hd,hd,hd,hd,hd,hd,hd)))") ≡ Err 518 }
-    ensures too_many_events { requested_of (codes "L/hd(E(R(Q/a,hd,hd,hd,hd,hd,hd,hd,hd,hd,hd,hd,hd,hd,hd,hd,hd,hd,hd,hd,hd,hd,hd,hd,hd,hd,hd,hd,hd,hd,hd,hd,hd)))") ≡ Err 502 }
+    ensures most_events { requested_of
+        (codes "L/hd(E(R(Q/a,hd,hd,hd,hd,hd,hd,hd,hd,hd,hd,hd,hd,hd,hd,hd,hd,hd,hd,hd,hd,hd,hd,hd,hd,hd,hd,hd,hd,hd,hd,hd)))") ≡ Err 518 }
+    ensures too_many_events { requested_of
+        (codes "L/hd(E(R(Q/a,hd,hd,hd,hd,hd,hd,hd,hd,hd,hd,hd,hd,hd,hd,hd,hd,hd,hd,hd,hd,hd,hd,hd,hd,hd,hd,hd,hd,hd,hd,hd,hd)))")
+        ≡ Err 502 }
     ensures too_many_signals { requested_of (codes "L/hd(E(S(Q/a,dl,dl,dl,dl,dl,dl,dl,dl)))") ≡ Err 502 }
 {}
 

@@ -177,8 +177,8 @@ pub(crate) fn commanded(
 ) -> Result<Answer, OutOfMemory>
     requires { MayTell context.setup.now moment }
     ensures answer { IfOk result (λ answer. answer ≡ (done_by
-        (form_while_in (serves floor.old.endpoints) said.now confirms.now context.entry.setup.now.names) context.entry.setup.now floor.old.endpoints
-        moment id).answer) }
+        (form_while_in (serves floor.old.endpoints) said.now confirms.now context.entry.setup.now.names)
+        context.entry.setup.now floor.old.endpoints moment id).answer) }
     ensures told { Tells result (done_by (form_while_in (serves floor.old.endpoints) said.now confirms.now context.entry.setup.now.names)
         context.entry.setup.now floor.old.endpoints moment id).told floor.old floor.new sent.old.items sent.new.items }
 {

@@ -28,7 +28,8 @@ pub record Leaves {F A C T : Type 0} (g : Call F A C T) (f : F) (was : A) (with 
   pub gives : left ≡ back.now
 
 -- the station at this place becomes what a call leaves of it
-pub record StationChanges {F C T : Type 0} (g : Call F Station C T) (f : F) (place : ℕ) (was : Endpoints) (with : C) (r : T) (is : Endpoints) (left : C) : Type 0 where
+pub record StationChanges {F C T : Type 0} (g : Call F Station C T) (f : F) (place : ℕ) (was : Endpoints) (with : C) (r : T)
+    (is : Endpoints) (left : C) : Type 0 where
   pub station : Station
   pub becomes : Station
   pub here : station ≡ slice_index_or was.stations place station
@@ -36,7 +37,8 @@ pub record StationChanges {F C T : Type 0} (g : Call F Station C T) (f : F) (pla
   pub endpoints : is ≡ record was { stations = slice_set was.stations place becomes }
 
 -- the post of the gateway itself becomes what a call leaves of it
-pub record OwnChanges {F C T : Type 0} (g : Call F Post C T) (f : F) (was : Endpoints) (with : C) (r : T) (is : Endpoints) (left : C) : Type 0 where
+pub record OwnChanges {F C T : Type 0} (g : Call F Post C T) (f : F) (was : Endpoints) (with : C) (r : T)
+    (is : Endpoints) (left : C) : Type 0 where
   pub becomes : Post
   pub leaves : Leaves g f was.own with r becomes left
   pub endpoints : is ≡ with_own was becomes
@@ -47,7 +49,8 @@ KeepsId g f = (shown leaves : MutBor Post) (lent back : MutBor _) (r : _) → Ha
     → g.post f (shown, (lent, tt)) (r, (leaves, (back, tt))) → HasId 0 leaves.now.number
 
 -- the station of a line becomes what a call leaves of it, and what the event found can still be had
-pub record LineChanges {F C T : Type 0} (g : Call F Station C T) (f : F) (line : ℕ) (was : FloorState) (with : C) (r : T) (is : FloorState) (left : C) : Type 0 where
+pub record LineChanges {F C T : Type 0} (g : Call F Station C T) (f : F) (line : ℕ) (was : FloorState) (with : C) (r : T)
+    (is : FloorState) (left : C) : Type 0 where
   pub station : Station
   pub becomes : Station
   pub here : station_at was.endpoints line ≡ Some station
@@ -55,7 +58,8 @@ pub record LineChanges {F C T : Type 0} (g : Call F Station C T) (f : F) (line :
   pub floor : is ≡ record was { endpoints = with_station was.endpoints line becomes }
 
 -- and so does the post of the gateway itself
-pub record GatewayChanges {F C T : Type 0} (g : Call F Post C T) (f : F) (was : FloorState) (with : C) (r : T) (is : FloorState) (left : C) : Type 0 where
+pub record GatewayChanges {F C T : Type 0} (g : Call F Post C T) (f : F) (was : FloorState) (with : C) (r : T)
+    (is : FloorState) (left : C) : Type 0 where
   pub becomes : Post
   pub leaves : Leaves g f was.endpoints.own with r becomes left
   pub floor : is ≡ record was { endpoints = with_own was.endpoints becomes }

@@ -32,7 +32,8 @@ pub record IsSavedToo (place : ℕ) (station : Station) (touched touched' : List
   pub flags : length touched' ≡ length touched
   pub marked : IsMarked touched' saved'
   pub this : is_saved place saved' ≡ true
-  pub same : (stations : List Station) → station ≡ slice_index_or stations place station → restored saved' stations ≡ restored saved stations
+  pub same : (stations : List Station) → station ≡ slice_index_or stations place station
+      → restored saved' stations ≡ restored saved stations
 
 -- at so many places the station isn't saved
 abbrev pub idle : List Bool → ℕ

@@ -14,6 +14,7 @@ pub record Goes (told : Effect Endpoints) (was is : FloorState) (were are : List
   pub sent : are ≡ were ++ datagrams_of told.sent
 
 -- so it goes; or memory is refused, and what the event found can still be had
-abbrev pub Tells : {A : Type 0} → Result A AllocError → Effect Endpoints → FloorState → FloorState → List OutDatagram → List OutDatagram → Type 0
+abbrev pub Tells : {A : Type 0} → Result A AllocError → Effect Endpoints → FloorState → FloorState → List OutDatagram
+    → List OutDatagram → Type 0
 Tells (Ok x) told was is were are = Goes told was is were are
 Tells (Err fault) told was is were are = is.found ≡ was.found

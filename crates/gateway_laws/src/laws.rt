@@ -80,7 +80,8 @@ pub fn commands_are_what_arrives()
 /// standard says, in their order, each to where its command came from and at the moment at which that arrived.
 pub fn what_is_answered_is_what_commands_get()
     ensures { (setup : Setup) (events : List GatewayEvent) →
-        datagrams_of (filter (λ (sent : Sent). is_answer sent.said) (sent_of setup events)) ≡ replies (asked_of events) (answers_of most_firsts (commands_of setup events)) }
+        datagrams_of (filter (λ (sent : Sent). is_answer sent.said) (sent_of setup events))
+        ≡ replies (asked_of events) (answers_of most_firsts (commands_of setup events)) }
 {}
 
 /// Where a machine keeps the firsts of all that arrived, a command that is one of them is executed; a repeat changes

@@ -130,9 +130,11 @@ pub fn connections_of_lines_are_apart()
 pub fn lines_are_opened_apart()
     ensures apart { LinesKeepApart two_lines lifted_early }
     ensures sent { sent_at 2 lifted_early ≡ answer_at (Some 2) 0 (answer (messages.Response 405 1702 [] []))
-        ∷ record (own_at 2 1 (notification_of 20000000 (codes "aaln/2@rgw.example.net") (codes "0") (codes "L/hd"))) { to = other_agent } ∷ [] }
+        ∷ record (own_at 2 1 (notification_of 20000000 (codes "aaln/2@rgw.example.net") (codes "0") (codes "L/hd")))
+        { to = other_agent } ∷ [] }
     ensures alone { sent_alone 2 lifted_early ≡ answer_at (Some 2) 0 (answer (messages.Response 405 1702 [] []))
-        ∷ record (own_at 2 1 (notification_of 20000000 (codes "aaln/2@rgw.example.net") (codes "0") (codes "L/hd"))) { to = other_agent } ∷ [] }
+        ∷ record (own_at 2 1 (notification_of 20000000 (codes "aaln/2@rgw.example.net") (codes "0") (codes "L/hd")))
+        { to = other_agent } ∷ [] }
 {}
 
 /// Two commands to two lines under one id are one transaction: the second line gets the first one's answer, which it

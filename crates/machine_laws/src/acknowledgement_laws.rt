@@ -24,7 +24,8 @@ pub fn a_final_response_with_an_empty_k_is_acknowledged()
           sent = acknowledging moment source id ∷ (responded setup endpoints moment (response_with setup id code params)).sent;
         } }
     ensures once { (setup : Setup) (endpoints : Endpoints) (moment code id : ℕ) (params : List Param) →
-        All (λ (sent : Sent). is_acknowledgement sent.said ≡ false) (responded setup endpoints moment (response_with setup id code params)).sent }
+        All (λ (sent : Sent). is_acknowledgement sent.said ≡ false)
+        (responded setup endpoints moment (response_with setup id code params)).sent }
 {}
 
 /// No other response is acknowledged: a provisional one, one whose code is greater than 999, and one whose first K is

@@ -27,8 +27,9 @@ ghost use Rattle.plain_machine.specs.Reporting.{name_of_line};
 ghost use Rattle.plain_machine.specs.Requesting.{deed_on, shown_of, answer_with, deed_done, line_with_place, done_for};
 ghost use Rattle.machine_laws.specs.Refusals.{IsRefused, NoneRefuses};
 
-/// A command that asks for a deed, of a gateway that serves, does what the deed does, on the lines that it is for: on one line, on all lines, or
-/// on the least that has a place for one more connection, which the answer names; where none has, that is 410.
+/// A command that asks for a deed, of a gateway that serves, does what the deed does, on the lines that it is for: on one
+/// line, on all lines, or on the least that has a place for one more connection, which the answer names; where none has, that
+/// is 410.
 pub fn a_command_does_its_deed()
     ensures deed { (setup : Setup) (endpoints : Endpoints) (moment id : ℕ) (command : Command) (confirms : KValue)
         (lines : Target) (deed : Deed) → form_while (serves endpoints) command confirms setup.names ≡ Ok (Does lines deed) →

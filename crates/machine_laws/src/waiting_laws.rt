@@ -37,9 +37,9 @@ pub fn lines_wait_at_each_thing_that_happens()
 {}
 
 /// What falls due on a line whose command is in flight begins no other: the end of a signal or of timer T sends nothing
-/// and leaves it in flight; what falls due of the command itself sends the same once more, to the address of its
-/// route that is next, or nothing, and leaves it in flight or gives it up. Other lines stay as they are, and so does the gateway itself. Of its own command, which falls
-/// due as that of line 0, the same holds.
+/// and leaves it in flight; what falls due of the command itself sends the same once more, to the address of its route that
+/// is next, or nothing, and leaves it in flight or gives it up. Other lines stay as they are, and so does the gateway itself.
+/// Of its own command, which falls due as that of line 0, the same holds.
 pub fn what_falls_due_begins_nothing_while_a_command_is_in_flight()
     ensures line { (setup : Setup) (endpoints : Endpoints) (item : DueItem) (due : LineDue) (station : Station)
         (message : InFlight) → KeepOrder endpoints → item.kind ≡ OfLine due →

@@ -55,7 +55,8 @@ pub fn answers_are_those_that_were_given()
         (agent_in setup (plain_world setup steps)).answers }
     ensures last { (setup : Setup) (steps : List WorldStep) → IsSetUp setup → steps_are_taken setup world_opening steps ≡ true →
         All (λ (one : FinalAnswer). (params : List Param) × (body : List ℕ) × (200 ≤ one.code)
-        × (read_text one.text ≡ message (messages.Response one.code one.id params body))) (agent_in setup (plain_world setup steps)).answers }
+        × (read_text one.text ≡ message (messages.Response one.code one.id params body)))
+        (agent_in setup (plain_world setup steps)).answers }
 {}
 
 /// Where no line used up its numbers, the agent takes each command of the gateway's own once at most, as it was sent, and no
@@ -80,7 +81,8 @@ pub fn what_is_taken_is_what_firsts_told()
     ensures taken { (setup : Setup) (steps : List WorldStep) → IsSetUp setup → steps_are_taken setup world_opening steps ≡ true →
         (agent_in setup (plain_world setup steps)).taken
         ≡ fold with_taken (nothing_taken (agent_of setup)) (flat_map (taken_with (agent_of setup)) (taken_in (plain_world setup steps))) }
-    ensures of_a_line { (setup : Setup) (steps : List WorldStep) (line : ℕ) → IsSetUp setup → steps_are_taken setup world_opening steps ≡ true →
+    ensures of_a_line { (setup : Setup) (steps : List WorldStep) (line : ℕ) → IsSetUp setup →
+        steps_are_taken setup world_opening steps ≡ true →
         observed_on line (agent_in setup (plain_world setup steps))
         ≡ flat_map (told_of line) (flat_map (taken_with (agent_of setup)) (taken_in (plain_world setup steps))) }
     ensures agent { (setup : Setup) (steps : List WorldStep) → IsSetUp setup → steps_are_taken setup world_opening steps ≡ true →

@@ -70,18 +70,23 @@ pub fn connections_are_modified()
 pub fn connections_are_deleted()
     ensures one { one_sends (crcx 1 (codes "aaln/1") [] ∷ dlcx 1916 (codes "aaln/1") (codes "C: 1a\r\nI: 1\r\n") ∷ [])
         ≡ created_text 1 1 3000 (codes "0 8") ∷ says (codes "250 1916 OK\r\nP: PS=0, OS=0, PR=0, OR=0, PL=0, JI=0, LA=0") ∷ [] }
-    ensures call { one_sends (crcx 1 (codes "aaln/1") [] ∷ dlcx 2 (codes "aaln/1") (codes "C: 2\r\n") ∷ dlcx 3 (codes "aaln/1") (codes "C: 1a\r\n")
+    ensures call { one_sends (crcx 1 (codes "aaln/1") [] ∷ dlcx 2 (codes "aaln/1") (codes "C: 2\r\n")
+        ∷ dlcx 3 (codes "aaln/1") (codes "C: 1a\r\n")
         ∷ dlcx 4 (codes "aaln/1") [] ∷ [])
         ≡ created_text 1 1 3000 (codes "0 8") ∷ says (codes "516 2") ∷ says (codes "250 3 OK") ∷ says (codes "250 4 OK") ∷ [] }
     ensures lines { two_send (crcx 1 (codes "aaln/1") [] ∷ crcx 2 (codes "aaln/2") [] ∷ dlcx 3301 (codes "*") []
         ∷ dlcx 3302 (codes "*") (codes "C: 1A\r\n") ∷ [])
-        ≡ created_text 1 1 3000 (codes "0 8") ∷ created_text 2 1 3008 (codes "0 8") ∷ says (codes "250 3301 OK") ∷ says (codes "503 3302") ∷ [] }
+        ≡ created_text 1 1 3000 (codes "0 8") ∷ created_text 2 1 3008 (codes "0 8") ∷ says (codes "250 3301 OK")
+        ∷ says (codes "503 3302") ∷ [] }
     ensures none_before { numbers_then two_lines (crcx 1 (codes "aaln/1") [] ∷ crcx 2 (codes "aaln/2") []
         ∷ dlcx 3 (codes "*") [] ∷ []) 1 ≡ Some [] }
-    ensures none_left { numbers_then two_lines (crcx 1 (codes "aaln/1") [] ∷ crcx 2 (codes "aaln/2") [] ∷ dlcx 3 (codes "*") [] ∷ []) 2 ≡ Some [] }
-    ensures others_stay { numbers_then two_lines (crcx 1 (codes "aaln/1") [] ∷ crcx 2 (codes "aaln/2") [] ∷ dlcx 3 (codes "aaln/1") [] ∷ []) 2
+    ensures none_left { numbers_then two_lines (crcx 1 (codes "aaln/1") [] ∷ crcx 2 (codes "aaln/2") []
+        ∷ dlcx 3 (codes "*") [] ∷ []) 2 ≡ Some [] }
+    ensures others_stay { numbers_then two_lines (crcx 1 (codes "aaln/1") [] ∷ crcx 2 (codes "aaln/2") []
+        ∷ dlcx 3 (codes "aaln/1") [] ∷ []) 2
         ≡ Some (1 ∷ []) }
-    ensures number { numbers_then one_line (crcx 1 (codes "aaln/1") [] ∷ crcx 2 (codes "aaln/1") [] ∷ dlcx 3 (codes "aaln/1") (codes "C: 1a\r\nI: 1\r\n")
+    ensures number { numbers_then one_line (crcx 1 (codes "aaln/1") [] ∷ crcx 2 (codes "aaln/1") []
+        ∷ dlcx 3 (codes "aaln/1") (codes "C: 1a\r\nI: 1\r\n")
         ∷ crcx 4 (codes "aaln/1") [] ∷ []) 1 ≡ Some (3 ∷ 2 ∷ []) }
 {}
 
@@ -91,7 +96,8 @@ pub fn an_encoding_is_given()
         ≡ says (codes "200 3303 OK") ∷ created_text 1 1 3000 (codes "8 0") ∷ created_text 2 1 3008 (codes "8 0") ∷ [] }
     ensures one { two_send (epcf 1 (codes "aaln/1") (codes "B: e:A\r\n") ∷ epcf 2 (codes "aaln/1") [] ∷ crcx 3 (codes "aaln/1") []
         ∷ crcx 4 (codes "aaln/2") [] ∷ [])
-        ≡ says (codes "200 1 OK") ∷ says (codes "200 2 OK") ∷ created_text 3 1 3000 (codes "8 0") ∷ created_text 4 1 3008 (codes "0 8") ∷ [] }
+        ≡ says (codes "200 1 OK") ∷ says (codes "200 2 OK") ∷ created_text 3 1 3000 (codes "8 0")
+        ∷ created_text 4 1 3008 (codes "0 8") ∷ [] }
     ensures at_once { one_sends (crcx 1 (codes "aaln/1") (codes "B: e:A\r\n") ∷ crcx 2 (codes "aaln/1") [] ∷ [])
         ≡ created_text 1 1 3000 (codes "8 0") ∷ created_text 2 2 3002 (codes "8 0") ∷ [] }
     // The next modification counts by it: one that comes with the encoding, and one after an EndpointConfiguration.
@@ -103,20 +109,24 @@ pub fn an_encoding_is_given()
         ∷ mdcx 3 (codes "C: 1a\r\nI: 1\r\n") ∷ [])
         ≡ created_text 1 1 3000 (codes "0 8") ∷ says (codes "200 2 OK")
         ∷ to_agent_at 1000 (codes "200 3 OK\r\n" ++ local_text 1 2 3000 (codes "8 0")) ∷ [] }
-    ensures connection { connections_of (machine_after one_line (ready_machine one_line) (crcx 1 (codes "aaln/1") [] ∷ epcf 2 (codes "aaln/1") (codes "B: e:A\r\n") ∷ [])) 1
+    ensures connection { connections_of (machine_after one_line (ready_machine one_line)
+        (crcx 1 (codes "aaln/1") [] ∷ epcf 2 (codes "aaln/1") (codes "B: e:A\r\n") ∷ [])) 1
         ≡ Some (Some first_connection ∷ replicate 3 None) }
     ensures opening { option_map (λ station. station.encoding) (station_at (ready_machine one_line).endpoints 1) ≡ Some Mu }
-    ensures then { option_map (λ station. station.encoding) (station_at (machine_after one_line (ready_machine one_line) (rqnt 1 (codes "aaln/1") (codes "X: 1\r\nB: e:a\r\n") ∷ [])).endpoints 1)
+    ensures then { option_map (λ station. station.encoding) (station_at (machine_after one_line (ready_machine one_line)
+        (rqnt 1 (codes "aaln/1") (codes "X: 1\r\nB: e:a\r\n") ∷ [])).endpoints 1)
         ≡ Some A }
 {}
 
 /// A command may have a request and an entity beside: connections refuse first, then the request, and then nothing is done.
 pub fn a_request_comes_with_connections()
-    ensures done { signals_of (machine_after one_line (ready_machine one_line) (crcx 1 (codes "aaln/1") (codes "X: 1\r\nS: L/rg\r\n") ∷ [])) 1
+    ensures done { signals_of (machine_after one_line (ready_machine one_line)
+        (crcx 1 (codes "aaln/1") (codes "X: 1\r\nS: L/rg\r\n") ∷ [])) 1
         ≡ Some (until signal.Ringing 181000 ∷ []) }
     ensures answer { one_sends (crcx 1 (codes "aaln/1") (codes "X: 1\r\nS: L/rg\r\n") ∷ []) ≡ created_text 1 1 3000 (codes "0 8") ∷ [] }
     ensures refused { one_sends (crcx 1 (codes "aaln/1") (codes "X: 1\r\nR: D/5(D)\r\n") ∷ []) ≡ says (codes "519 1") ∷ [] }
-    ensures undone { connections_of (machine_after one_line (ready_machine one_line) (crcx 1 (codes "aaln/1") (codes "B: e:A\r\nX: 1\r\nR: D/5(D)\r\n") ∷ [])) 1
+    ensures undone { connections_of (machine_after one_line (ready_machine one_line)
+        (crcx 1 (codes "aaln/1") (codes "B: e:A\r\nX: 1\r\nR: D/5(D)\r\n") ∷ [])) 1
         ≡ Some (replicate 4 None) }
     ensures encoding { option_map (λ station. station.encoding) (station_at (machine_after one_line (ready_machine one_line)
         (crcx 1 (codes "aaln/1") (codes "B: e:A\r\nX: 1\r\nR: D/5(D)\r\n") ∷ [])).endpoints 1) ≡ Some Mu }

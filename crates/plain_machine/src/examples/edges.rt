@@ -49,7 +49,8 @@ pub fn three_digits_ask_for_an_acknowledgement()
 /// An audit of a line that there isn't is 500; one whose answer doesn't fit is 533.
 pub fn some_audits_have_no_report()
     ensures no_line { audited example (ready_endpoints example) 9 (audits.One 17) (record { connection = None; items = [] }) ≡ Err 500 }
-    ensures unfit { done_by (Ok (Reports audits.All (record { connection = None; items = [] }))) (wide 250 16) (opening_endpoints (wide 250 16)) 0 9
+    ensures unfit { done_by (Ok (Reports audits.All (record { connection = None; items = [] })))
+        (wide 250 16) (opening_endpoints (wide 250 16)) 0 9
         ≡ only_answer (opening_endpoints (wide 250 16)) (plain_code 533) }
 {}
 
@@ -143,9 +144,11 @@ pub fn successive_messages_share_a_datagram()
     ensures none { packed [] ≡ [] }
     ensures other_moment { packed (to_agent_at 5 (codes "a\n") ∷ to_agent_at 6 (codes "b\n") ∷ [])
         ≡ to_agent_at 5 (codes "a\n") ∷ to_agent_at 6 (codes "b\n") ∷ [] }
-    ensures other_host { packed (to_agent (codes "a\n") ∷ (record { to = record agent { ip = other_host }; moment = 0; bytes = codes "b\n" }) ∷ [])
+    ensures other_host { packed (to_agent (codes "a\n")
+        ∷ (record { to = record agent { ip = other_host }; moment = 0; bytes = codes "b\n" }) ∷ [])
         ≡ to_agent (codes "a\n") ∷ (record { to = record agent { ip = other_host }; moment = 0; bytes = codes "b\n" }) ∷ [] }
-    ensures other_port { packed (to_agent (codes "a\n") ∷ (record { to = record agent { port = 2728 }; moment = 0; bytes = codes "b\n" }) ∷ [])
+    ensures other_port { packed (to_agent (codes "a\n")
+        ∷ (record { to = record agent { port = 2728 }; moment = 0; bytes = codes "b\n" }) ∷ [])
         ≡ to_agent (codes "a\n") ∷ (record { to = record agent { port = 2728 }; moment = 0; bytes = codes "b\n" }) ∷ [] }
     ensures successive { packed (to_agent (codes "a\n") ∷ to_other_at 0 (codes "b\n") ∷ to_agent (codes "c\n") ∷ [])
         ≡ to_agent (codes "a\n") ∷ to_other_at 0 (codes "b\n") ∷ to_agent (codes "c\n") ∷ [] }
@@ -163,7 +166,8 @@ pub fn effects_are_put_together()
     ensures whole { effect_map (λ (x : List ℕ). x ++ codes "b") (record { value = codes "a"; sent = own_at 1 0 (resent lifted) ∷ [] })
         ≡ record { value = codes "ab"; sent = own_at 1 0 (resent lifted) ∷ [] } }
     ensures silent { silently (codes "a") ≡ record { value = codes "a"; sent = [] } }
-    ensures sent_first { behind (own_at 1 0 (resent lifted) ∷ []) (record { value = codes "a"; sent = own_at 2 0 (resent lifted_on_2) ∷ [] })
+    ensures sent_first { behind (own_at 1 0 (resent lifted) ∷ [])
+        (record { value = codes "a"; sent = own_at 2 0 (resent lifted_on_2) ∷ [] })
         ≡ record { value = codes "a"; sent = own_at 1 0 (resent lifted) ∷ own_at 2 0 (resent lifted_on_2) ∷ [] } }
     ensures after { afterwards (record { value = codes "a"; sent = own_at 1 0 (resent lifted) ∷ [] })
         (λ (x : List ℕ). record { value = x ++ codes "b"; sent = own_at 2 0 (resent x) ∷ [] })

@@ -18,7 +18,8 @@ ghost use Rattle.world_laws.specs.Example.{audit_by_agent, agent_refuses, agent_
 /// A command of 4,000 bytes is issued, and no longer one.
 pub fn a_command_has_room_in_a_datagram()
     ensures longest { agent_refuses 1 [] (issues (codes "AUEP") (codes "aaln/1@rgw.example.net") (replicate 3960 10)) ≡ None }
-    ensures too_long { agent_refuses 1 [] (issues (codes "AUEP") (codes "aaln/1@rgw.example.net") (replicate 3961 10)) ≡ Some (as_issue bad_command) }
+    ensures too_long { agent_refuses 1 [] (issues (codes "AUEP") (codes "aaln/1@rgw.example.net") (replicate 3961 10))
+        ≡ Some (as_issue bad_command) }
 {}
 
 /// What is read under another id, or of another endpoint, isn't issued.
@@ -44,7 +45,8 @@ pub fn commands_go_to_the_gateway()
     ensures early { agent_posts (hears (tick 7) ∷ audit_by_agent ∷ []) (hears (tick 506)) ≡ [] }
     ensures repeat { agent_posts (hears (tick 7) ∷ audit_by_agent ∷ []) (hears (tick 507))
         ≡ message_to (gateway_address two_lines) 507 (codes "AUEP 1 aaln/1@rgw.example.net MGCP 1.0\r\n") ∷ [] }
-    ensures rest { agent_sends [] (issues (codes "RQNT") (codes "a@b") (codes "X: 1\nR:\r\n")) ≡ (0, codes "RQNT 1 a@b MGCP 1.0\r\nX: 1\nR:\r\n") ∷ [] }
+    ensures rest { agent_sends [] (issues (codes "RQNT") (codes "a@b") (codes "X: 1\nR:\r\n"))
+        ≡ (0, codes "RQNT 1 a@b MGCP 1.0\r\nX: 1\nR:\r\n") ∷ [] }
 {}
 
 /// All that falls due up to a moment happens: of a command seven repeats, each at its own moment, and its end.
@@ -60,35 +62,42 @@ pub fn all_that_falls_due_happens()
 pub fn a_command_is_given_up_after_its_time()
     ensures in_time { map (λ out. out.moment) (pass (agent_then (audit_by_agent ∷ seconds_of_agent 14 ++ hears (tick 14999)
         ∷ from_gateway (codes "100 1 wait\r\n") ∷ [])).flights 19999).sent ≡ 19999 ∷ [] }
-    ensures too_late { (pass (agent_then (audit_by_agent ∷ seconds_of_agent 15 ++ from_gateway (codes "100 1 wait\r\n") ∷ [])).flights 20000).sent ≡ [] }
-    ensures given_up { (pass (agent_then (audit_by_agent ∷ seconds_of_agent 15 ++ from_gateway (codes "100 1 wait\r\n") ∷ [])).flights 20000).flights ≡ [] }
+    ensures too_late { (pass (agent_then (audit_by_agent ∷ seconds_of_agent 15
+        ++ from_gateway (codes "100 1 wait\r\n") ∷ [])).flights 20000).sent ≡ [] }
+    ensures given_up { (pass (agent_then (audit_by_agent ∷ seconds_of_agent 15
+        ++ from_gateway (codes "100 1 wait\r\n") ∷ [])).flights 20000).flights ≡ [] }
 {}
 
 /// What falls due first happens first; of two commands at one moment that with the less id, whichever was put off first.
 pub fn commands_fall_due_in_their_order()
     ensures earlier { agent_sends (audit_by_agent ∷ hears (tick 600) ∷ audit_by_agent ∷ []) (hears (tick 1600))
         ≡ (1100, codes "AUEP 2 aaln/1@rgw.example.net MGCP 1.0\r\n") ∷ (1500, codes "AUEP 1 aaln/1@rgw.example.net MGCP 1.0\r\n") ∷ [] }
-    ensures put_off { agent_sends (audit_by_agent ∷ audit_by_agent ∷ from_gateway (codes "100 2 wait\r\n") ∷ from_gateway (codes "100 1 wait\r\n")
+    ensures put_off { agent_sends (audit_by_agent ∷ audit_by_agent ∷ from_gateway (codes "100 2 wait\r\n")
+        ∷ from_gateway (codes "100 1 wait\r\n")
         ∷ seconds_of_agent 4) (hears (tick 5000))
         ≡ (5000, codes "AUEP 1 aaln/1@rgw.example.net MGCP 1.0\r\n") ∷ (5000, codes "AUEP 2 aaln/1@rgw.example.net MGCP 1.0\r\n") ∷ [] }
 {}
 
 /// A response is for the command with its id, from wherever it comes; one below 100 is for none.
 pub fn a_response_is_for_its_command()
-    ensures lands { map (λ flight. flight.id) (agent_then (audit_by_agent ∷ audit_by_agent ∷ audit_by_agent ∷ from_gateway (codes "200 2 OK\r\n") ∷ [])).flights
+    ensures lands { map (λ flight. flight.id) (agent_then (audit_by_agent ∷ audit_by_agent ∷ audit_by_agent
+        ∷ from_gateway (codes "200 2 OK\r\n") ∷ [])).flights
         ≡ 1 ∷ 3 ∷ [] }
     ensures in_turn { map (λ answer. answer.id) (agent_then (audit_by_agent ∷ audit_by_agent ∷ from_gateway (codes "200 2 OK\r\n")
         ∷ from_gateway (codes "500 1\r\n") ∷ [])).answers ≡ 2 ∷ 1 ∷ [] }
-    ensures put_off { map (λ flight. flight.due) (agent_then (audit_by_agent ∷ audit_by_agent ∷ from_gateway (codes "100 2 wait\r\n") ∷ [])).flights
+    ensures put_off { map (λ flight. flight.due) (agent_then (audit_by_agent ∷ audit_by_agent
+        ∷ from_gateway (codes "100 2 wait\r\n") ∷ [])).flights
         ≡ 500 ∷ 5000 ∷ [] }
     ensures elsewhere { answer_for 1 (agent_then (audit_by_agent ∷ from_elsewhere (codes "200 1 OK\r\n") ∷ []))
         ≡ Some (record { id = 1; code = 200; text = codes "200 1 OK\r\n" }) }
     ensures below { map (λ flight. flight.due) (agent_then (audit_by_agent ∷ from_gateway (codes "099 1 x\r\n") ∷ [])).flights ≡ 500 ∷ [] }
     ensures no_answer { answer_for 1 (agent_then (audit_by_agent ∷ from_gateway (codes "099 1 x\r\n") ∷ [])) ≡ None }
-    ensures without_its_id { answer_in (record { id = 1; code = 200; text = codes "200 1\n" }) ≡ record { code = 200; text = codes "200 1\n" } }
+    ensures without_its_id { answer_in (record { id = 1; code = 200; text = codes "200 1\n" })
+        ≡ record { code = 200; text = codes "200 1\n" } }
 {}
 
 /// An acknowledgement goes to where its response came from, at the agent's moment.
 pub fn an_acknowledgement_goes_back()
-    ensures { agent_posts (hears (tick 7) ∷ []) (from_elsewhere (codes "200 0005 OK\r\nK:\r\n")) ≡ message_to other_agent 7 (codes "000 5\r\n") ∷ [] }
+    ensures { agent_posts (hears (tick 7) ∷ []) (from_elsewhere (codes "200 0005 OK\r\nK:\r\n"))
+        ≡ message_to other_agent 7 (codes "000 5\r\n") ∷ [] }
 {}

@@ -80,23 +80,28 @@ pub fn a_copy_gets_the_stored_answer()
 /// What a first confirms gets silence from then on, whatever the first is answered; its own id is confirmed by later ones alone.
 pub fn what_is_confirmed_gets_silence()
     ensures named { agent_sends (from_gateway (ntfy 5 []) ∷ from_gateway (ntfy 6 (codes "K: 5\r\n")) ∷ []) (from_gateway (ntfy 5 [])) ≡ [] }
-    ensures not_named { agent_sends (from_gateway (ntfy 5 []) ∷ from_gateway (ntfy 6 (codes "K: 4,6-7\r\n")) ∷ []) (from_gateway (ntfy 5 []))
+    ensures not_named { agent_sends (from_gateway (ntfy 5 []) ∷ from_gateway (ntfy 6 (codes "K: 4,6-7\r\n")) ∷ [])
+        (from_gateway (ntfy 5 []))
         ≡ (0, codes "200 5 OK\r\n") ∷ [] }
     ensures refused { agent_sends (from_gateway (ntfy 6 []) ∷ from_gateway (said (codes "AUEP") 7 (codes "a@b") (codes "K: 6\r\n")) ∷ [])
         (from_gateway (ntfy 6 [])) ≡ [] }
-    ensures its_own { agent_sends (from_gateway (ntfy 6 (codes "K: 6\r\n")) ∷ []) (from_gateway (ntfy 6 [])) ≡ (0, codes "200 6 OK\r\n") ∷ [] }
-    ensures unreadable { agent_sends (from_gateway (ntfy 5 []) ∷ from_gateway (ntfy 6 (codes "K: 5\r\nX\r\n")) ∷ []) (from_gateway (ntfy 5 []))
+    ensures its_own { agent_sends (from_gateway (ntfy 6 (codes "K: 6\r\n")) ∷ []) (from_gateway (ntfy 6 []))
+        ≡ (0, codes "200 6 OK\r\n") ∷ [] }
+    ensures unreadable { agent_sends (from_gateway (ntfy 5 []) ∷ from_gateway (ntfy 6 (codes "K: 5\r\nX\r\n")) ∷ [])
+        (from_gateway (ntfy 5 []))
         ≡ (0, codes "200 5 OK\r\n") ∷ [] }
     ensures repeat { agent_sends (from_gateway (ntfy 5 []) ∷ from_gateway (ntfy 6 []) ∷ from_gateway (ntfy 6 (codes "K: 5\r\n")) ∷ [])
         (from_gateway (ntfy 5 [])) ≡ (0, codes "200 5 OK\r\n") ∷ [] }
-    ensures not_told { told_then (from_gateway (ntfy 5 []) ∷ from_gateway (ntfy 6 (codes "K: 5\r\n")) ∷ from_gateway (ntfy 5 (codes "O: L/hd\r\n")) ∷ [])
+    ensures not_told { told_then (from_gateway (ntfy 5 []) ∷ from_gateway (ntfy 6 (codes "K: 5\r\n"))
+        ∷ from_gateway (ntfy 5 (codes "O: L/hd\r\n")) ∷ [])
         ≡ [] }
 {}
 
 /// What finds no room is lost.
 pub fn what_finds_no_room_at_an_agent_is_lost()
     ensures { transacted_by full (agent_then []) other_agent
-        (record { id = 5; confirms = []; code = 200; taken = (record { line = 1; observed = Happened events.OffHook ∷ [] }) ∷ [] }) ≡ idle (agent_then []) }
+        (record { id = 5; confirms = []; code = 200; taken = (record { line = 1; observed = Happened events.OffHook ∷ [] }) ∷ [] })
+        ≡ idle (agent_then []) }
 {}
 
 /// The texts of a datagram are taken one after the other; those of more than 4,000 bytes aren't.

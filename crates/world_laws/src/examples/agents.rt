@@ -22,13 +22,17 @@ pub fn ids_end_with_the_greatest()
 /// What isn't a command with its id and its name, whole and alone in a datagram, isn't issued.
 pub fn other_texts_are_not_issued()
     ensures verb { agent_refuses 1 [] (issues (codes "AUEPX") (codes "aaln/1@rgw.example.net") []) ≡ Some (as_issue bad_command) }
-    ensures other_id { agent_refuses 1 [] (issues (codes "AUEP 77 a@b MGCP 1.0") (codes "aaln/1@rgw.example.net") []) ≡ Some (as_issue bad_command) }
-    ensures line_end { agent_refuses 1 [] (issues (codes "AUEP") (codes "aaln/1@rgw.example.net") (codes "K: 1")) ≡ Some (as_issue bad_command) }
+    ensures other_id { agent_refuses 1 [] (issues (codes "AUEP 77 a@b MGCP 1.0") (codes "aaln/1@rgw.example.net") [])
+        ≡ Some (as_issue bad_command) }
+    ensures line_end { agent_refuses 1 [] (issues (codes "AUEP") (codes "aaln/1@rgw.example.net") (codes "K: 1"))
+        ≡ Some (as_issue bad_command) }
     ensures parameter { agent_refuses 1 [] (issues (codes "AUEP") (codes "aaln/1@rgw.example.net") (codes "K: 1\r\n")) ≡ None }
-    ensures two_messages { agent_refuses 1 [] (issues (codes "AUEP") (codes "aaln/1@rgw.example.net") (codes ".\r\nK: 1\r\n")) ≡ Some (as_issue bad_command) }
+    ensures two_messages { agent_refuses 1 [] (issues (codes "AUEP") (codes "aaln/1@rgw.example.net") (codes ".\r\nK: 1\r\n"))
+        ≡ Some (as_issue bad_command) }
     ensures name { agent_refuses 1 [] (issues (codes "AUEP") (codes "aaln/1 x") []) ≡ Some (as_issue bad_command) }
     ensures response { agent_refuses 1 [] (issues (codes "200") (codes "aaln/1@rgw.example.net") []) ≡ Some (as_issue bad_command) }
-    ensures body { agent_refuses 1 [] (issues (codes "AUEP") (codes "aaln/1@rgw.example.net") (codes "K 1\r\n")) ≡ Some (as_issue bad_command) }
+    ensures body { agent_refuses 1 [] (issues (codes "AUEP") (codes "aaln/1@rgw.example.net") (codes "K 1\r\n"))
+        ≡ Some (as_issue bad_command) }
 {}
 
 /// An agent has no telephones, and its clock goes as a gateway's.
@@ -44,9 +48,11 @@ pub fn an_agent_refuses_as_a_gateway_does()
 pub fn commands_are_repeated_and_given_up()
     ensures first { agent_sends [] audit_by_agent ≡ (0, codes "AUEP 1 aaln/1@rgw.example.net MGCP 1.0\r\n") ∷ [] }
     ensures early { agent_sends (audit_by_agent ∷ []) (hears (tick 499)) ≡ [] }
-    ensures repeat { agent_sends (audit_by_agent ∷ []) (hears (tick 1000)) ≡ (500, codes "AUEP 1 aaln/1@rgw.example.net MGCP 1.0\r\n") ∷ [] }
+    ensures repeat { agent_sends (audit_by_agent ∷ []) (hears (tick 1000))
+        ≡ (500, codes "AUEP 1 aaln/1@rgw.example.net MGCP 1.0\r\n") ∷ [] }
     ensures next_id { agent_sends (audit_by_agent ∷ []) audit_by_agent ≡ (0, codes "AUEP 2 aaln/1@rgw.example.net MGCP 1.0\r\n") ∷ [] }
-    ensures last { agent_sends (audit_by_agent ∷ seconds_of_agent 19) (hears (tick 20000)) ≡ (19500, codes "AUEP 1 aaln/1@rgw.example.net MGCP 1.0\r\n") ∷ [] }
+    ensures last { agent_sends (audit_by_agent ∷ seconds_of_agent 19) (hears (tick 20000))
+        ≡ (19500, codes "AUEP 1 aaln/1@rgw.example.net MGCP 1.0\r\n") ∷ [] }
     ensures in_flight { map (λ flight. flight.id) (plain_agent (agent_from 1) (audit_by_agent ∷ seconds_of_agent 23)).flights ≡ 1 ∷ [] }
     ensures given_up { (plain_agent (agent_from 1) (audit_by_agent ∷ seconds_of_agent 24)).flights ≡ [] }
 {}
@@ -61,13 +67,17 @@ pub fn the_least_id_is_repeated_first()
 pub fn the_first_final_response_is_the_answer()
     ensures answer { answer_for 1 (plain_agent (agent_from 1) (audit_by_agent ∷ from_gateway (codes "200 1 fine\nZ: 1\n") ∷ []))
         ≡ Some (record { id = 1; code = 200; text = codes "200 1 fine\nZ: 1\n" }) }
-    ensures second { answer_for 1 (plain_agent (agent_from 1) (audit_by_agent ∷ from_gateway (codes "200 1 OK\r\n") ∷ from_gateway (codes "500 1 OK\r\n") ∷ []))
+    ensures second { answer_for 1 (plain_agent (agent_from 1) (audit_by_agent ∷ from_gateway (codes "200 1 OK\r\n")
+        ∷ from_gateway (codes "500 1 OK\r\n") ∷ []))
         ≡ Some (record { id = 1; code = 200; text = codes "200 1 OK\r\n" }) }
     ensures other { answer_for 1 (plain_agent (agent_from 1) (audit_by_agent ∷ from_gateway (codes "200 2 OK\r\n") ∷ [])) ≡ None }
     ensures provisional { answer_for 1 (plain_agent (agent_from 1) (audit_by_agent ∷ from_gateway (codes "100 1 wait\r\n") ∷ [])) ≡ None }
-    ensures put_off { map (λ flight. flight.due) (plain_agent (agent_from 1) (audit_by_agent ∷ hears (tick 7) ∷ from_gateway (codes "100 1 wait\r\n") ∷ [])).flights ≡ 5007 ∷ [] }
-    ensures late { answer_for 1 (plain_agent (agent_from 1) (audit_by_agent ∷ seconds_of_agent 24 ++ from_gateway (codes "200 1 OK\r\n") ∷ [])) ≡ None }
-    ensures in_time { answer_for 1 (plain_agent (agent_from 1) (audit_by_agent ∷ seconds_of_agent 23 ++ from_gateway (codes "200 1 OK\r\n") ∷ []))
+    ensures put_off { map (λ flight. flight.due) (plain_agent (agent_from 1) (audit_by_agent ∷ hears (tick 7)
+        ∷ from_gateway (codes "100 1 wait\r\n") ∷ [])).flights ≡ 5007 ∷ [] }
+    ensures late { answer_for 1 (plain_agent (agent_from 1) (audit_by_agent ∷ seconds_of_agent 24
+        ++ from_gateway (codes "200 1 OK\r\n") ∷ [])) ≡ None }
+    ensures in_time { answer_for 1 (plain_agent (agent_from 1) (audit_by_agent ∷ seconds_of_agent 23
+        ++ from_gateway (codes "200 1 OK\r\n") ∷ []))
         ≡ Some (record { id = 1; code = 200; text = codes "200 1 OK\r\n" }) }
 {}
 
@@ -83,12 +93,14 @@ pub fn a_response_that_asks_for_it_is_acknowledged()
 pub fn the_commands_of_a_gateway_are_answered()
     ensures notification { agent_sends [] (from_gateway (codes "NTFY 10000000 aaln/1@rgw.example.net MGCP 1.0\r\nX: 0\r\nO: L/hd\r\n"))
         ≡ (0, codes "200 10000000 OK\r\n") ∷ [] }
-    ensures announcement { agent_sends [] (from_gateway (codes "RSIP 1 *@rgw.example.net MGCP 1.0\r\nRM: restart\r\n")) ≡ (0, codes "200 1 OK\r\n") ∷ [] }
+    ensures announcement { agent_sends [] (from_gateway (codes "RSIP 1 *@rgw.example.net MGCP 1.0\r\nRM: restart\r\n"))
+        ≡ (0, codes "200 1 OK\r\n") ∷ [] }
     ensures audit { agent_sends [] (from_gateway (codes "AUEP 5 aaln/1@rgw.example.net MGCP 1.0\r\n")) ≡ (0, codes "504 5\r\n") ∷ [] }
     ensures other { agent_sends [] (from_gateway (codes "ABCD 5 aaln/1@rgw.example.net MGCP 1.0\r\n")) ≡ (0, codes "504 5\r\n") ∷ [] }
     ensures version { agent_sends [] (from_gateway (codes "NTFY 5 aaln/1@rgw.example.net MGCP 2.0\r\n")) ≡ (0, codes "528 5\r\n") ∷ [] }
     ensures body { agent_sends [] (from_gateway (codes "NTFY 5 aaln/1@rgw.example.net MGCP 1.0\r\nX\r\n")) ≡ (0, codes "510 5\r\n") ∷ [] }
     ensures no_header { agent_sends [] (from_gateway (codes "\r\n")) ≡ [] }
-    ensures two { agent_sends [] (from_gateway (codes "NTFY 5 aaln/1@rgw.example.net MGCP 2.0\r\n.\r\nAUEP 6 aaln/1@rgw.example.net MGCP 1.0\r\n"))
+    ensures two { agent_sends []
+        (from_gateway (codes "NTFY 5 aaln/1@rgw.example.net MGCP 2.0\r\n.\r\nAUEP 6 aaln/1@rgw.example.net MGCP 1.0\r\n"))
         ≡ (0, codes "528 5\r\n") ∷ (0, codes "504 6\r\n") ∷ [] }
 {}

@@ -20,7 +20,8 @@ pub fn final_responses_have_these_codes()
 pub fn a_final_response_counts_while_its_command_is_in_flight()
     ensures whole { landings_then (audit_by_agent ∷ from_gateway (codes "500 1 fine\nZ: 1\n") ∷ [])
         ≡ (record { id = 1; code = 500; text = codes "500 1 fine\nZ: 1\n" }) ∷ [] }
-    ensures elsewhere { map (λ one. one.id) (landings_then (audit_by_agent ∷ audit_by_agent ∷ from_elsewhere (codes "200 2 OK\r\n") ∷ [])) ≡ 2 ∷ [] }
+    ensures elsewhere { map (λ one. one.id) (landings_then (audit_by_agent ∷ audit_by_agent
+        ∷ from_elsewhere (codes "200 2 OK\r\n") ∷ [])) ≡ 2 ∷ [] }
     ensures provisional { landings_then (audit_by_agent ∷ from_gateway (codes "100 1 wait\r\n") ∷ []) ≡ [] }
     ensures behind_a_provisional { map (λ one. one.code) (landings_then (audit_by_agent ∷ from_gateway (codes "100 1 wait\r\n")
         ∷ from_gateway (codes "200 1 OK\r\n") ∷ [])) ≡ 200 ∷ [] }
@@ -28,7 +29,8 @@ pub fn a_final_response_counts_while_its_command_is_in_flight()
     ensures second { map (λ one. one.code) (landings_then (audit_by_agent ∷ from_gateway (codes "200 1 OK\r\n")
         ∷ from_gateway (codes "500 1 OK\r\n") ∷ [])) ≡ 200 ∷ [] }
     ensures too_early { landings_then (from_gateway (codes "200 1 OK\r\n") ∷ audit_by_agent ∷ []) ≡ [] }
-    ensures in_time { map (λ one. one.id) (landings_then (audit_by_agent ∷ seconds_of_agent 23 ++ from_gateway (codes "200 1 OK\r\n") ∷ [])) ≡ 1 ∷ [] }
+    ensures in_time { map (λ one. one.id) (landings_then (audit_by_agent ∷ seconds_of_agent 23
+        ++ from_gateway (codes "200 1 OK\r\n") ∷ [])) ≡ 1 ∷ [] }
     ensures given_up { landings_then (audit_by_agent ∷ seconds_of_agent 24 ++ from_gateway (codes "200 1 OK\r\n") ∷ []) ≡ [] }
 {}
 
@@ -45,7 +47,10 @@ pub fn responses_alone_count()
 pub fn responses_count_in_their_order()
     ensures datagrams { map (λ one. one.id) (landings_then (audit_by_agent ∷ audit_by_agent ∷ from_gateway (codes "200 2 OK\r\n")
         ∷ from_gateway (codes "500 1\r\n") ∷ [])) ≡ 2 ∷ 1 ∷ [] }
-    ensures texts { map (λ one. one.id) (landings_then (audit_by_agent ∷ audit_by_agent ∷ from_gateway (codes "200 2 OK\r\n.\r\n500 1\r\n") ∷ [])) ≡ 2 ∷ 1 ∷ [] }
-    ensures once { map (λ one. one.code) (landings_then (audit_by_agent ∷ from_gateway (codes "200 1 OK\r\n.\r\n500 1\r\n") ∷ [])) ≡ 200 ∷ [] }
-    ensures from_then_on { map (λ one. one.id) (landing_from (agent_from 1) (agent_then (audit_by_agent ∷ [])) (from_gateway (codes "200 1 OK\r\n") ∷ [])) ≡ 1 ∷ [] }
+    ensures texts { map (λ one. one.id) (landings_then (audit_by_agent ∷ audit_by_agent
+        ∷ from_gateway (codes "200 2 OK\r\n.\r\n500 1\r\n") ∷ [])) ≡ 2 ∷ 1 ∷ [] }
+    ensures once { map (λ one. one.code) (landings_then (audit_by_agent
+        ∷ from_gateway (codes "200 1 OK\r\n.\r\n500 1\r\n") ∷ [])) ≡ 200 ∷ [] }
+    ensures from_then_on { map (λ one. one.id) (landing_from (agent_from 1) (agent_then (audit_by_agent ∷ []))
+        (from_gateway (codes "200 1 OK\r\n") ∷ [])) ≡ 1 ∷ [] }
 {}

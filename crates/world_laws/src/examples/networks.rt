@@ -24,7 +24,13 @@ ghost use Rattle.world_laws.specs.Example.{world, agent_after_steps, texts_in, t
 pub fn both_ends_are_of_one_configuration()
     ensures gateway { gateway_address (record two_lines { media_address = other_host }) ≡ record { ip = other_host; port = 2427 } }
     ensures agent { agent_of (record two_lines { media_address = other_host })
-        ≡ record { own = One agent; gateway = record { ip = other_host; port = 2427 }; domain = codes "rgw.example.net"; lines = 2; first = 1 } }
+        ≡ record {
+          own = One agent;
+          gateway = record { ip = other_host; port = 2427 };
+          domain = codes "rgw.example.net";
+          lines = 2;
+          first = 1;
+        } }
 {}
 
 /// A packet has its moment, the address of its sender, that to which it goes, and its bytes.
@@ -75,9 +81,15 @@ pub fn what_no_end_has_for_an_address_is_lost()
     ensures to_agent { delivered_from AgentEnd two_lines (world announced)
         (record { moment = 1; sender = agent; to = agent; bytes = codes "AUEP 1 aaln/1@rgw.example.net MGCP 1.0\r\n" }) ≡ world announced }
     ensures to_another { delivered_from AgentEnd two_lines (world announced)
-        (record { moment = 1; sender = agent; to = other_agent; bytes = codes "AUEP 1 aaln/1@rgw.example.net MGCP 1.0\r\n" }) ≡ world announced }
+        (record { moment = 1; sender = agent; to = other_agent; bytes = codes "AUEP 1 aaln/1@rgw.example.net MGCP 1.0\r\n" })
+        ≡ world announced }
     ensures to_gateway { delivered_from GatewayEnd two_lines (world announced)
-        (record { moment = 1; sender = gateway_address two_lines; to = gateway_address two_lines; bytes = codes "RSIP 1 *@rgw.example.net MGCP 1.0\r\n" })
+        (record {
+          moment = 1;
+          sender = gateway_address two_lines;
+          to = gateway_address two_lines;
+          bytes = codes "RSIP 1 *@rgw.example.net MGCP 1.0\r\n";
+        })
         ≡ world announced }
 {}
 
@@ -103,15 +115,18 @@ pub fn packets_arrive_at_each_address_of_an_agent()
 
 /// Where both ends have one address, each still gets what the other sent.
 pub fn ends_may_share_an_address()
-    ensures { texts_with shared_address (announced ++ issuing (codes "RQNT") (codes "aaln/1@rgw.example.net") (codes "X: 1\r\n") ∷ delivering 2 ∷ [])
+    ensures { texts_with shared_address (announced
+        ++ issuing (codes "RQNT") (codes "aaln/1@rgw.example.net") (codes "X: 1\r\n") ∷ delivering 2 ∷ [])
         ≡ codes "RSIP 1 *@rgw.example.net MGCP 1.0\r\nRM: restart\r\n" ∷ codes "200 1 OK\r\n"
         ∷ codes "RQNT 1 aaln/1@rgw.example.net MGCP 1.0\r\nX: 1\r\n" ∷ codes "200 1 OK\r\n" ∷ [] }
 {}
 
 /// A notification of the last line reaches the agent, and so does one that comes late, behind a later one.
 pub fn notifications_come_in_any_order()
-    ensures last_line { observed_on 2 (agent_after_steps (announced ++ dialling 2 acts.OffHook ∷ delivering 2 ∷ [])) ≡ Happened events.OffHook ∷ [] }
-    ensures first_line { observed_on 1 (agent_after_steps (announced ++ dialling 1 acts.OffHook ∷ dialling 2 acts.OffHook ∷ delivering 3 ∷ delivering 2 ∷ []))
+    ensures last_line { observed_on 2 (agent_after_steps (announced ++ dialling 2 acts.OffHook ∷ delivering 2 ∷ []))
+        ≡ Happened events.OffHook ∷ [] }
+    ensures first_line { observed_on 1 (agent_after_steps (announced ++ dialling 1 acts.OffHook ∷ dialling 2 acts.OffHook
+        ∷ delivering 3 ∷ delivering 2 ∷ []))
         ≡ Happened events.OffHook ∷ [] }
     ensures lost { observed_on 1 (agent_after_steps (announced ++ dialling 1 acts.OffHook ∷ [])) ≡ [] }
 {}

@@ -19,23 +19,28 @@ ghost use Rattle.world_laws.specs.Example.{world, announced, audits, audited, li
 
 /// Of the commands that arrive those are executed that are firsts, each as it was read, under its id and at its moment.
 pub fn firsts_are_executed()
-    ensures copies { map key_reached (executed_of (arrivals_of (from_agent (audit 7) ∷ tick 29999 ∷ from_agent (audit 7) ∷ tick 30000 ∷ from_agent (audit 7) ∷ [])))
+    ensures copies { map key_reached (executed_of (arrivals_of (from_agent (audit 7) ∷ tick 29999 ∷ from_agent (audit 7)
+        ∷ tick 30000 ∷ from_agent (audit 7) ∷ [])))
         ≡ (7, 0) ∷ (7, 30000) ∷ [] }
-    ensures any_source { map key_reached (executed_of (arrivals_of (from_agent (audit 7) ∷ datagram other_agent (codes "AUEP 7\r\n") ∷ []))) ≡ (7, 0) ∷ [] }
-    ensures in_turn { map key_reached (executed_of (arrivals_of (from_agent (audit 8) ∷ tick 5 ∷ from_agent (audit 7) ∷ from_agent (audit 8) ∷ [])))
+    ensures any_source { map key_reached (executed_of (arrivals_of (from_agent (audit 7)
+        ∷ datagram other_agent (codes "AUEP 7\r\n") ∷ []))) ≡ (7, 0) ∷ [] }
+    ensures in_turn { map key_reached (executed_of (arrivals_of (from_agent (audit 8) ∷ tick 5 ∷ from_agent (audit 7)
+        ∷ from_agent (audit 8) ∷ [])))
         ≡ (8, 0) ∷ (7, 5) ∷ [] }
     ensures outcome { map (λ one. one.outcome) (executed_of (arrivals_of (from_agent (audit 7) ∷ [])))
         ≡ message (messages.Command Auep 7 (codes "aaln/1@rgw.example.net") [] []) ∷ [] }
     ensures faults { map (λ one. one.outcome) (executed_of (arrivals_of (from_agent (codes "AUEP 7\r\n.\r\nAUEP 8 x MGCP 2.0\r\n") ∷ [])))
         ≡ bad_body 7 ∷ bad_version 8 ∷ [] }
     ensures responses { executed_of (arrivals_of (from_agent (codes "200 7 OK\r\n.\r\nX\r\n") ∷ [])) ≡ [] }
-    ensures lost { added_by lost [] (record { asked = record { source = agent; moment = 0; id = 7; confirms = [] }; outcome = bad_body 7 }) ≡ [] }
+    ensures lost { added_by lost []
+        (record { asked = record { source = agent; moment = 0; id = 7; confirms = [] }; outcome = bad_body 7 }) ≡ [] }
     ensures kept { key_kept (record { id = 7; moment = 5; answer = codes "200 7 OK\r\n" }) ≡ (7, 5) }
 {}
 
 /// The commands that the agent issued, each once, with the moment at which it was issued, and no repeats.
 pub fn issued_commands_are_these()
-    ensures { issued_in two_lines (world (announced ++ audits ∷ ticking 501 ∷ issuing (codes "RQNT") (codes "aaln/1@rgw.example.net") (codes "X: 1\r\n") ∷ []))
+    ensures { issued_in two_lines (world (announced ++ audits ∷ ticking 501
+        ∷ issuing (codes "RQNT") (codes "aaln/1@rgw.example.net") (codes "X: 1\r\n") ∷ []))
         ≡ (record { id = 1; moment = 1; text = codes "AUEP 1 aaln/1@rgw.example.net MGCP 1.0\r\n" })
         ∷ (record { id = 2; moment = 501; text = codes "RQNT 2 aaln/1@rgw.example.net MGCP 1.0\r\nX: 1\r\n" }) ∷ [] }
 {}
@@ -44,8 +49,10 @@ pub fn issued_commands_are_these()
 pub fn both_ends_take_each_command_once()
     ensures executed { map key_reached (executed_in (world lifted)) ≡ (1, 1) ∷ [] }
     ensures taken { map key_reached (taken_in (world lifted)) ≡ (1, 1) ∷ (10000000, 1) ∷ [] }
-    ensures told { flat_map (taken_with (agent_of two_lines)) (taken_in (world lifted)) ≡ (record { line = 1; observed = Happened events.OffHook ∷ [] }) ∷ [] }
-    ensures told_of_line_1 { flat_map (told_of 1) (flat_map (taken_with (agent_of two_lines)) (taken_in (world lifted))) ≡ Happened events.OffHook ∷ [] }
+    ensures told { flat_map (taken_with (agent_of two_lines)) (taken_in (world lifted))
+        ≡ (record { line = 1; observed = Happened events.OffHook ∷ [] }) ∷ [] }
+    ensures told_of_line_1 { flat_map (told_of 1) (flat_map (taken_with (agent_of two_lines)) (taken_in (world lifted)))
+        ≡ Happened events.OffHook ∷ [] }
     ensures told_of_line_2 { flat_map (told_of 2) (flat_map (taken_with (agent_of two_lines)) (taken_in (world lifted))) ≡ [] }
     ensures not_yet { executed_in (world (announced ++ audits ∷ [])) ≡ [] }
 {}

@@ -58,7 +58,8 @@ pub fn a_step_is_refused_as_its_end_refuses()
 /// An agent's list is taken where none of its events is refused, each after those before it.
 pub fn a_list_of_an_agent_is_taken_event_by_event()
     ensures none { agent_takes (agent_from 1) (agent_opening (agent_from 1)) [] ≡ true }
-    ensures taken { agent_takes (agent_from 1) (agent_opening (agent_from 1)) (audit_by_agent ∷ hears (tick 1000) ∷ hears (tick 2000) ∷ []) ≡ true }
+    ensures taken { agent_takes (agent_from 1) (agent_opening (agent_from 1)) (audit_by_agent ∷ hears (tick 1000)
+        ∷ hears (tick 2000) ∷ []) ≡ true }
     ensures first { agent_takes (agent_from 1) (agent_opening (agent_from 1)) (hears (tick 1001) ∷ hears (tick 1000) ∷ []) ≡ false }
     ensures last { agent_takes (agent_from 1) (agent_opening (agent_from 1)) (hears (tick 1000) ∷ hears (tick 2001) ∷ []) ≡ false }
     ensures ids { agent_takes (agent_from 999999999) (agent_opening (agent_from 999999999)) (audit_by_agent ∷ audit_by_agent ∷ []) ≡ false }

@@ -59,7 +59,8 @@ pub fn the_gateway_judges_ticks_and_acts()
 
 /// What the gateway sends to an address that only it has is lost: it is repeated.
 pub fn what_goes_to_its_sender_is_lost()
-    ensures { texts_in (announced ++ ticking 1000 ∷ issuing (codes "RQNT") (codes "aaln/1@rgw.example.net") (codes "X: A0\r\nN: ca@[127.0.0.1]:2427\r\n")
+    ensures { texts_in (announced ++ ticking 1000
+        ∷ issuing (codes "RQNT") (codes "aaln/1@rgw.example.net") (codes "X: A0\r\nN: ca@[127.0.0.1]:2427\r\n")
         ∷ delivering 2 ∷ delivering 3 ∷ dialling 1 acts.OffHook ∷ delivering 4 ∷ ticking 1500 ∷ [])
         ≡ texts_in announced ++ codes "RQNT 1 aaln/1@rgw.example.net MGCP 1.0\r\nX: A0\r\nN: ca@[127.0.0.1]:2427\r\n" ∷ codes "200 1 OK\r\n"
         ∷ codes "NTFY 10000000 aaln/1@rgw.example.net MGCP 1.0\r\nX: A0\r\nO: L/hd\r\n"
