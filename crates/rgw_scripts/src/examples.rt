@@ -194,6 +194,7 @@ pub fn configurations_are_read()
     ensures no_hosts { config_of (with_names (host_at (array no_items))) ≡ None }
     ensures host_of_a_list { config_of (with_names (host_at (array (item local (item (array (item other no_items)) no_items))))) ≡ None }
     ensures no_address { config_of (with_names (host_at (array (item local (item (string (codes "localhost")) no_items))))) ≡ None }
+    ensures number_among { config_of (with_names (host_at (array (item local (item (integer (pos 1)) no_items))))) ≡ None }
     ensures no_names { config_of (with_names (table no_members)) ≡ Some (record (example_config 16) { names = [] }) }
     ensures nothing { config_of no_members ≡ None }
 {}

@@ -209,14 +209,36 @@ pub fn read_config(alloc: Global, text: &[u8]) -> Result<Option<Config>, OutOfMe
     }
 }
 
+fn has_text(table: &Table, key: &str) -> bool
+    ensures { result ≡ is_some (text_at key.now (table_view table.now)) }
+{
+    match text_at(table, key) {
+        Some(_) => true,
+        None => false,
+    }
+}
+
+fn has_number(table: &Table, key: &str) -> bool
+    ensures { result ≡ is_some (number_at key.now (table_view table.now)) }
+{
+    number_at(table, key).is_some()
+}
+
+fn has_address(table: &Table, key: &str) -> bool
+    ensures { result ≡ is_some (address_at key.now (table_view table.now)) }
+{
+    address_at(table, key).is_some()
+}
+
 // Whether each host of a table has its addresses.
 #[tactic(auto, unfolding(crate::specs::Configuration::names_from))]
 fn are_hosts(table: &Table) -> bool
     ensures { result ≡ is_some (names_from (table_view table.now)) }
 {
     for (_name, value) in table.iter() {
-        if route_in(value).is_none() {
-            return false;
+        match route_in(value) {
+            Some(_) => {}
+            None => return false,
         }
     }
     true
@@ -237,28 +259,28 @@ fn has_names(table: &Table) -> bool
 fn unread_key(table: &Table) -> Option<ConfigKey>
     ensures { result ≡ unread_key (table_view table.now) }
 {
-    if text_at(table, "domain").is_none() {
+    if !has_text(table, "domain") {
         return Some(ConfigKey::Domain);
     }
-    if number_at(table, "lines").is_none() {
+    if !has_number(table, "lines") {
         return Some(ConfigKey::Lines);
     }
     if !has_names(table) {
         return Some(ConfigKey::Names);
     }
-    if text_at(table, "agent").is_none() {
+    if !has_text(table, "agent") {
         return Some(ConfigKey::Agent);
     }
-    if number_at(table, "restart_wait").is_none() {
+    if !has_number(table, "restart_wait") {
         return Some(ConfigKey::RestartWait);
     }
-    if number_at(table, "disconnected_wait").is_none() {
+    if !has_number(table, "disconnected_wait") {
         return Some(ConfigKey::DisconnectedWait);
     }
-    if address_at(table, "media_address").is_none() {
+    if !has_address(table, "media_address") {
         return Some(ConfigKey::MediaAddress);
     }
-    if number_at(table, "media_base").is_none() {
+    if !has_number(table, "media_base") {
         return Some(ConfigKey::MediaBase);
     }
     None

@@ -6,7 +6,7 @@ use Rattle.rgw_scripts.proofs.ConfigLemmas.{unread-other, unread-document}
 use Rattle.rgw_scripts.proofs.settings.read_unread_key.Goals as goal
 
 pub returns-in_default : goal.returns-in_default
-returns-in_default c = unread-other c.args.text.now c.in_default.ensures.cases.0
+returns-in_default c = sym (unread-other c.args.text.now c.in_default.ensures.cases.0)
 
 pub returns-in-Ok-table_from_str : goal.returns-in-Ok-table_from_str
 returns-in-Ok-table_from_str c =
