@@ -1,6 +1,6 @@
 -- What the two ends answer, and what becomes of a world then.
 use Rattle.std.proofs.Common.{◌≡◌, ℕ, ◌-◌, ◌<◌, ◌≤◌, Bool, true, false, if◌then◌else◌, List, [], ◌∷◌, ◌++◌, map, Option, Some, None, refl, sym, ap, ◌∙◌, subst, arith, inl, inr, append-nil}
-use Rattle.std.specs.Prelude.{slice_get, nat_lt}
+use Rattle.std.specs.Prelude.{◌||◌, slice_get, nat_lt}
 use Rattle.std.proofs.lemmas.Bool.Decides.{nat_tests}
 use Rattle.std.specs.declared.net.socket_addr.SocketAddrV4.{SocketAddrV4}
 use Rattle.routes.specs.Route.{at}
@@ -27,6 +27,11 @@ use Rattle.agent_core.specs.World.{World, issuing, dialling, ticking, delivering
 use Rattle.call_agent.specs.AgentStands.{AgentState, AgentStands, AgentTook, AgentStays, IssueEnds}
 use Rattle.agent_core.specs.WorldStands.{WorldState, Keeps, Leaves, StepEnds}
 use Rattle.agent_core.specs.WorldWork.{EndStops, IssueStops, Goes, Remains, Ends, HandsOver, WantsMemory}
+
+-- the last test of several
+pub or_nothing : (test : Bool) → (test || false) ≡ test
+or_nothing true = refl
+or_nothing false = refl
 
 -- what was issued is refused for nothing
 pub issue_done : (refusal : Option IssueRefusal) → IssueEnds refusal None → IssueStops refusal None

@@ -36,6 +36,7 @@ pub(crate) fn gateway_address(setup: &Setup) -> SocketAddrV4
 }
 
 /// Whether an address is one of a route.
+#[tactic(auto, using(crate::proofs::EndLemmas::or_nothing))]
 pub(crate) fn is_among(route: Route<SocketAddrV4>, address: SocketAddrV4) -> bool
     ensures { result ≡ is_among route address }
 {
