@@ -16,11 +16,9 @@
 //! - Before each step of a story without an exit status the player puts a mark: a step `show 65535`, which prints
 //!   `! 4 NoSuchLine`. So an output that stands behind another cause differs.
 use crate::played::printed_by;
-use crate::titles::Pieces;
-use crate::written::{Story, read_story};
 use std::io;
 use std::net::Net;
-use tales::Count;
+use tales::{Count, Pieces, Story, read_story};
 
 // Whether the program with these words prints what the story says. What differs is printed.
 fn is_told_by<R: AllocGlobal + Net + Print>(

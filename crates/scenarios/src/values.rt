@@ -9,12 +9,11 @@
 //!
 //! Where nothing is printed the answer is `ok`; more than a line is all that is printed, with `\n` for each line end.
 use crate::played::{simulated, words_of};
-use crate::written::{Story, read_story};
 use mg_bytes::Sequence;
 use rgw_cli::{Task, WordFault, asked};
 use std::alloc::Global;
 use std::io;
-use tales::{Tale, number_in, refused, said, value_of};
+use tales::{Story, Tale, number_in, read_story, refused, said, value_of};
 
 const REQUEST: &str = "RQNT 1 aaln/1@rgw.example.net MGCP 1.0\nX: 1\n";
 

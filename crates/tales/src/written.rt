@@ -1,7 +1,7 @@
 //! A story as it is written: its script, and what it says that is printed.
+use crate::texts::in_full;
 use std::alloc::Global;
 use std::io;
-use tales::in_full;
 
 const AGENT: &str = "127.0.0.1:2727";
 

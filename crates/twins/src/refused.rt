@@ -7,16 +7,13 @@
 //!
 //! Whatever differs is printed under its title. With ample memory nothing can; `./refusals` refuses each request in
 //! turn.
-use crate::played::input_of;
 use crate::runs::runs_alike;
-use crate::titles::Pieces;
 use crate::twins::{Played, Twins, are_events, event_of, scene_again, scene_of};
-use crate::written::read_story;
 use gateway_core::Refusal;
 use rgw_play::Step;
 use std::alloc::Global;
 use std::io;
-use tales::{Count, again};
+use tales::{Count, Pieces, again, input_of, read_story};
 
 // What is said of an input that has no gateway and no steps.
 const UNPLAYED: &str = "it can't be played";

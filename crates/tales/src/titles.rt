@@ -1,7 +1,7 @@
 //! Lines under titles, some of which stand once, as pieces, and are put in where they are named.
+use crate::numbers::number_in;
 use std::alloc::Global;
 use std::io;
-use tales::number_in;
 
 // Lines under a name.
 #[derive(Drop)]

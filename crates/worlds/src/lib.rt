@@ -1,4 +1,4 @@
-//! Plays tales of a gateway over a wire in memory, of a call agent, and of both, of the kinds that the files' first lines
+//! Tales of a gateway over a wire in memory, of a call agent, and of both, of the kinds that the files' first lines
 //! say. No program is in them.
 //!
 //! - `memory`: a gateway that takes events in one run, or over a wire in memory, which plays a plan and fails where that says
@@ -23,11 +23,10 @@ use crate::memory::MemoryTale;
 use crate::worlds::WorldTale;
 use std::io;
 use std::net::Net;
-use std::process::ExitCode;
-use tales::{Count, Kinds, play, told};
+use tales::{Count, Kinds, told};
 
-// The kinds of tales of one end in memory, or of both.
-struct Ends;
+/// The kinds of tales of one end in memory, or of both.
+pub struct Ends;
 
 impl Kinds for Ends {
     fn told<R: AllocGlobal + Net + Print>(
@@ -42,8 +41,4 @@ impl Kinds for Ends {
             _ => return Ok(None),
         }))
     }
-}
-
-fn main(rt: HostRuntime) -> io::Result<ExitCode> {
-    play::<Ends, HostRuntime>(&rt)
 }

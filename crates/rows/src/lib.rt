@@ -1,4 +1,4 @@
-//! Plays tales that need no gateway: rows, of the kinds that the files' first lines say.
+//! Tales that need no gateway: rows, of the kinds that the files' first lines say.
 //!
 //! - `values`: a row a call: its name, its values, and what it answers.
 //! - Other words: rows that go on with one thing, new under each title: a `line`, a `history`, and so on.
@@ -31,11 +31,10 @@ use crate::signal_sets::SignalTale;
 use crate::values::Values;
 use std::io;
 use std::net::Net;
-use std::process::ExitCode;
-use tales::{Count, Kinds, play, told};
+use tales::{Count, Kinds, told};
 
-// The kinds of rows.
-struct Rows;
+/// The kinds of rows.
+pub struct Rows;
 
 impl Kinds for Rows {
     fn told<R: AllocGlobal + Net + Print>(
@@ -56,8 +55,4 @@ impl Kinds for Rows {
             _ => return Ok(None),
         }))
     }
-}
-
-fn main(rt: HostRuntime) -> io::Result<ExitCode> {
-    play::<Rows, HostRuntime>(&rt)
 }

@@ -1,0 +1,39 @@
+//! Plays all tales: each file says in its first line which kind it has.
+//!
+//! What is told otherwise than it happens is printed under its title. `docs/TALES.md` says how tales are written.
+#![tactic(auto)]
+
+use rows::Rows;
+use scenarios::Scenarios;
+use std::io;
+use std::net::Net;
+use std::process::ExitCode;
+use tales::{Count, Kinds, play};
+use twins::Gateways;
+use worlds::Ends;
+
+// All kinds of tales.
+struct Tales;
+
+impl Kinds for Tales {
+    fn told<R: AllocGlobal + Net + Print>(
+        rt: &R,
+        kind: &str,
+        text: &str,
+    ) -> io::Result<Option<Count>> {
+        if let Some(count) = Rows::told(rt, kind, text)? {
+            return Ok(Some(count));
+        }
+        if let Some(count) = Scenarios::told(rt, kind, text)? {
+            return Ok(Some(count));
+        }
+        if let Some(count) = Gateways::told(rt, kind, text)? {
+            return Ok(Some(count));
+        }
+        Ends::told(rt, kind, text)
+    }
+}
+
+fn main(rt: HostRuntime) -> io::Result<ExitCode> {
+    play::<Tales, HostRuntime>(&rt)
+}
