@@ -44,7 +44,7 @@ use Rattle.connections.specs.Modes.{mode_text}
 use Rattle.connections.specs.Places.{holds_id, place_from, place_where}
 use Rattle.connections.specs.Standing.{Standing, described, audited, audited_held}
 use Rattle.mg_line.specs.Line.{LineState}
-use Rattle.audits.specs.Endpoint.{Endpoint}
+use Rattle.audits.specs.Endpoint.{AuditedEndpoint}
 use Rattle.audits.specs.Fitting.{fitting}
 use Rattle.audits.specs.Picking.{asks_for, listed as listed_param, with_item, with_items, picked}
 use Rattle.audits.specs.EndpointReport.{capabilities, hook_text, map_text, event_params, endpoint_params, endpoint_report}
@@ -175,7 +175,7 @@ event_params_writable line identifier spelled blankless in_line =
     (all_cons (word_is (codes "T") _ refl (detected_no_blanks line.requests.detected) (detected_one_line line.requests.detected))
     (all_cons (word_is (codes "X") _ refl (hex_no_blanks line.identifier identifier) (hex_one_line line.identifier identifier)) none_writable))))))
 
-endpoint_params_writable : (endpoint : Endpoint) → IsShowable endpoint → AreWritable (endpoint_params endpoint)
+endpoint_params_writable : (endpoint : AuditedEndpoint) → IsShowable endpoint → AreWritable (endpoint_params endpoint)
 endpoint_params_writable endpoint is =
     let places = endpoint.connections.places in
     let requested = endpoint.line.requests.requested in
@@ -191,14 +191,14 @@ nothing_writable : is_writable_body [] ≡ true
 unfolding is_writable_body
 nothing_writable = refl
 
-pub line_written : (id : ℕ) (endpoint : Endpoint) (items : List (List ℕ)) (answer : Answer) → IsShowable endpoint
+pub line_written : (id : ℕ) (endpoint : AuditedEndpoint) (items : List (List ℕ)) (answer : Answer) → IsShowable endpoint
     → endpoint_report id endpoint items ≡ Ok answer → CanBeWritten id answer
 unfolding endpoint_report
 line_written id endpoint items answer is e =
     wanted_written id (picked (endpoint_params endpoint) items) [] answer
     (picked_writable (endpoint_params endpoint) items (endpoint_params_writable endpoint is)) nothing_writable e
 
-pub line_code : (id : ℕ) (endpoint : Endpoint) (items : List (List ℕ)) (code : ℕ) → endpoint_report id endpoint items ≡ Err code → code ≤ 999
+pub line_code : (id : ℕ) (endpoint : AuditedEndpoint) (items : List (List ℕ)) (code : ℕ) → endpoint_report id endpoint items ≡ Err code → code ≤ 999
 unfolding endpoint_report
 line_code id endpoint items code e = fitting_code id _ code e
 
@@ -310,7 +310,7 @@ report_written id entity (Ok found) items answer blankless in_line is e =
     (connection_params_writable entity found.connection blankless in_line has.connection))
     (descriptions_writable found items has) e
 
-pub connection_written : (id : ℕ) (endpoint : Endpoint) (connection : List ℕ) (items : List (List ℕ)) (answer : Answer) → IsShowable endpoint
+pub connection_written : (id : ℕ) (endpoint : AuditedEndpoint) (connection : List ℕ) (items : List (List ℕ)) (answer : Answer) → IsShowable endpoint
     → connection_report id endpoint connection items ≡ Ok answer → CanBeWritten id answer
 unfolding connection_report
 connection_written id endpoint connection items answer is e =
@@ -337,7 +337,7 @@ report_code : (id : ℕ) (entity : List ℕ) (made : Result Audited ℕ) (items 
 report_code id entity (Err refused) items code low e = let same : refused ≡ code = cc in omega (arith, same, low refused refl)
 report_code id entity (Ok found) items code low e = fitting_code id _ code e
 
-pub connection_code : (id : ℕ) (endpoint : Endpoint) (connection : List ℕ) (items : List (List ℕ)) (code : ℕ)
+pub connection_code : (id : ℕ) (endpoint : AuditedEndpoint) (connection : List ℕ) (items : List (List ℕ)) (code : ℕ)
     → connection_report id endpoint connection items ≡ Err code → code ≤ 999
 unfolding connection_report
 connection_code id endpoint connection items code e =

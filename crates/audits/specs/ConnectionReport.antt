@@ -10,7 +10,7 @@ use Rattle.connections.specs.declared.connection.Connection.{Connection}
 use Rattle.connections.specs.Modes.{mode_text}
 use Rattle.connections.specs.Options.{options_text}
 use Rattle.connections.specs.Standing.{audited}
-use Rattle.audits.specs.Endpoint.{Endpoint}
+use Rattle.audits.specs.Endpoint.{AuditedEndpoint}
 use Rattle.audits.specs.Fitting.{fitting}
 use Rattle.audits.specs.Picking.{asks_for, picked}
 
@@ -51,6 +51,6 @@ report_from id entity (Ok audited) items = fitting id (record {
 })
 
 -- that of the connection of a line with this identifier, under this id; none is 515
-unfoldable pub connection_report : ℕ → Endpoint → List ℕ → List (List ℕ) → Result Answer ℕ
+unfoldable pub connection_report : ℕ → AuditedEndpoint → List ℕ → List (List ℕ) → Result Answer ℕ
 connection_report id endpoint connection items =
     report_from id endpoint.entity.text (audited connection endpoint.connections) items

@@ -4,9 +4,9 @@ use Rattle.connections.specs.declared.codec.Encoding.{Encoding}
 use Rattle.connections.specs.Standing.{Standing}
 use Rattle.endpoint_names.specs.declared.entity.Entity.{Entity}
 use Rattle.mg_line.specs.Line.{LineState}
-use Rattle.audits.specs.declared.endpoint.Endpoint.{Endpoint as Borrowed}
+use Rattle.audits.specs.declared.endpoint.AuditedEndpoint.{AuditedEndpoint as Borrowed}
 
-pub record Endpoint : Type 0 where
+pub record AuditedEndpoint : Type 0 where
   pub line : LineState
   -- where notifications go
   pub entity : Entity
@@ -14,7 +14,7 @@ pub record Endpoint : Type 0 where
   pub connections : Standing
 
 -- what is audited, as the code borrows it
-abbrev pub shown : Borrowed → Endpoint
+abbrev pub shown : Borrowed → AuditedEndpoint
 shown endpoint = record {
   line = endpoint.line.now;
   entity = endpoint.entity.now;

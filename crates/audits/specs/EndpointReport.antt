@@ -17,7 +17,7 @@ use Rattle.connections.specs.declared.connection.Connection.{Connection}
 use Rattle.connections.specs.Codecs.{encoding_text}
 use Rattle.connections.specs.Numbers.{number_text}
 use Rattle.mg_line.specs.Line.{LineState}
-use Rattle.audits.specs.Endpoint.{Endpoint}
+use Rattle.audits.specs.Endpoint.{AuditedEndpoint}
 use Rattle.audits.specs.Fitting.{fitting}
 use Rattle.audits.specs.Picking.{picked}
 
@@ -52,7 +52,7 @@ map_text None = []
 map_text (Some text) = text
 
 -- what the line is: what it can do, its encoding (B), its hook state, its connections, and its notified entity (N)
-abbrev pub line_params : Endpoint → List Param
+abbrev pub line_params : AuditedEndpoint → List Param
 line_params endpoint =
     (record { code = codes "A"; value = capabilities })
     ∷ (record { code = codes "B"; value = encoding_text endpoint.encoding })
@@ -76,10 +76,10 @@ event_params line =
     ∷ []
 
 -- all that is known of a line
-abbrev pub endpoint_params : Endpoint → List Param
+abbrev pub endpoint_params : AuditedEndpoint → List Param
 endpoint_params endpoint = line_params endpoint ++ event_params endpoint.line
 
 -- the answer to an audit of a line under this id, which asks for these items
-unfoldable pub endpoint_report : ℕ → Endpoint → List (List ℕ) → Result Answer ℕ
+unfoldable pub endpoint_report : ℕ → AuditedEndpoint → List (List ℕ) → Result Answer ℕ
 endpoint_report id endpoint items =
     fitting id (record { code = 200; params = picked (endpoint_params endpoint) items; body = [] })

@@ -17,7 +17,7 @@ use Rattle.connections.specs.declared.connection.Connection.{Connection}
 use Rattle.connections.specs.Example.{line, with_one, first_connection}
 use Rattle.mg_line.specs.Line.{opening_line}
 use Rattle.mg_line.specs.Example.{lifted as off_hook, one_pressed}
-use Rattle.audits.specs.Endpoint.{Endpoint}
+use Rattle.audits.specs.Endpoint.{AuditedEndpoint}
 use Rattle.audits.specs.EndpointReport.{endpoint_report}
 use Rattle.audits.specs.ConnectionReport.{connection_report}
 
@@ -25,11 +25,11 @@ abbrev pub agent : Entity
 agent = record { text = codes "ca@ca.example.net"; route = One (record { ip = local_address 1; port = 2727 }) }
 
 -- a line as it opens, with encoding mu and no connections
-abbrev pub opening : Endpoint
+abbrev pub opening : AuditedEndpoint
 opening = record { line = opening_line; entity = agent; encoding = Mu; connections = line }
 
 -- a line off hook with two signals, which was asked for something of each kind and has accumulated two events
-abbrev pub lifted : Endpoint
+abbrev pub lifted : AuditedEndpoint
 lifted = record opening {
   line = record opening_line {
     hook = OffHook;
@@ -45,7 +45,7 @@ lifted = record opening {
 }
 
 -- a line that was asked for an embedded request, and keeps it
-abbrev pub after_request : Endpoint
+abbrev pub after_request : AuditedEndpoint
 after_request = record opening {
   line = record opening_line {
     identifier = codes "A4";
@@ -55,20 +55,20 @@ after_request = record opening {
 }
 
 -- a line with this connection alone, and one where each place holds one of these
-abbrev pub calling : Connection → Endpoint
+abbrev pub calling : Connection → AuditedEndpoint
 calling connection = record opening { connections = with_one connection }
 
-abbrev pub with_places : List (Option Connection) → Endpoint
+abbrev pub with_places : List (Option Connection) → AuditedEndpoint
 with_places places = record opening { connections = record line { last = 4294967295; places = places } }
 
 abbrev pub numbered : ℕ → Option Connection
 numbered number = Some (record first_connection { number = number })
 
 -- a line whose entity has so many letters, without a connection and with one
-abbrev pub with_entity : ℕ → Endpoint
+abbrev pub with_entity : ℕ → AuditedEndpoint
 with_entity size = record opening { entity = record agent { text = replicate size 97 } }
 
-abbrev pub calling_with_entity : ℕ → Endpoint
+abbrev pub calling_with_entity : ℕ → AuditedEndpoint
 calling_with_entity size = record (with_entity size) { connections = with_one first_connection }
 
 -- the text of a response
@@ -78,16 +78,16 @@ text_from id (Err code) = Err code
 
 -- that of the answer to an audit of a line, and of the connection of a line with this identifier, with this value of F,
 -- under an id or under 9
-abbrev pub told_under : ℕ → Endpoint → List ℕ → Result (List ℕ) ℕ
+abbrev pub told_under : ℕ → AuditedEndpoint → List ℕ → Result (List ℕ) ℕ
 told_under id endpoint items = text_from id (endpoint_report id endpoint (items_of items))
 
-abbrev pub told : Endpoint → List ℕ → Result (List ℕ) ℕ
+abbrev pub told : AuditedEndpoint → List ℕ → Result (List ℕ) ℕ
 told endpoint items = told_under 9 endpoint items
 
-abbrev pub told_of_under : ℕ → Endpoint → List ℕ → List ℕ → Result (List ℕ) ℕ
+abbrev pub told_of_under : ℕ → AuditedEndpoint → List ℕ → List ℕ → Result (List ℕ) ℕ
 told_of_under id endpoint connection items = text_from id (connection_report id endpoint connection (items_of items))
 
-abbrev pub told_of : Endpoint → List ℕ → List ℕ → Result (List ℕ) ℕ
+abbrev pub told_of : AuditedEndpoint → List ℕ → List ℕ → Result (List ℕ) ℕ
 told_of endpoint connection items = told_of_under 9 endpoint connection items
 
 -- how long a text is

@@ -11,7 +11,7 @@ use Rattle.event_syntax.specs.Requested.{is_spelled_map, all_maps_are_spelled}
 use Rattle.sdp_subset.specs.Writing.{IsSession}
 use Rattle.connections.specs.declared.connection.Connection.{Connection}
 use Rattle.connections.specs.Standing.{Standing}
-use Rattle.audits.specs.Endpoint.{Endpoint}
+use Rattle.audits.specs.Endpoint.{AuditedEndpoint}
 use Rattle.transmission.specs.Texts.{largest_datagram}
 
 -- a connection: its call is spelled as an identifier, and its remote description is a session
@@ -29,7 +29,7 @@ pub record HasStreams (standing : Standing) : Type 0 where
   pub ports : standing.port + 2 * length standing.places ≤ 65535
 
 -- the entity is a word, the request's identifier and the maps are spelled as such, and so are the connections
-pub record IsShowable (endpoint : Endpoint) : Type 0 where
+pub record IsShowable (endpoint : AuditedEndpoint) : Type 0 where
   pub entity_blankless : list_any is_blank endpoint.entity.text ≡ false
   pub entity_in_line : list_any is_line_feed endpoint.entity.text ≡ false
   pub identifier : is_hex_text endpoint.line.identifier ≡ true

@@ -5,7 +5,7 @@ use mg_line::Line;
 
 /// What is audited of a line (RFC 3435, 2.3.10 and 2.3.11).
 #[derive(Clone, Copy)]
-pub struct Endpoint<'s> {
+pub struct AuditedEndpoint<'s> {
     pub line: &'s Line,
     /// Where its notifications go.
     pub entity: &'s Entity,

@@ -18,6 +18,6 @@ pub mod showing_examples;
 pub mod showing_laws;
 mod word;
 
-pub use crate::endpoint::Endpoint;
+pub use crate::endpoint::AuditedEndpoint;
 pub use crate::limit::fitting;
 pub use crate::report::{connection_report, endpoint_report};

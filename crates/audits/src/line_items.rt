@@ -10,7 +10,7 @@ ghost use Rattle.audits.specs.Endpoint.{shown};
 ghost use Rattle.audits.specs.EndpointReport.{capabilities, hook_text, ids_text, endpoint_params};
 ghost use Rattle.audits.specs.Writing.{comma_behind, with_id};
 
-use crate::endpoint::Endpoint;
+use crate::endpoint::AuditedEndpoint;
 use crate::event_items::event_param;
 use crate::word::{of_copy, of_name, of_text};
 use connections::{Connection, Encoding, encoding_text, write_number};
@@ -100,7 +100,7 @@ fn ids_param(alloc: Global, places: &[Option<Connection>]) -> Result<Param<'stat
 /// What is known of a line under this code. An error is for want of memory only.
 pub(crate) fn line_param(
     alloc: Global,
-    endpoint: Endpoint<'_>,
+    endpoint: AuditedEndpoint<'_>,
     code: &[u8],
 ) -> Result<Option<Param<'static>>, OutOfMemory>
     ensures value { IfOk result (λ found. found ≡ param_at code.now (endpoint_params (shown endpoint.entry))) }

@@ -8,7 +8,7 @@ ghost use Rattle.audits.specs.Picking.{asks_for, with_item, with_items, picked};
 ghost use Rattle.audits.specs.Subject.{known_of};
 
 use crate::connection_items::connection_param;
-use crate::endpoint::Endpoint;
+use crate::endpoint::AuditedEndpoint;
 use crate::line_items::line_param;
 use connections::Connection;
 use endpoint_names::Entity;
@@ -20,7 +20,7 @@ use std::alloc::Global;
 #[derive(Clone, Copy)]
 pub(crate) enum Subject<'s> {
     /// A line.
-    Line(Endpoint<'s>),
+    Line(AuditedEndpoint<'s>),
     /// A connection, on a line with this notified entity.
     Connection(&'s Entity, &'s Connection),
 }

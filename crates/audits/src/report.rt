@@ -6,7 +6,7 @@ ghost use Rattle.audits.specs.EndpointReport.{endpoint_report};
 ghost use Rattle.audits.specs.ConnectionReport.{connection_report};
 
 use crate::descriptions::descriptions_text;
-use crate::endpoint::Endpoint;
+use crate::endpoint::AuditedEndpoint;
 use crate::limit::fitting;
 use crate::picking::{Subject, picked};
 use mg_bytes::{CodeFault, Identifier, ReturnCode};
@@ -22,7 +22,7 @@ use std::alloc::Global;
 pub fn endpoint_report(
     alloc: Global,
     id: TransactionId,
-    endpoint: Endpoint<'_>,
+    endpoint: AuditedEndpoint<'_>,
     items: &[u8],
 ) -> Result<Answer, CodeFault>
     ensures { AnswersAs (endpoint_report id (shown endpoint.entry) (items_of items.now)) result }
@@ -42,7 +42,7 @@ pub fn endpoint_report(
 pub fn connection_report(
     alloc: Global,
     id: TransactionId,
-    endpoint: Endpoint<'_>,
+    endpoint: AuditedEndpoint<'_>,
     connection: &Identifier,
     items: &[u8],
 ) -> Result<Answer, CodeFault>

@@ -4,7 +4,7 @@ use Rattle.std.specs.Prelude.{slice_set}
 use Rattle.std.specs.List.{slice_index_or}
 use Rattle.std.proofs.lemmas.List.{drop_all}
 use Rattle.event_values.specs.declared.observed.Observed.{Observed}
-use Rattle.call_agent.specs.Growing.{Grown, grown_to, settled, undone, all_in, told_at}
+use Rattle.call_agent.specs.Growing.{Grown, grown_to, committed, rolled_back, all_in, told_at}
 
 abbrev is_of : Grown Observed → List Observed
 is_of grown = grown.is
@@ -50,19 +50,19 @@ changed_all : (f : Grown Observed → Grown Observed) (was : List (Grown Observe
 changed_all f was place past =
     ap (λ (x : List (Grown Observed)). map f (take place was) ++ x) (drop_all place was past) ∙ append-nil (map f (take place was)) ∙ ap (map f) (take_whole was place past)
 
-all_settled : (lines : List (Grown Observed)) → all_in (map settled lines) ≡ settled (all_in lines)
-all_settled [] = refl
-all_settled (line ∷ lines) = ap (λ (g : Grown (List Observed)). let h : Grown (List Observed) = record { is = line.is ∷ g.is; found = line.is ∷ g.found } in h) (all_settled lines)
+all_committed : (lines : List (Grown Observed)) → all_in (map committed lines) ≡ committed (all_in lines)
+all_committed [] = refl
+all_committed (line ∷ lines) = ap (λ (g : Grown (List Observed)). let h : Grown (List Observed) = record { is = line.is ∷ g.is; found = line.is ∷ g.found } in h) (all_committed lines)
 
-all_undone : (lines : List (Grown Observed)) → all_in (map undone lines) ≡ undone (all_in lines)
-all_undone [] = refl
-all_undone (line ∷ lines) = ap (λ (g : Grown (List Observed)). let h : Grown (List Observed) = record { is = line.found ∷ g.is; found = line.found ∷ g.found } in h) (all_undone lines)
+all_rolled_back : (lines : List (Grown Observed)) → all_in (map rolled_back lines) ≡ rolled_back (all_in lines)
+all_rolled_back [] = refl
+all_rolled_back (line ∷ lines) = ap (λ (g : Grown (List Observed)). let h : Grown (List Observed) = record { is = line.found ∷ g.is; found = line.found ∷ g.found } in h) (all_rolled_back lines)
 
-pub settled_whole : (now : Grown (List Observed)) (was is : List (Grown Observed)) (place : ℕ) → now ≡ all_in was → is ≡ changed_to settled place was → length was ≤ place → all_in is ≡ settled now
-settled_whole now was is place here changed past = ap all_in (changed ∙ changed_all settled was place past) ∙ all_settled was ∙ ap settled (sym here)
+pub committed_whole : (now : Grown (List Observed)) (was is : List (Grown Observed)) (place : ℕ) → now ≡ all_in was → is ≡ changed_to committed place was → length was ≤ place → all_in is ≡ committed now
+committed_whole now was is place here changed past = ap all_in (changed ∙ changed_all committed was place past) ∙ all_committed was ∙ ap committed (sym here)
 
-pub undone_whole : (now : Grown (List Observed)) (was is : List (Grown Observed)) (place : ℕ) → now ≡ all_in was → is ≡ changed_to undone place was → length was ≤ place → all_in is ≡ undone now
-undone_whole now was is place here changed past = ap all_in (changed ∙ changed_all undone was place past) ∙ all_undone was ∙ ap undone (sym here)
+pub rolled_back_whole : (now : Grown (List Observed)) (was is : List (Grown Observed)) (place : ℕ) → now ≡ all_in was → is ≡ changed_to rolled_back place was → length was ≤ place → all_in is ≡ rolled_back now
+rolled_back_whole now was is place here changed past = ap all_in (changed ∙ changed_all rolled_back was place past) ∙ all_rolled_back was ∙ ap rolled_back (sym here)
 
 -- ---- one of them
 

@@ -10,11 +10,11 @@ pub record Grown (A : Type 0) : Type 0 where
 abbrev pub grown_to : {A : Type 0} → List A → Grown A
 grown_to items = record { is = items; found = items }
 
-abbrev pub settled : {A : Type 0} → Grown A → Grown A
-settled grown = grown_to grown.is
+abbrev pub committed : {A : Type 0} → Grown A → Grown A
+committed grown = grown_to grown.is
 
-abbrev pub undone : {A : Type 0} → Grown A → Grown A
-undone grown = grown_to grown.found
+abbrev pub rolled_back : {A : Type 0} → Grown A → Grown A
+rolled_back grown = grown_to grown.found
 
 -- a list for each line
 abbrev pub all_in : {A : Type 0} → List (Grown A) → Grown (List A)

@@ -1,6 +1,6 @@
 //! The commands in flight.
 ghost use Rattle.std.specs.Prelude.{◌≡◌, ◌<◌, ◌≤◌, ◌*◌, ◌++◌, ◌∷◌, [], length, find, position, slice_set, slice_index_or, OnOk, OnErr, OnSome, option_copied, option_map};
-ghost use Rattle.call_agent.specs.Growing.{grown_to, settled, undone};
+ghost use Rattle.call_agent.specs.Growing.{grown_to, committed, rolled_back};
 ghost use Rattle.call_agent.specs.Flights.{flights_in, holds_id, exchanged, sooner_at, put_back};
 ghost use Rattle.call_agent.specs.Flying.{has_id, first_flight, if_due, with_flight, without_flight};
 
@@ -127,7 +127,7 @@ impl Flights {
     #[tactic(auto, unfolding(crate::specs::Flights::restored))]
     pub(crate) fn begin(&mut self, flight: Pending) -> Result<(), OutOfMemory>
         ensures ok { OnOk result (self.new ≡ grown_to (self.old.is ++ flight ∷ [])) }
-        ensures err { OnErr result (self.new ≡ settled self.old) }
+        ensures err { OnErr result (self.new ≡ committed self.old) }
     {
         self.saved = Vec::new(self.alloc);
         self.places.push(Some(flight))?;
@@ -136,16 +136,16 @@ impl Flights {
 
     /// What the next event finds is what is there: nothing is saved any more. This takes no memory.
     #[tactic(auto, unfolding(crate::specs::Flights::restored))]
-    pub(crate) fn settle(&mut self)
-        ensures { self.new ≡ settled self.old }
+    pub(crate) fn commit(&mut self)
+        ensures { self.new ≡ committed self.old }
     {
         self.saved = Vec::new(self.alloc);
         self.places.retain(|place| place.is_some());
     }
 
     /// An event failed: all is again what it found. This takes no memory.
-    pub(crate) fn undo(&mut self)
-        ensures { self.new ≡ undone self.old }
+    pub(crate) fn rollback(&mut self)
+        ensures { self.new ≡ rolled_back self.old }
     {
         while let Some(saved) = self.saved.pop() {
             put_back(&mut self.places, saved);

@@ -1,6 +1,6 @@
 //! A list that grows while an event happens, and is cut back where the event fails.
 ghost use Rattle.std.specs.Prelude.{◌≡◌, ◌++◌, ◌∷◌, [], OnOk, OnErr};
-ghost use Rattle.call_agent.specs.Growing.{grown_to, settled, undone};
+ghost use Rattle.call_agent.specs.Growing.{grown_to, committed, rolled_back};
 
 use mg_bytes::OutOfMemory;
 use std::alloc::Global;
@@ -62,15 +62,15 @@ impl<T: Drop> Growing<T> {
     }
 
     /// What the next event finds is what is there. This takes no memory.
-    pub(crate) fn settle(&mut self)
-        ensures { self.new ≡ settled self.old }
+    pub(crate) fn commit(&mut self)
+        ensures { self.new ≡ committed self.old }
     {
         self.count = self.items.len();
     }
 
     /// The event failed: there is again what it found. This takes no memory.
-    pub(crate) fn undo(&mut self)
-        ensures { self.new ≡ undone self.old }
+    pub(crate) fn rollback(&mut self)
+        ensures { self.new ≡ rolled_back self.old }
     {
         self.items.truncate(self.count);
     }

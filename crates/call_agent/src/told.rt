@@ -1,7 +1,7 @@
 //! What notifications told of each line.
 ghost use Rattle.std.specs.Prelude.{◌≡◌, ◌==◌, ◌-◌, if◌then◌else◌, [], replicate, IfOk, OnOk, OnErr};
 ghost use Rattle.std.specs.List.{slice_index_or};
-ghost use Rattle.call_agent.specs.Growing.{Grown, grown_to, settled, undone, all_in, told_at};
+ghost use Rattle.call_agent.specs.Growing.{Grown, grown_to, committed, rolled_back, all_in, told_at};
 ghost use Rattle.call_agent.specs.Taking.{with_taken};
 
 use crate::growing::Growing;
@@ -70,20 +70,20 @@ impl Told {
     }
 
     /// What the next event finds is what is there. This takes no memory.
-    pub(crate) fn settle(&mut self)
-        ensures { self.new ≡ settled self.old }
+    pub(crate) fn commit(&mut self)
+        ensures { self.new ≡ committed self.old }
     {
         for place in 0..self.lines.len() {
-            self.lines[place].settle();
+            self.lines[place].commit();
         }
     }
 
     /// The event failed: there is again what it found. This takes no memory.
-    pub(crate) fn undo(&mut self)
-        ensures { self.new ≡ undone self.old }
+    pub(crate) fn rollback(&mut self)
+        ensures { self.new ≡ rolled_back self.old }
     {
         for place in 0..self.lines.len() {
-            self.lines[place].undo();
+            self.lines[place].rollback();
         }
     }
 }

@@ -47,23 +47,23 @@ fn carry_out(context: Context<'_>, state: &mut State, event: Event<'_>) -> Resul
 }
 
 // What the next event finds is what is there, but for transactions that can't matter any more.
-fn settle(state: &mut State)
+fn commit(state: &mut State)
     ensures kept { kept_in state.new ≡ purged_in (kept_in state.old) }
     ensures found { machine_of state.old.clock (found_in state.new) ≡ purged_in (kept_in state.old) }
 {
-    state.flights.settle();
-    state.answers.settle();
-    state.told.settle();
+    state.flights.commit();
+    state.answers.commit();
+    state.told.commit();
     state.history.purge(state.clock);
 }
 
 // An event that came at this moment failed: all is again what it found.
-fn undo(state: &mut State, clock: u64)
+fn rollback(state: &mut State, clock: u64)
     ensures { kept_in state.new ≡ machine_of clock (found_in state.old) }
 {
-    state.flights.undo();
-    state.answers.undo();
-    state.told.undo();
+    state.flights.rollback();
+    state.answers.rollback();
+    state.told.rollback();
     state.history.undo();
     state.clock = clock;
 }
@@ -76,11 +76,11 @@ fn attempt(context: Context<'_>, state: &mut State, event: Event<'_>) -> Result<
     ensures ends { ends (hearing_refusal (kept_in state.old) (event_of event.entry)) false (result_err result) }
 {
     let clock = state.clock;
-    settle(state);
+    commit(state);
     match carry_out(context, state, event) {
         Ok(outputs) => Ok(outputs),
         Err(refusal) => {
-            undo(state, clock);
+            rollback(state, clock);
             Err(refusal)
         }
     }

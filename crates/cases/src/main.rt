@@ -1,21 +1,21 @@
-//! Plays all tales: each file says in its first line which kind it has.
+//! Plays all scenarios: each file says in its first line which kind it has.
 //!
-//! What is told otherwise than it happens is printed under its title. `docs/TALES.md` says how tales are written.
+//! What is told otherwise than it happens is printed under its title. `docs/SCENARIOS.md` says how scenarios are written.
 #![tactic(auto)]
 
 use rows::Rows;
+use scenario_files::{Count, Kinds, play};
 use scenarios::Scenarios;
 use std::io;
 use std::net::Net;
 use std::process::ExitCode;
-use tales::{Count, Kinds, play};
 use twins::Gateways;
 use worlds::Ends;
 
-// All kinds of tales.
-struct Tales;
+// All kinds of scenarios.
+struct All;
 
-impl Kinds for Tales {
+impl Kinds for All {
     fn told<R: AllocGlobal + Net + Print>(
         rt: &R,
         kind: &str,
@@ -35,5 +35,5 @@ impl Kinds for Tales {
 }
 
 fn main(rt: HostRuntime) -> io::Result<ExitCode> {
-    play::<Tales, HostRuntime>(&rt)
+    play::<All, HostRuntime>(&rt)
 }

@@ -8,10 +8,10 @@ use Rattle.mgcp_text.specs.Reading.{read_text}
 use Rattle.event_values.specs.declared.observed.Observed.{Observed}
 use Rattle.outbound.specs.Flight.{InFlight}
 use Rattle.plain_machine.specs.declared.setup.Setup.{Setup}
-use Rattle.plain_machine.specs.declared.station.Station.{Station}
+use Rattle.plain_machine.specs.declared.endpoint.Endpoint.{Endpoint}
 use Rattle.plain_machine.specs.Event.{GatewayEvent}
 use Rattle.plain_machine.specs.Lists.{plain, sent_of}
-use Rattle.plain_machine.specs.Machine.{station_at}
+use Rattle.plain_machine.specs.Machine.{endpoint_at}
 use Rattle.plain_machine.specs.Posting.{line_of_id}
 use Rattle.plain_machine.specs.Setup.{IsSetUp}
 use Rattle.machine_laws.specs.Saying.{HasNumbersLeft, Begun, OneOf}
@@ -161,32 +161,32 @@ module _ (setup : Setup) (steps : List WorldStep) (line : ℕ) (set_up : IsSetUp
       (λ one any. one_from_any (IsAsSent one) (own_in setup w) any) (taken_in w)
       (each_from_all (λ (one : Reached). Any (λ (b : Begun). (b.id ≡ one.asked.id) × (one.outcome ≡ read_text b.text)) (own_in setup w)) (taken_in w) (taken_as_sent setup steps set_up taken)))
 
-  course_is : (station : Station) → station_at (gateway_in setup w).endpoints line ≡ Some station
+  course_is : (endpoint : Endpoint) → endpoint_at (gateway_in setup w).endpoints line ≡ Some endpoint
       → told_along (course_of setup line w.gateway_took) ≡ flat_map told_by (line_begun setup line w.gateway_took)
-  course_is station at =
-      course_tells setup line (place_of (gateway_in setup w).endpoints line station at).0 w.gateway_took station at
+  course_is endpoint at =
+      course_tells setup line (place_of (gateway_in setup w).endpoints line endpoint at).0 w.gateway_took endpoint at
       ∙ begun_tell setup line (sent_of setup w.gateway_took) (each_from_all (IsWell setup) (sent_of setup w.gateway_took) (sent_well setup set_up w.gateway_took))
 
-  told_through : (station : Station) → station_at (gateway_in setup w).endpoints line ≡ Some station → has_given_up (line_sent setup line w.gateway_took) station.post ≡ false
-      → told_along (course_of setup line w.gateway_took) ≡ observed_on line (agent_in setup w) ++ untaken (taken_in w) station.post.pending
-  told_through station at none =
-      let some = (place_of (gateway_in setup w).endpoints line station at).0 in
+  told_through : (endpoint : Endpoint) → endpoint_at (gateway_in setup w).endpoints line ≡ Some endpoint → has_given_up (line_sent setup line w.gateway_took) endpoint.post ≡ false
+      → told_along (course_of setup line w.gateway_took) ≡ observed_on line (agent_in setup w) ++ untaken (taken_in w) endpoint.post.pending
+  told_through endpoint at none =
+      let some = (place_of (gateway_in setup w).endpoints line endpoint at).0 in
       let k = known setup line some steps set_up taken few in
-      let fine = gave_nothing_up (WasTaken (taken_in w)) (Unit {0}) (line_sent setup line w.gateway_took) station (k.flies station at) none in
-      course_is station at
-      ∙ told_so line (line_begun setup line w.gateway_took) fine.settled (taken_in w) k.apart k.mine k.as_sent fine.answered station.post.pending fine.split
-      (world_matches setup line some set_up steps taken few station at none)
-      ∙ ap (λ (x : List Observed). x ++ untaken (taken_in w) station.post.pending) (sym observed_is)
+      let fine = gave_nothing_up (WasTaken (taken_in w)) (Unit {0}) (line_sent setup line w.gateway_took) endpoint (k.flies endpoint at) none in
+      course_is endpoint at
+      ∙ told_so line (line_begun setup line w.gateway_took) fine.settled (taken_in w) k.apart k.mine k.as_sent fine.answered endpoint.post.pending fine.split
+      (world_matches setup line some set_up steps taken few endpoint at none)
+      ∙ ap (λ (x : List Observed). x ++ untaken (taken_in w) endpoint.post.pending) (sym observed_is)
 
-  pub dialled_through : (before after : List GatewayEvent) (station : Station) → w.gateway_took ≡ before ++ after → station_at (gateway_in setup w).endpoints line ≡ Some station
-      → IsAskedForAll (course_of setup line before) (course_from setup (plain setup before) line after) station.line → has_given_up (line_sent setup line w.gateway_took) station.post ≡ false
+  pub dialled_through : (before after : List GatewayEvent) (endpoint : Endpoint) → w.gateway_took ≡ before ++ after → endpoint_at (gateway_in setup w).endpoints line ≡ Some endpoint
+      → IsAskedForAll (course_of setup line before) (course_from setup (plain setup before) line after) endpoint.line → has_given_up (line_sent setup line w.gateway_took) endpoint.post ≡ false
       → done_in (course_of setup line w.gateway_took)
-      ≡ happened_in (observed_on line (agent_in setup w)) ++ (happened_in (untaken (taken_in w) station.post.pending) ++ happened_in station.line.quarantined.events)
-  dialled_through before after station took at asked none =
-      let once : IsToldOnce (course_of setup line w.gateway_took) station.line =
-      subst (λ (events : List GatewayEvent). IsToldOnce (course_of setup line events) station.line) (sym took)
-      (course_told setup line before after station (subst (λ (events : List GatewayEvent). station_at (plain setup events).endpoints line ≡ Some station) took at) asked) in
+      ≡ happened_in (observed_on line (agent_in setup w)) ++ (happened_in (untaken (taken_in w) endpoint.post.pending) ++ happened_in endpoint.line.quarantined.events)
+  dialled_through before after endpoint took at asked none =
+      let once : IsToldOnce (course_of setup line w.gateway_took) endpoint.line =
+      subst (λ (events : List GatewayEvent). IsToldOnce (course_of setup line events) endpoint.line) (sym took)
+      (course_told setup line before after endpoint (subst (λ (events : List GatewayEvent). endpoint_at (plain setup events).endpoints line ≡ Some endpoint) took at) asked) in
       once
-      ∙ ap (λ (x : List Observed). happened_in x ++ happened_in station.line.quarantined.events) (told_through station at none)
-      ∙ ap (λ (x : List Observed). x ++ happened_in station.line.quarantined.events) (happened_both (observed_on line (agent_in setup w)) (untaken (taken_in w) station.post.pending))
-      ∙ append_assoc (happened_in (observed_on line (agent_in setup w))) (happened_in (untaken (taken_in w) station.post.pending)) (happened_in station.line.quarantined.events)
+      ∙ ap (λ (x : List Observed). happened_in x ++ happened_in endpoint.line.quarantined.events) (told_through endpoint at none)
+      ∙ ap (λ (x : List Observed). x ++ happened_in endpoint.line.quarantined.events) (happened_both (observed_on line (agent_in setup w)) (untaken (taken_in w) endpoint.post.pending))
+      ∙ append_assoc (happened_in (observed_on line (agent_in setup w))) (happened_in (untaken (taken_in w) endpoint.post.pending)) (happened_in endpoint.line.quarantined.events)

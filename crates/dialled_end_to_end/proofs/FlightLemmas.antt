@@ -34,7 +34,7 @@ use Rattle.command_forms.specs.declared.forms.Deed.{Deed}
 use Rattle.plain_machine.specs.declared.post.Post.{Post}
 use Rattle.plain_machine.specs.declared.response.Response.{Response}
 use Rattle.plain_machine.specs.declared.setup.Setup.{Setup}
-use Rattle.plain_machine.specs.declared.station.Station.{Station}
+use Rattle.plain_machine.specs.declared.endpoint.Endpoint.{Endpoint}
 use Rattle.plain_machine.specs.Effect.{Effect, silently}
 use Rattle.plain_machine.specs.Announcing.{announcement, announced, announced_by, announced_on, heard_by, heard_on, replied}
 use Rattle.plain_machine.specs.Falling.{happened_on}
@@ -50,7 +50,7 @@ use Rattle.machine_laws.proofs.EachLemmas.{Each, each_push}
 use Rattle.world_laws.proofs.LinkLaws.{final_is}
 use Rattle.dialled_end_to_end.specs.GivenUp.{announces, has_given_up}
 use Rattle.dialled_once.specs.Course.{Step}
-use Rattle.dialled_once.proofs.CourseLemmas.{StationTurns}
+use Rattle.dialled_once.proofs.CourseLemmas.{EndpointTurns}
 
 -- what is in flight, as what began
 abbrev pub flying : Option InFlight → List Begun
@@ -138,12 +138,12 @@ module _ (A : ℕ → Type 0) (B : Type 0) where
     pub split : begun_in sent ≡ settled ++ flying pending
     pub answered : Each (λ (b : Begun). A b.id) settled
 
-  pub record Flies (sent : List Sent) (station : Station) : Type 0 where
-    rests : Rests station.post.restart station.post.pending station.line.state
-    either : Fine sent station.post.restart station.post.pending ⊎ Gone sent station.post.restart
+  pub record Flies (sent : List Sent) (endpoint : Endpoint) : Type 0 where
+    rests : Rests endpoint.post.restart endpoint.post.pending endpoint.line.state
+    either : Fine sent endpoint.post.restart endpoint.post.pending ⊎ Gone sent endpoint.post.restart
 
   -- after a turn
-  abbrev FliesOn : List Sent → Effect Station → Type 0
+  abbrev FliesOn : List Sent → Effect Endpoint → Type 0
   FliesOn sent turn = Flies (sent ++ turn.sent) turn.value
 
   begun_both : (some more : List Sent) → begun_in (some ++ more) ≡ begun_in some ++ begun_in more
@@ -166,27 +166,27 @@ module _ (A : ℕ → Type 0) (B : Type 0) where
 
   -- What a line tells
 
-  noted_silent : (setup : Setup) (line moment : ℕ) (station : Station) (done : LineDone) → done.notice ≡ None → noted setup line moment station done ≡ silently (record station { line = done.line })
+  noted_silent : (setup : Setup) (line moment : ℕ) (endpoint : Endpoint) (done : LineDone) → done.notice ≡ None → noted setup line moment endpoint done ≡ silently (record endpoint { line = done.line })
   unfolding noted
-  noted_silent setup line moment station done none = ap (with_notice setup line moment (record station { line = done.line })) none
+  noted_silent setup line moment endpoint done none = ap (with_notice setup line moment (record endpoint { line = done.line })) none
 
   -- nothing
-  waits_flies : (setup : Setup) (sent : List Sent) (line moment : ℕ) (station : Station) (done : LineDone) → WaitsOn done → Flies sent station
-      → FliesOn sent (noted setup line moment station done)
-  waits_flies setup sent line moment station done on f =
-      let still : FliesOn sent (silently (record station { line = done.line })) = record {
-        rests = rests_on station.post.restart station.post.pending station.line.state done.line.state f.rests on.state;
-        either = either_on sent [] station.post.restart station.post.pending refl f.either;
+  waits_flies : (setup : Setup) (sent : List Sent) (line moment : ℕ) (endpoint : Endpoint) (done : LineDone) → WaitsOn done → Flies sent endpoint
+      → FliesOn sent (noted setup line moment endpoint done)
+  waits_flies setup sent line moment endpoint done on f =
+      let still : FliesOn sent (silently (record endpoint { line = done.line })) = record {
+        rests = rests_on endpoint.post.restart endpoint.post.pending endpoint.line.state done.line.state f.rests on.state;
+        either = either_on sent [] endpoint.post.restart endpoint.post.pending refl f.either;
       } in
-      subst (λ (t : Effect Station). FliesOn sent t) (sym (noted_silent setup line moment station done on.silent)) still
+      subst (λ (t : Effect Endpoint). FliesOn sent t) (sym (noted_silent setup line moment endpoint done on.silent)) still
 
   -- something, where nothing is in flight
-  begins_fine : (setup : Setup) (sent : List Sent) (line moment : ℕ) (station : Station) (done : LineDone) (notice : Notice)
-      → Fine sent station.post.restart None → Fine (sent ++ (with_notice setup line moment (record station { line = done.line }) (Some notice)).sent) station.post.restart
-      (with_notice setup line moment (record station { line = done.line }) (Some notice)).value.post.pending
+  begins_fine : (setup : Setup) (sent : List Sent) (line moment : ℕ) (endpoint : Endpoint) (done : LineDone) (notice : Notice)
+      → Fine sent endpoint.post.restart None → Fine (sent ++ (with_notice setup line moment (record endpoint { line = done.line }) (Some notice)).sent) endpoint.post.restart
+      (with_notice setup line moment (record endpoint { line = done.line }) (Some notice)).value.post.pending
   unfolding notification
-  begins_fine setup sent line moment station done notice f =
-      let turn : Effect Station = with_notice setup line moment (record station { line = done.line }) (Some notice) in
+  begins_fine setup sent line moment endpoint done notice f =
+      let turn : Effect Endpoint = with_notice setup line moment (record endpoint { line = done.line }) (Some notice) in
       record {
         still = f.still;
         serving = f.serving;
@@ -195,58 +195,58 @@ module _ (A : ℕ → Type 0) (B : Type 0) where
         answered = f.answered;
       }
 
-  free_flies : (setup : Setup) (sent : List Sent) (line moment : ℕ) (station : Station) (done : LineDone) → station.post.restart ≡ Serving → station.post.pending ≡ None → AwaitsIfNotified done
-      → Fine sent station.post.restart station.post.pending ⊎ Gone sent station.post.restart → FliesOn sent (noted setup line moment station done)
+  free_flies : (setup : Setup) (sent : List Sent) (line moment : ℕ) (endpoint : Endpoint) (done : LineDone) → endpoint.post.restart ≡ Serving → endpoint.post.pending ≡ None → AwaitsIfNotified done
+      → Fine sent endpoint.post.restart endpoint.post.pending ⊎ Gone sent endpoint.post.restart → FliesOn sent (noted setup line moment endpoint done)
   unfolding noted
-  free_flies setup sent line moment station done serving none awaits either = by_notice done.notice awaits where
-    free : Fine sent station.post.restart None ⊎ Gone sent station.post.restart
-    free = subst (λ (p : Option InFlight). Fine sent station.post.restart p ⊎ Gone sent station.post.restart) none either
+  free_flies setup sent line moment endpoint done serving none awaits either = by_notice done.notice awaits where
+    free : Fine sent endpoint.post.restart None ⊎ Gone sent endpoint.post.restart
+    free = subst (λ (p : Option InFlight). Fine sent endpoint.post.restart p ⊎ Gone sent endpoint.post.restart) none either
 
-    by_either : (notice : Notice) → Fine sent station.post.restart None ⊎ Gone sent station.post.restart
-        → Fine (sent ++ (with_notice setup line moment (record station { line = done.line }) (Some notice)).sent) station.post.restart
-        (with_notice setup line moment (record station { line = done.line }) (Some notice)).value.post.pending
-        ⊎ Gone (sent ++ (with_notice setup line moment (record station { line = done.line }) (Some notice)).sent) station.post.restart
-    by_either notice (inl f) = inl (begins_fine setup sent line moment station done notice f)
-    by_either notice (inr g) = inr (gone_on sent (with_notice setup line moment (record station { line = done.line }) (Some notice)).sent station.post.restart g)
+    by_either : (notice : Notice) → Fine sent endpoint.post.restart None ⊎ Gone sent endpoint.post.restart
+        → Fine (sent ++ (with_notice setup line moment (record endpoint { line = done.line }) (Some notice)).sent) endpoint.post.restart
+        (with_notice setup line moment (record endpoint { line = done.line }) (Some notice)).value.post.pending
+        ⊎ Gone (sent ++ (with_notice setup line moment (record endpoint { line = done.line }) (Some notice)).sent) endpoint.post.restart
+    by_either notice (inl f) = inl (begins_fine setup sent line moment endpoint done notice f)
+    by_either notice (inr g) = inr (gone_on sent (with_notice setup line moment (record endpoint { line = done.line }) (Some notice)).sent endpoint.post.restart g)
 
     by_notice : (notice : Option Notice) → AwaitsIfNotified (record { line = done.line; notice = notice })
-        → FliesOn sent (with_notice setup line moment (record station { line = done.line }) notice)
+        → FliesOn sent (with_notice setup line moment (record endpoint { line = done.line }) notice)
     by_notice None awaits = record {
-      rests = subst (λ (r : Restart). Rests r station.post.pending done.line.state) (sym serving) (subst (λ (p : Option InFlight). Rests Serving p done.line.state) (sym none) tt);
-      either = either_on sent [] station.post.restart station.post.pending refl either;
+      rests = subst (λ (r : Restart). Rests r endpoint.post.pending done.line.state) (sym serving) (subst (λ (p : Option InFlight). Rests Serving p done.line.state) (sym none) tt);
+      either = either_on sent [] endpoint.post.restart endpoint.post.pending refl either;
     }
     by_notice (Some notice) awaits = record {
-      rests = subst (λ (r : Restart). Rests r (with_notice setup line moment (record station { line = done.line }) (Some notice)).value.post.pending done.line.state) (sym serving) awaits.state;
+      rests = subst (λ (r : Restart). Rests r (with_notice setup line moment (record endpoint { line = done.line }) (Some notice)).value.post.pending done.line.state) (sym serving) awaits.state;
       either = by_either notice free;
     }
 
-  noted_flies : (setup : Setup) (sent : List Sent) (line moment : ℕ) (station : Station) (done : LineDone) → AwaitsIfNotified done → (station.line.state ≡ Notification → WaitsOn done)
-      → Flies sent station → FliesOn sent (noted setup line moment station done)
-  noted_flies setup sent line moment station done awaits waits f = by_rests (rests_is station.post.restart station.post.pending station.line.state f.rests) where
-    by_rests : (station.line.state ≡ Notification) ⊎ ((station.post.restart ≡ Serving) × (station.post.pending ≡ None)) → FliesOn sent (noted setup line moment station done)
-    by_rests (inl is) = waits_flies setup sent line moment station done (waits is) f
-    by_rests (inr free) = free_flies setup sent line moment station done free.0 free.1 awaits f.either
+  noted_flies : (setup : Setup) (sent : List Sent) (line moment : ℕ) (endpoint : Endpoint) (done : LineDone) → AwaitsIfNotified done → (endpoint.line.state ≡ Notification → WaitsOn done)
+      → Flies sent endpoint → FliesOn sent (noted setup line moment endpoint done)
+  noted_flies setup sent line moment endpoint done awaits waits f = by_rests (rests_is endpoint.post.restart endpoint.post.pending endpoint.line.state f.rests) where
+    by_rests : (endpoint.line.state ≡ Notification) ⊎ ((endpoint.post.restart ≡ Serving) × (endpoint.post.pending ≡ None)) → FliesOn sent (noted setup line moment endpoint done)
+    by_rests (inl is) = waits_flies setup sent line moment endpoint done (waits is) f
+    by_rests (inr free) = free_flies setup sent line moment endpoint done free.0 free.1 awaits f.either
 
   asked_awaits : (request : Option Request) (line : LineState) (moment : ℕ) → AwaitsIfNotified (asked_if request line moment)
   asked_awaits None line moment = tt
   asked_awaits (Some request) line moment = notifies_once.request line request moment
 
-  deed_flies : (setup : Setup) (sent : List Sent) (deed : Deed) (moment line : ℕ) (station : Station) → Flies sent station → FliesOn sent (deed_on setup deed moment line station)
+  deed_flies : (setup : Setup) (sent : List Sent) (deed : Deed) (moment line : ℕ) (endpoint : Endpoint) → Flies sent endpoint → FliesOn sent (deed_on setup deed moment line endpoint)
   unfolding deed_on
-  deed_flies setup sent deed moment line station f =
-      noted_flies setup sent line moment (with_connections deed (with_entity deed.entity station)) (asked_if deed.request station.line moment)
-      (asked_awaits deed.request station.line moment) (asked_waits deed.request station.line moment) (record { rests = f.rests; either = f.either })
+  deed_flies setup sent deed moment line endpoint f =
+      noted_flies setup sent line moment (with_connections deed (with_entity deed.entity endpoint)) (asked_if deed.request endpoint.line moment)
+      (asked_awaits deed.request endpoint.line moment) (asked_waits deed.request endpoint.line moment) (record { rests = f.rests; either = f.either })
 
-  opened_flies : (setup : Setup) (sent : List Sent) (agent : Option Entity) (moment line : ℕ) (station : Station) → IsClosed station → Flies sent station
-      → FliesOn sent (opened_on agent setup moment line station)
+  opened_flies : (setup : Setup) (sent : List Sent) (agent : Option Entity) (moment line : ℕ) (endpoint : Endpoint) → IsClosed endpoint → Flies sent endpoint
+      → FliesOn sent (opened_on agent setup moment line endpoint)
   unfolding opened_on
-  opened_flies setup sent agent moment line station closed f =
-      free_flies setup sent line moment (with_entity agent station) (opened station.line moment) closed.restart closed.pending (notifies_once.serving station.line moment) f.either
+  opened_flies setup sent agent moment line endpoint closed f =
+      free_flies setup sent line moment (with_entity agent endpoint) (opened endpoint.line moment) closed.restart closed.pending (notifies_once.serving endpoint.line moment) f.either
 
-  redirected_flies : (sent : List Sent) (agent : Entity) (line : ℕ) (station : Station) → Flies sent station → FliesOn sent (redirected_on agent line station)
+  redirected_flies : (sent : List Sent) (agent : Entity) (line : ℕ) (endpoint : Endpoint) → Flies sent endpoint → FliesOn sent (redirected_on agent line endpoint)
   unfolding redirected_on
-  redirected_flies sent agent line station f =
-      record { rests = f.rests; either = either_on sent [] station.post.restart station.post.pending refl f.either }
+  redirected_flies sent agent line endpoint f =
+      record { rests = f.rests; either = either_on sent [] endpoint.post.restart endpoint.post.pending refl f.either }
 
   -- What falls due of a post
 
@@ -270,47 +270,47 @@ module _ (A : ℕ → Type 0) (B : Type 0) where
         answered = on.answered;
       })
 
-  resent_flies : (setup : Setup) (sent : List Sent) (line moment : ℕ) (station : Station) → Flies sent station → FliesOn sent (posted station (resent_on setup line moment station.post))
-  resent_flies setup sent line moment station f = by_pending station.post.pending f.rests f.either where
-    by_repeat : (flight : InFlight) (repeat : Repeat) → Rests station.post.restart (Some flight) station.line.state
-        → Fine sent station.post.restart (Some flight) ⊎ Gone sent station.post.restart
-        → FliesOn sent (posted station (repeated_as repeat setup line moment station.post flight))
+  resent_flies : (setup : Setup) (sent : List Sent) (line moment : ℕ) (endpoint : Endpoint) → Flies sent endpoint → FliesOn sent (posted endpoint (resent_on setup line moment endpoint.post))
+  resent_flies setup sent line moment endpoint f = by_pending endpoint.post.pending f.rests f.either where
+    by_repeat : (flight : InFlight) (repeat : Repeat) → Rests endpoint.post.restart (Some flight) endpoint.line.state
+        → Fine sent endpoint.post.restart (Some flight) ⊎ Gone sent endpoint.post.restart
+        → FliesOn sent (posted endpoint (repeated_as repeat setup line moment endpoint.post flight))
     by_repeat flight SentAgain rests either =
         let same = repeat_same flight moment in
         record {
-          rests = rests_again station.post.restart flight (repeated flight moment) station.line.state rests;
-          either = either_again sent _ station.post.restart flight (repeated flight moment) refl (same_flying flight (repeated flight moment) same.same_id same.same_text same.same_start) either;
+          rests = rests_again endpoint.post.restart flight (repeated flight moment) endpoint.line.state rests;
+          either = either_again sent _ endpoint.post.restart flight (repeated flight moment) refl (same_flying flight (repeated flight moment) same.same_id same.same_text same.same_start) either;
         }
-    by_repeat flight GivenUp rests either = record { rests = (refl, flight_waits station.post.restart flight station.line.state rests); either = inr (inr refl) }
+    by_repeat flight GivenUp rests either = record { rests = (refl, flight_waits endpoint.post.restart flight endpoint.line.state rests); either = inr (inr refl) }
 
-    by_pending : (pending : Option InFlight) → Rests station.post.restart pending station.line.state → Fine sent station.post.restart pending ⊎ Gone sent station.post.restart
-        → FliesOn sent (posted station (resent_by pending setup line moment station.post))
-    by_pending None rests either = record { rests = f.rests; either = either_on sent [] station.post.restart station.post.pending refl f.either }
+    by_pending : (pending : Option InFlight) → Rests endpoint.post.restart pending endpoint.line.state → Fine sent endpoint.post.restart pending ⊎ Gone sent endpoint.post.restart
+        → FliesOn sent (posted endpoint (resent_by pending setup line moment endpoint.post))
+    by_pending None rests either = record { rests = f.rests; either = either_on sent [] endpoint.post.restart endpoint.post.pending refl f.either }
     by_pending (Some flight) rests either = by_repeat flight (repeat_of flight moment) rests either
 
   -- An announcement
 
-  announced_flies : (setup : Setup) (sent : List Sent) (line moment : ℕ) (station : Station) (post : Post) → station.line.state ≡ Notification
-      → FliesOn sent (posted station (announced setup line moment post))
+  announced_flies : (setup : Setup) (sent : List Sent) (line moment : ℕ) (endpoint : Endpoint) (post : Post) → endpoint.line.state ≡ Notification
+      → FliesOn sent (posted endpoint (announced setup line moment post))
   unfolding announced announcement
-  announced_flies setup sent line moment station post waits = record { rests = waits; either = inr (inl (announced_last sent _ refl)) }
+  announced_flies setup sent line moment endpoint post waits = record { rests = waits; either = inr (inl (announced_last sent _ refl)) }
 
-  announced_on_flies : (setup : Setup) (sent : List Sent) (line moment : ℕ) (station : Station) → Flies sent station → FliesOn sent (posted station (announced_on setup line moment station.post))
-  announced_on_flies setup sent line moment station f = by_restart station.post.restart f.rests where
-    same : FliesOn sent (silently station)
-    same = record { rests = f.rests; either = either_on sent [] station.post.restart station.post.pending refl f.either }
+  announced_on_flies : (setup : Setup) (sent : List Sent) (line moment : ℕ) (endpoint : Endpoint) → Flies sent endpoint → FliesOn sent (posted endpoint (announced_on setup line moment endpoint.post))
+  announced_on_flies setup sent line moment endpoint f = by_restart endpoint.post.restart f.rests where
+    same : FliesOn sent (silently endpoint)
+    same = record { rests = f.rests; either = either_on sent [] endpoint.post.restart endpoint.post.pending refl f.either }
 
-    by_restart : (restart : Restart) → Rests restart station.post.pending station.line.state → FliesOn sent (posted station (announced_by restart setup line moment station.post))
-    by_restart (Waiting until) rests = announced_flies setup sent line moment station station.post rests.1
+    by_restart : (restart : Restart) → Rests restart endpoint.post.pending endpoint.line.state → FliesOn sent (posted endpoint (announced_by restart setup line moment endpoint.post))
+    by_restart (Waiting until) rests = announced_flies setup sent line moment endpoint endpoint.post rests.1
     by_restart Announced rests = same
     by_restart Serving rests = same
 
-  happened_flies : (setup : Setup) (sent : List Sent) (due : DueKind) (line moment : ℕ) (station : Station) → Flies sent station → FliesOn sent (happened_on due setup line moment station)
+  happened_flies : (setup : Setup) (sent : List Sent) (due : DueKind) (line moment : ℕ) (endpoint : Endpoint) → Flies sent endpoint → FliesOn sent (happened_on due setup line moment endpoint)
   unfolding happened_on
-  happened_flies setup sent (OfLine due) line moment station f =
-      noted_flies setup sent line moment station (fired station.line due moment) (notifies_once.firing station.line due moment) (fired_waits station.line due moment) f
-  happened_flies setup sent Resend line moment station f = resent_flies setup sent line moment station f
-  happened_flies setup sent Announce line moment station f = announced_on_flies setup sent line moment station f
+  happened_flies setup sent (OfLine due) line moment endpoint f =
+      noted_flies setup sent line moment endpoint (fired endpoint.line due moment) (notifies_once.firing endpoint.line due moment) (fired_waits endpoint.line due moment) f
+  happened_flies setup sent Resend line moment endpoint f = resent_flies setup sent line moment endpoint f
+  happened_flies setup sent Announce line moment endpoint f = announced_on_flies setup sent line moment endpoint f
 
   -- A response
 
@@ -360,24 +360,24 @@ module _ (A : ℕ → Type 0) (B : Type 0) where
   settles sent Announced pending flight state at holds rests (inr (inr is)) = absurd cc
   settles sent Serving pending flight state at holds rests (inr (inr is)) = absurd cc
 
-  responded_flies : (setup : Setup) (sent : List Sent) (line moment : ℕ) (response : Response) (station : Station) → (200 ≤ response.code → A response.id) → Flies sent station
-      → FliesOn sent (responded_on setup line moment response station)
+  responded_flies : (setup : Setup) (sent : List Sent) (line moment : ℕ) (response : Response) (endpoint : Endpoint) → (200 ≤ response.code → A response.id) → Flies sent endpoint
+      → FliesOn sent (responded_on setup line moment response endpoint)
   unfolding responded_on replied
-  responded_flies setup sent line moment response station holds f = by_heard (heard_on station.post response) refl where
-    by_heard : (heard : Heard) → heard_on station.post response ≡ heard → FliesOn sent (responded_as heard setup line moment response station)
-    by_heard Nothing e = record { rests = f.rests; either = either_on sent [] station.post.restart station.post.pending refl f.either }
+  responded_flies setup sent line moment response endpoint holds f = by_heard (heard_on endpoint.post response) refl where
+    by_heard : (heard : Heard) → heard_on endpoint.post response ≡ heard → FliesOn sent (responded_as heard setup line moment response endpoint)
+    by_heard Nothing e = record { rests = f.rests; either = either_on sent [] endpoint.post.restart endpoint.post.pending refl f.either }
     by_heard PutOff e =
-        let both = put_off_flies sent response moment station.post.restart station.post.pending station.line.state f.rests f.either in
+        let both = put_off_flies sent response moment endpoint.post.restart endpoint.post.pending endpoint.line.state f.rests f.either in
         record { rests = both.0; either = both.1 }
     by_heard (Redirected agent) e =
-        let rests : Rests Announced station.post.pending station.line.state =
-        subst (λ (r : Restart). Rests r station.post.pending station.line.state) (redirected_announced station.post response agent e) f.rests in
-        announced_flies setup sent line moment station (record station.post { entity = agent }) rests
+        let rests : Rests Announced endpoint.post.pending endpoint.line.state =
+        subst (λ (r : Restart). Rests r endpoint.post.pending endpoint.line.state) (redirected_announced endpoint.post response agent e) f.rests in
+        announced_flies setup sent line moment endpoint (record endpoint.post { entity = agent }) rests
     by_heard (Answered agent) e =
-        let is = answered_is station.post response agent e in
-        let to : Station = record station { post = record station.post { entity = unwrap_or agent station.post.entity; pending = None; restart = Serving } } in
-        free_flies setup sent line moment to (answered station.line moment) refl refl (notifies_once.answering station.line moment)
-        (settles sent station.post.restart station.post.pending is.flight station.line.state is.flies (subst A (sym is.same) (holds is.final)) f.rests f.either)
+        let is = answered_is endpoint.post response agent e in
+        let to : Endpoint = record endpoint { post = record endpoint.post { entity = unwrap_or agent endpoint.post.entity; pending = None; restart = Serving } } in
+        free_flies setup sent line moment to (answered endpoint.line moment) refl refl (notifies_once.answering endpoint.line moment)
+        (settles sent endpoint.post.restart endpoint.post.pending is.flight endpoint.line.state is.flies (subst A (sym is.same) (holds is.final)) f.rests f.either)
 
   -- an answer to a command goes out
   answer_begins : (one : Sent) → is_answer one.said ≡ true → begun_in (one ∷ []) ≡ []
@@ -390,54 +390,54 @@ module _ (A : ℕ → Type 0) (B : Type 0) where
     by_said (acknowledgement response) e = absurd cc
 
   -- it is so whatever the course
-  abbrev pub FliesBeside : Bool → List Step → List Sent → Station → Type 0
-  FliesBeside serving course sent station = Flies sent station
+  abbrev pub FliesBeside : Bool → List Step → List Sent → Endpoint → Type 0
+  FliesBeside serving course sent endpoint = Flies sent endpoint
 
-  pub flight_turns : (setup : Setup) → StationTurns setup (λ (response : Response). 200 ≤ response.code → A response.id) FliesBeside
+  pub flight_turns : (setup : Setup) → EndpointTurns setup (λ (response : Response). 200 ≤ response.code → A response.id) FliesBeside
   flight_turns setup = record {
-    act = λ serving course sent line moment act station f.
-        noted_flies setup sent line moment station (phoned station.line act moment) (notifies_once.act station.line act moment) (phoned_waits station.line act moment) f;
-    deed = λ course sent deed moment line station f. deed_flies setup sent deed moment line station f;
-    response = λ serving course sent line moment response station final f. responded_flies setup sent line moment response station final f;
-    happening = λ serving course sent line item station is f. happened_flies setup sent item.kind line item.moment station f;
-    redirecting = λ serving course sent agent line station f. redirected_flies sent agent line station f;
-    opening = λ course sent agent moment line station closed f. opened_flies setup sent agent moment line station closed f;
-    answering = λ serving course sent one station is f. record { rests = f.rests; either = either_on sent (one ∷ []) station.post.restart station.post.pending (answer_begins one is) f.either };
+    act = λ serving course sent line moment act endpoint f.
+        noted_flies setup sent line moment endpoint (phoned endpoint.line act moment) (notifies_once.act endpoint.line act moment) (phoned_waits endpoint.line act moment) f;
+    deed = λ course sent deed moment line endpoint f. deed_flies setup sent deed moment line endpoint f;
+    response = λ serving course sent line moment response endpoint final f. responded_flies setup sent line moment response endpoint final f;
+    happening = λ serving course sent line item endpoint is f. happened_flies setup sent item.kind line item.moment endpoint f;
+    redirecting = λ serving course sent agent line endpoint f. redirected_flies sent agent line endpoint f;
+    opening = λ course sent agent moment line endpoint closed f. opened_flies setup sent agent moment line endpoint closed f;
+    answering = λ serving course sent one endpoint is f. record { rests = f.rests; either = either_on sent (one ∷ []) endpoint.post.restart endpoint.post.pending (answer_begins one is) f.either };
   }
 
   -- a line that is as it opens
-  pub opening_flies : (station : Station) → B → station.post.restart ≡ Serving → station.post.pending ≡ None → Flies [] station
-  opening_flies station still serving none = record {
-    rests = subst (λ (r : Restart). Rests r station.post.pending station.line.state) (sym serving) (subst (λ (p : Option InFlight). Rests Serving p station.line.state) (sym none) tt);
+  pub opening_flies : (endpoint : Endpoint) → B → endpoint.post.restart ≡ Serving → endpoint.post.pending ≡ None → Flies [] endpoint
+  opening_flies endpoint still serving none = record {
+    rests = subst (λ (r : Restart). Rests r endpoint.post.pending endpoint.line.state) (sym serving) (subst (λ (p : Option InFlight). Rests Serving p endpoint.line.state) (sym none) tt);
     either = inl (record { still = still; serving = serving; settled = []; split = sym (ap flying none); answered = tt });
   }
 
   -- by what it sent and its post
 
-  pub gave_nothing_up : (sent : List Sent) (station : Station) → Flies sent station → has_given_up sent station.post ≡ false → Fine sent station.post.restart station.post.pending
-  gave_nothing_up sent station f none = by_either f.either where
-    by_either : Fine sent station.post.restart station.post.pending ⊎ Gone sent station.post.restart → Fine sent station.post.restart station.post.pending
+  pub gave_nothing_up : (sent : List Sent) (endpoint : Endpoint) → Flies sent endpoint → has_given_up sent endpoint.post ≡ false → Fine sent endpoint.post.restart endpoint.post.pending
+  gave_nothing_up sent endpoint f none = by_either f.either where
+    by_either : Fine sent endpoint.post.restart endpoint.post.pending ⊎ Gone sent endpoint.post.restart → Fine sent endpoint.post.restart endpoint.post.pending
     by_either (inl fine) = fine
-    by_either (inr gone) = absurd (let clash : true ≡ false = sym (gone_is sent station.post gone) ∙ none in cc)
+    by_either (inr gone) = absurd (let clash : true ≡ false = sym (gone_is sent endpoint.post gone) ∙ none in cc)
 
 -- What was given up stays so
 
-gone_from : (A : ℕ → Type 0) (B : Type 0) (sent : List Sent) (station : Station) → Flies A B sent station → has_given_up sent station.post ≡ true → Gone sent station.post.restart
-gone_from A B sent station f given = by_either f.either where
+gone_from : (A : ℕ → Type 0) (B : Type 0) (sent : List Sent) (endpoint : Endpoint) → Flies A B sent endpoint → has_given_up sent endpoint.post ≡ true → Gone sent endpoint.post.restart
+gone_from A B sent endpoint f given = by_either f.either where
   or_false : (b : Bool) → (b || false) ≡ true → b ≡ true
   or_false true e = refl
   or_false false e = absurd cc
 
-  by_either : Fine A B sent station.post.restart station.post.pending ⊎ Gone sent station.post.restart → Gone sent station.post.restart
+  by_either : Fine A B sent endpoint.post.restart endpoint.post.pending ⊎ Gone sent endpoint.post.restart → Gone sent endpoint.post.restart
   by_either (inl fine) = inl (or_false (has_announced sent) (sym (ap (λ (r : Restart). has_announced sent || not (is_serving r)) fine.serving) ∙ given))
   by_either (inr gone) = gone
 
-pub starts_gone : (A : ℕ → Type 0) (B : Type 0) (sent : List Sent) (station : Station) → Flies A B sent station → has_given_up sent station.post ≡ true
-    → Flies (λ (id : ℕ). Unit {0}) ⊥ sent station
-starts_gone A B sent station f given = record { rests = f.rests; either = inr (gone_from A B sent station f given) }
+pub starts_gone : (A : ℕ → Type 0) (B : Type 0) (sent : List Sent) (endpoint : Endpoint) → Flies A B sent endpoint → has_given_up sent endpoint.post ≡ true
+    → Flies (λ (id : ℕ). Unit {0}) ⊥ sent endpoint
+starts_gone A B sent endpoint f given = record { rests = f.rests; either = inr (gone_from A B sent endpoint f given) }
 
-pub stays_gone : (sent : List Sent) (station : Station) → Flies (λ (id : ℕ). Unit {0}) ⊥ sent station → has_given_up sent station.post ≡ true
-stays_gone sent station f = by_either f.either where
-  by_either : Fine (λ (id : ℕ). Unit {0}) ⊥ sent station.post.restart station.post.pending ⊎ Gone sent station.post.restart → has_given_up sent station.post ≡ true
+pub stays_gone : (sent : List Sent) (endpoint : Endpoint) → Flies (λ (id : ℕ). Unit {0}) ⊥ sent endpoint → has_given_up sent endpoint.post ≡ true
+stays_gone sent endpoint f = by_either f.either where
+  by_either : Fine (λ (id : ℕ). Unit {0}) ⊥ sent endpoint.post.restart endpoint.post.pending ⊎ Gone sent endpoint.post.restart → has_given_up sent endpoint.post ≡ true
   by_either (inl fine) = absurd fine.still
-  by_either (inr gone) = gone_is sent station.post gone
+  by_either (inr gone) = gone_is sent endpoint.post gone

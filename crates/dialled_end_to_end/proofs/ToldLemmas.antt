@@ -9,13 +9,13 @@ use Rattle.mgcp_text.proofs.RoundLaws.{read_again}
 use Rattle.event_values.specs.declared.observed.Observed.{Observed}
 use Rattle.event_requests.specs.declared.request.Request.{Request}
 use Rattle.plain_machine.specs.declared.setup.Setup.{Setup}
-use Rattle.plain_machine.specs.declared.station.Station.{Station}
+use Rattle.plain_machine.specs.declared.endpoint.Endpoint.{Endpoint}
 use Rattle.plain_machine.specs.Acting.{acted_on}
 use Rattle.plain_machine.specs.Arriving.{arrivals_of}
 use Rattle.plain_machine.specs.Event.{GatewayEvent}
 use Rattle.plain_machine.specs.Falling.{happened_on}
 use Rattle.plain_machine.specs.Lists.{plain, sent_of}
-use Rattle.plain_machine.specs.Machine.{opening, station_at}
+use Rattle.plain_machine.specs.Machine.{opening, endpoint_at}
 use Rattle.plain_machine.specs.Message.{Owner, Said, answer, again, command, resent, acknowledgement, Sent}
 use Rattle.plain_machine.specs.Posting.{line_of_id}
 use Rattle.plain_machine.specs.Requesting.{deed_on}
@@ -26,9 +26,9 @@ use Rattle.machine_laws.proofs.WaitLaws.{opening_waits}
 use Rattle.line_isolation.specs.Belonging.{is_of, of_line}
 use Rattle.dialled_once.specs.Course.{Step, acts, notified_by, accepted, course_of}
 use Rattle.dialled_once.specs.Dialled.{told_along}
-use Rattle.dialled_once.proofs.CourseLemmas.{AnyResponse, StationTurns, answer_notifies, events_stand, hear_all}
+use Rattle.dialled_once.proofs.CourseLemmas.{AnyResponse, EndpointTurns, answer_notifies, events_stand, hear_all}
 use Rattle.dialled_once.proofs.DialledLemmas.{told_both}
-use Rattle.dialled_once.proofs.StationLemmas.{steps_in}
+use Rattle.dialled_once.proofs.EndpointLemmas.{steps_in}
 use Rattle.dialled_end_to_end.specs.Telling.{told_as}
 use Rattle.dialled_end_to_end.proofs.WellLemmas.{SaysWell, IsWell}
 
@@ -42,8 +42,8 @@ notified_both some more =
     ap told_along (flat_map-append (λ (one : Sent). notified_by one.said) some more) ∙ told_both (steps_in some) (steps_in more)
 
 -- the course tells so
-abbrev TellsSo : Bool → List Step → List Sent → Station → Type 0
-TellsSo serving course sent station = told_along course ≡ notified sent
+abbrev TellsSo : Bool → List Step → List Sent → Endpoint → Type 0
+TellsSo serving course sent endpoint = told_along course ≡ notified sent
 
 turn_tells : (course : List Step) (sent more : List Sent) → told_along course ≡ notified sent → told_along (course ++ steps_in more) ≡ notified (sent ++ more)
 turn_tells course sent more is = told_both course (steps_in more) ∙ ap (λ (x : List Observed). x ++ notified more) is ∙ sym (notified_both sent more)
@@ -57,23 +57,23 @@ accepted_tells : (request : Option Request) → told_along (accepted request) �
 accepted_tells None = refl
 accepted_tells (Some request) = refl
 
-told_turns : (setup : Setup) → StationTurns setup AnyResponse TellsSo
+told_turns : (setup : Setup) → EndpointTurns setup AnyResponse TellsSo
 told_turns setup = record {
-  act = λ serving course sent line moment act station is. added_tells course (acts act ∷ []) sent (acted_on setup line moment act station).sent refl is;
-  deed = λ course sent deed moment line station is. added_tells course (accepted deed.request) sent (deed_on setup deed moment line station).sent (accepted_tells deed.request) is;
-  response = λ serving course sent line moment response station any is. turn_tells course sent (responded_on setup line moment response station).sent is;
-  happening = λ serving course sent line item station due is. turn_tells course sent (happened_on item.kind setup line item.moment station).sent is;
-  redirecting = λ serving course sent agent line station is. turn_tells course sent (redirected_on agent line station).sent is;
-  opening = λ course sent agent moment line station closed is. turn_tells course sent (opened_on agent setup moment line station).sent is;
-  answering = λ serving course sent one station answers is.
+  act = λ serving course sent line moment act endpoint is. added_tells course (acts act ∷ []) sent (acted_on setup line moment act endpoint).sent refl is;
+  deed = λ course sent deed moment line endpoint is. added_tells course (accepted deed.request) sent (deed_on setup deed moment line endpoint).sent (accepted_tells deed.request) is;
+  response = λ serving course sent line moment response endpoint any is. turn_tells course sent (responded_on setup line moment response endpoint).sent is;
+  happening = λ serving course sent line item endpoint due is. turn_tells course sent (happened_on item.kind setup line item.moment endpoint).sent is;
+  redirecting = λ serving course sent agent line endpoint is. turn_tells course sent (redirected_on agent line endpoint).sent is;
+  opening = λ course sent agent moment line endpoint closed is. turn_tells course sent (opened_on agent setup moment line endpoint).sent is;
+  answering = λ serving course sent one endpoint answers is.
       is ∙ sym (notified_both sent (one ∷ []) ∙ ap (λ (x : List Step). notified sent ++ told_along (x ++ [])) (answer_notifies one.said answers) ∙ append-nil (notified sent));
 }
 
-pub course_tells : (setup : Setup) (line : ℕ) (some : 1 ≤ line) (events : List GatewayEvent) (station : Station) → station_at (plain setup events).endpoints line ≡ Some station
+pub course_tells : (setup : Setup) (line : ℕ) (some : 1 ≤ line) (events : List GatewayEvent) (endpoint : Endpoint) → endpoint_at (plain setup events).endpoints line ≡ Some endpoint
     → told_along (course_of setup line events) ≡ notified (of_line line (sent_of setup events))
-course_tells setup line some events station at =
+course_tells setup line some events endpoint at =
     (events_stand setup AnyResponse TellsSo (told_turns setup) line some (opening setup) [] [] 0 events (hear_all setup AnyResponse (λ response. tt) (arrivals_of events))
-    (record { order = opening_waits setup; holds = λ s here. refl })).holds station at
+    (record { order = opening_waits setup; holds = λ s here. refl })).holds endpoint at
 
 -- By the texts of the commands that began
 

@@ -42,7 +42,7 @@ use Rattle.timers.specs.declared.kind.DueKind.TheVariants.{OfLine, Resend, Annou
 use Rattle.plain_machine.specs.declared.post.Post.{Post}
 use Rattle.plain_machine.specs.declared.response.Response.{Response}
 use Rattle.plain_machine.specs.declared.setup.Setup.{Setup}
-use Rattle.plain_machine.specs.declared.station.Station.{Station}
+use Rattle.plain_machine.specs.declared.endpoint.Endpoint.{Endpoint}
 use Rattle.plain_machine.specs.Effect.{Effect}
 use Rattle.plain_machine.specs.Acting.{acted_on}
 use Rattle.plain_machine.specs.Announcing.{announcement, announced, announced_by, announced_on, heard_on, replied, replied_on}
@@ -51,7 +51,7 @@ use Rattle.plain_machine.specs.Event.{GatewayEvent, datagram, phone, tick}
 use Rattle.plain_machine.specs.Falling.{happened_on, happened_under}
 use Rattle.plain_machine.specs.Happening.{effect}
 use Rattle.plain_machine.specs.Lists.{sent_from, sent_of}
-use Rattle.plain_machine.specs.Machine.{Machine, opening, opening_station}
+use Rattle.plain_machine.specs.Machine.{Machine, opening, opening_endpoint}
 use Rattle.plain_machine.specs.Message.{Owner, own_of, of_none, Said, answer, again, command, resent, acknowledgement, Sent}
 use Rattle.plain_machine.specs.Notifying.{notification, with_notice, noted}
 use Rattle.plain_machine.specs.Posting.{numbers, id_on, line_of_id, repeated_as, resent_by, resent_on}
@@ -90,20 +90,20 @@ SaysWell setup owner (acknowledgement response) = Unit {0}
 abbrev pub IsWell : Setup → Sent → Type 0
 IsWell setup sent = SaysWell setup sent.owner sent.said
 
--- a station of a line that there is
-record Stationed (setup : Setup) (line : ℕ) (station : Station) : Type 0 where
-  sound : Sound line station
+-- an endpoint of a line that there is
+record LineStands (setup : Setup) (line : ℕ) (endpoint : Endpoint) : Type 0 where
+  sound : Sound line endpoint
   within : line ≤ setup.names.lines
 
-abbrev OnStation : Setup → Bool → ℕ → Station → Type 0
-OnStation setup serving line station = Stationed setup line station
+abbrev OnEndpoint : Setup → Bool → ℕ → Endpoint → Type 0
+OnEndpoint setup serving line endpoint = LineStands setup line endpoint
 
 module _ (setup : Setup) (set_up : IsSetUp setup) where
   abbrev Well : List Sent → Type 0
   Well sent = All (IsWell setup) sent
 
-  abbrev GoodTurn : ℕ → Effect Station → Type 0
-  GoodTurn line turn = Good (Stationed setup) (IsWell setup) line turn
+  abbrev GoodTurn : ℕ → Effect Endpoint → Type 0
+  GoodTurn line turn = Good (LineStands setup) (IsWell setup) line turn
 
   one_well : (sent : Sent) → IsWell setup sent → Well (sent ∷ [])
   one_well sent is = All-cons (IsWell setup) sent [] is (All-nil (IsWell setup))
@@ -111,21 +111,21 @@ module _ (setup : Setup) (set_up : IsSetUp setup) where
   none_well : Well []
   none_well = All-nil (IsWell setup)
 
-  -- a turn that keeps the station sound
-  from_sound : (line : ℕ) (turn : Effect Station) → line ≤ setup.names.lines → Sound line turn.value → Well turn.sent → GoodTurn line turn
+  -- a turn that keeps the endpoint sound
+  from_sound : (line : ℕ) (turn : Effect Endpoint) → line ≤ setup.names.lines → Sound line turn.value → Well turn.sent → GoodTurn line turn
   from_sound line turn within sound well = (record { sound = sound; within = within }, well)
 
-  noted_well : (line moment : ℕ) (station : Station) (done : LineDone) → 1 ≤ line → line ≤ most_lines → line ≤ setup.names.lines → station.post.number < numbers → IsDone done
-      → Well (noted setup line moment station done).sent
+  noted_well : (line moment : ℕ) (endpoint : Endpoint) (done : LineDone) → 1 ≤ line → line ≤ most_lines → line ≤ setup.names.lines → endpoint.post.number < numbers → IsDone done
+      → Well (noted setup line moment endpoint done).sent
   unfolding noted notification
-  noted_well line moment station done some few within below is = by_notice done.notice is.told where
-    by_notice : (notice : Option Notice) → IfSome notice IsTold → Well (with_notice setup line moment (record station { line = done.line }) notice).sent
+  noted_well line moment endpoint done some few within below is = by_notice done.notice is.told where
+    by_notice : (notice : Option Notice) → IfSome notice IsTold → Well (with_notice setup line moment (record endpoint { line = done.line }) notice).sent
     by_notice None told = none_well
     by_notice (Some notice) told = one_well _ (record {
       line = line;
       owned = refl;
-      id_of = div-mul-add line numbers station.post.number below;
-      writable = told_writable setup line station.post.number notice set_up some few below told;
+      id_of = div-mul-add line numbers endpoint.post.number below;
+      writable = told_writable setup line endpoint.post.number notice set_up some few below told;
       kind = inl (record { verb_is = refl; name_is = refl; some = some; within = within });
     })
 
@@ -156,8 +156,8 @@ module _ (setup : Setup) (set_up : IsSetUp setup) where
     by_restart Announced = none_well
     by_restart Serving = none_well
 
-  some_id : (line : ℕ) (station : Station) → Sound line station → 1 ≤ id_on line station.post.number
-  some_id line station s = let one : 1 ≤ line = s.some in omega (arith, one)
+  some_id : (line : ℕ) (endpoint : Endpoint) → Sound line endpoint → 1 ≤ id_on line endpoint.post.number
+  some_id line endpoint s = let one : 1 ≤ line = s.some in omega (arith, one)
 
   replied_well : (heard : Heard) (line moment : ℕ) (response : Response) (post : Post) → line ≤ most_lines → post.number < numbers → 1 ≤ id_on line post.number
       → Well (replied heard setup line moment response post).sent
@@ -167,59 +167,59 @@ module _ (setup : Setup) (set_up : IsSetUp setup) where
   replied_well (Redirected agent) line moment response post few below some = announced_well line moment (record post { entity = agent }) few below some
   replied_well (Answered agent) line moment response post few below some = none_well
 
-  happened_well : (due : DueKind) (line moment : ℕ) (station : Station) → Stationed setup line station → Well (happened_on due setup line moment station).sent
+  happened_well : (due : DueKind) (line moment : ℕ) (endpoint : Endpoint) → LineStands setup line endpoint → Well (happened_on due setup line moment endpoint).sent
   unfolding happened_on
-  happened_well (OfLine due) line moment station s =
-      noted_well line moment station (fired station.line due moment) s.sound.some s.sound.few s.within s.sound.below (fired_done station.line due moment s.sound.fine)
-  happened_well Resend line moment station s = resent_well line moment station.post
-  happened_well Announce line moment station s = announced_on_well line moment station.post s.sound.few s.sound.below (some_id line station s.sound)
+  happened_well (OfLine due) line moment endpoint s =
+      noted_well line moment endpoint (fired endpoint.line due moment) s.sound.some s.sound.few s.within s.sound.below (fired_done endpoint.line due moment s.sound.fine)
+  happened_well Resend line moment endpoint s = resent_well line moment endpoint.post
+  happened_well Announce line moment endpoint s = announced_on_well line moment endpoint.post s.sound.few s.sound.below (some_id line endpoint s.sound)
 
-  responded_well : (line moment : ℕ) (response : Response) (station : Station) → Stationed setup line station → Well (responded_on setup line moment response station).sent
+  responded_well : (line moment : ℕ) (response : Response) (endpoint : Endpoint) → LineStands setup line endpoint → Well (responded_on setup line moment response endpoint).sent
   unfolding responded_on replied
-  responded_well line moment response station s = by_heard (heard_on station.post response) where
-    by_heard : (heard : Heard) → Well (responded_as heard setup line moment response station).sent
+  responded_well line moment response endpoint s = by_heard (heard_on endpoint.post response) where
+    by_heard : (heard : Heard) → Well (responded_as heard setup line moment response endpoint).sent
     by_heard Nothing = none_well
     by_heard PutOff = none_well
     by_heard (Redirected agent) =
-        announced_well line moment (record station.post { entity = agent }) s.sound.few s.sound.below (some_id line station s.sound)
+        announced_well line moment (record endpoint.post { entity = agent }) s.sound.few s.sound.below (some_id line endpoint s.sound)
     by_heard (Answered agent) =
-        noted_well line moment _ (answered station.line moment) s.sound.some s.sound.few s.within s.sound.below (answered_done station.line moment s.sound.fine)
+        noted_well line moment _ (answered endpoint.line moment) s.sound.some s.sound.few s.within s.sound.below (answered_done endpoint.line moment s.sound.fine)
 
-  deed_well : (said : Command) (confirms : KValue) (target : Target) (deed : Deed) → form_of said confirms setup.names ≡ Ok (Does target deed) → (line moment : ℕ) (station : Station)
-      → Stationed setup line station → Well (deed_on setup deed moment line station).sent
+  deed_well : (said : Command) (confirms : KValue) (target : Target) (deed : Deed) → form_of said confirms setup.names ≡ Ok (Does target deed) → (line moment : ℕ) (endpoint : Endpoint)
+      → LineStands setup line endpoint → Well (deed_on setup deed moment line endpoint).sent
   unfolding deed_on
-  deed_well said confirms target deed is line moment station s =
-      noted_well line moment (with_connections deed (with_entity deed.entity station)) (asked_if deed.request station.line moment) s.sound.some s.sound.few s.within
-      s.sound.below (asked_if_done said.params station.line deed.request moment (deed_has_values said confirms setup.names target deed is).request s.sound.fine)
+  deed_well said confirms target deed is line moment endpoint s =
+      noted_well line moment (with_connections deed (with_entity deed.entity endpoint)) (asked_if deed.request endpoint.line moment) s.sound.some s.sound.few s.within
+      s.sound.below (asked_if_done said.params endpoint.line deed.request moment (deed_has_values said confirms setup.names target deed is).request s.sound.fine)
 
-  redirected_well : (agent : Entity) (line : ℕ) (station : Station) → Well (redirected_on agent line station).sent
+  redirected_well : (agent : Entity) (line : ℕ) (endpoint : Endpoint) → Well (redirected_on agent line endpoint).sent
   unfolding redirected_on
-  redirected_well agent line station = none_well
+  redirected_well agent line endpoint = none_well
 
-  opened_well : (agent : Option Entity) (line moment : ℕ) (station : Station) → Stationed setup line station → Well (opened_on agent setup moment line station).sent
+  opened_well : (agent : Option Entity) (line moment : ℕ) (endpoint : Endpoint) → LineStands setup line endpoint → Well (opened_on agent setup moment line endpoint).sent
   unfolding opened_on
-  opened_well agent line moment station s =
-      noted_well line moment (with_entity agent station) (opened station.line moment) s.sound.some s.sound.few s.within s.sound.below (opened_done station.line moment s.sound.fine)
+  opened_well agent line moment endpoint s =
+      noted_well line moment (with_entity agent endpoint) (opened endpoint.line moment) s.sound.some s.sound.few s.within s.sound.below (opened_done endpoint.line moment s.sound.fine)
 
-  well_turns : Turns setup (OnStation setup) (IsWell setup)
+  well_turns : Turns setup (OnEndpoint setup) (IsWell setup)
   well_turns = record {
-    act = λ serving line moment act station s.
-        from_sound line (acted_on setup line moment act station) s.within ((sound_turns setup set_up).act serving line moment act station s.sound).0
-        (noted_well line moment station (phoned station.line act moment) s.sound.some s.sound.few s.within s.sound.below (phoned_done station.line act moment s.sound.fine));
-    deed = λ said confirms target deed is line moment station s.
-        from_sound line (deed_on setup deed moment line station) s.within ((sound_turns setup set_up).deed said confirms target deed is line moment station s.sound).0
-        (deed_well said confirms target deed is line moment station s);
-    response = λ serving line moment response station read s.
-        from_sound line (responded_on setup line moment response station) s.within ((sound_turns setup set_up).response serving line moment response station read s.sound).0
-        (responded_well line moment response station s);
-    happening = λ serving due line moment station s.
-        from_sound line (happened_on due setup line moment station) s.within ((sound_turns setup set_up).happening serving due line moment station s.sound).0
-        (happened_well due line moment station s);
-    redirecting = λ agent line station read s.
-        from_sound line (redirected_on agent line station) s.within ((sound_turns setup set_up).redirecting agent line station read s.sound).0 (redirected_well agent line station);
-    opening = λ agent line moment station read s.
-        from_sound line (opened_on agent setup moment line station) s.within ((sound_turns setup set_up).opening agent line moment station read s.sound).0
-        (opened_well agent line moment station s);
+    act = λ serving line moment act endpoint s.
+        from_sound line (acted_on setup line moment act endpoint) s.within ((sound_turns setup set_up).act serving line moment act endpoint s.sound).0
+        (noted_well line moment endpoint (phoned endpoint.line act moment) s.sound.some s.sound.few s.within s.sound.below (phoned_done endpoint.line act moment s.sound.fine));
+    deed = λ said confirms target deed is line moment endpoint s.
+        from_sound line (deed_on setup deed moment line endpoint) s.within ((sound_turns setup set_up).deed said confirms target deed is line moment endpoint s.sound).0
+        (deed_well said confirms target deed is line moment endpoint s);
+    response = λ serving line moment response endpoint read s.
+        from_sound line (responded_on setup line moment response endpoint) s.within ((sound_turns setup set_up).response serving line moment response endpoint read s.sound).0
+        (responded_well line moment response endpoint s);
+    happening = λ serving due line moment endpoint s.
+        from_sound line (happened_on due setup line moment endpoint) s.within ((sound_turns setup set_up).happening serving due line moment endpoint s.sound).0
+        (happened_well due line moment endpoint s);
+    redirecting = λ agent line endpoint read s.
+        from_sound line (redirected_on agent line endpoint) s.within ((sound_turns setup set_up).redirecting agent line endpoint read s.sound).0 (redirected_well agent line endpoint);
+    opening = λ agent line moment endpoint read s.
+        from_sound line (opened_on agent setup moment line endpoint) s.within ((sound_turns setup set_up).opening agent line moment endpoint read s.sound).0
+        (opened_well agent line moment endpoint s);
   }
 
   own_happened_well : (due : DueKind) (moment : ℕ) (own : Post) → OwnSound own → Well (happened_under due setup 0 moment own).sent
@@ -232,9 +232,9 @@ module _ (setup : Setup) (set_up : IsSetUp setup) where
   unfolding replied_on
   own_responded_well moment response own can = replied_well (heard_on own response) 0 moment response own (omega arith) can.below can.some
 
-  well_own_turns : OwnTurns setup (OnStation setup) OwnSound (IsWell setup)
+  well_own_turns : OwnTurns setup (OnEndpoint setup) OwnSound (IsWell setup)
   well_own_turns = record {
-    free = λ own can. inr (λ serving other line station s. s);
+    free = λ own can. inr (λ serving other line endpoint s. s);
     response = λ moment response own read can. (((sound_own_turns setup set_up).response moment response own read can).0, own_responded_well moment response own can);
     happening = λ due moment own can. (((sound_own_turns setup set_up).happening due moment own can).0, own_happened_well due moment own can);
   }
@@ -242,7 +242,7 @@ module _ (setup : Setup) (set_up : IsSetUp setup) where
   -- Texts and events
 
   abbrev Stands : Machine → Type 0
-  Stands m = Holds (OnStation setup) OwnSound m.endpoints
+  Stands m = Holds (OnEndpoint setup) OwnSound m.endpoints
 
   acknowledged_well : (now : ℕ) (source : SocketAddrV4) (code id : ℕ) (params : List Param) → Well (acknowledged now source code id params)
   acknowledged_well now source code id params = by_test (asks_for_acknowledgement code params) where
@@ -264,10 +264,10 @@ module _ (setup : Setup) (set_up : IsSetUp setup) where
   handled_well m source (bad_body id) s = transacted_well (look_of most_firsts m.history id m.now) m source _ none_well
   handled_well m source (message (messages.Command verb id name params body)) s =
       transacted_well (look_of most_firsts m.history id m.now) m source _
-      (command_goes setup (OnStation setup) OwnSound (IsWell setup) well_turns well_own_turns (record { verb = verb; name = name; params = params; body = body }) (k_of params) m.endpoints m.now id s).sent
+      (command_goes setup (OnEndpoint setup) OwnSound (IsWell setup) well_turns well_own_turns (record { verb = verb; name = name; params = params; body = body }) (k_of params) m.endpoints m.now id s).sent
   handled_well m source (message (messages.Response code id params body)) s =
       All-append (IsWell setup) (acknowledged m.now source code id params) _ (acknowledged_well m.now source code id params)
-      (responded_goes setup (OnStation setup) OwnSound (IsWell setup) well_turns well_own_turns m.endpoints m.now (response_with setup id code params) (response_read setup id code params) s).sent
+      (responded_goes setup (OnEndpoint setup) OwnSound (IsWell setup) well_turns well_own_turns m.endpoints m.now (response_with setup id code params) (response_read setup id code params) s).sent
 
   texts_well : (m : Machine) (source : SocketAddrV4) (texts : List (List ℕ)) → Stands m → Well (took_all setup m source texts).sent
   unfolding took_all
@@ -275,27 +275,27 @@ module _ (setup : Setup) (set_up : IsSetUp setup) where
   texts_well m source (text ∷ texts) s =
       All-append (IsWell setup) (handled setup m source (read_text text)).sent _ (handled_well m source (read_text text) s)
       (texts_well (handled setup m source (read_text text)).value source texts
-      (handled_on_all setup (OnStation setup) OwnSound (IsWell setup) well_turns well_own_turns m source (read_text text) s))
+      (handled_on_all setup (OnEndpoint setup) OwnSound (IsWell setup) well_turns well_own_turns m source (read_text text) s))
 
   event_well : (m : Machine) (event : GatewayEvent) → Stands m → Well (effect setup m event).sent
   unfolding effect
   event_well m (datagram source bytes) s = texts_well m source (texts_of bytes) s
-  event_well m (phone line act) s = (acted_goes setup (OnStation setup) OwnSound (IsWell setup) well_turns well_own_turns m.endpoints line m.now act s).sent
-  event_well m (tick moment) s = (pass_goes setup (OnStation setup) OwnSound (IsWell setup) well_turns well_own_turns m.endpoints moment s).sent
+  event_well m (phone line act) s = (acted_goes setup (OnEndpoint setup) OwnSound (IsWell setup) well_turns well_own_turns m.endpoints line m.now act s).sent
+  event_well m (tick moment) s = (pass_goes setup (OnEndpoint setup) OwnSound (IsWell setup) well_turns well_own_turns m.endpoints moment s).sent
 
   events_well : (m : Machine) (events : List GatewayEvent) → Stands m → Well (sent_from setup m events)
   unfolding sent_from
   events_well m [] s = none_well
   events_well m (event ∷ events) s =
       All-append (IsWell setup) (effect setup m event).sent _ (event_well m event s)
-      (events_well (effect setup m event).value events (event_on_all setup (OnStation setup) OwnSound (IsWell setup) well_turns well_own_turns m event s))
+      (events_well (effect setup m event).value events (event_on_all setup (OnEndpoint setup) OwnSound (IsWell setup) well_turns well_own_turns m event s))
 
   opening_stands : Stands (opening setup)
   opening_stands =
       let lines : setup.names.lines ≤ most_lines = set_up.lines in
       let sound = opening_is_sound setup set_up in
       record {
-        stations = on_made (Stationed setup) (opening_station setup) 1 setup.names.lines
+        list = on_made (LineStands setup) (opening_endpoint setup) 1 setup.names.lines
             (λ i low high. record {
               sound = record { some = low; few = omega (arith, high, lines); below = omega arith; fine = opening_is_fine; flight = tt };
               within = omega (arith, high);

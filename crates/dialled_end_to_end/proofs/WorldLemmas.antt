@@ -12,12 +12,12 @@ use Rattle.mgcp_text.specs.Reading.{Outcome, message, no_header, bad_version, ba
 use Rattle.outbound.specs.Flight.{InFlight}
 use Rattle.plain_machine.specs.declared.response.Response.{Response}
 use Rattle.plain_machine.specs.declared.setup.Setup.{Setup}
-use Rattle.plain_machine.specs.declared.station.Station.{Station}
+use Rattle.plain_machine.specs.declared.endpoint.Endpoint.{Endpoint}
 use Rattle.plain_machine.specs.Arriving.{TextArrival, arrivals_from, arrivals_of}
 use Rattle.plain_machine.specs.Event.{GatewayEvent}
 use Rattle.plain_machine.specs.Happening.{effect}
 use Rattle.plain_machine.specs.Lists.{machine_after, plain, sent_from, sent_of}
-use Rattle.plain_machine.specs.Machine.{Machine, opening, opening_station, station_at}
+use Rattle.plain_machine.specs.Machine.{Machine, opening, opening_endpoint, endpoint_at}
 use Rattle.plain_machine.specs.Message.{Sent}
 use Rattle.plain_machine.specs.Posting.{line_of_id}
 use Rattle.plain_machine.specs.Setup.{IsSetUp}
@@ -35,7 +35,7 @@ use Rattle.world_laws.proofs.LinkLaws.{taken_once, taken_as_sent, world_linked}
 use Rattle.world_laws.proofs.TakenLaws.{heard_was_taken}
 use Rattle.dialled_once.specs.Course.{Step}
 use Rattle.dialled_end_to_end.specs.GivenUp.{has_given_up}
-use Rattle.dialled_once.proofs.CourseLemmas.{AllHear, AnyResponse, Hears, Stands, StationTurns, events_stand, hear_all}
+use Rattle.dialled_once.proofs.CourseLemmas.{AllHear, AnyResponse, Hears, Stands, EndpointTurns, events_stand, hear_all}
 use Rattle.dialled_end_to_end.proofs.FlightLemmas.{Fine, Flies, FliesBeside, flight_turns, flying, gave_nothing_up, opening_flies, starts_gone, stays_gone}
 use Rattle.dialled_end_to_end.proofs.WellLemmas.{IsWell, sent_well}
 use Rattle.dialled_end_to_end.proofs.ToldLemmas.{is_mine, mine_is}
@@ -83,7 +83,7 @@ pub record Known (setup : Setup) (line : ℕ) (w : World) : Type 0 where
   pub once : Apart (taken_ids (line_taken line (taken_in w)))
   pub mine : Each (λ (b : Begun). line_of_id b.id ≡ line) (line_begun setup line w.gateway_took)
   pub as_sent : Each (λ (one : Reached). OneOf (IsAsSent one) (line_begun setup line w.gateway_took)) (line_taken line (taken_in w))
-  pub flies : (s : Station) → station_at (gateway_in setup w).endpoints line ≡ Some s → Flies (WasTaken (taken_in w)) (Unit {0}) (line_sent setup line w.gateway_took) s
+  pub flies : (s : Endpoint) → endpoint_at (gateway_in setup w).endpoints line ≡ Some s → Flies (WasTaken (taken_in w)) (Unit {0}) (line_sent setup line w.gateway_took) s
 
 -- filtered by their ids
 
@@ -156,8 +156,8 @@ opening_stands : (setup : Setup) (A : ℕ → Type 0) (line : ℕ) (some : 1 ≤
 opening_stands setup A line some = record {
   order = opening_waits setup;
   holds = λ s at.
-      of_its_line (λ n station. Flies A (Unit {0}) [] station) (opening setup).endpoints line s
-      (on_made (λ n station. Flies A (Unit {0}) [] station) (opening_station setup) 1 setup.names.lines (λ i low high. opening_flies A (Unit {0}) (opening_station setup i) tt refl refl)) at;
+      of_its_line (λ n endpoint. Flies A (Unit {0}) [] endpoint) (opening setup).endpoints line s
+      (on_made (λ n endpoint. Flies A (Unit {0}) [] endpoint) (opening_endpoint setup) 1 setup.names.lines (λ i low high. opening_flies A (Unit {0}) (opening_endpoint setup i) tt refl refl)) at;
 }
 
 pub known : (setup : Setup) (line : ℕ) (some : 1 ≤ line) (steps : List WorldStep) → IsSetUp setup → steps_are_taken setup world_opening steps ≡ true
@@ -192,34 +192,34 @@ known setup line some steps set_up taken few =
 -- What the line began beside what was taken
 
 abbrev pub MatchesIn : Setup → ℕ → World → Type 0
-MatchesIn setup line w = (s : Station) → station_at (gateway_in setup w).endpoints line ≡ Some s → has_given_up (line_sent setup line w.gateway_took) s.post ≡ false
+MatchesIn setup line w = (s : Endpoint) → endpoint_at (gateway_in setup w).endpoints line ≡ Some s → has_given_up (line_sent setup line w.gateway_took) s.post ≡ false
     → Matches (begun_ids (line_begun setup line w.gateway_took)) (taken_ids (line_taken line (taken_in w)))
 
 -- the same, by what the gateway took and what was taken
 abbrev MatchesBy : Setup → ℕ → List GatewayEvent → List Reached → Type 0
-MatchesBy setup line took taken = (s : Station) → station_at (plain setup took).endpoints line ≡ Some s → has_given_up (line_sent setup line took) s.post ≡ false
+MatchesBy setup line took taken = (s : Endpoint) → endpoint_at (plain setup took).endpoints line ≡ Some s → has_given_up (line_sent setup line took) s.post ≡ false
     → Matches (begun_ids (line_begun setup line took)) (taken_ids (line_taken line taken))
 
 -- no line comes from nowhere
-abbrev NoStation : Bool → List Step → List Sent → Station → Type 0
-NoStation serving course sent station = ⊥
+abbrev NoEndpoint : Bool → List Step → List Sent → Endpoint → Type 0
+NoEndpoint serving course sent endpoint = ⊥
 
-none_turns : (setup : Setup) → StationTurns setup AnyResponse NoStation
+none_turns : (setup : Setup) → EndpointTurns setup AnyResponse NoEndpoint
 none_turns setup = record {
-  act = λ serving course sent line moment act station none. absurd none;
-  deed = λ course sent deed moment line station none. absurd none;
-  response = λ serving course sent line moment response station any none. absurd none;
-  happening = λ serving course sent line item station is none. absurd none;
-  redirecting = λ serving course sent agent line station none. absurd none;
-  opening = λ course sent agent moment line station closed none. absurd none;
-  answering = λ serving course sent one station is none. absurd none;
+  act = λ serving course sent line moment act endpoint none. absurd none;
+  deed = λ course sent deed moment line endpoint none. absurd none;
+  response = λ serving course sent line moment response endpoint any none. absurd none;
+  happening = λ serving course sent line item endpoint is none. absurd none;
+  redirecting = λ serving course sent agent line endpoint none. absurd none;
+  opening = λ course sent agent moment line endpoint closed none. absurd none;
+  answering = λ serving course sent one endpoint is none. absurd none;
 }
 
 module _ (setup : Setup) (line : ℕ) (some : 1 ≤ line) where
-  none_comes : (took : List GatewayEvent) (event : GatewayEvent) (s : Station) → station_at (plain setup took).endpoints line ≡ None
-      → station_at (machine_after setup (plain setup took) (event ∷ [])).endpoints line ≡ Some s → ⊥
+  none_comes : (took : List GatewayEvent) (event : GatewayEvent) (s : Endpoint) → endpoint_at (plain setup took).endpoints line ≡ None
+      → endpoint_at (machine_after setup (plain setup took) (event ∷ [])).endpoints line ≡ Some s → ⊥
   none_comes took event s none at =
-      (events_stand setup AnyResponse NoStation (none_turns setup) line some (plain setup took) [] [] 0 (event ∷ [])
+      (events_stand setup AnyResponse NoEndpoint (none_turns setup) line some (plain setup took) [] [] 0 (event ∷ [])
       (hear_all setup AnyResponse (λ response. tt) (arrivals_from 0 (event ∷ [])))
       (record { order = events_wait setup took; holds = λ x here. absurd (none-some x (sym none ∙ here)) })).holds s at
 
@@ -227,8 +227,8 @@ module _ (setup : Setup) (line : ℕ) (some : 1 ≤ line) where
   AnyId id = Unit {0}
 
   -- what gave something up has done so after one event more
-  stays_up : (took : List GatewayEvent) (event : GatewayEvent) (s s' : Station) → station_at (plain setup took).endpoints line ≡ Some s
-      → station_at (machine_after setup (plain setup took) (event ∷ [])).endpoints line ≡ Some s' → Flies AnyId ⊥ (line_sent setup line took) s
+  stays_up : (took : List GatewayEvent) (event : GatewayEvent) (s s' : Endpoint) → endpoint_at (plain setup took).endpoints line ≡ Some s
+      → endpoint_at (machine_after setup (plain setup took) (event ∷ [])).endpoints line ≡ Some s' → Flies AnyId ⊥ (line_sent setup line took) s
       → has_given_up (line_sent setup line took ++ of_line line (sent_from setup (plain setup took) (event ∷ []))) s'.post ≡ true
   stays_up took event s s' here there gone =
       stays_gone _ s'
@@ -241,15 +241,15 @@ module _ (setup : Setup) (line : ℕ) (some : 1 ≤ line) where
 
   -- the gateway takes an event
   gateway_matches : (took : List GatewayEvent) (event : GatewayEvent) (taken : List Reached)
-      → ((s : Station) → station_at (plain setup took).endpoints line ≡ Some s → Flies (WasTaken taken) (Unit {0}) (line_sent setup line took) s)
+      → ((s : Endpoint) → endpoint_at (plain setup took).endpoints line ≡ Some s → Flies (WasTaken taken) (Unit {0}) (line_sent setup line took) s)
       → Apart (begun_ids (line_begun setup line (took ++ event ∷ [])))
       → Each (λ (b : Begun). line_of_id b.id ≡ line) (line_begun setup line (took ++ event ∷ []))
       → Each (λ (one : Reached). OneOf (IsAsSent one) (line_begun setup line took)) (line_taken line taken)
-      → ((s : Station) → station_at (plain setup (took ++ event ∷ [])).endpoints line ≡ Some s → Flies (WasTaken taken) (Unit {0}) (line_sent setup line (took ++ event ∷ [])) s)
+      → ((s : Endpoint) → endpoint_at (plain setup (took ++ event ∷ [])).endpoints line ≡ Some s → Flies (WasTaken taken) (Unit {0}) (line_sent setup line (took ++ event ∷ [])) s)
       → MatchesBy setup line took taken → MatchesBy setup line (took ++ event ∷ []) taken
-  gateway_matches took event taken flew apart mine as_sent flies before s' at' none = by_station (station_at (plain setup took).endpoints line) refl where
-    there : station_at (machine_after setup (plain setup took) (event ∷ [])).endpoints line ≡ Some s'
-    there = ap (λ (m : Machine). station_at m.endpoints line) (sym (machine_on setup (opening setup) took (event ∷ []))) ∙ at'
+  gateway_matches took event taken flew apart mine as_sent flies before s' at' none = by_endpoint (endpoint_at (plain setup took).endpoints line) refl where
+    there : endpoint_at (machine_after setup (plain setup took) (event ∷ [])).endpoints line ≡ Some s'
+    there = ap (λ (m : Machine). endpoint_at m.endpoints line) (sym (machine_on setup (opening setup) took (event ∷ []))) ∙ at'
 
     new : List Begun
     new = begun_in (of_line line (sent_from setup (plain setup took) (event ∷ [])))
@@ -286,17 +286,17 @@ module _ (setup : Setup) (line : ℕ) (some : 1 ≤ line) where
         begun_one (begun_ids (line_begun setup line took)) (begun_ids new) (taken_ids (line_taken line taken)) (begun_ids fine.settled) flight.id matches (subst Apart ids_are apart)
         (taken_began (line_begun setup line took) (line_taken line taken) as_sent) (whole (Some flight) is) settled_in
 
-    by_given : (s : Station) → station_at (plain setup took).endpoints line ≡ Some s → (b : Bool) → has_given_up (line_sent setup line took) s.post ≡ b
+    by_given : (s : Endpoint) → endpoint_at (plain setup took).endpoints line ≡ Some s → (b : Bool) → has_given_up (line_sent setup line took) s.post ≡ b
         → Matches (begun_ids (line_begun setup line took)) (taken_ids (line_taken line taken))
     by_given s here false is = before s here is
     by_given s here true is =
         absurd (let up = stays_up took event s s' here there (starts_gone (WasTaken taken) (Unit {0}) (line_sent setup line took) s (flew s here) is) in
         let clash : true ≡ false = sym up ∙ ap (λ (x : List Sent). has_given_up x s'.post) (sym sent_is) ∙ none in cc)
 
-    by_station : (found : Option Station) → station_at (plain setup took).endpoints line ≡ found
+    by_endpoint : (found : Option Endpoint) → endpoint_at (plain setup took).endpoints line ≡ found
         → Matches (begun_ids (line_begun setup line (took ++ event ∷ []))) (taken_ids (line_taken line taken))
-    by_station None is = absurd (none_comes took event s' is there)
-    by_station (Some s) is =
+    by_endpoint None is = absurd (none_comes took event s' is there)
+    by_endpoint (Some s) is =
         subst (λ (x : List ℕ). Matches x (taken_ids (line_taken line taken))) (sym ids_are)
         (by_pending s'.post.pending refl (by_given s is (has_given_up (line_sent setup line took) s.post) refl))
 
@@ -324,9 +324,9 @@ module _ (setup : Setup) (line : ℕ) (some : 1 ≤ line) where
       (subst (MatchesBy setup line (w.gateway_took ++ event ∷ [])) (sym taken)
       (gateway_matches w.gateway_took event (taken_in w) k.flies (subst (λ (events : List GatewayEvent). Apart (begun_ids (line_begun setup line events))) took k'.apart)
       (subst (λ (events : List GatewayEvent). Each (λ (b : Begun). line_of_id b.id ≡ line) (line_begun setup line events)) took k'.mine) k.as_sent
-      (subst (λ (x : List Reached). (s : Station) → station_at (plain setup (w.gateway_took ++ event ∷ [])).endpoints line ≡ Some s
+      (subst (λ (x : List Reached). (s : Endpoint) → endpoint_at (plain setup (w.gateway_took ++ event ∷ [])).endpoints line ≡ Some s
       → Flies (WasTaken x) (Unit {0}) (line_sent setup line (w.gateway_took ++ event ∷ [])) s) taken
-      (subst (λ (events : List GatewayEvent). (s : Station) → station_at (plain setup events).endpoints line ≡ Some s
+      (subst (λ (events : List GatewayEvent). (s : Endpoint) → endpoint_at (plain setup events).endpoints line ≡ Some s
       → Flies (WasTaken (taken_in w')) (Unit {0}) (line_sent setup line events) s) took k'.flies)) before))
 
 -- Whole lists of steps

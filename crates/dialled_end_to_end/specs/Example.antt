@@ -6,11 +6,11 @@ use Rattle.mgcp_text.specs.Reading.{read_text}
 use Rattle.mg_line.specs.declared.phone.Act.TheVariants.{OffHook, Key}
 use Rattle.mg_line.specs.declared.phone.Key.TheVariants.{Five}
 use Rattle.outbound.specs.Flight.{InFlight, sent_first}
-use Rattle.plain_machine.specs.declared.station.Station.{Station}
+use Rattle.plain_machine.specs.declared.endpoint.Endpoint.{Endpoint}
 use Rattle.plain_machine.specs.Event.{GatewayEvent, phone}
 use Rattle.plain_machine.specs.Example.{agent, agent_route, two_lines, ready}
 use Rattle.plain_machine.specs.Lists.{plain, sent_of}
-use Rattle.plain_machine.specs.Machine.{opening_station, station_at}
+use Rattle.plain_machine.specs.Machine.{opening_endpoint, endpoint_at}
 use Rattle.line_isolation.specs.Belonging.{of_line}
 use Rattle.dialled_once.specs.Course.{course_of}
 use Rattle.dialled_once.specs.Dialled.{done_in}
@@ -43,12 +43,12 @@ taken_as id = record {
 
 -- Who gave something up
 
-abbrev pub station_in : ℕ → List GatewayEvent → Station
-station_in line events = unwrap_or (station_at (plain two_lines events).endpoints line) (opening_station two_lines line)
+abbrev pub endpoint_in : ℕ → List GatewayEvent → Endpoint
+endpoint_in line events = unwrap_or (endpoint_at (plain two_lines events).endpoints line) (opening_endpoint two_lines line)
 
 -- whether a line did at these events, which begin where the gateway serves
 abbrev pub given_up_at : ℕ → List GatewayEvent → Bool
-given_up_at line events = has_given_up (of_line line (sent_of two_lines (ready ++ events))) (station_in line (ready ++ events)).post
+given_up_at line events = has_given_up (of_line line (sent_of two_lines (ready ++ events))) (endpoint_in line (ready ++ events)).post
 
 -- line 1 is lifted, and its notification gets no answer; so it announces itself after its wait
 abbrev pub lifted : List GatewayEvent
@@ -102,13 +102,13 @@ done_then steps = done_in (course_of two_lines 1 (world steps).gateway_took)
 abbrev pub told_then : List WorldStep → List Observed
 told_then steps = observed_on 1 (agent_in two_lines (world steps))
 
-abbrev pub station_then : List WorldStep → Station
-station_then steps = unwrap_or (station_at (gateway_in two_lines (world steps)).endpoints 1) (opening_station two_lines 1)
+abbrev pub endpoint_then : List WorldStep → Endpoint
+endpoint_then steps = unwrap_or (endpoint_at (gateway_in two_lines (world steps)).endpoints 1) (opening_endpoint two_lines 1)
 
 -- what is on its way
 abbrev pub untaken_then : List WorldStep → List Observed
-untaken_then steps = untaken (taken_in (world steps)) (station_then steps).post.pending
+untaken_then steps = untaken (taken_in (world steps)) (endpoint_then steps).post.pending
 
 -- what is quarantined
 abbrev pub left_then : List WorldStep → List Observed
-left_then steps = happened_in (station_then steps).line.quarantined.events
+left_then steps = happened_in (endpoint_then steps).line.quarantined.events

@@ -10,7 +10,7 @@ ghost use Rattle.agent_core.specs.World.{gateway_in, world_opening, steps_are_ta
 ghost use Rattle.plain_machine.specs.Example.{two_lines};
 ghost use Rattle.plain_machine.specs.Message.{answer, again, command, resent, acknowledgement};
 ghost use Rattle.plain_machine.specs.Lists.{plain, sent_of};
-ghost use Rattle.plain_machine.specs.Machine.{station_at};
+ghost use Rattle.plain_machine.specs.Machine.{endpoint_at};
 ghost use Rattle.plain_machine.specs.Setup.{IsSetUp};
 ghost use Rattle.machine_laws.specs.Saying.{HasNumbersLeft};
 ghost use Rattle.world_laws.specs.Reached.{own_in};
@@ -21,7 +21,7 @@ ghost use Rattle.dialled_once.specs.Keeping.{happened_in};
 ghost use Rattle.dialled_end_to_end.specs.GivenUp.{is_restart, announces, has_given_up};
 ghost use Rattle.dialled_once.specs.Example.{lifted as off_hook, five};
 ghost use Rattle.dialled_end_to_end.specs.Untaken.{has_taken, untaken};
-ghost use Rattle.dialled_end_to_end.specs.Example.{told_by, reporting, flying, taken_as, given_up_at, lifted, dialled, taken, answered, up_to_the_request, since_the_request, given_up, repeated, world, station_then, done_then, told_then, untaken_then, left_then};
+ghost use Rattle.dialled_end_to_end.specs.Example.{told_by, reporting, flying, taken_as, given_up_at, lifted, dialled, taken, answered, up_to_the_request, since_the_request, given_up, repeated, world, endpoint_then, done_then, told_then, untaken_then, left_then};
 
 /// A notification tells what its O says, and no other text tells anything.
 pub fn notifications_alone_tell()
@@ -93,10 +93,10 @@ pub fn all_that_the_law_asks_for_may_hold()
     ensures steps { steps_are_taken two_lines world_opening answered ≡ true }
     ensures numbers { HasNumbersLeft (own_in two_lines (world answered)) }
     ensures events { (world answered).gateway_took ≡ up_to_the_request ++ since_the_request }
-    ensures line { station_at (gateway_in two_lines (world answered)).endpoints 1 ≡ Some (station_then answered) }
+    ensures line { endpoint_at (gateway_in two_lines (world answered)).endpoints 1 ≡ Some (endpoint_then answered) }
     ensures asked { IsAskedForAll (course_of two_lines 1 up_to_the_request)
-        (course_from two_lines (plain two_lines up_to_the_request) 1 since_the_request) (station_then answered).line }
-    ensures nothing_given_up { has_given_up (of_line 1 (sent_of two_lines (world answered).gateway_took)) (station_then answered).post
+        (course_from two_lines (plain two_lines up_to_the_request) 1 since_the_request) (endpoint_then answered).line }
+    ensures nothing_given_up { has_given_up (of_line 1 (sent_of two_lines (world answered).gateway_took)) (endpoint_then answered).post
         ≡ false }
     ensures whole { done_then answered ≡ happened_in (told_then answered) ++ (happened_in (untaken_then answered) ++ left_then answered) }
     ensures told { told_then answered ≡ off_hook ∷ [] }
@@ -110,7 +110,7 @@ pub fn what_is_given_up_is_skipped()
     ensures told { told_then given_up ≡ [] }
     ensures sent { untaken_then given_up ≡ [] }
     ensures left { left_then given_up ≡ five ∷ [] }
-    ensures gave_up { has_given_up (of_line 1 (sent_of two_lines (world given_up).gateway_took)) (station_then given_up).post ≡ true }
-    ensures not_yet { has_given_up (of_line 1 (sent_of two_lines (world repeated).gateway_took)) (station_then repeated).post ≡ false }
+    ensures gave_up { has_given_up (of_line 1 (sent_of two_lines (world given_up).gateway_took)) (endpoint_then given_up).post ≡ true }
+    ensures not_yet { has_given_up (of_line 1 (sent_of two_lines (world repeated).gateway_took)) (endpoint_then repeated).post ≡ false }
     ensures sent_still { untaken_then repeated ≡ off_hook ∷ [] }
 {}

@@ -2,10 +2,10 @@
 ghost use Rattle.std.specs.Prelude.{◌≡◌, ◌++◌, ℕ, List, Some, true, false};
 ghost use Rattle.event_values.specs.declared.observed.Observed.{Observed};
 ghost use Rattle.plain_machine.specs.declared.setup.Setup.{Setup};
-ghost use Rattle.plain_machine.specs.declared.station.Station.{Station};
+ghost use Rattle.plain_machine.specs.declared.endpoint.Endpoint.{Endpoint};
 ghost use Rattle.plain_machine.specs.Event.{GatewayEvent};
 ghost use Rattle.plain_machine.specs.Lists.{plain, sent_of};
-ghost use Rattle.plain_machine.specs.Machine.{station_at};
+ghost use Rattle.plain_machine.specs.Machine.{endpoint_at};
 ghost use Rattle.plain_machine.specs.Setup.{IsSetUp};
 ghost use Rattle.machine_laws.specs.Saying.{HasNumbersLeft};
 ghost use Rattle.line_isolation.specs.Belonging.{of_line};
@@ -24,22 +24,22 @@ ghost use Rattle.dialled_end_to_end.specs.Untaken.{untaken};
 /// dialled. It is so where the line was asked for all that its telephone does before that did anything, and so at each
 /// request since, no event was lost for want of room, the line gave no command up, and no line used up its numbers.
 pub fn what_is_dialled_reaches_the_agent_once()
-    ensures whole { (setup : Setup) (steps : List WorldStep) (line : ℕ) (before after : List GatewayEvent) (station : Station) →
+    ensures whole { (setup : Setup) (steps : List WorldStep) (line : ℕ) (before after : List GatewayEvent) (endpoint : Endpoint) →
         IsSetUp setup → steps_are_taken setup world_opening steps ≡ true → HasNumbersLeft (own_in setup (plain_world setup steps)) →
         (plain_world setup steps).gateway_took ≡ before ++ after →
-        station_at (gateway_in setup (plain_world setup steps)).endpoints line ≡ Some station →
-        IsAskedForAll (course_of setup line before) (course_from setup (plain setup before) line after) station.line →
-        has_given_up (of_line line (sent_of setup (plain_world setup steps).gateway_took)) station.post ≡ false →
+        endpoint_at (gateway_in setup (plain_world setup steps)).endpoints line ≡ Some endpoint →
+        IsAskedForAll (course_of setup line before) (course_from setup (plain setup before) line after) endpoint.line →
+        has_given_up (of_line line (sent_of setup (plain_world setup steps).gateway_took)) endpoint.post ≡ false →
         done_in (course_of setup line (plain_world setup steps).gateway_took)
         ≡ happened_in (observed_on line (agent_in setup (plain_world setup steps)))
-        ++ (happened_in (untaken (taken_in (plain_world setup steps)) station.post.pending)
-        ++ happened_in station.line.quarantined.events) }
-    ensures beginning { (setup : Setup) (steps : List WorldStep) (line : ℕ) (before after : List GatewayEvent) (station : Station) →
+        ++ (happened_in (untaken (taken_in (plain_world setup steps)) endpoint.post.pending)
+        ++ happened_in endpoint.line.quarantined.events) }
+    ensures beginning { (setup : Setup) (steps : List WorldStep) (line : ℕ) (before after : List GatewayEvent) (endpoint : Endpoint) →
         IsSetUp setup → steps_are_taken setup world_opening steps ≡ true → HasNumbersLeft (own_in setup (plain_world setup steps)) →
         (plain_world setup steps).gateway_took ≡ before ++ after →
-        station_at (gateway_in setup (plain_world setup steps)).endpoints line ≡ Some station →
-        IsAskedForAll (course_of setup line before) (course_from setup (plain setup before) line after) station.line →
-        has_given_up (of_line line (sent_of setup (plain_world setup steps).gateway_took)) station.post ≡ false →
+        endpoint_at (gateway_in setup (plain_world setup steps)).endpoints line ≡ Some endpoint →
+        IsAskedForAll (course_of setup line before) (course_from setup (plain setup before) line after) endpoint.line →
+        has_given_up (of_line line (sent_of setup (plain_world setup steps).gateway_took)) endpoint.post ≡ false →
         (rest : List Observed) × (done_in (course_of setup line (plain_world setup steps).gateway_took)
         ≡ happened_in (observed_on line (agent_in setup (plain_world setup steps))) ++ rest) }
 {}

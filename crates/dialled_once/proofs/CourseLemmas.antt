@@ -44,7 +44,7 @@ use Rattle.timers.specs.declared.due_item.DueItem.{DueItem}
 use Rattle.plain_machine.specs.declared.post.Post.{Post}
 use Rattle.plain_machine.specs.declared.response.Response.{Response}
 use Rattle.plain_machine.specs.declared.setup.Setup.{Setup}
-use Rattle.plain_machine.specs.declared.station.Station.{Station}
+use Rattle.plain_machine.specs.declared.endpoint.Endpoint.{Endpoint}
 use Rattle.plain_machine.specs.Effect.{Effect, silently, effect_map, afterwards}
 use Rattle.plain_machine.specs.Acting.{acted_on, acted}
 use Rattle.plain_machine.specs.Announcing.{announcement, announced, announced_by, heard_by, heard_on, replied, replied_on}
@@ -57,7 +57,7 @@ use Rattle.plain_machine.specs.Falling.{due_on, post_due, if_by, happened_on, ha
 use Rattle.plain_machine.specs.Flights.{IsClosed, InOrderWhile}
 use Rattle.plain_machine.specs.Happening.{effect}
 use Rattle.plain_machine.specs.Lists.{machine_after, sent_from}
-use Rattle.plain_machine.specs.Machine.{Endpoints, Machine, told_in, serves, station_at, with_own, on_line}
+use Rattle.plain_machine.specs.Machine.{Endpoints, Machine, told_in, serves, endpoint_at, with_own, on_line}
 use Rattle.plain_machine.specs.Message.{Owner, answer_of, own_of, Said, answer, again, command as own_command, resent, acknowledgement, is_answer, Sent}
 use Rattle.plain_machine.specs.Posting.{id_on, line_of_id, repeated_as, resent_by}
 use Rattle.plain_machine.specs.Requesting.{refused_by, lines_meant, deed_on, deed_on_all, shown_of, answer_with, unless_refused, deed_done, line_with_place, done_there, done_for}
@@ -74,7 +74,7 @@ use Rattle.line_isolation.proofs.AlikeLemmas.{behind_acknowledged}
 use Rattle.line_isolation.proofs.OwningLemmas.{of_both, turn_if, sent_by, LineTurns, on_one_line, on_many_lines, acted_owned, deed_owned, responded_owned, redirected_owned, opened_owned}
 use Rattle.line_isolation.proofs.PassLemmas.{line_passes, own_passes}
 use Rattle.dialled_once.specs.Course.{Step, acts, notified_by, notified_in, accepted, accepted_by, accepted_there, accepted_for, accepted_of, accepted_at, course_in, course_at, course_from, acted_on as act_steps}
-use Rattle.dialled_once.proofs.StationLemmas.{steps_in, Calls, Goes, act_goes, deed_goes, opened_goes, redirected_goes, response_goes, happened_goes}
+use Rattle.dialled_once.proofs.EndpointLemmas.{steps_in, Calls, Goes, act_goes, deed_goes, opened_goes, redirected_goes, response_goes, happened_goes}
 
 -- The gateway itself serves on, or not yet
 
@@ -119,29 +119,29 @@ by_is moment (Some other) item e = by_test (nat_le other.moment moment) e where
   by_test true e = e
   by_test false e = absurd (none-some item e)
 
-some_same : (a b : Station) → Some a ≡ Some b → a ≡ b
-some_same a b e = ap (λ (o : Option Station). unwrap_or o a) e
+some_same : (a b : Endpoint) → Some a ≡ Some b → a ≡ b
+some_same a b e = ap (λ (o : Option Endpoint). unwrap_or o a) e
 
--- A turn of a station, beside the course of its line and what the line sent so far
-abbrev pub TurnKeeps : (Bool → List Step → List Sent → Station → Type 0) → Bool → List Step → List Sent → Effect Station → Type 0
+-- A turn of an endpoint, beside the course of its line and what the line sent so far
+abbrev pub TurnKeeps : (Bool → List Step → List Sent → Endpoint → Type 0) → Bool → List Step → List Sent → Effect Endpoint → Type 0
 TurnKeeps G serving course sent turn = G serving (course ++ steps_in turn.sent) (sent ++ turn.sent) turn.value
 
 -- what each turn keeps, before the gateway serves and while it does, where H holds of the responses
-pub record StationTurns (setup : Setup) (H : Response → Type 0) (G : Bool → List Step → List Sent → Station → Type 0) : Type 0 where
-  pub act : (serving : Bool) (course : List Step) (sent : List Sent) (line moment : ℕ) (act : Act) (station : Station) → G serving course sent station
-      → TurnKeeps G serving (course ++ acts act ∷ []) sent (acted_on setup line moment act station)
-  pub deed : (course : List Step) (sent : List Sent) (deed : Deed) (moment line : ℕ) (station : Station) → G true course sent station
-      → TurnKeeps G true (course ++ accepted deed.request) sent (deed_on setup deed moment line station)
-  pub response : (serving : Bool) (course : List Step) (sent : List Sent) (line moment : ℕ) (response : Response) (station : Station) → H response → G serving course sent station
-      → TurnKeeps G serving course sent (responded_on setup line moment response station)
-  pub happening : (serving : Bool) (course : List Step) (sent : List Sent) (line : ℕ) (item : DueItem) (station : Station) → due_on (line, station) ≡ Some item → G serving course sent station
-      → TurnKeeps G serving course sent (happened_on item.kind setup line item.moment station)
-  pub redirecting : (serving : Bool) (course : List Step) (sent : List Sent) (agent : Entity) (line : ℕ) (station : Station) → G serving course sent station
-      → TurnKeeps G serving course sent (redirected_on agent line station)
-  pub opening : (course : List Step) (sent : List Sent) (agent : Option Entity) (moment line : ℕ) (station : Station) → IsClosed station → G false course sent station
-      → TurnKeeps G true course sent (opened_on agent setup moment line station)
-  pub answering : (serving : Bool) (course : List Step) (sent : List Sent) (one : Sent) (station : Station) → is_answer one.said ≡ true → G serving course sent station
-      → G serving course (sent ++ one ∷ []) station
+pub record EndpointTurns (setup : Setup) (H : Response → Type 0) (G : Bool → List Step → List Sent → Endpoint → Type 0) : Type 0 where
+  pub act : (serving : Bool) (course : List Step) (sent : List Sent) (line moment : ℕ) (act : Act) (endpoint : Endpoint) → G serving course sent endpoint
+      → TurnKeeps G serving (course ++ acts act ∷ []) sent (acted_on setup line moment act endpoint)
+  pub deed : (course : List Step) (sent : List Sent) (deed : Deed) (moment line : ℕ) (endpoint : Endpoint) → G true course sent endpoint
+      → TurnKeeps G true (course ++ accepted deed.request) sent (deed_on setup deed moment line endpoint)
+  pub response : (serving : Bool) (course : List Step) (sent : List Sent) (line moment : ℕ) (response : Response) (endpoint : Endpoint) → H response → G serving course sent endpoint
+      → TurnKeeps G serving course sent (responded_on setup line moment response endpoint)
+  pub happening : (serving : Bool) (course : List Step) (sent : List Sent) (line : ℕ) (item : DueItem) (endpoint : Endpoint) → due_on (line, endpoint) ≡ Some item → G serving course sent endpoint
+      → TurnKeeps G serving course sent (happened_on item.kind setup line item.moment endpoint)
+  pub redirecting : (serving : Bool) (course : List Step) (sent : List Sent) (agent : Entity) (line : ℕ) (endpoint : Endpoint) → G serving course sent endpoint
+      → TurnKeeps G serving course sent (redirected_on agent line endpoint)
+  pub opening : (course : List Step) (sent : List Sent) (agent : Option Entity) (moment line : ℕ) (endpoint : Endpoint) → IsClosed endpoint → G false course sent endpoint
+      → TurnKeeps G true course sent (opened_on agent setup moment line endpoint)
+  pub answering : (serving : Bool) (course : List Step) (sent : List Sent) (one : Sent) (endpoint : Endpoint) → is_answer one.said ≡ true → G serving course sent endpoint
+      → G serving course (sent ++ one ∷ []) endpoint
 
 -- the responses that arrive
 abbrev pub Hears : Setup → (Response → Type 0) → Outcome → Type 0
@@ -172,16 +172,16 @@ answer_notifies (own_command said) is = absurd cc
 answer_notifies (resent text) is = absurd cc
 answer_notifies (acknowledgement response) is = absurd cc
 
-module _ (setup : Setup) (H : Response → Type 0) (G : Bool → List Step → List Sent → Station → Type 0) (turns : StationTurns setup H G) (line : ℕ) (some : 1 ≤ line) where
-  -- the station of the line, beside its course and what it sent
+module _ (setup : Setup) (H : Response → Type 0) (G : Bool → List Step → List Sent → Endpoint → Type 0) (turns : EndpointTurns setup H G) (line : ℕ) (some : 1 ≤ line) where
+  -- the endpoint of the line, beside its course and what it sent
   abbrev pub Holds : List Step → List Sent → Endpoints → Type 0
-  Holds course sent endpoints = (s : Station) → station_at endpoints line ≡ Some s → G (serves endpoints) course sent s
+  Holds course sent endpoints = (s : Endpoint) → endpoint_at endpoints line ≡ Some s → G (serves endpoints) course sent s
 
   -- it goes on so, beside what the line notifies and sends
   abbrev GoesOn : List Step → List Sent → Effect Endpoints → Type 0
   GoesOn course sent is = Holds (course ++ notified_in line is.sent) (sent ++ of_line line is.sent) is.value
 
-  both_padded : (serving : Bool) (course : List Step) (sent : List Sent) (s : Station) → G serving course sent s → G serving (course ++ []) (sent ++ []) s
+  both_padded : (serving : Bool) (course : List Step) (sent : List Sent) (s : Endpoint) → G serving course sent s → G serving (course ++ []) (sent ++ []) s
   both_padded serving course sent s g =
       subst (λ (c : List Step). G serving c (sent ++ []) s) (sym (append-nil course)) (subst (λ (x : List Sent). G serving course x s) (sym (append-nil sent)) g)
 
@@ -193,16 +193,16 @@ module _ (setup : Setup) (H : Response → Type 0) (G : Bool → List Step → L
   course_padded endpoints course sent holds = subst (λ (c : List Step). Holds c sent endpoints) (sym (append-nil course)) holds
 
   -- its own turn
-  turns_hold : (endpoints : Endpoints) (course : List Step) (sent : List Sent) (turn : Station → Effect Station) (is : Effect Endpoints) → LineTurns line endpoints turn is
-      → ((s : Station) → station_at endpoints line ≡ Some s → TurnKeeps G (serves is.value) course sent (turn s)) → GoesOn course sent is
-  turns_hold endpoints course sent turn is turned goes s at = by_station (station_at endpoints line) refl where
-    by_station : (found : Option Station) → station_at endpoints line ≡ found → G (serves is.value) (course ++ notified_in line is.sent) (sent ++ of_line line is.sent) s
-    by_station None none = absurd (none-some s (sym (turned.station ∙ ap (option_map (λ (x : Station). (turn x).value)) none) ∙ at))
-    by_station (Some was) here =
-        let same : (turn was).value ≡ s = some_same (turn was).value s (sym (turned.station ∙ ap (option_map (λ (x : Station). (turn x).value)) here) ∙ at) in
+  turns_hold : (endpoints : Endpoints) (course : List Step) (sent : List Sent) (turn : Endpoint → Effect Endpoint) (is : Effect Endpoints) → LineTurns line endpoints turn is
+      → ((s : Endpoint) → endpoint_at endpoints line ≡ Some s → TurnKeeps G (serves is.value) course sent (turn s)) → GoesOn course sent is
+  turns_hold endpoints course sent turn is turned goes s at = by_endpoint (endpoint_at endpoints line) refl where
+    by_endpoint : (found : Option Endpoint) → endpoint_at endpoints line ≡ found → G (serves is.value) (course ++ notified_in line is.sent) (sent ++ of_line line is.sent) s
+    by_endpoint None none = absurd (none-some s (sym (turned.endpoint ∙ ap (option_map (λ (x : Endpoint). (turn x).value)) none) ∙ at))
+    by_endpoint (Some was) here =
+        let same : (turn was).value ≡ s = some_same (turn was).value s (sym (turned.endpoint ∙ ap (option_map (λ (x : Endpoint). (turn x).value)) here) ∙ at) in
         let out : of_line line is.sent ≡ (turn was).sent = turned.sent ∙ ap (sent_by turn) here in
         subst (λ (x : List Sent). G (serves is.value) (course ++ steps_in x) (sent ++ x) s) (sym out)
-        (subst (λ (x : Station). G (serves is.value) (course ++ steps_in (turn was).sent) (sent ++ (turn was).sent) x) same (goes was here))
+        (subst (λ (x : Endpoint). G (serves is.value) (course ++ steps_in (turn was).sent) (sent ++ (turn was).sent) x) same (goes was here))
 
   -- An act
 
@@ -215,7 +215,7 @@ module _ (setup : Setup) (H : Response → Type 0) (G : Bool → List Step → L
     served : serves is.value ≡ serves endpoints
     served = ap (λ (own : Post). is_serving own.restart) (own_stays_on endpoints n (acted_on setup n moment act))
 
-    goes : (s : Station) → station_at endpoints line ≡ Some s → G (serves is.value) course sent s
+    goes : (s : Endpoint) → endpoint_at endpoints line ≡ Some s → G (serves is.value) course sent s
     goes s at = subst (λ (b : Bool). G b course sent s) (sym served) (holds s at)
 
     by_line : (b : Bool) → LineTurns line endpoints (turn_if b (acted_on setup n moment act)) is → GoesOn (course ++ (if b then acts act ∷ [] else [])) sent is
@@ -228,20 +228,20 @@ module _ (setup : Setup) (H : Response → Type 0) (G : Bool → List Step → L
 
   -- A tick
 
-  line_passed : (serving : Bool) (moment : ℕ) (was : Option Station) (is : Effect (Option Station)) → PassesAlone (line_due line) (line_happens setup line) moment was is
-      → (course : List Step) (sent : List Sent) → ((s : Station) → was ≡ Some s → G serving course sent s)
-      → (s : Station) → is.value ≡ Some s → G serving (course ++ steps_in is.sent) (sent ++ is.sent) s
+  line_passed : (serving : Bool) (moment : ℕ) (was : Option Endpoint) (is : Effect (Option Endpoint)) → PassesAlone (line_due line) (line_happens setup line) moment was is
+      → (course : List Step) (sent : List Sent) → ((s : Endpoint) → was ≡ Some s → G serving course sent s)
+      → (s : Endpoint) → is.value ≡ Some s → G serving (course ++ steps_in is.sent) (sent ++ is.sent) s
   line_passed serving moment was is (rests w t none same) course sent goes s at =
-      subst (λ (x : List Sent). G serving (course ++ steps_in x) (sent ++ x) s) (sym (ap (λ (t : Effect (Option Station)). t.sent) same))
-      (both_padded serving course sent s (goes s (sym (ap (λ (t : Effect (Option Station)). t.value) same) ∙ at)))
+      subst (λ (x : List Sent). G serving (course ++ steps_in x) (sent ++ x) s) (sym (ap (λ (t : Effect (Option Endpoint)). t.sent) same))
+      (both_padded serving course sent s (goes s (sym (ap (λ (t : Effect (Option Endpoint)). t.value) same) ∙ at)))
   line_passed serving moment None is (goes_on w item rest t first own same) course sent goes s at = absurd (none-some item first)
   line_passed serving moment (Some was) is (goes_on w item rest t first own same) course sent goes s at =
-      let turn : Effect Station = happened_on item.kind setup line item.moment was in
+      let turn : Effect Endpoint = happened_on item.kind setup line item.moment was in
       let here = turns.happening serving course sent line item was (by_is moment (due_on (line, was)) item first) (goes was refl) in
       let after = line_passed serving moment (Some turn.value) rest own (course ++ steps_in turn.sent) (sent ++ turn.sent)
-      (λ x e. subst (λ (y : Station). G serving (course ++ steps_in turn.sent) (sent ++ turn.sent) y) (some_same turn.value x e) here)
-      s (sym (ap (λ (t : Effect (Option Station)). t.value) same) ∙ at) in
-      subst (λ (x : List Sent). G serving (course ++ steps_in x) (sent ++ x) s) (ap (λ (t : Effect (Option Station)). t.sent) (sym same))
+      (λ x e. subst (λ (y : Endpoint). G serving (course ++ steps_in turn.sent) (sent ++ turn.sent) y) (some_same turn.value x e) here)
+      s (sym (ap (λ (t : Effect (Option Endpoint)). t.value) same) ∙ at) in
+      subst (λ (x : List Sent). G serving (course ++ steps_in x) (sent ++ x) s) (ap (λ (t : Effect (Option Endpoint)). t.sent) (sym same))
       (subst (λ (c : List Step). G serving c (sent ++ (turn.sent ++ rest.sent)) s)
       (append_assoc course (steps_in turn.sent) (steps_in rest.sent)
       ∙ ap (λ (x : List Step). course ++ x) (sym (flat_map-append (λ (one : Sent). notified_by one.said) turn.sent rest.sent)))
@@ -251,12 +251,12 @@ module _ (setup : Setup) (H : Response → Type 0) (G : Bool → List Step → L
       → GoesOn course sent (pass setup endpoints moment)
   pass_holds endpoints course sent moment free holds s at =
       subst (λ (b : Bool). G b (course ++ notified_in line (pass setup endpoints moment).sent) (sent ++ of_line line (pass setup endpoints moment).sent) s) (sym (pass_serves setup endpoints moment free))
-      (line_passed (serves endpoints) moment (station_at endpoints line) _ (line_passes setup line moment some endpoints) course sent holds s at)
+      (line_passed (serves endpoints) moment (endpoint_at endpoints line) _ (line_passes setup line moment some endpoints) course sent holds s at)
 
   -- A response
 
-  all_hold : (endpoints : Endpoints) (course : List Step) (sent : List Sent) (serving : Bool) (turn : ℕ → Station → Effect Station)
-      → ((s : Station) → station_at endpoints line ≡ Some s → TurnKeeps G serving course sent (turn line s)) → LineTurns line endpoints (turn line) (on_all endpoints turn)
+  all_hold : (endpoints : Endpoints) (course : List Step) (sent : List Sent) (serving : Bool) (turn : ℕ → Endpoint → Effect Endpoint)
+      → ((s : Endpoint) → endpoint_at endpoints line ≡ Some s → TurnKeeps G serving course sent (turn line s)) → LineTurns line endpoints (turn line) (on_all endpoints turn)
       → serves endpoints ≡ serving → GoesOn course sent (on_all endpoints turn)
   all_hold endpoints course sent serving turn goes turned served =
       turns_hold endpoints course sent (turn line) (on_all endpoints turn) turned
@@ -289,10 +289,10 @@ module _ (setup : Setup) (H : Response → Type 0) (G : Bool → List Step → L
       by_serving true is = absurd (apart (sym e ∙ ap (λ (pending : Option InFlight). heard_by pending endpoints.own.restart response) (own_free endpoints.own order.order.own is)))
       by_serving false is = refl
 
-    closed : (heard : Heard) → heard_on endpoints.own response ≡ heard → heard ≢ Nothing → (s : Station) → station_at endpoints line ≡ Some s → G false course sent s
+    closed : (heard : Heard) → heard_on endpoints.own response ≡ heard → heard ≢ Nothing → (s : Endpoint) → endpoint_at endpoints line ≡ Some s → G false course sent s
     closed heard e apart s at = subst (λ (b : Bool). G b course sent s) (not_serving heard e apart) (holds s at)
 
-    waiting : (heard : Heard) → heard_on endpoints.own response ≡ heard → heard ≢ Nothing → (s : Station) → station_at endpoints line ≡ Some s → IsClosed s
+    waiting : (heard : Heard) → heard_on endpoints.own response ≡ heard → heard ≢ Nothing → (s : Endpoint) → endpoint_at endpoints line ≡ Some s → IsClosed s
     waiting heard e apart s at = subst (λ (b : Bool). InOrderWhile b line s) (not_serving heard e apart) (order.order.lines line s at)
 
     by_heard : (heard : Heard) → heard_on endpoints.own response ≡ heard → GoesOn course sent (HeardAs heard endpoints moment response)
@@ -321,7 +321,7 @@ module _ (setup : Setup) (H : Response → Type 0) (G : Bool → List Step → L
         is : Effect Endpoints
         is = on_line endpoints n (responded_on setup n moment response)
 
-        goes : (s : Station) → station_at endpoints line ≡ Some s → G (serves is.value) course sent s
+        goes : (s : Endpoint) → endpoint_at endpoints line ≡ Some s → G (serves is.value) course sent s
         goes s at =
             subst (λ (b : Bool). G b course sent s)
             (sym (ap (λ (own : Post). is_serving own.restart) (own_stays_on endpoints n (responded_on setup n moment response)))) (holds s at)
@@ -358,7 +358,7 @@ module _ (setup : Setup) (H : Response → Type 0) (G : Bool → List Step → L
     whole : Done
     whole = record { told = deed_on_all setup endpoints target deed moment; answer = answer_with more deed (shown_of endpoints target deed) }
 
-    goes : (s : Station) → station_at endpoints line ≡ Some s → G true course sent s
+    goes : (s : Endpoint) → endpoint_at endpoints line ≡ Some s → G true course sent s
     goes s at = subst (λ (b : Bool). G b course sent s) serving (holds s at)
 
     served : serves whole.told.value ≡ true
@@ -521,22 +521,22 @@ module _ (setup : Setup) (H : Response → Type 0) (G : Bool → List Step → L
       (each_back Q (arrivals_at now event) (arrivals_from (clock_after now event) events) hears)
       (event_stands m course sent now event (each_front Q (arrivals_at now event) (arrivals_from (clock_after now event) events) hears) s))
 
--- What each call of a line keeps, each turn of its station keeps
+-- What each call of a line keeps, each turn of its endpoint keeps
 
 -- of any response
 abbrev pub AnyResponse : Response → Type 0
 AnyResponse response = Unit {0}
 
-abbrev pub LineGoes : Setup → (Bool → List Step → LineState → Type 0) → Bool → List Step → List Sent → Station → Type 0
-LineGoes setup Q serving course sent station = Goes setup Q serving course station
+abbrev pub LineGoes : Setup → (Bool → List Step → LineState → Type 0) → Bool → List Step → List Sent → Endpoint → Type 0
+LineGoes setup Q serving course sent endpoint = Goes setup Q serving course endpoint
 
-pub call_turns : (setup : Setup) (Q : Bool → List Step → LineState → Type 0) → Calls Q → StationTurns setup AnyResponse (LineGoes setup Q)
+pub call_turns : (setup : Setup) (Q : Bool → List Step → LineState → Type 0) → Calls Q → EndpointTurns setup AnyResponse (LineGoes setup Q)
 call_turns setup Q calls = record {
-  act = λ serving course sent line moment act station g. act_goes setup Q calls serving course line moment act station g;
-  deed = λ course sent deed moment line station g. deed_goes setup Q calls course deed moment line station g;
-  response = λ serving course sent line moment response station any g. response_goes setup Q calls serving course line moment response station g;
-  happening = λ serving course sent line item station is g. happened_goes setup Q calls serving course line item station is g;
-  redirecting = λ serving course sent agent line station g. redirected_goes setup Q calls serving course agent line station g;
-  opening = λ course sent agent moment line station closed g. opened_goes setup Q calls course agent moment line station g;
-  answering = λ serving course sent one station is g. g;
+  act = λ serving course sent line moment act endpoint g. act_goes setup Q calls serving course line moment act endpoint g;
+  deed = λ course sent deed moment line endpoint g. deed_goes setup Q calls course deed moment line endpoint g;
+  response = λ serving course sent line moment response endpoint any g. response_goes setup Q calls serving course line moment response endpoint g;
+  happening = λ serving course sent line item endpoint is g. happened_goes setup Q calls serving course line item endpoint is g;
+  redirecting = λ serving course sent agent line endpoint g. redirected_goes setup Q calls serving course agent line endpoint g;
+  opening = λ course sent agent moment line endpoint closed g. opened_goes setup Q calls course agent moment line endpoint g;
+  answering = λ serving course sent one endpoint is g. g;
 }

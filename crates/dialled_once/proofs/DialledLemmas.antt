@@ -22,7 +22,7 @@ use Rattle.dialled_once.specs.Keeping.{happened_in, told_of, IsUntouched, KeepsA
 use Rattle.dialled_once.proofs.CountLemmas.{IsCounted, acts_count, fires_count}
 use Rattle.dialled_once.proofs.FollowingLemmas.{follows_the_latest, rests_until_asked, rests_once_notified}
 use Rattle.dialled_once.proofs.KeepingLemmas.{happened_both, nothing_is_skipped, nothing_is_made_up}
-use Rattle.dialled_once.proofs.StationLemmas.{steps_of, Calls}
+use Rattle.dialled_once.proofs.EndpointLemmas.{steps_of, Calls}
 
 -- What is followed
 

@@ -1,7 +1,7 @@
 pub mod KeepingLemmas
 pub mod FollowingLemmas
 pub mod ReadingLemmas
-pub mod StationLemmas
+pub mod EndpointLemmas
 pub mod CourseLemmas
 pub mod CountLemmas
 pub mod DialledLemmas

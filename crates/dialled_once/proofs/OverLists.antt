@@ -5,14 +5,14 @@ use Rattle.std.proofs.lemmas.Bool.Decides.{Decides-eqb}
 use Rattle.event_values.specs.declared.observed.Observed.{Observed}
 use Rattle.mg_line.specs.Line.{LineState, opening_line}
 use Rattle.plain_machine.specs.declared.setup.Setup.{Setup}
-use Rattle.plain_machine.specs.declared.station.Station.{Station}
+use Rattle.plain_machine.specs.declared.endpoint.Endpoint.{Endpoint}
 use Rattle.plain_machine.specs.Event.{GatewayEvent}
 use Rattle.plain_machine.specs.Happening.{effect}
 use Rattle.plain_machine.specs.Lists.{machine_after, plain, sent_of}
 use Rattle.plain_machine.specs.Message.{Sent}
 use Rattle.plain_machine.specs.Arriving.{arrivals_from, arrivals_of}
 use Rattle.line_isolation.specs.Belonging.{of_line}
-use Rattle.plain_machine.specs.Machine.{Machine, serves, opening, opening_station, station_at}
+use Rattle.plain_machine.specs.Machine.{Machine, serves, opening, opening_endpoint, endpoint_at}
 use Rattle.gateway_laws.proofs.TurnLemmas.{on_made, of_line as of_its_line}
 use Rattle.plain_machine.proofs.ListLaws.{machine_on, lines_after}
 use Rattle.machine_laws.proofs.LineLemmas.{place_of}
@@ -26,14 +26,14 @@ use Rattle.dialled_once.proofs.CourseLemmas.{AnyResponse, LineGoes, Stands, call
 use Rattle.dialled_once.proofs.DialledLemmas.{Followed, calls_follow, OnceInStep, calls_once, opening_once, BeginsUntouched, calls_begin, opening_begins, calls_count, Told, calls_told, told_from, done_both, told_both}
 use Rattle.dialled_once.proofs.KeepingLemmas.{happened_both}
 use Rattle.dialled_once.proofs.ReadingLemmas.{IsReadable, opening_readable}
-use Rattle.dialled_once.proofs.StationLemmas.{Calls}
+use Rattle.dialled_once.proofs.EndpointLemmas.{Calls}
 
-abbrev IsOpening : ℕ → Station → Type 0
-IsOpening line station = station.line ≡ opening_line
+abbrev IsOpening : ℕ → Endpoint → Type 0
+IsOpening line endpoint = endpoint.line ≡ opening_line
 
-opens : (setup : Setup) (line : ℕ) (station : Station) → station_at (opening setup).endpoints line ≡ Some station → station.line ≡ opening_line
-opens setup line station at =
-    of_its_line IsOpening (opening setup).endpoints line station (on_made IsOpening (opening_station setup) 1 setup.names.lines (λ i low high. refl)) at
+opens : (setup : Setup) (line : ℕ) (endpoint : Endpoint) → endpoint_at (opening setup).endpoints line ≡ Some endpoint → endpoint.line ≡ opening_line
+opens setup line endpoint at =
+    of_its_line IsOpening (opening setup).endpoints line endpoint (on_made IsOpening (opening_endpoint setup) 1 setup.names.lines (λ i low high. refl)) at
 
 abbrev line_sent_of : Setup → ℕ → List GatewayEvent → List Sent
 line_sent_of setup line events = of_line line (sent_of setup events)
@@ -54,25 +54,25 @@ module _ (setup : Setup) (Q : Bool → List Step → LineState → Type 0) (call
       events_stand setup AnyResponse (LineGoes setup Q) (call_turns setup Q calls) line some (opening setup) [] [] 0 events (hear_all setup AnyResponse (λ response. tt) (arrivals_of events)) opening_stands
 
 -- a line that there is has a number from 1 on
-numbered : (m : Machine) (line : ℕ) (station : Station) → station_at m.endpoints line ≡ Some station → 1 ≤ line
-numbered m line station at = (place_of m.endpoints line station at).0
+numbered : (m : Machine) (line : ℕ) (endpoint : Endpoint) → endpoint_at m.endpoints line ≡ Some endpoint → 1 ≤ line
+numbered m line endpoint at = (place_of m.endpoints line endpoint at).0
 
 -- Which request is followed, and how often
 
-pub course_follows : (setup : Setup) (line : ℕ) (events : List GatewayEvent) (station : Station) → station_at (plain setup events).endpoints line ≡ Some station
+pub course_follows : (setup : Setup) (line : ℕ) (events : List GatewayEvent) (endpoint : Endpoint) → endpoint_at (plain setup events).endpoints line ≡ Some endpoint
     → Follow (course_of setup line events)
-course_follows setup line events station at =
-    let some = numbered (plain setup events) line station at in
+course_follows setup line events endpoint at =
+    let some = numbered (plain setup events) line endpoint at in
     let start : Followed (codes "0") false [] opening_line = record { follow = tt; latest = refl } in
     let all = always setup (Followed (codes "0")) (calls_follow (codes "0")) line some start events in
-    (all.holds station at).holds.follow
+    (all.holds endpoint at).holds.follow
 
-pub course_once : (setup : Setup) (line : ℕ) (events : List GatewayEvent) (station : Station) → station_at (plain setup events).endpoints line ≡ Some station
+pub course_once : (setup : Setup) (line : ℕ) (events : List GatewayEvent) (endpoint : Endpoint) → endpoint_at (plain setup events).endpoints line ≡ Some endpoint
     → AreInStep (course_of setup line events) → OnceForEach (course_of setup line events)
-course_once setup line events station at in_step =
-    let some = numbered (plain setup events) line station at in
+course_once setup line events endpoint at in_step =
+    let some = numbered (plain setup events) line endpoint at in
     let all = always setup OnceInStep calls_once line some opening_once events in
-    ((all.holds station at).holds in_step).once
+    ((all.holds endpoint at).holds in_step).once
 
 -- in words: between two notifications stands a request
 once_behind : (notified : Bool) (some more : List Step) → OnceFrom notified (some ++ more) → (later : Bool) × OnceFrom later more
@@ -112,29 +112,29 @@ whole_course before after line undone untold once =
 
 -- no line comes or goes
 
-get_some : (stations : List Station) (place : ℕ) → place < length stations → (s : Station) × (slice_get stations place ≡ Some s)
+get_some : (list : List Endpoint) (place : ℕ) → place < length list → (s : Endpoint) × (slice_get list place ≡ Some s)
 get_some [] place low = absurd (omega (arith, low))
-get_some (first ∷ stations) zero low = (first, refl)
-get_some (first ∷ stations) (suc place) low = get_some stations place (omega (arith, low))
+get_some (first ∷ list) zero low = (first, refl)
+get_some (first ∷ list) (suc place) low = get_some list place (omega (arith, low))
 
-station_there : (m : Machine) (line : ℕ) → 1 ≤ line → line < 1 + length m.endpoints.stations → (s : Station) × (station_at m.endpoints line ≡ Some s)
-station_there m line some low = by_zero (line == 0) refl where
-  by_zero : (b : Bool) → (line == 0) ≡ b → (s : Station) × ((if b then None else slice_get m.endpoints.stations (line - 1)) ≡ Some s)
+endpoint_there : (m : Machine) (line : ℕ) → 1 ≤ line → line < 1 + length m.endpoints.list → (s : Endpoint) × (endpoint_at m.endpoints line ≡ Some s)
+endpoint_there m line some low = by_zero (line == 0) refl where
+  by_zero : (b : Bool) → (line == 0) ≡ b → (s : Endpoint) × ((if b then None else slice_get m.endpoints.list (line - 1)) ≡ Some s)
   by_zero true e = absurd (let none : line ≡ 0 = (Decides-eqb line 0).0 e in omega (arith, some, none))
-  by_zero false e = get_some m.endpoints.stations (line - 1) (omega (arith, some, low))
+  by_zero false e = get_some m.endpoints.list (line - 1) (omega (arith, some, low))
 
-there_before : (setup : Setup) (m : Machine) (line : ℕ) (after : List GatewayEvent) (station : Station) → 1 ≤ line
-    → station_at (machine_after setup m after).endpoints line ≡ Some station → (s : Station) × (station_at m.endpoints line ≡ Some s)
-there_before setup m line after station some at =
-    let place = place_of (machine_after setup m after).endpoints line station at in
+there_before : (setup : Setup) (m : Machine) (line : ℕ) (after : List GatewayEvent) (endpoint : Endpoint) → 1 ≤ line
+    → endpoint_at (machine_after setup m after).endpoints line ≡ Some endpoint → (s : Endpoint) × (endpoint_at m.endpoints line ≡ Some s)
+there_before setup m line after endpoint some at =
+    let place = place_of (machine_after setup m after).endpoints line endpoint at in
     let same = lines_after setup m after in
-    station_there m line some (omega (arith, place.1, same))
+    endpoint_there m line some (omega (arith, place.1, same))
 
-pub course_told : (setup : Setup) (line : ℕ) (before after : List GatewayEvent) (station : Station) → station_at (plain setup (before ++ after)).endpoints line ≡ Some station
-    → IsAskedForAll (course_of setup line before) (course_from setup (plain setup before) line after) station.line
-    → IsToldOnce (course_of setup line (before ++ after)) station.line
-course_told setup line before after station at asked =
-    let some = numbered (plain setup (before ++ after)) line station at in
+pub course_told : (setup : Setup) (line : ℕ) (before after : List GatewayEvent) (endpoint : Endpoint) → endpoint_at (plain setup (before ++ after)).endpoints line ≡ Some endpoint
+    → IsAskedForAll (course_of setup line before) (course_from setup (plain setup before) line after) endpoint.line
+    → IsToldOnce (course_of setup line (before ++ after)) endpoint.line
+course_told setup line before after endpoint at asked =
+    let some = numbered (plain setup (before ++ after)) line endpoint at in
     let m : Machine = plain setup before in
     let course : List Step = course_from setup m line after in
     let begun = always setup BeginsUntouched calls_begin line some opening_begins before in
@@ -149,11 +149,11 @@ course_told setup line before after station at asked =
           };
     } in
     let to = events_stand setup AnyResponse (LineGoes setup Told) (call_turns setup Told calls_told) line some m [] [] 0 after (hear_all setup AnyResponse (λ response. tt) (arrivals_from 0 after)) from in
-    let there : station_at (machine_after setup m after).endpoints line ≡ Some station =
-    ap (λ (n : Machine). station_at n.endpoints line) (sym (machine_on setup (opening setup) before after)) ∙ at in
-    let told = ((to.holds station there).holds.once asked.since asked.none_lost).whole in
-    let untold : happened_in (told_along (course_of setup line before)) ≡ [] = (let before_it = there_before setup m line after station some there in ((begun.holds before_it.0 before_it.1).holds asked.undone).told) in
-    subst (λ (c : List Step). IsToldOnce c station.line) (sym (course_on setup (opening setup) line before after))
-    (whole_course (course_of setup line before) course station.line asked.undone untold told) where
+    let there : endpoint_at (machine_after setup m after).endpoints line ≡ Some endpoint =
+    ap (λ (n : Machine). endpoint_at n.endpoints line) (sym (machine_on setup (opening setup) before after)) ∙ at in
+    let told = ((to.holds endpoint there).holds.once asked.since asked.none_lost).whole in
+    let untold : happened_in (told_along (course_of setup line before)) ≡ [] = (let before_it = there_before setup m line after endpoint some there in ((begun.holds before_it.0 before_it.1).holds asked.undone).told) in
+    subst (λ (c : List Step). IsToldOnce c endpoint.line) (sym (course_on setup (opening setup) line before after))
+    (whole_course (course_of setup line before) course endpoint.line asked.undone untold told) where
       zero_count : IsCounted opening_line
       zero_count = omega arith

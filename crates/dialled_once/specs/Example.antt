@@ -14,7 +14,7 @@ use Rattle.mg_line.specs.Line.{LineState, opening_line, most_quarantined}
 use Rattle.plain_machine.specs.Event.{GatewayEvent, phone, tick}
 use Rattle.plain_machine.specs.Example.{two_lines, ready, rqnt, response}
 use Rattle.plain_machine.specs.Lists.{plain}
-use Rattle.plain_machine.specs.Machine.{station_at}
+use Rattle.plain_machine.specs.Machine.{endpoint_at}
 use Rattle.dialled_once.specs.Course.{Step, course_from, course_of, requests_in}
 use Rattle.dialled_once.specs.Dialled.{done_in, told_along, IsAskedForAll, IsToldOnce}
 use Rattle.dialled_once.specs.Keeping.{happened_in}
@@ -92,12 +92,12 @@ told_then events = happened_in (told_along (course_then events))
 
 abbrev pub left_then : List GatewayEvent → Option (List Observed)
 left_then events =
-    option_map (λ station. happened_in station.line.quarantined.events) (station_at (plain two_lines (ready ++ events)).endpoints 1)
+    option_map (λ endpoint. happened_in endpoint.line.quarantined.events) (endpoint_at (plain two_lines (ready ++ events)).endpoints 1)
 
 -- line 1 then
 abbrev pub line_then : List GatewayEvent → LineState
 line_then events =
-    unwrap_or (option_map (λ station. station.line) (station_at (plain two_lines (ready ++ events)).endpoints 1)) opening_line
+    unwrap_or (option_map (λ endpoint. endpoint.line) (endpoint_at (plain two_lines (ready ++ events)).endpoints 1)) opening_line
 
 -- the conclusion of the law: what was done was told once, or is quarantined
 abbrev pub ToldOnce : List GatewayEvent → Type 0

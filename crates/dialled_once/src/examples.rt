@@ -14,7 +14,7 @@ ghost use Rattle.mg_bytes.specs.declared.letter.Letter.TheVariants as letters;
 ghost use Rattle.plain_machine.specs.Event.{phone, tick};
 ghost use Rattle.plain_machine.specs.Example.{ready, rqnt, crcx, dlcx, response};
 ghost use Rattle.mg_line.specs.Line.{most_quarantined};
-ghost use Rattle.mg_line.specs.Story.{requests, with_handling};
+ghost use Rattle.mg_line.specs.Scenario.{requests, with_handling};
 ghost use Rattle.dialled_once.specs.Course.{acts as does, accepts, notifies};
 ghost use Rattle.dialled_once.specs.Following.{Follow, AreInStep, OnceForEach, OnceFrom};
 ghost use Rattle.dialled_once.specs.Keeping.{NotifiesAll, happened_in, is_of_phone};

@@ -2,10 +2,10 @@
 ghost use Rattle.std.specs.Prelude.{◌≡◌, ◌≢◌, ◌++◌, ◌∷◌, [], ℕ, List, Some};
 ghost use Rattle.event_values.specs.declared.observed.Observed.{Observed};
 ghost use Rattle.plain_machine.specs.declared.setup.Setup.{Setup};
-ghost use Rattle.plain_machine.specs.declared.station.Station.{Station};
+ghost use Rattle.plain_machine.specs.declared.endpoint.Endpoint.{Endpoint};
 ghost use Rattle.plain_machine.specs.Event.{GatewayEvent};
 ghost use Rattle.plain_machine.specs.Lists.{plain};
-ghost use Rattle.plain_machine.specs.Machine.{station_at};
+ghost use Rattle.plain_machine.specs.Machine.{endpoint_at};
 ghost use Rattle.dialled_once.specs.Course.{Step, notifies, course_from, course_of, requests_in};
 ghost use Rattle.dialled_once.specs.Dialled.{IsAskedForAll, IsToldOnce};
 ghost use Rattle.dialled_once.specs.Following.{Follow, AreInStep, OnceForEach, FollowsTheLatest, RestsUntilAsked, RestsOnceNotified};
@@ -17,23 +17,23 @@ ghost use Rattle.dialled_once.specs.Keeping.{NothingIsSkipped, NothingIsMadeUp};
 /// nothing is lost for want of room: all that the telephone did is what the line's notifications told, each at its first
 /// send, joined, and then what is quarantined. So nothing is doubled, nothing is skipped, and the order stays.
 pub fn nothing_dialled_is_doubled_or_skipped()
-    ensures { (setup : Setup) (line : ℕ) (before after : List GatewayEvent) (station : Station) →
-        station_at (plain setup (before ++ after)).endpoints line ≡ Some station →
-        IsAskedForAll (course_of setup line before) (course_from setup (plain setup before) line after) station.line →
-        IsToldOnce (course_of setup line (before ++ after)) station.line }
+    ensures { (setup : Setup) (line : ℕ) (before after : List GatewayEvent) (endpoint : Endpoint) →
+        endpoint_at (plain setup (before ++ after)).endpoints line ≡ Some endpoint →
+        IsAskedForAll (course_of setup line before) (course_from setup (plain setup before) line after) endpoint.line →
+        IsToldOnce (course_of setup line (before ++ after)) endpoint.line }
 {}
 
 /// Each notification has the identifier of the latest request that its line accepted before, or `0` where there is none.
 pub fn a_notification_names_the_latest_request()
-    ensures { (setup : Setup) (line : ℕ) (events : List GatewayEvent) (station : Station) →
-        station_at (plain setup events).endpoints line ≡ Some station → Follow (course_of setup line events) }
+    ensures { (setup : Setup) (line : ℕ) (events : List GatewayEvent) (endpoint : Endpoint) →
+        endpoint_at (plain setup events).endpoints line ≡ Some endpoint → Follow (course_of setup line events) }
 {}
 
 /// Where all requests that a line accepts ask for one notification, it notifies once for each: between any two of its
 /// notifications it accepts a request.
 pub fn a_line_in_step_notifies_once_for_each_request()
-    ensures once { (setup : Setup) (line : ℕ) (events : List GatewayEvent) (station : Station) →
-        station_at (plain setup events).endpoints line ≡ Some station → AreInStep (course_of setup line events) →
+    ensures once { (setup : Setup) (line : ℕ) (events : List GatewayEvent) (endpoint : Endpoint) →
+        endpoint_at (plain setup events).endpoints line ≡ Some endpoint → AreInStep (course_of setup line events) →
         OnceForEach (course_of setup line events) }
     ensures between { (course before between after : List Step) (x y : List ℕ) (o p : List Observed) →
         OnceForEach course → course ≡ before ++ notifies x o ∷ (between ++ notifies y p ∷ after) →

@@ -33,17 +33,17 @@ use Rattle.transmission.specs.Acknowledging.{asks_for_acknowledgement, acknowled
 use Rattle.transmission.specs.Transacting.{message_to, is_new, answered_again}
 use Rattle.transmission.specs.Confirming.{spans_of}
 use Rattle.plain_machine.specs.Answering.{line_of_name, Transaction, transaction, executed, transacted_by, transacted, transaction_of, handled_as, handled, took_all}
-use Rattle.gateway_floor.specs.Tells.{Goes}
+use Rattle.endpoints.specs.Tells.{Goes}
 use Rattle.plain_machine.specs.Responding.{acknowledged}
 use Rattle.plain_machine.specs.Message.{of_none, acknowledgement}
 use Rattle.plain_machine.proofs.EffectLaws.{handled_now}
 use Rattle.gateway_core.specs.declared.state.State.{State}
 use Rattle.gateway_core.specs.State.{machine_in, Went, Does, Happened}
 
--- a first is executed: its command changed the floor, then it was answered, and then comes what lines send because of it
+-- a first is executed: its command changed the store, then it was answered, and then comes what lines send because of it
 pub executed_then : (was mid is : State) (source : SocketAddrV4) (id : ℕ) (line : Option ℕ) (kept confirms : List IdSpan) (done : Done) (given : Answer) (caused were next are : List OutDatagram)
-    → kept ≡ confirms → given ≡ done.answer → mid.clock ≡ was.clock → mid.history ≡ was.history → Goes done.told was.floor mid.floor [] caused
-    → Went (executed (machine_in mid) source (transaction id line kept (only_answer mid.floor.endpoints given))) mid is were next → are ≡ next ++ caused
+    → kept ≡ confirms → given ≡ done.answer → mid.clock ≡ was.clock → mid.history ≡ was.history → Goes done.told was.store mid.store [] caused
+    → Went (executed (machine_in mid) source (transaction id line kept (only_answer mid.store.endpoints given))) mid is were next → are ≡ next ++ caused
     → Went (executed (machine_in was) source (transaction id line confirms done)) was is were are
 unfolding executed
 executed_then was mid is source id line kept confirms done given caused were next are same ok clock history goes last more = record {
@@ -99,7 +99,7 @@ first_done was is source t were mid are is_new branch told went =
 
 pub command_done : (setup : Setup) (result : Result (Unit {0}) AllocError) (was is : State) (were mid are : List OutDatagram) (source : SocketAddrV4) (said : Message) (verb : Verb) (id : ℕ) (name : List ℕ) (params : List Param) (body : List ℕ) (is_new : Bool)
     → said ≡ messages.Command verb id name params body → is_new ≡ true → OnTrue is_new ((look_of most_firsts was.history.kept id was.clock ≡ new) × (mid ≡ were))
-    → ((line : Option ℕ) → Does result (executed (machine_in was) source (transaction id line (spans_of (k_of (params_in said))) (done_by (form_while_in (serves was.floor.endpoints) said (k_of (params_in said)) setup.names) setup was.floor.endpoints was.clock id))) was is mid are)
+    → ((line : Option ℕ) → Does result (executed (machine_in was) source (transaction id line (spans_of (k_of (params_in said))) (done_by (form_while_in (serves was.store.endpoints) said (k_of (params_in said)) setup.names) setup was.store.endpoints was.clock id))) was is mid are)
     → Does result (handled setup (machine_in was) source (message said)) was is were are
 unfolding handled
 command_done setup result was is were mid are source said verb id name params body is_new same branch told done =
@@ -107,9 +107,9 @@ command_done setup result was is were mid are source said verb id name params bo
     subst (λ (m : Message). Does result (handled_as (transaction_of setup (machine_in was) (message m)) setup (machine_in was) source (message m)) was is were are) (sym same)
     (subst (λ (looked : Looked). Does result (transacted_by looked (machine_in was) source (asked setup was verb id name params body)) was is were are) (sym both.0)
     (subst (λ (out : List OutDatagram). Does result (executed (machine_in was) source (asked setup was verb id name params body)) was is out are) both.1
-    (subst (λ (m : Message). Does result (executed (machine_in was) source (transaction id (line_of_name setup name) (spans_of (k_of (params_in m))) (done_by (form_while_in (serves was.floor.endpoints) m (k_of (params_in m)) setup.names) setup was.floor.endpoints was.clock id))) was is mid are) same (done (line_of_name setup name))))) where
+    (subst (λ (m : Message). Does result (executed (machine_in was) source (transaction id (line_of_name setup name) (spans_of (k_of (params_in m))) (done_by (form_while_in (serves was.store.endpoints) m (k_of (params_in m)) setup.names) setup was.store.endpoints was.clock id))) was is mid are) same (done (line_of_name setup name))))) where
       asked : Setup → State → Verb → ℕ → List ℕ → List Param → List ℕ → Transaction
-      asked setup was verb id name params body = transaction id (line_of_name setup name) (spans_of (k_of params)) (commanded setup was.floor.endpoints was.clock id (record { verb = verb; name = name; params = params; body = body }) (k_of params))
+      asked setup was verb id name params body = transaction id (line_of_name setup name) (spans_of (k_of params)) (commanded setup was.store.endpoints was.clock id (record { verb = verb; name = name; params = params; body = body }) (k_of params))
 
 -- the first of these, and then the others
 pub went_next : (setup : Setup) (source : SocketAddrV4) (all texts : List (List ℕ)) (text : List ℕ) (was between is : State) (were mid are : List OutDatagram) → all ≡ text ∷ texts

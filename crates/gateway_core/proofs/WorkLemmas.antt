@@ -11,7 +11,7 @@ use Rattle.mg_line.proofs.HeedLemmas.{unheeded}
 use Rattle.plain_machine.specs.declared.config.Config.{Config}
 use Rattle.timers.specs.declared.due_item.DueItem.{DueItem}
 use Rattle.plain_machine.specs.declared.setup.Setup.{Setup}
-use Rattle.plain_machine.specs.declared.station.Station.{Station}
+use Rattle.plain_machine.specs.declared.endpoint.Endpoint.{Endpoint}
 use Rattle.transmission.specs.declared.output.OutDatagram.{OutDatagram}
 use Rattle.plain_machine.specs.declared.refusal.Refusal.{Refusal}
 use Rattle.plain_machine.specs.declared.refusal.Refusal.TheVariants.{OutOfMemory}
@@ -20,7 +20,7 @@ use Rattle.plain_machine.specs.Setup.{setup_of, most_lines}
 use Rattle.plain_machine.specs.Event.{GatewayEvent, datagram, phone, tick}
 use Rattle.plain_machine.specs.Message.{datagrams_of}
 use Rattle.plain_machine.specs.Notifying.{noted}
-use Rattle.plain_machine.specs.Machine.{Endpoints, Machine, told_in, station_at, turned_at, on_line, opening_station}
+use Rattle.plain_machine.specs.Machine.{Endpoints, Machine, told_in, endpoint_at, turned_at, on_line, opening_endpoint}
 use Rattle.plain_machine.specs.Acting.{acted_on}
 use Rattle.transmission.specs.Texts.{texts_of}
 use Rattle.plain_machine.specs.Answering.{took_all}
@@ -31,9 +31,9 @@ use Rattle.plain_machine.specs.Refusing.{refusal_of, is_unheeded, takes_none, en
 use Rattle.plain_machine.proofs.FallingLaws.{pass_none}
 use Rattle.plain_machine.proofs.NameLemmas.{setup_is, line_writable}
 use Rattle.gateway_core.specs.declared.state.State.{State}
-use Rattle.gateway_floor.specs.FloorState.{FloorState, settled_at}
+use Rattle.endpoints.specs.StoreState.{StoreState, committed}
 use Rattle.gateway_core.specs.Sound.{IsSound}
-use Rattle.gateway_floor.specs.Tells.{Goes}
+use Rattle.endpoints.specs.Tells.{Goes}
 use Rattle.gateway_core.specs.State.{Found, machine_in, found_in, CanGoBack, Happened, purged_in, Went, PutsOut}
 use Rattle.mgcp_text.specs.declared.message.Param.{Param}
 use Rattle.mgcp_text.specs.Writing.{is_writable_param}
@@ -54,23 +54,23 @@ happened_went effect was is none sent empty went = record {
   sent = went.sent ∙ ap (λ (x : List OutDatagram). x ++ datagrams_of effect.sent) empty;
 }
 
--- this came to the floor
-floor_back : (change : Effect Endpoints) (was is : State) (sent : List OutDatagram) → Goes change was.floor is.floor [] sent → is.history ≡ was.history → CanGoBack sent was is
-floor_back change was is sent goes history = back_still sent was is (rw (history, goes.found) refl)
+-- this came to the store
+store_back : (change : Effect Endpoints) (was is : State) (sent : List OutDatagram) → Goes change was.store is.store [] sent → is.history ≡ was.history → CanGoBack sent was is
+store_back change was is sent goes history = back_still sent was is (rw (history, goes.found) refl)
 
-pub happened_goes : (change : Effect Endpoints) (was is : State) (none sent : List OutDatagram) → none ≡ [] → Goes change was.floor is.floor none sent → is.clock ≡ was.clock → is.history ≡ was.history
+pub happened_goes : (change : Effect Endpoints) (was is : State) (none sent : List OutDatagram) → none ≡ [] → Goes change was.store is.store none sent → is.clock ≡ was.clock → is.history ≡ was.history
     → Happened (told_in (machine_in was) change) was is sent
 happened_goes change was is none sent empty goes clock history = record {
   machine = rw (clock, history, goes.endpoints) refl;
-  found = floor_back change was is sent (rw empty at goes) history;
+  found = store_back change was is sent (rw empty at goes) history;
   sent = goes.sent ∙ ap (λ (x : List OutDatagram). x ++ datagrams_of change.sent) empty;
 }
 
-pub happened_tick : (change : Effect Endpoints) (was is : State) (moment : ℕ) (none sent : List OutDatagram) → none ≡ [] → Goes change was.floor is.floor none sent → is.clock ≡ moment → is.history ≡ was.history
+pub happened_tick : (change : Effect Endpoints) (was is : State) (moment : ℕ) (none sent : List OutDatagram) → none ≡ [] → Goes change was.store is.store none sent → is.clock ≡ moment → is.history ≡ was.history
     → Happened (ticked (machine_in was) moment change) was is sent
 happened_tick change was is moment none sent empty goes clock history = record {
   machine = rw (clock, history, goes.endpoints) refl;
-  found = floor_back change was is sent (rw empty at goes) history;
+  found = store_back change was is sent (rw empty at goes) history;
   sent = goes.sent ∙ ap (λ (x : List OutDatagram). x ++ datagrams_of change.sent) empty;
 }
 
@@ -90,15 +90,15 @@ pub nothing_passes : (setup : Setup) (endpoints : Endpoints) (moment : ℕ) → 
 nothing_passes setup endpoints moment idle = pass_none setup endpoints moment (none_due (due_by endpoints moment) idle)
 
 -- an act that isn't heeded was passed over
-pub happened_passing : (change : Effect Endpoints) (was is : State) (sent : List OutDatagram) → sent ≡ [] → change ≡ silently is.floor.endpoints → is.clock ≡ was.clock → is.history ≡ was.history
+pub happened_passing : (change : Effect Endpoints) (was is : State) (sent : List OutDatagram) → sent ≡ [] → change ≡ silently is.store.endpoints → is.clock ≡ was.clock → is.history ≡ was.history
     → Happened (told_in (machine_in was) change) was is sent
 happened_passing change was is sent none goes clock history = happened_silently _ was is sent none (rw (clock, history, goes) refl) (rw goes refl)
 
 -- a tick up to which nothing is due
-pub happened_idly : (setup : Setup) (was is : State) (moment : ℕ) (sent : List OutDatagram) → sent ≡ [] → is_due was.floor.endpoints moment ≡ false
-    → machine_in is ≡ record (machine_in was) { now = moment } → Happened (ticked (machine_in was) moment (pass setup was.floor.endpoints moment)) was is sent
+pub happened_idly : (setup : Setup) (was is : State) (moment : ℕ) (sent : List OutDatagram) → sent ≡ [] → is_due was.store.endpoints moment ≡ false
+    → machine_in is ≡ record (machine_in was) { now = moment } → Happened (ticked (machine_in was) moment (pass setup was.store.endpoints moment)) was is sent
 happened_idly setup was is moment sent none idle machine =
-    let nothing = nothing_passes setup was.floor.endpoints moment (ap not idle) in
+    let nothing = nothing_passes setup was.store.endpoints moment (ap not idle) in
     happened_silently _ was is sent none (machine ∙ rw nothing refl) (rw nothing refl)
 
 -- What takes no memory sends nothing
@@ -107,16 +107,16 @@ not_true : (b : Bool) → not b ≡ true → b ≡ false
 not_true true e = absurd cc
 not_true false e = refl
 
-unheeded_silent : (setup : Setup) (endpoints : Endpoints) (line moment : ℕ) (act : Act) (found : Option Station) → is_unheeded found act ≡ true
+unheeded_silent : (setup : Setup) (endpoints : Endpoints) (line moment : ℕ) (act : Act) (found : Option Endpoint) → is_unheeded found act ≡ true
     → (turned_at found endpoints line (acted_on setup line moment act)).sent ≡ []
 unfolding noted
 unheeded_silent setup endpoints line moment act None free = refl
-unheeded_silent setup endpoints line moment act (Some station) free = rw (unheeded station.line act (not_true (is_heeded station.line act) free) moment) refl
+unheeded_silent setup endpoints line moment act (Some endpoint) free = rw (unheeded endpoint.line act (not_true (is_heeded endpoint.line act) free) moment) refl
 
 free_silent : (setup : Setup) (m : Machine) (event : GatewayEvent) → takes_none m event ≡ true → (effect setup m event).sent ≡ []
 unfolding effect took_all texts_of on_line
 free_silent setup m (datagram source bytes) free = rw free refl
-free_silent setup m (phone line act) free = unheeded_silent setup m.endpoints line m.now act (station_at m.endpoints line) free
+free_silent setup m (phone line act) free = unheeded_silent setup m.endpoints line m.now act (endpoint_at m.endpoints line) free
 free_silent setup m (tick moment) free = rw (nothing_passes setup m.endpoints moment free) refl
 
 -- What goes out
@@ -146,35 +146,35 @@ ends_refused setup event was is sent given some is_given e happened =
 
 -- Openings
 
-pub opening_sound : (config : Config) (setup : Setup) (m : Machine) → setup_of config ≡ Ok setup → m.endpoints.stations ≡ map (opening_station setup) (range_with_len 1 setup.names.lines)
+pub opening_sound : (config : Config) (setup : Setup) (m : Machine) → setup_of config ≡ Ok setup → m.endpoints.list ≡ map (opening_endpoint setup) (range_with_len 1 setup.names.lines)
     → m.now ≡ 0 → IsSound setup m
-opening_sound config setup m is stations now = record {
+opening_sound config setup m is list now = record {
   set_up = setup_is config setup is;
-  all = ap length stations ∙ length-map-range_with_len (opening_station setup) 1 setup.names.lines;
+  all = ap length list ∙ length-map-range_with_len (opening_endpoint setup) 1 setup.names.lines;
   moment = rw now (omega arith);
 }
 
-pub opening_few : (config : Config) (setup : Setup) (stations : List Station) → setup_of config ≡ Ok setup → stations ≡ map (opening_station setup) (range_with_len 1 setup.names.lines) → length stations ≤ most_lines
-opening_few config setup stations is same = rw (ap length same ∙ length-map-range_with_len (opening_station setup) 1 setup.names.lines) (setup_is config setup is).lines
+pub opening_few : (config : Config) (setup : Setup) (list : List Endpoint) → setup_of config ≡ Ok setup → list ≡ map (opening_endpoint setup) (range_with_len 1 setup.names.lines) → length list ≤ most_lines
+opening_few config setup list is same = rw (ap length same ∙ length-map-range_with_len (opening_endpoint setup) 1 setup.names.lines) (setup_is config setup is).lines
 
 -- A list of names is whole at its end
-pub names_end : {B : Type 0} (f : ℕ × Station → B) (report : List B) (place : ℕ) (stations : List Station) → length stations ≤ place
-    → report ++ map f (enumerate_from (place + 1) (drop place stations)) ≡ map f (enumerate_from 1 stations) → report ≡ map f (enumerate_from 1 stations)
-names_end f report place stations past whole =
-    sym (append-nil report) ∙ ap (λ (rest : List Station). report ++ map f (enumerate_from (place + 1) rest)) (sym (drop_all place stations past)) ∙ whole
+pub names_end : {B : Type 0} (f : ℕ × Endpoint → B) (report : List B) (place : ℕ) (list : List Endpoint) → length list ≤ place
+    → report ++ map f (enumerate_from (place + 1) (drop place list)) ≡ map f (enumerate_from 1 list) → report ≡ map f (enumerate_from 1 list)
+names_end f report place list past whole =
+    sym (append-nil report) ∙ ap (λ (rest : List Endpoint). report ++ map f (enumerate_from (place + 1) rest)) (sym (drop_all place list past)) ∙ whole
 
 -- what an event did, with nothing saved any more
-pub puts_settled : (effect : Effect Machine) (mid is : State) (were are : List OutDatagram) → is.clock ≡ mid.clock → is.history ≡ mid.history → is.floor ≡ settled_at mid.floor.endpoints
+pub puts_settled : (effect : Effect Machine) (mid is : State) (were are : List OutDatagram) → is.clock ≡ mid.clock → is.history ≡ mid.history → is.store ≡ committed mid.store.endpoints
     → PutsOut effect mid were are → PutsOut effect is were are
-puts_settled effect mid is were are clock history floor p = record { machine = rw (clock, history, floor) p.machine; outputs = p.outputs }
+puts_settled effect mid is were are clock history store p = record { machine = rw (clock, history, store) p.machine; outputs = p.outputs }
 
 -- an event failed: the machine is as it was, but for a purge
-pub as_found : (was : State) (floor : FloorState) (history : HistoryState) (between : State)
-    → found_in between ≡ record { endpoints = was.floor.endpoints; history = from_young was.clock was.history.kept }
-    → floor ≡ settled_at between.floor.found → history ≡ history_at between.history.settled
-    → ◌≡◌ {A = Machine} (record { now = was.clock; endpoints = floor.endpoints; history = history.kept }) (purged_in (machine_in was))
-as_found was floor history between found floor_back history_back =
-    rw (floor_back, history_back) (ap (λ (f : Found). let m : Machine = record { now = was.clock; endpoints = f.endpoints; history = f.history } in m) found)
+pub as_found : (was : State) (store : StoreState) (history : HistoryState) (between : State)
+    → found_in between ≡ record { endpoints = was.store.endpoints; history = from_young was.clock was.history.kept }
+    → store ≡ committed between.store.found → history ≡ history_at between.history.settled
+    → ◌≡◌ {A = Machine} (record { now = was.clock; endpoints = store.endpoints; history = history.kept }) (purged_in (machine_in was))
+as_found was store history between found store_back history_back =
+    rw (store_back, history_back) (ap (λ (f : Found). let m : Machine = record { now = was.clock; endpoints = f.endpoints; history = f.history } in m) found)
 
 -- a name by itself can be written
 pub name_is_fine : (setup : Setup) (line : ℕ) (params : List Param) → is_domain setup.names.domain ≡ true → line < 2 ^ 64 → params ≡ name_of_line setup line ∷ []

@@ -14,7 +14,7 @@ use Rattle.gateway_core.specs.declared.state.State.{State}
 
 -- the machine that is kept
 abbrev pub machine_in : State → Machine
-machine_in state = record { now = state.clock; endpoints = state.floor.endpoints; history = state.history.kept }
+machine_in state = record { now = state.clock; endpoints = state.store.endpoints; history = state.history.kept }
 
 -- what an event goes back to where it fails
 pub record Found : Type 0 where
@@ -22,7 +22,7 @@ pub record Found : Type 0 where
   pub history : List Entry
 
 abbrev pub found_in : State → Found
-found_in state = record { endpoints = state.floor.found; history = state.history.settled }
+found_in state = record { endpoints = state.store.found; history = state.history.settled }
 
 -- the machine goes on as the effect says, the messages grow by what it sends, and what the event found can still be had
 pub record Went (effect : Effect Machine) (was is : State) (were are : List OutDatagram) : Type 0 where

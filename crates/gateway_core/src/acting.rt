@@ -1,13 +1,13 @@
 //! What an act at a telephone does.
-ghost use Rattle.plain_machine.specs.Machine.{told_in, station_at};
+ghost use Rattle.plain_machine.specs.Machine.{told_in, endpoint_at};
 ghost use Rattle.plain_machine.specs.Acting.{acted};
 ghost use Rattle.std.specs.Result.{result_err};
 ghost use Rattle.plain_machine.specs.Refusing.{act_refusal, is_unheeded, ends};
-ghost use Rattle.gateway_stations.specs.Telling.{MayTell};
+ghost use Rattle.endpoint_rules.specs.Telling.{MayTell};
 ghost use Rattle.gateway_core.specs.State.{machine_in, Happens};
 
 use crate::state::State;
-use gateway_stations::{Context, Occasion, acted_on};
+use endpoint_rules::{Context, Occasion, acted_on};
 use mg_line::Act;
 use plain_machine::{OutDatagram, Refusal};
 
@@ -21,19 +21,19 @@ pub(crate) fn act_on(
 ) -> Result<Vec<OutDatagram>, Refusal>
     requires { MayTell context.setup.now state.old.clock }
     ensures happens { Happens result (told_in (machine_in state.old)
-        (acted context.entry.setup.now state.old.floor.endpoints line state.old.clock act)) state.old state.new }
-    ensures ends { ends (act_refusal (station_at state.old.floor.endpoints line) act)
-        (is_unheeded (station_at state.old.floor.endpoints line) act) (result_err result) }
+        (acted context.entry.setup.now state.old.store.endpoints line state.old.clock act)) state.old state.new }
+    ensures ends { ends (act_refusal (endpoint_at state.old.store.endpoints line) act)
+        (is_unheeded (endpoint_at state.old.store.endpoints line) act) (result_err result) }
 {
-    let Some(station) = state.floor.station(line) else {
+    let Some(endpoint) = state.store.endpoint(line) else {
         return Err(Refusal::NoSuchLine);
     };
-    if !station.line.takes(act) {
+    if !endpoint.line.takes(act) {
         return Err(Refusal::PhoneState);
     }
     let mut out = Vec::new(context.alloc);
-    if !station.line.heeds(act) {
-        state.floor.pass_over(line, act);
+    if !endpoint.line.heeds(act) {
+        state.store.pass_over(line, act);
         return Ok(out);
     }
     let occasion = Occasion {
@@ -41,8 +41,8 @@ pub(crate) fn act_on(
         moment: state.clock,
     };
     let Context { alloc, setup } = context;
-    state.floor.change(line, &mut out, |station, out| {
-        acted_on(Context { alloc, setup }, occasion, station, act, out)
+    state.store.change(line, &mut out, |endpoint, out| {
+        acted_on(Context { alloc, setup }, occasion, endpoint, act, out)
     })??;
     Ok(out)
 }

@@ -15,7 +15,7 @@ ghost use Rattle.mgcp_text.specs.declared.message.Message.TheVariants.{Command};
 ghost use Rattle.plain_machine.specs.Machine.{serves};
 ghost use Rattle.plain_machine.specs.Done.{only_answer};
 ghost use Rattle.plain_machine.specs.Commanding.{done_by};
-ghost use Rattle.gateway_stations.specs.Telling.{MayTell};
+ghost use Rattle.endpoint_rules.specs.Telling.{MayTell};
 ghost use Rattle.transmission.specs.Confirming.{spans_of};
 ghost use Rattle.plain_machine.specs.Answering.{transaction, executed, transacted, refusing, handled, took_all};
 ghost use Rattle.gateway_core.specs.State.{machine_in, Went, Does, Happens};
@@ -24,7 +24,7 @@ use crate::commanding::commanded;
 use crate::responding::respond;
 use crate::sending::send_all;
 use crate::state::State;
-use gateway_stations::Context;
+use endpoint_rules::Context;
 use history::IdSpan;
 use mg_bytes::{OutOfMemory, ReturnCode, Sequence};
 use mgcp_text::{Answer, Message, TextFault, read_k, read_message};
@@ -45,7 +45,7 @@ fn answer(
     out: &mut Vec<OutDatagram>,
 ) -> Result<(), OutOfMemory>
     ensures { (line : _) → Does result (executed (machine_in state.old) origin.source
-        (transaction origin.id line confirms (only_answer state.old.floor.endpoints answer.now)))
+        (transaction origin.id line confirms (only_answer state.old.store.endpoints answer.now)))
         state.old state.new out.old.items out.new.items }
 {
     transmission::answer(
@@ -113,16 +113,16 @@ fn execute(
     requires { MayTell context.setup.now state.old.clock }
     ensures { (line : _) → Does result (executed (machine_in state.old) origin.source
         (transaction origin.id line (spans_of (k_of (params_in said.now)))
-        (done_by (form_while_in (serves state.old.floor.endpoints) said.now (k_of (params_in said.now))
+        (done_by (form_while_in (serves state.old.store.endpoints) said.now (k_of (params_in said.now))
         context.entry.setup.now.names) context.entry.setup.now
-        state.old.floor.endpoints state.old.clock origin.id))) state.old state.new out.old.items out.new.items }
+        state.old.store.endpoints state.old.clock origin.id))) state.old state.new out.old.items out.new.items }
 {
     let mut sent = Vec::new(context.alloc);
     let confirms = read_k(context.alloc, said)?;
     let spans = spans_of(context.alloc, &confirms)?;
     let given = commanded(
         context,
-        &mut state.floor,
+        &mut state.store,
         state.clock,
         origin.id,
         said,
@@ -176,7 +176,7 @@ fn handle_message(
             let origin = Origin { source, id: *id };
             respond(
                 context,
-                &mut state.floor,
+                &mut state.store,
                 state.clock,
                 origin,
                 *code,

@@ -7,17 +7,17 @@ ghost use Rattle.mg_bytes.specs.CodeFault.{AnswersAs};
 ghost use Rattle.audits.specs.Fitting.{fitting};
 ghost use Rattle.command_forms.specs.Order.{form_while_in};
 ghost use Rattle.plain_machine.specs.Requesting.{deed_done, line_with_place, done_there, done_for};
-ghost use Rattle.plain_machine.specs.Machine.{serves, station_at};
+ghost use Rattle.plain_machine.specs.Machine.{serves, endpoint_at};
 ghost use Rattle.plain_machine.specs.Reporting.{line_report, names_of};
 ghost use Rattle.plain_machine.specs.Commanding.{reported, audited, answer_by, done_by};
-ghost use Rattle.gateway_stations.specs.Telling.{MayTell};
-ghost use Rattle.gateway_floor.specs.Tells.{Tells};
+ghost use Rattle.endpoint_rules.specs.Telling.{MayTell};
+ghost use Rattle.endpoints.specs.Tells.{Tells};
 
 use crate::reporting::{name_alone, names_of};
-use audits::{Endpoint, connection_report, endpoint_report, fitting};
+use audits::{AuditedEndpoint, connection_report, endpoint_report, fitting};
 use command_forms::{Asks, Audit, AuditTarget, Deed, Target, form_while};
-use gateway_floor::{Floor, deed_on_all, line_with_place, refused_by};
-use gateway_stations::{Context, answer_with};
+use endpoint_rules::{Context, answer_with};
+use endpoints::{Store, deed_on_all, line_with_place, refused_by};
 use mg_bytes::{CodeFault, OutOfMemory, ReturnCode};
 use mgcp_text::{Answer, Bytes, KValue, Message, Params, TransactionId};
 use plain_machine::OutDatagram;
@@ -26,36 +26,36 @@ use std::alloc::AllocError;
 // What is asked for of one line, or of one of its connections.
 fn line_report(
     context: Context<'_>,
-    floor: &Floor,
+    store: &Store,
     line: u16,
     id: TransactionId,
     audit: &Audit<'_>,
 ) -> Result<Answer, CodeFault>
-    ensures { AnswersAs (line_report (station_at floor.now.endpoints line) id audit.now) result }
+    ensures { AnswersAs (line_report (endpoint_at store.now.endpoints line) id audit.now) result }
 {
-    let Some(station) = floor.station(line) else {
+    let Some(endpoint) = store.endpoint(line) else {
         return Err(CodeFault::Code(ReturnCode::UnknownEndpoint.number()));
     };
-    let endpoint = Endpoint {
-        line: &station.line,
-        entity: &station.post.entity,
-        encoding: station.encoding,
-        connections: &station.connections,
+    let borrowed = AuditedEndpoint {
+        line: &endpoint.line,
+        entity: &endpoint.post.entity,
+        encoding: endpoint.encoding,
+        connections: &endpoint.connections,
     };
     let items = audit.items.as_slice();
     match &audit.connection {
-        None => endpoint_report(context.alloc, id, endpoint, items),
-        Some(connection) => connection_report(context.alloc, id, endpoint, connection, items),
+        None => endpoint_report(context.alloc, id, borrowed, items),
+        Some(connection) => connection_report(context.alloc, id, borrowed, connection, items),
     }
 }
 
 // The names of all lines.
 #[tactic(auto, unfolding(mgcp_text::specs::Writing::is_writable_body))]
-fn all_reported(context: Context<'_>, floor: &Floor, id: TransactionId) -> Result<Answer, CodeFault>
+fn all_reported(context: Context<'_>, store: &Store, id: TransactionId) -> Result<Answer, CodeFault>
     requires { is_domain context.setup.now.names.domain ≡ true }
-    ensures { AnswersAs (fitting id (reported (names_of context.entry.setup.now floor.now.endpoints))) result }
+    ensures { AnswersAs (fitting id (reported (names_of context.entry.setup.now store.now.endpoints))) result }
 {
-    let names = names_of(context, floor)?;
+    let names = names_of(context, store)?;
     let report = Answer::with(ReturnCode::Executed.number(), names, Bytes::of(b""));
     fitting(context.alloc, id, report)
 }
@@ -64,33 +64,33 @@ fn all_reported(context: Context<'_>, floor: &Floor, id: TransactionId) -> Resul
 #[tactic(auto, unfolding(plain_machine::specs::Commanding::audited))]
 fn audited(
     context: Context<'_>,
-    floor: &Floor,
+    store: &Store,
     id: TransactionId,
     target: AuditTarget,
     audit: &Audit<'_>,
 ) -> Result<Answer, CodeFault>
     requires { is_domain context.setup.now.names.domain ≡ true }
-    ensures { AnswersAs (audited context.entry.setup.now floor.now.endpoints id target audit.now) result }
+    ensures { AnswersAs (audited context.entry.setup.now store.now.endpoints id target audit.now) result }
 {
     match target {
-        AuditTarget::One(line) => line_report(context, floor, line, id, audit),
-        AuditTarget::All => all_reported(context, floor, id),
+        AuditTarget::One(line) => line_report(context, store, line, id, audit),
+        AuditTarget::All => all_reported(context, store, id),
     }
 }
 
 // The answer to an audit: a report, or the code for which there is none.
 fn answer_to_audit(
     context: Context<'_>,
-    floor: &Floor,
+    store: &Store,
     id: TransactionId,
     target: AuditTarget,
     audit: &Audit<'_>,
 ) -> Result<Answer, OutOfMemory>
     requires { is_domain context.setup.now.names.domain ≡ true }
     ensures { IfOk result (λ answer. answer
-        ≡ answer_by (audited context.entry.setup.now floor.now.endpoints id target audit.now)) }
+        ≡ answer_by (audited context.entry.setup.now store.now.endpoints id target audit.now)) }
 {
-    match audited(context, floor, id, target, audit) {
+    match audited(context, store, id, target, audit) {
         Err(CodeFault::OutOfMemory) => Err(AllocError),
         Err(CodeFault::Code(code)) => Ok(Answer::plain(context.alloc, code)),
         Ok(report) => Ok(report),
@@ -100,7 +100,7 @@ fn answer_to_audit(
 // A deed on the lines that it is for: on all of them, or on none. Its answer has these further parameters.
 fn deed_done(
     context: Context<'_>,
-    floor: &mut Floor,
+    store: &mut Store,
     moment: u64,
     lines: Target,
     more: Params<'static>,
@@ -109,66 +109,66 @@ fn deed_done(
 ) -> Result<Answer, OutOfMemory>
     requires may { MayTell context.setup.now moment }
     requires writable { list_all is_writable_param more ≡ true }
-    ensures answer { IfOk result (λ answer. answer ≡ (deed_done context.entry.setup.now floor.old.endpoints lines
+    ensures answer { IfOk result (λ answer. answer ≡ (deed_done context.entry.setup.now store.old.endpoints lines
         more.entry deed.now moment).answer) }
-    ensures told { Tells result (deed_done context.entry.setup.now floor.old.endpoints lines more.entry deed.now moment).told
-        floor.old floor.new sent.old.items sent.new.items }
+    ensures told { Tells result (deed_done context.entry.setup.now store.old.endpoints lines more.entry deed.now moment).told
+        store.old store.new sent.old.items sent.new.items }
 {
-    if let Some(code) = refused_by(floor, lines, deed) {
+    if let Some(code) = refused_by(store, lines, deed) {
         return Ok(Answer::plain(context.alloc, code));
     }
-    let news = deed_on_all(context, floor, moment, lines, deed, sent)?;
+    let news = deed_on_all(context, store, moment, lines, deed, sent)?;
     answer_with(context, more, deed, &news)
 }
 
 // A deed on any one line: the least that has a place for one more connection. The answer names it.
 fn done_there(
     context: Context<'_>,
-    floor: &mut Floor,
+    store: &mut Store,
     moment: u64,
     deed: &Deed,
     sent: &mut Vec<OutDatagram>,
 ) -> Result<Answer, OutOfMemory>
     requires { MayTell context.setup.now moment }
-    ensures answer { IfOk result (λ answer. answer ≡ (done_there (line_with_place floor.old.endpoints)
-        context.entry.setup.now floor.old.endpoints deed.now moment).answer) }
-    ensures told { Tells result (done_there (line_with_place floor.old.endpoints) context.entry.setup.now
-        floor.old.endpoints deed.now moment).told floor.old floor.new sent.old.items sent.new.items }
+    ensures answer { IfOk result (λ answer. answer ≡ (done_there (line_with_place store.old.endpoints)
+        context.entry.setup.now store.old.endpoints deed.now moment).answer) }
+    ensures told { Tells result (done_there (line_with_place store.old.endpoints) context.entry.setup.now
+        store.old.endpoints deed.now moment).told store.old store.new sent.old.items sent.new.items }
 {
-    let Some(line) = line_with_place(floor) else {
+    let Some(line) = line_with_place(store) else {
         return Ok(Answer::plain(context.alloc, ReturnCode::NoEndpointAvailable.number()));
     };
     let more = name_alone(context, line)?;
-    deed_done(context, floor, moment, Target::One(line), more, deed, sent)
+    deed_done(context, store, moment, Target::One(line), more, deed, sent)
 }
 
 // A deed for such lines.
 fn done_for(
     context: Context<'_>,
-    floor: &mut Floor,
+    store: &mut Store,
     moment: u64,
     target: Target,
     deed: &Deed,
     sent: &mut Vec<OutDatagram>,
 ) -> Result<Answer, OutOfMemory>
     requires { MayTell context.setup.now moment }
-    ensures answer { IfOk result (λ answer. answer ≡ (done_for context.entry.setup.now floor.old.endpoints target
+    ensures answer { IfOk result (λ answer. answer ≡ (done_for context.entry.setup.now store.old.endpoints target
         deed.now moment).answer) }
-    ensures told { Tells result (done_for context.entry.setup.now floor.old.endpoints target deed.now moment).told
-        floor.old floor.new sent.old.items sent.new.items }
+    ensures told { Tells result (done_for context.entry.setup.now store.old.endpoints target deed.now moment).told
+        store.old store.new sent.old.items sent.new.items }
 {
     let none = Params::new(context.alloc);
     match target {
-        Target::One(_) => deed_done(context, floor, moment, target, none, deed, sent),
-        Target::All => deed_done(context, floor, moment, target, none, deed, sent),
-        Target::Any => done_there(context, floor, moment, deed, sent),
+        Target::One(_) => deed_done(context, store, moment, target, none, deed, sent),
+        Target::All => deed_done(context, store, moment, target, none, deed, sent),
+        Target::Any => done_there(context, store, moment, deed, sent),
     }
 }
 
 /// What a command does whose K was read: its answer, and behind what there is what lines send because of it.
 pub(crate) fn commanded(
     context: Context<'_>,
-    floor: &mut Floor,
+    store: &mut Store,
     moment: u64,
     id: TransactionId,
     said: &Message<'_>,
@@ -177,23 +177,23 @@ pub(crate) fn commanded(
 ) -> Result<Answer, OutOfMemory>
     requires { MayTell context.setup.now moment }
     ensures answer { IfOk result (λ answer. answer ≡ (done_by
-        (form_while_in (serves floor.old.endpoints) said.now confirms.now context.entry.setup.now.names)
-        context.entry.setup.now floor.old.endpoints moment id).answer) }
-    ensures told { Tells result (done_by (form_while_in (serves floor.old.endpoints) said.now confirms.now context.entry.setup.now.names)
-        context.entry.setup.now floor.old.endpoints moment id).told floor.old floor.new sent.old.items sent.new.items }
+        (form_while_in (serves store.old.endpoints) said.now confirms.now context.entry.setup.now.names)
+        context.entry.setup.now store.old.endpoints moment id).answer) }
+    ensures told { Tells result (done_by (form_while_in (serves store.old.endpoints) said.now confirms.now context.entry.setup.now.names)
+        context.entry.setup.now store.old.endpoints moment id).told store.old store.new sent.old.items sent.new.items }
 {
     match form_while(
         context.alloc,
-        floor.serves(),
+        store.serves(),
         said,
         confirms,
         &context.setup.names,
     ) {
         Err(CodeFault::OutOfMemory) => Err(AllocError),
         Err(CodeFault::Code(code)) => Ok(Answer::plain(context.alloc, code)),
-        Ok(Asks::Reports(target, audit)) => answer_to_audit(context, floor, id, target, &audit),
+        Ok(Asks::Reports(target, audit)) => answer_to_audit(context, store, id, target, &audit),
         Ok(Asks::Does(target, boxed)) => {
-            done_for(context, floor, moment, target, boxed.deed(), sent)
+            done_for(context, store, moment, target, boxed.deed(), sent)
         }
     }
 }

@@ -8,8 +8,8 @@ use crate::stopped::Stopped;
 use crate::working::step_state;
 use arrayvec::ArrayVec;
 use connections::Connection;
-use gateway_floor::{Floor, judged, opening_own, opening_stations};
-use gateway_stations::Context;
+use endpoint_rules::Context;
+use endpoints::{Store, judged, opening_list, opening_own};
 use history::History;
 use mg_line::Hook;
 use plain_machine::{Config, ConfigFault, Event, Outputs, Refusal, Setup};
@@ -53,11 +53,11 @@ impl Gateway {
         ensures { Opens (setup_of config) result }
     {
         let setup = judged(config)?;
-        let stations = opening_stations(alloc, &setup)?;
-        let floor = Floor::of(alloc, stations, opening_own(&setup))?;
+        let list = opening_list(alloc, &setup)?;
+        let store = Store::of(alloc, list, opening_own(&setup))?;
         let state = State {
             clock: 0,
-            floor,
+            store,
             history: History::new(alloc),
         };
         match Box::new(alloc, state) {
@@ -90,9 +90,7 @@ impl Gateway {
         requires high { line ≤ self.now.setup.names.lines }
         ensures { (events : List GatewayEvent) → Stands self.now events → hook_of (plain self.now.setup events) line ≡ Some result }
     {
-        self.state.floor.stations()[usize::from(line) - 1]
-            .line
-            .hook()
+        self.state.store.list()[usize::from(line) - 1].line.hook()
     }
 
     /// The active signals of a line, from 1 to the number of lines, with their ends (ms), in the order of the table: those
@@ -103,7 +101,7 @@ impl Gateway {
         ensures { (events : List GatewayEvent) → Stands self.now events →
             signals_of (plain self.now.setup events) line ≡ Some result.items }
     {
-        self.state.floor.stations()[usize::from(line) - 1]
+        self.state.store.list()[usize::from(line) - 1]
             .line
             .signals()
     }
@@ -115,7 +113,7 @@ impl Gateway {
         ensures { (events : List GatewayEvent) → Stands self.now events →
             connections_of (plain self.now.setup events) line ≡ Some result.now }
     {
-        self.state.floor.stations()[usize::from(line) - 1]
+        self.state.store.list()[usize::from(line) - 1]
             .connections
             .list()
     }
@@ -128,9 +126,7 @@ impl Gateway {
         ensures { (events : List GatewayEvent) → Stands self.now events →
             lost_of (plain self.now.setup events) line ≡ Some result }
     {
-        self.state.floor.stations()[usize::from(line) - 1]
-            .line
-            .lost()
+        self.state.store.list()[usize::from(line) - 1].line.lost()
     }
 
     /// The moment of the last tick that was taken, in ms; 0 before any. It is below 2^62.
@@ -148,7 +144,7 @@ impl Gateway {
         ensures { (events : List GatewayEvent) → Stands self.now events →
             result ≡ option_map (λ item. item.moment) (first_due (plain self.now.setup events).endpoints) }
     {
-        match self.state.floor.first_due() {
+        match self.state.store.first_due() {
             Some(item) => Some(item.moment),
             None => None,
         }

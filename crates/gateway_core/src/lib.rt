@@ -24,7 +24,7 @@ pub use crate::gateway::Gateway;
 pub use crate::served::Served;
 pub use crate::stopped::Stopped;
 pub use crate::wire::{DATAGRAM_ROOM, Input, Wire, WireFault};
-pub use gateway_floor::key_at_fault;
+pub use endpoints::key_at_fault;
 pub use plain_machine::{
     Config, ConfigFault, ConfigKey, Event, NamedRoute, OutDatagram, Outputs, Refusal,
 };

@@ -3,12 +3,12 @@ ghost use Rattle.std.specs.Prelude.{◌≡◌, ◌++◌, OnOk};
 ghost use Rattle.mgcp_text.specs.Message.{params_in};
 ghost use Rattle.plain_machine.specs.Message.{datagrams_of};
 ghost use Rattle.plain_machine.specs.Responding.{acknowledged, entity_in, heard_from};
-ghost use Rattle.gateway_stations.specs.Telling.{MayTell};
-ghost use Rattle.gateway_floor.specs.Tells.{Tells};
+ghost use Rattle.endpoint_rules.specs.Telling.{MayTell};
+ghost use Rattle.endpoints.specs.Tells.{Tells};
 
 use endpoint_names::{Entity, read_entity};
-use gateway_floor::{Floor, respond_to_its_id};
-use gateway_stations::Context;
+use endpoint_rules::Context;
+use endpoints::{Store, respond_to_its_id};
 use mg_bytes::OutOfMemory;
 use mgcp_text::{Message, param_at};
 use plain_machine::{OutDatagram, Response};
@@ -40,7 +40,7 @@ fn entity_in(context: Context<'_>, said: &Message<'_>) -> Option<Entity>
 /// A response: its acknowledgement goes out before anything else that it causes.
 pub(crate) fn respond(
     context: Context<'_>,
-    floor: &mut Floor,
+    store: &mut Store,
     moment: u64,
     origin: Origin,
     code: u16,
@@ -48,8 +48,8 @@ pub(crate) fn respond(
     out: &mut Vec<OutDatagram>,
 ) -> Result<(), OutOfMemory>
     requires { MayTell context.setup.now moment }
-    ensures { Tells result (heard_from context.entry.setup.now floor.old.endpoints moment origin.source code origin.id
-        (params_in said.now)) floor.old floor.new out.old.items out.new.items }
+    ensures { Tells result (heard_from context.entry.setup.now store.old.endpoints moment origin.source code origin.id
+        (params_in said.now)) store.old store.new out.old.items out.new.items }
 {
     let response = Response {
         id: origin.id,
@@ -57,6 +57,6 @@ pub(crate) fn respond(
         entity: entity_in(context, said),
     };
     acknowledge(context, moment, origin, code, said, out)?;
-    respond_to_its_id(context, floor, moment, &response, out)?;
+    respond_to_its_id(context, store, moment, &response, out)?;
     Ok(())
 }

@@ -12,7 +12,7 @@ use crate::acting::act_on;
 use crate::answering::take_datagram;
 use crate::state::State;
 use crate::ticking::tick;
-use gateway_stations::Context;
+use endpoint_rules::Context;
 use plain_machine::{Event, OutDatagram, Outputs, Refusal};
 use transmission::packed;
 
@@ -72,15 +72,15 @@ fn attempt(
     ensures ends { Ends (machine_in state.old) (event_of event.entry) (result_err result) }
 {
     let clock = state.clock;
-    state.floor.commit();
+    state.store.commit();
     state.history.purge(clock);
     match carry_out(context, state, event, outputs) {
         Ok(()) => {
-            state.floor.commit();
+            state.store.commit();
             Ok(())
         }
         Err(refusal) => {
-            state.floor.rollback();
+            state.store.rollback();
             state.history.undo();
             state.clock = clock;
             Err(refusal)

@@ -50,7 +50,7 @@ use Rattle.command_forms.specs.declared.forms.Deed.{Deed}
 use Rattle.plain_machine.specs.declared.post.Post.{Post}
 use Rattle.plain_machine.specs.declared.response.Response.{Response}
 use Rattle.plain_machine.specs.declared.setup.Setup.{Setup}
-use Rattle.plain_machine.specs.declared.station.Station.{Station}
+use Rattle.plain_machine.specs.declared.endpoint.Endpoint.{Endpoint}
 use Rattle.plain_machine.specs.Effect.{Effect, silently, effect_map, afterwards}
 use Rattle.plain_machine.specs.Event.{GatewayEvent, datagram, phone, tick}
 use Rattle.plain_machine.specs.Message.{Sent}
@@ -76,7 +76,7 @@ use Rattle.gateway_laws.proofs.FlightLaws.{Orders, OwnOrders, own_free, orders_o
 -- The gateway's own stays, but at what comes to it
 
 -- what lines do leaves it
-several_own : (lines : List ℕ) (endpoints : Endpoints) (turn : ℕ → Station → Effect Station) → (on_lines lines endpoints turn).value.own ≡ endpoints.own
+several_own : (lines : List ℕ) (endpoints : Endpoints) (turn : ℕ → Endpoint → Effect Endpoint) → (on_lines lines endpoints turn).value.own ≡ endpoints.own
 unfolding on_lines
 several_own [] endpoints turn = refl
 several_own (line ∷ lines) endpoints turn = several_own lines (on_line endpoints line (turn line)).value turn ∙ own_stays_at endpoints line (turn line)
@@ -326,61 +326,61 @@ waits_anew setup line moment post flight pending gives =
 
 -- A line that gave up
 
-it_is_quiet : (line until : ℕ) (station : Station) → IsInOrder line station → station.post.restart ≡ Waiting until → (station.post.pending ≡ None) × (station.line.state ≡ Notification)
-it_is_quiet line until station order waits = subst (λ (r : Restart). InOrderBy r line station.post.pending station.line.state) waits order
+it_is_quiet : (line until : ℕ) (endpoint : Endpoint) → IsInOrder line endpoint → endpoint.post.restart ≡ Waiting until → (endpoint.post.pending ≡ None) × (endpoint.line.state ≡ Notification)
+it_is_quiet line until endpoint order waits = subst (λ (r : Restart). InOrderBy r line endpoint.post.pending endpoint.line.state) waits order
 
-pub act_begins_nothing : (setup : Setup) (line moment until : ℕ) (act : Act) (station : Station) → IsInOrder line station → station.post.restart ≡ Waiting until
-    → BeginsNothing station (acted_on setup line moment act station)
-act_begins_nothing setup line moment until act station order waits =
-    noted_begins_nothing setup line moment station (phoned station.line act moment) (phoned_waits station.line act moment (it_is_quiet line until station order waits).1).silent
+pub act_begins_nothing : (setup : Setup) (line moment until : ℕ) (act : Act) (endpoint : Endpoint) → IsInOrder line endpoint → endpoint.post.restart ≡ Waiting until
+    → BeginsNothing endpoint (acted_on setup line moment act endpoint)
+act_begins_nothing setup line moment until act endpoint order waits =
+    noted_begins_nothing setup line moment endpoint (phoned endpoint.line act moment) (phoned_waits endpoint.line act moment (it_is_quiet line until endpoint order waits).1).silent
 
-pub deed_begins_nothing : (setup : Setup) (deed : Deed) (line moment until : ℕ) (station : Station) → IsInOrder line station → station.post.restart ≡ Waiting until
-    → BeginsNothing station (deed_on setup deed moment line station)
+pub deed_begins_nothing : (setup : Setup) (deed : Deed) (line moment until : ℕ) (endpoint : Endpoint) → IsInOrder line endpoint → endpoint.post.restart ≡ Waiting until
+    → BeginsNothing endpoint (deed_on setup deed moment line endpoint)
 unfolding deed_on
-deed_begins_nothing setup deed line moment until station order waits =
-    let begins = noted_begins_nothing setup line moment (with_connections deed (with_entity deed.entity station)) (asked_if deed.request station.line moment)
-    (asked_waits deed.request station.line moment (it_is_quiet line until station order waits).1).silent in
+deed_begins_nothing setup deed line moment until endpoint order waits =
+    let begins = noted_begins_nothing setup line moment (with_connections deed (with_entity deed.entity endpoint)) (asked_if deed.request endpoint.line moment)
+    (asked_waits deed.request endpoint.line moment (it_is_quiet line until endpoint order waits).1).silent in
     record { pending = begins.pending; sent = begins.sent }
 
-pub due_begins_nothing : (setup : Setup) (due : LineDue) (line moment until : ℕ) (station : Station) → IsInOrder line station → station.post.restart ≡ Waiting until
-    → BeginsNothing station (happened_on (OfLine due) setup line moment station)
+pub due_begins_nothing : (setup : Setup) (due : LineDue) (line moment until : ℕ) (endpoint : Endpoint) → IsInOrder line endpoint → endpoint.post.restart ≡ Waiting until
+    → BeginsNothing endpoint (happened_on (OfLine due) setup line moment endpoint)
 unfolding happened_on
-due_begins_nothing setup due line moment until station order waits =
-    noted_begins_nothing setup line moment station (fired station.line due moment) (fired_waits station.line due moment (it_is_quiet line until station order waits).1).silent
+due_begins_nothing setup due line moment until endpoint order waits =
+    noted_begins_nothing setup line moment endpoint (fired endpoint.line due moment) (fired_waits endpoint.line due moment (it_is_quiet line until endpoint order waits).1).silent
 
-pub response_begins_nothing : (setup : Setup) (line moment until : ℕ) (response : Response) (station : Station) → IsInOrder line station → station.post.restart ≡ Waiting until
-    → BeginsNothing station (responded_on setup line moment response station)
+pub response_begins_nothing : (setup : Setup) (line moment until : ℕ) (response : Response) (endpoint : Endpoint) → IsInOrder line endpoint → endpoint.post.restart ≡ Waiting until
+    → BeginsNothing endpoint (responded_on setup line moment response endpoint)
 unfolding responded_on
-response_begins_nothing setup line moment until response station order waits =
-    let nothing : heard_on station.post response ≡ Nothing = ap (λ (p : Option InFlight). heard_by p station.post.restart response) (it_is_quiet line until station order waits).0 in
-    subst (λ (heard : Heard). BeginsNothing station (responded_as heard setup line moment response station)) (sym nothing) (record { pending = refl; sent = refl })
+response_begins_nothing setup line moment until response endpoint order waits =
+    let nothing : heard_on endpoint.post response ≡ Nothing = ap (λ (p : Option InFlight). heard_by p endpoint.post.restart response) (it_is_quiet line until endpoint order waits).0 in
+    subst (λ (heard : Heard). BeginsNothing endpoint (responded_as heard setup line moment response endpoint)) (sym nothing) (record { pending = refl; sent = refl })
 
-pub resend_keeps : (setup : Setup) (line moment : ℕ) (station : Station) → (happened_on Resend setup line moment station).value.line ≡ station.line
+pub resend_keeps : (setup : Setup) (line moment : ℕ) (endpoint : Endpoint) → (happened_on Resend setup line moment endpoint).value.line ≡ endpoint.line
 unfolding happened_on
-resend_keeps setup line moment station = refl
+resend_keeps setup line moment endpoint = refl
 
-pub announce_keeps : (setup : Setup) (line moment : ℕ) (station : Station) → (happened_on Announce setup line moment station).value.line ≡ station.line
+pub announce_keeps : (setup : Setup) (line moment : ℕ) (endpoint : Endpoint) → (happened_on Announce setup line moment endpoint).value.line ≡ endpoint.line
 unfolding happened_on
-announce_keeps setup line moment station = refl
+announce_keeps setup line moment endpoint = refl
 
 -- what is told goes to the entity that is to be notified
-noted_to : (setup : Setup) (line moment : ℕ) (station : Station) (done : LineDone)
-    → ((noted setup line moment station done).value.post.entity ≡ station.post.entity) × All (λ (sent : Sent). sent.to ≡ at station.post.entity.route 0) (noted setup line moment station done).sent
+noted_to : (setup : Setup) (line moment : ℕ) (endpoint : Endpoint) (done : LineDone)
+    → ((noted setup line moment endpoint done).value.post.entity ≡ endpoint.post.entity) × All (λ (sent : Sent). sent.to ≡ at endpoint.post.entity.route 0) (noted setup line moment endpoint done).sent
 unfolding noted
-noted_to setup line moment station done = by_notice done.notice where
+noted_to setup line moment endpoint done = by_notice done.notice where
   To : Sent → Type 0
-  To sent = sent.to ≡ at station.post.entity.route 0
+  To sent = sent.to ≡ at endpoint.post.entity.route 0
 
-  by_notice : (notice : Option Notice) → ((with_notice setup line moment (record station { line = done.line }) notice).value.post.entity ≡ station.post.entity)
-      × All To (with_notice setup line moment (record station { line = done.line }) notice).sent
+  by_notice : (notice : Option Notice) → ((with_notice setup line moment (record endpoint { line = done.line }) notice).value.post.entity ≡ endpoint.post.entity)
+      × All To (with_notice setup line moment (record endpoint { line = done.line }) notice).sent
   by_notice None = (refl, All-nil To)
   by_notice (Some notice) = (refl, All-cons To _ [] refl (All-nil To))
 
-pub named_is_notified : (setup : Setup) (line moment : ℕ) (response : Response) (agent : Entity) (station : Station) → heard_on station.post response ≡ Answered (Some agent)
-    → ((responded_on setup line moment response station).value.post.entity ≡ agent) × All (λ (sent : Sent). sent.to ≡ at agent.route 0) (responded_on setup line moment response station).sent
+pub named_is_notified : (setup : Setup) (line moment : ℕ) (response : Response) (agent : Entity) (endpoint : Endpoint) → heard_on endpoint.post response ≡ Answered (Some agent)
+    → ((responded_on setup line moment response endpoint).value.post.entity ≡ agent) × All (λ (sent : Sent). sent.to ≡ at agent.route 0) (responded_on setup line moment response endpoint).sent
 unfolding responded_on replied
-named_is_notified setup line moment response agent station is =
-    let becomes : Station = record station { post = record station.post { entity = agent; pending = None; restart = Serving } } in
-    subst (λ (heard : Heard). ((responded_as heard setup line moment response station).value.post.entity ≡ agent)
-    × All (λ (sent : Sent). sent.to ≡ at agent.route 0) (responded_as heard setup line moment response station).sent) (sym is)
-    (noted_to setup line moment becomes (answered station.line moment))
+named_is_notified setup line moment response agent endpoint is =
+    let becomes : Endpoint = record endpoint { post = record endpoint.post { entity = agent; pending = None; restart = Serving } } in
+    subst (λ (heard : Heard). ((responded_as heard setup line moment response endpoint).value.post.entity ≡ agent)
+    × All (λ (sent : Sent). sent.to ≡ at agent.route 0) (responded_as heard setup line moment response endpoint).sent) (sym is)
+    (noted_to setup line moment becomes (answered endpoint.line moment))

@@ -28,14 +28,14 @@ use Rattle.timers.specs.declared.kind.DueKind.TheVariants.{OfLine, Resend, Annou
 use Rattle.plain_machine.specs.declared.post.Post.{Post}
 use Rattle.plain_machine.specs.declared.response.Response.{Response}
 use Rattle.plain_machine.specs.declared.setup.Setup.{Setup}
-use Rattle.plain_machine.specs.declared.station.Station.{Station}
+use Rattle.plain_machine.specs.declared.endpoint.Endpoint.{Endpoint}
 use Rattle.plain_machine.specs.Effect.{Effect, silently}
 use Rattle.plain_machine.specs.Setup.{IsSetUp, most_lines}
 use Rattle.plain_machine.specs.Message.{Sent, datagram_of}
 use Rattle.plain_machine.specs.Posting.{numbers, id_on, repeated_as, resent_by, resent_on}
 use Rattle.plain_machine.specs.Announcing.{announced, announced_by, announced_on, heard_on, put_off, replied, replied_on}
 use Rattle.plain_machine.specs.Notifying.{posted, with_notice, noted}
-use Rattle.plain_machine.specs.Machine.{opening_station, opening}
+use Rattle.plain_machine.specs.Machine.{opening_endpoint, opening}
 use Rattle.transmission.specs.Texts.{largest_datagram}
 use Rattle.plain_machine.specs.Requesting.{with_entity, with_connections, asked_if, deed_on}
 use Rattle.plain_machine.specs.Falling.{happened_on, happened_under}
@@ -61,26 +61,26 @@ Goes text = is_joinable largest_datagram text ≡ true
 abbrev pub IsOut : Sent → Type 0
 IsOut sent = IsMessage (datagram_of sent)
 
--- a station of which each command that it sends is a message
-pub record Sound (line : ℕ) (station : Station) : Type 0 where
+-- an endpoint of which each command that it sends is a message
+pub record Sound (line : ℕ) (endpoint : Endpoint) : Type 0 where
   pub some : 1 ≤ line
   pub few : line ≤ most_lines
-  pub below : station.post.number < numbers
-  pub fine : IsFine station.line
-  pub flight : IfSome station.post.pending (λ message. Goes message.text)
+  pub below : endpoint.post.number < numbers
+  pub fine : IsFine endpoint.line
+  pub flight : IfSome endpoint.post.pending (λ message. Goes message.text)
 
 one_out : (sent : Sent) → IsOut sent → All IsOut (sent ∷ [])
 one_out sent goes = All-cons IsOut sent [] goes (All-nil IsOut)
 
-pub noted_sound : (setup : Setup) (line moment : ℕ) (station : Station) (done : LineDone) → IsSetUp setup → 1 ≤ line → line ≤ most_lines → station.post.number < numbers → IsDone done
-    → IfSome station.post.pending (λ message. Goes message.text) → Good Sound IsOut line (noted setup line moment station done)
+pub noted_sound : (setup : Setup) (line moment : ℕ) (endpoint : Endpoint) (done : LineDone) → IsSetUp setup → 1 ≤ line → line ≤ most_lines → endpoint.post.number < numbers → IsDone done
+    → IfSome endpoint.post.pending (λ message. Goes message.text) → Good Sound IsOut line (noted setup line moment endpoint done)
 unfolding noted
-noted_sound setup line moment station done set_up some few below is flight = by_notice done.notice is.told where
-  by_notice : (notice : Option Notice) → IfSome notice IsTold → Good Sound IsOut line (with_notice setup line moment (record station { line = done.line }) notice)
+noted_sound setup line moment endpoint done set_up some few below is flight = by_notice done.notice is.told where
+  by_notice : (notice : Option Notice) → IfSome notice IsTold → Good Sound IsOut line (with_notice setup line moment (record endpoint { line = done.line }) notice)
   by_notice None told = (record { some = some; few = few; below = below; fine = is.line; flight = flight }, All-nil IsOut)
   by_notice (Some notice) told =
-      let goes = notification_goes setup line station.post.number notice set_up some few below told in
-      (record { some = some; few = few; below = next_below line station.post.number below; fine = is.line; flight = goes }, one_out _ goes)
+      let goes = notification_goes setup line endpoint.post.number notice set_up some few below told in
+      (record { some = some; few = few; below = next_below line endpoint.post.number below; fine = is.line; flight = goes }, one_out _ goes)
 
 -- what a post has in flight can go out again, and its next command has a number
 pub record CanGo (line : ℕ) (post : Post) : Type 0 where
@@ -139,51 +139,51 @@ replied_goes (Redirected agent) setup line moment response post set_up few can =
     announced_goes setup line moment (record post { entity = agent }) set_up few can.below can.some
 replied_goes (Answered agent) setup line moment response post set_up few can = record { can = record { below = can.below; some = can.some; flight = tt }; sent = All-nil IsOut }
 
--- a station with a post that can go on
-posted_sound : (line : ℕ) (station : Station) (turn : Effect Post) → Sound line station → PostGoes line turn → Good Sound IsOut line (posted station turn)
-posted_sound line station turn s goes =
+-- an endpoint with a post that can go on
+posted_sound : (line : ℕ) (endpoint : Endpoint) (turn : Effect Post) → Sound line endpoint → PostGoes line turn → Good Sound IsOut line (posted endpoint turn)
+posted_sound line endpoint turn s goes =
     (record { some = s.some; few = s.few; below = goes.can.below; fine = s.fine; flight = goes.can.flight }, goes.sent)
 
-can_go : (line : ℕ) (station : Station) → Sound line station → CanGo line station.post
-can_go line station s = let one : 1 ≤ line = s.some in record { below = s.below; some = omega (arith, one); flight = s.flight }
+can_go : (line : ℕ) (endpoint : Endpoint) → Sound line endpoint → CanGo line endpoint.post
+can_go line endpoint s = let one : 1 ≤ line = s.some in record { below = s.below; some = omega (arith, one); flight = s.flight }
 
-happened_sound : (setup : Setup) → IsSetUp setup → (due : DueKind) (line moment : ℕ) (station : Station) → Sound line station
-    → Good Sound IsOut line (happened_on due setup line moment station)
+happened_sound : (setup : Setup) → IsSetUp setup → (due : DueKind) (line moment : ℕ) (endpoint : Endpoint) → Sound line endpoint
+    → Good Sound IsOut line (happened_on due setup line moment endpoint)
 unfolding happened_on
-happened_sound setup set_up (OfLine due) line moment station s =
-    noted_sound setup line moment station (fired station.line due moment) set_up s.some s.few s.below (fired_done station.line due moment s.fine) s.flight
-happened_sound setup set_up Resend line moment station s =
-    posted_sound line station (resent_on setup line moment station.post) s (resent_goes setup line moment station.post (can_go line station s))
-happened_sound setup set_up Announce line moment station s =
-    posted_sound line station (announced_on setup line moment station.post) s (announced_on_goes setup line moment station.post set_up s.few (can_go line station s))
+happened_sound setup set_up (OfLine due) line moment endpoint s =
+    noted_sound setup line moment endpoint (fired endpoint.line due moment) set_up s.some s.few s.below (fired_done endpoint.line due moment s.fine) s.flight
+happened_sound setup set_up Resend line moment endpoint s =
+    posted_sound line endpoint (resent_on setup line moment endpoint.post) s (resent_goes setup line moment endpoint.post (can_go line endpoint s))
+happened_sound setup set_up Announce line moment endpoint s =
+    posted_sound line endpoint (announced_on setup line moment endpoint.post) s (announced_on_goes setup line moment endpoint.post set_up s.few (can_go line endpoint s))
 
-pub responded_sound : (setup : Setup) → IsSetUp setup → (line moment : ℕ) (response : Response) (station : Station) → Sound line station
-    → Good Sound IsOut line (responded_on setup line moment response station)
+pub responded_sound : (setup : Setup) → IsSetUp setup → (line moment : ℕ) (response : Response) (endpoint : Endpoint) → Sound line endpoint
+    → Good Sound IsOut line (responded_on setup line moment response endpoint)
 unfolding responded_on
-responded_sound setup set_up line moment response station s = by_heard (heard_on station.post response) where
-  by_post : (heard : Heard) → Good Sound IsOut line (posted station (replied heard setup line moment response station.post))
+responded_sound setup set_up line moment response endpoint s = by_heard (heard_on endpoint.post response) where
+  by_post : (heard : Heard) → Good Sound IsOut line (posted endpoint (replied heard setup line moment response endpoint.post))
   by_post heard =
-      posted_sound line station (replied heard setup line moment response station.post) s
-      (replied_goes heard setup line moment response station.post set_up s.few (can_go line station s))
+      posted_sound line endpoint (replied heard setup line moment response endpoint.post) s
+      (replied_goes heard setup line moment response endpoint.post set_up s.few (can_go line endpoint s))
 
-  by_heard : (heard : Heard) → Good Sound IsOut line (responded_as heard setup line moment response station)
+  by_heard : (heard : Heard) → Good Sound IsOut line (responded_as heard setup line moment response endpoint)
   by_heard Nothing = (s, All-nil IsOut)
   by_heard PutOff = by_post PutOff
   by_heard (Redirected agent) = by_post (Redirected agent)
   by_heard (Answered agent) =
-      let becomes : Station = (posted station (replied (Answered agent) setup line moment response station.post)).value in
+      let becomes : Endpoint = (posted endpoint (replied (Answered agent) setup line moment response endpoint.post)).value in
       let is = (by_post (Answered agent)).0 in
       noted_sound setup line moment becomes (answered becomes.line moment) set_up is.some is.few is.below (answered_done becomes.line moment is.fine) is.flight
 
-redirected_sound : (agent : Entity) (line : ℕ) (station : Station) → Sound line station → Good Sound IsOut line (redirected_on agent line station)
+redirected_sound : (agent : Entity) (line : ℕ) (endpoint : Endpoint) → Sound line endpoint → Good Sound IsOut line (redirected_on agent line endpoint)
 unfolding redirected_on
-redirected_sound agent line station s = (record { some = s.some; few = s.few; below = s.below; fine = s.fine; flight = s.flight }, All-nil IsOut)
+redirected_sound agent line endpoint s = (record { some = s.some; few = s.few; below = s.below; fine = s.fine; flight = s.flight }, All-nil IsOut)
 
-opened_sound : (setup : Setup) → IsSetUp setup → (agent : Option Entity) (line moment : ℕ) (station : Station) → Sound line station
-    → Good Sound IsOut line (opened_on agent setup moment line station)
+opened_sound : (setup : Setup) → IsSetUp setup → (agent : Option Entity) (line moment : ℕ) (endpoint : Endpoint) → Sound line endpoint
+    → Good Sound IsOut line (opened_on agent setup moment line endpoint)
 unfolding opened_on
-opened_sound setup set_up agent line moment station s =
-    noted_sound setup line moment (with_entity agent station) (opened station.line moment) set_up s.some s.few s.below (opened_done station.line moment s.fine) s.flight
+opened_sound setup set_up agent line moment endpoint s =
+    noted_sound setup line moment (with_entity agent endpoint) (opened endpoint.line moment) set_up s.some s.few s.below (opened_done endpoint.line moment s.fine) s.flight
 
 -- the line is asked where something is requested, and then its identifier is read
 pub asked_if_done : (params : List Param) (line : LineState) (request : Option Request) (moment : ℕ) → IfSome request (HasValues params) → IsFine line
@@ -193,22 +193,22 @@ asked_if_done params line (Some request) moment has fine =
     asked_done line request moment has.digits (read_change _ request.map has.map, requested_spelled request.events.requested has.writable_requested) fine.spelled
 
 deed_sound : (setup : Setup) → IsSetUp setup → (command : Command) (confirms : KValue) (target : Target) (deed : Deed)
-    → form_of command confirms setup.names ≡ Ok (Does target deed) → (line moment : ℕ) (station : Station) → Sound line station
-    → Good Sound IsOut line (deed_on setup deed moment line station)
+    → form_of command confirms setup.names ≡ Ok (Does target deed) → (line moment : ℕ) (endpoint : Endpoint) → Sound line endpoint
+    → Good Sound IsOut line (deed_on setup deed moment line endpoint)
 unfolding deed_on
-deed_sound setup set_up command confirms target deed is line moment station s =
-    noted_sound setup line moment (with_connections deed (with_entity deed.entity station)) (asked_if deed.request station.line moment) set_up s.some s.few s.below
-    (asked_if_done command.params station.line deed.request moment (deed_has_values command confirms setup.names target deed is).request s.fine) s.flight
+deed_sound setup set_up command confirms target deed is line moment endpoint s =
+    noted_sound setup line moment (with_connections deed (with_entity deed.entity endpoint)) (asked_if deed.request endpoint.line moment) set_up s.some s.few s.below
+    (asked_if_done command.params endpoint.line deed.request moment (deed_has_values command confirms setup.names target deed is).request s.fine) s.flight
 
 pub sound_turns : (setup : Setup) → IsSetUp setup → Turns setup (Always Sound) IsOut
 sound_turns setup set_up = record {
-  act = λ serving line moment act station s.
-      noted_sound setup line moment station (phoned station.line act moment) set_up s.some s.few s.below (phoned_done station.line act moment s.fine) s.flight;
+  act = λ serving line moment act endpoint s.
+      noted_sound setup line moment endpoint (phoned endpoint.line act moment) set_up s.some s.few s.below (phoned_done endpoint.line act moment s.fine) s.flight;
   deed = deed_sound setup set_up;
-  response = λ serving line moment response station read s. responded_sound setup set_up line moment response station s;
-  happening = λ serving due line moment station s. happened_sound setup set_up due line moment station s;
-  redirecting = λ agent line station read s. redirected_sound agent line station s;
-  opening = λ agent line moment station read s. opened_sound setup set_up agent line moment station s;
+  response = λ serving line moment response endpoint read s. responded_sound setup set_up line moment response endpoint s;
+  happening = λ serving due line moment endpoint s. happened_sound setup set_up due line moment endpoint s;
+  redirecting = λ agent line endpoint read s. redirected_sound agent line endpoint s;
+  opening = λ agent line moment endpoint read s. opened_sound setup set_up agent line moment endpoint s;
 }
 
 -- of the gateway itself
@@ -235,7 +235,7 @@ own_responded_sound setup set_up moment response own can =
 
 pub sound_own_turns : (setup : Setup) → IsSetUp setup → OwnTurns setup (Always Sound) OwnSound IsOut
 sound_own_turns setup set_up = record {
-  free = λ own can. inr (λ serving other line station s. s);
+  free = λ own can. inr (λ serving other line endpoint s. s);
   response = λ moment response own read can. own_responded_sound setup set_up moment response own can;
   happening = λ due moment own can. own_happened_sound setup set_up due moment own can;
 }
@@ -244,7 +244,7 @@ pub opening_is_sound : (setup : Setup) → IsSetUp setup → Holds (Always Sound
 opening_is_sound setup set_up =
     let lines : setup.names.lines ≤ most_lines = set_up.lines in
     record {
-      stations = on_made Sound (opening_station setup) 1 setup.names.lines
+      list = on_made Sound (opening_endpoint setup) 1 setup.names.lines
           (λ i low high. record { some = low; few = omega (arith, high, lines); below = omega arith; fine = opening_is_fine; flight = tt });
       own = record { below = omega arith; some = omega arith; flight = tt };
     }

@@ -33,9 +33,9 @@ use Rattle.command_forms.specs.Order.{form_while}
 use Rattle.mg_line.specs.Requesting.{refusal_of}
 use Rattle.command_forms.specs.declared.forms.Deed.{Deed}
 use Rattle.plain_machine.specs.declared.setup.Setup.{Setup}
-use Rattle.plain_machine.specs.declared.station.Station.{Station}
+use Rattle.plain_machine.specs.declared.endpoint.Endpoint.{Endpoint}
 use Rattle.plain_machine.specs.Effect.{Effect, silently}
-use Rattle.plain_machine.specs.Machine.{Endpoints, Machine, serves, station_at, with_turn, on_line, on_lines}
+use Rattle.plain_machine.specs.Machine.{Endpoints, Machine, serves, endpoint_at, with_turn, on_line, on_lines}
 use Rattle.plain_machine.specs.Answering.{Transaction, executed, refusing, command_with, transaction_of, transacted_by, handled_as, handled}
 use Rattle.plain_machine.specs.Done.{Done, only_answer}
 use Rattle.plain_machine.specs.Connecting.{deleted_shown, showing_what, done_code, connected}
@@ -159,66 +159,66 @@ one_deletion : (deletion : Deletion) (encoding : Encoding) (standing : Standing)
 unfolding after
 one_deletion deletion encoding standing = refl
 
-deleted_on : (setup : Setup) (deed : Deed) (deletion : Deletion) (moment line : ℕ) (station : Station) → deed.connections ≡ Delete deletion
-    → (deed_on setup deed moment line station).value.connections ≡ left_of station.connections (deleted deletion station.connections)
-deleted_on setup deed deletion moment line station is =
-    deed_connections setup deed moment line station
-    ∙ ap (λ (d : ConnectionDeed). after station.connections (happenings d (encoding_with deed station))) is
-    ∙ one_deletion deletion (encoding_with deed station) station.connections
+deleted_on : (setup : Setup) (deed : Deed) (deletion : Deletion) (moment line : ℕ) (endpoint : Endpoint) → deed.connections ≡ Delete deletion
+    → (deed_on setup deed moment line endpoint).value.connections ≡ left_of endpoint.connections (deleted deletion endpoint.connections)
+deleted_on setup deed deletion moment line endpoint is =
+    deed_connections setup deed moment line endpoint
+    ∙ ap (λ (d : ConnectionDeed). after endpoint.connections (happenings d (encoding_with deed endpoint))) is
+    ∙ one_deletion deletion (encoding_with deed endpoint) endpoint.connections
 
 at_place : (a b : Standing) (place : ℕ) → a ≡ b → get_or a.places place None ≡ get_or b.places place None
 at_place a b place same = ap (λ (s : Standing). get_or s.places place None) same
 
-pub meant_is_emptied : (setup : Setup) (deed : Deed) (deletion : Deletion) (moment line place : ℕ) (station : Station) (connection : Connection) → deed.connections ≡ Delete deletion
-    → refusal_by deed station ≡ None → get_or station.connections.places place None ≡ Some connection → is_meant deletion connection ≡ true
-    → get_or (deed_on setup deed moment line station).value.connections.places place None ≡ None
-meant_is_emptied setup deed deletion moment line place station connection is fine here meant =
-    let request : Option ℕ = option_and_then (refusal_of station.line) deed.request in
-    let none : refused deletion station.connections.places ≡ None = not_refused deletion (encoding_with deed station) station.connections request
-    (subst (λ (d : ConnectionDeed). first_fault (result_err (connected d (encoding_with deed station) station.connections) ∷ request ∷ []) ≡ None) is fine) in
-    at_place _ _ place (deleted_on setup deed deletion moment line station is) ∙ emptied deletion station.connections place none
+pub meant_is_emptied : (setup : Setup) (deed : Deed) (deletion : Deletion) (moment line place : ℕ) (endpoint : Endpoint) (connection : Connection) → deed.connections ≡ Delete deletion
+    → refusal_by deed endpoint ≡ None → get_or endpoint.connections.places place None ≡ Some connection → is_meant deletion connection ≡ true
+    → get_or (deed_on setup deed moment line endpoint).value.connections.places place None ≡ None
+meant_is_emptied setup deed deletion moment line place endpoint connection is fine here meant =
+    let request : Option ℕ = option_and_then (refusal_of endpoint.line) deed.request in
+    let none : refused deletion endpoint.connections.places ≡ None = not_refused deletion (encoding_with deed endpoint) endpoint.connections request
+    (subst (λ (d : ConnectionDeed). first_fault (result_err (connected d (encoding_with deed endpoint) endpoint.connections) ∷ request ∷ []) ≡ None) is fine) in
+    at_place _ _ place (deleted_on setup deed deletion moment line endpoint is) ∙ emptied deletion endpoint.connections place none
     ∙ ap (without deletion) here ∙ (rw meant refl)
 
-pub others_are_kept : (setup : Setup) (deed : Deed) (deletion : Deletion) (moment line place : ℕ) (station : Station) (connection : Connection) → deed.connections ≡ Delete deletion
-    → get_or station.connections.places place None ≡ Some connection → is_meant deletion connection ≡ false
-    → get_or (deed_on setup deed moment line station).value.connections.places place None ≡ Some connection
-others_are_kept setup deed deletion moment line place station connection is here other =
-    at_place _ _ place (deleted_on setup deed deletion moment line station is) ∙ by_left (kept_or_emptied deletion station.connections place) where
-      by_left : ((LeftAt deletion station.connections place ≡ get_or station.connections.places place None) ⊎ (LeftAt deletion station.connections place ≡ without deletion (get_or station.connections.places place None)))
-          → LeftAt deletion station.connections place ≡ Some connection
+pub others_are_kept : (setup : Setup) (deed : Deed) (deletion : Deletion) (moment line place : ℕ) (endpoint : Endpoint) (connection : Connection) → deed.connections ≡ Delete deletion
+    → get_or endpoint.connections.places place None ≡ Some connection → is_meant deletion connection ≡ false
+    → get_or (deed_on setup deed moment line endpoint).value.connections.places place None ≡ Some connection
+others_are_kept setup deed deletion moment line place endpoint connection is here other =
+    at_place _ _ place (deleted_on setup deed deletion moment line endpoint is) ∙ by_left (kept_or_emptied deletion endpoint.connections place) where
+      by_left : ((LeftAt deletion endpoint.connections place ≡ get_or endpoint.connections.places place None) ⊎ (LeftAt deletion endpoint.connections place ≡ without deletion (get_or endpoint.connections.places place None)))
+          → LeftAt deletion endpoint.connections place ≡ Some connection
       by_left (inl kept) = kept ∙ here
       by_left (inr empty) = empty ∙ ap (without deletion) here ∙ (rw other refl)
 
-pub free_stays : (setup : Setup) (deed : Deed) (deletion : Deletion) (moment line place : ℕ) (station : Station) → deed.connections ≡ Delete deletion
-    → get_or station.connections.places place None ≡ None → get_or (deed_on setup deed moment line station).value.connections.places place None ≡ None
-free_stays setup deed deletion moment line place station is here =
-    at_place _ _ place (deleted_on setup deed deletion moment line station is) ∙ by_left (kept_or_emptied deletion station.connections place) where
-      by_left : ((LeftAt deletion station.connections place ≡ get_or station.connections.places place None) ⊎ (LeftAt deletion station.connections place ≡ without deletion (get_or station.connections.places place None)))
-          → LeftAt deletion station.connections place ≡ None
+pub free_stays : (setup : Setup) (deed : Deed) (deletion : Deletion) (moment line place : ℕ) (endpoint : Endpoint) → deed.connections ≡ Delete deletion
+    → get_or endpoint.connections.places place None ≡ None → get_or (deed_on setup deed moment line endpoint).value.connections.places place None ≡ None
+free_stays setup deed deletion moment line place endpoint is here =
+    at_place _ _ place (deleted_on setup deed deletion moment line endpoint is) ∙ by_left (kept_or_emptied deletion endpoint.connections place) where
+      by_left : ((LeftAt deletion endpoint.connections place ≡ get_or endpoint.connections.places place None) ⊎ (LeftAt deletion endpoint.connections place ≡ without deletion (get_or endpoint.connections.places place None)))
+          → LeftAt deletion endpoint.connections place ≡ None
       by_left (inl kept) = kept ∙ here
       by_left (inr empty) = empty ∙ ap (without deletion) here
 
 -- The lines by their places
 
 -- a line that there is has a number from 1 on, and stands at the place before it
-record IsAt (endpoints : Endpoints) (line : ℕ) (station : Station) : Type 0 where
+record IsAt (endpoints : Endpoints) (line : ℕ) (endpoint : Endpoint) : Type 0 where
   some : 1 ≤ line
-  here : slice_get endpoints.stations (line - 1) ≡ Some station
+  here : slice_get endpoints.list (line - 1) ≡ Some endpoint
 
-is_at : (endpoints : Endpoints) (line : ℕ) (station : Station) → station_at endpoints line ≡ Some station → IsAt endpoints line station
-is_at endpoints line station at = by_zero (line == 0) refl at where
+is_at : (endpoints : Endpoints) (line : ℕ) (endpoint : Endpoint) → endpoint_at endpoints line ≡ Some endpoint → IsAt endpoints line endpoint
+is_at endpoints line endpoint at = by_zero (line == 0) refl at where
   positive : (line == 0) ≡ false → 1 ≤ line
   positive e = grind (arith, nat_tests)
 
-  by_zero : (b : Bool) → (line == 0) ≡ b → (if b then None else slice_get endpoints.stations (line - 1)) ≡ Some station → IsAt endpoints line station
-  by_zero true e at = absurd (none-some station at)
+  by_zero : (b : Bool) → (line == 0) ≡ b → (if b then None else slice_get endpoints.list (line - 1)) ≡ Some endpoint → IsAt endpoints line endpoint
+  by_zero true e at = absurd (none-some endpoint at)
   by_zero false e at = record { some = positive e; here = at }
 
-stands_at : (endpoints : Endpoints) (line place : ℕ) (station : Station) → line ≡ 1 + place → slice_get endpoints.stations place ≡ Some station → station_at endpoints line ≡ Some station
-stands_at endpoints line place station is here = by_zero (line == 0) refl where
-  by_zero : (b : Bool) → (line == 0) ≡ b → (if b then None else slice_get endpoints.stations (line - 1)) ≡ Some station
+stands_at : (endpoints : Endpoints) (line place : ℕ) (endpoint : Endpoint) → line ≡ 1 + place → slice_get endpoints.list place ≡ Some endpoint → endpoint_at endpoints line ≡ Some endpoint
+stands_at endpoints line place endpoint is here = by_zero (line == 0) refl where
+  by_zero : (b : Bool) → (line == 0) ≡ b → (if b then None else slice_get endpoints.list (line - 1)) ≡ Some endpoint
   by_zero true e = absurd (let no : line ≡ 0 = grind (arith, nat_tests) in omega arith)
-  by_zero false e = subst (λ (p : ℕ). slice_get endpoints.stations p ≡ Some station) (let same : place ≡ line - 1 = omega arith in same) here
+  by_zero false e = subst (λ (p : ℕ). slice_get endpoints.list p ≡ Some endpoint) (let same : place ≡ line - 1 = omega arith in same) here
 
 -- The least line that refuses
 
@@ -228,49 +228,49 @@ front_some check checks code is = rw is refl
 front_none : (check : Option ℕ) (checks : List (Option ℕ)) → check ≡ None → first_fault (check ∷ checks) ≡ first_fault checks
 front_none check checks is = rw is refl
 
-least_refuses : (deed : Deed) (n place code : ℕ) (stations : List Station) (station : Station) → slice_get stations place ≡ Some station → refusal_by deed station ≡ Some code
-    → ((other : ℕ) (another : Station) → other < place → slice_get stations other ≡ Some another → refusal_by deed another ≡ None)
-    → first_fault (map (refusal_on All deed) (enumerate_from n stations)) ≡ Some code
-least_refuses deed n place code [] station at refuses before = absurd (none-some station at)
-least_refuses deed n zero code (first ∷ stations) station at refuses before =
-    let same : first ≡ station = cc in
-    front_some (refusal_by deed first) (map (refusal_on All deed) (enumerate_from (n + 1) stations)) code (ap (refusal_by deed) same ∙ refuses)
-least_refuses deed n (suc place) code (first ∷ stations) station at refuses before =
-    front_none (refusal_by deed first) (map (refusal_on All deed) (enumerate_from (n + 1) stations)) (before 0 first (omega arith) refl)
-    ∙ least_refuses deed (n + 1) place code stations station at refuses (λ other another less there. before (suc other) another (omega (arith, less)) there)
+least_refuses : (deed : Deed) (n place code : ℕ) (list : List Endpoint) (endpoint : Endpoint) → slice_get list place ≡ Some endpoint → refusal_by deed endpoint ≡ Some code
+    → ((other : ℕ) (another : Endpoint) → other < place → slice_get list other ≡ Some another → refusal_by deed another ≡ None)
+    → first_fault (map (refusal_on All deed) (enumerate_from n list)) ≡ Some code
+least_refuses deed n place code [] endpoint at refuses before = absurd (none-some endpoint at)
+least_refuses deed n zero code (first ∷ list) endpoint at refuses before =
+    let same : first ≡ endpoint = cc in
+    front_some (refusal_by deed first) (map (refusal_on All deed) (enumerate_from (n + 1) list)) code (ap (refusal_by deed) same ∙ refuses)
+least_refuses deed n (suc place) code (first ∷ list) endpoint at refuses before =
+    front_none (refusal_by deed first) (map (refusal_on All deed) (enumerate_from (n + 1) list)) (before 0 first (omega arith) refl)
+    ∙ least_refuses deed (n + 1) place code list endpoint at refuses (λ other another less there. before (suc other) another (omega (arith, less)) there)
 
-none_refuses : (deed : Deed) (n : ℕ) (stations : List Station) → ((place : ℕ) (station : Station) → slice_get stations place ≡ Some station → refusal_by deed station ≡ None)
-    → first_fault (map (refusal_on All deed) (enumerate_from n stations)) ≡ None
+none_refuses : (deed : Deed) (n : ℕ) (list : List Endpoint) → ((place : ℕ) (endpoint : Endpoint) → slice_get list place ≡ Some endpoint → refusal_by deed endpoint ≡ None)
+    → first_fault (map (refusal_on All deed) (enumerate_from n list)) ≡ None
 none_refuses deed n [] each = refl
-none_refuses deed n (first ∷ stations) each =
-    front_none (refusal_by deed first) (map (refusal_on All deed) (enumerate_from (n + 1) stations)) (each 0 first refl)
-    ∙ none_refuses deed (n + 1) stations (λ place station at. each (suc place) station at)
+none_refuses deed n (first ∷ list) each =
+    front_none (refusal_by deed first) (map (refusal_on All deed) (enumerate_from (n + 1) list)) (each 0 first refl)
+    ∙ none_refuses deed (n + 1) list (λ place endpoint at. each (suc place) endpoint at)
 
 -- the deed where no line refuses it
 abbrev all_done : Setup → Endpoints → List Param → Deed → ℕ → Done
 all_done setup endpoints more deed moment =
     record { told = deed_on_all setup endpoints All deed moment; answer = answer_with more deed (shown_of endpoints All deed) }
 
-pub least_decides : (setup : Setup) (endpoints : Endpoints) (more : List Param) (deed : Deed) (moment line code : ℕ) (station : Station) → station_at endpoints line ≡ Some station
-    → refusal_by deed station ≡ Some code
-    → ((other : ℕ) (another : Station) → other < line → station_at endpoints other ≡ Some another → refusal_by deed another ≡ None)
+pub least_decides : (setup : Setup) (endpoints : Endpoints) (more : List Param) (deed : Deed) (moment line code : ℕ) (endpoint : Endpoint) → endpoint_at endpoints line ≡ Some endpoint
+    → refusal_by deed endpoint ≡ Some code
+    → ((other : ℕ) (another : Endpoint) → other < line → endpoint_at endpoints other ≡ Some another → refusal_by deed another ≡ None)
     → deed_done setup endpoints All more deed moment ≡ only_answer endpoints (plain_code code)
 unfolding refused_by
-least_decides setup endpoints more deed moment line code station at refuses before =
-    let is = is_at endpoints line station at in
+least_decides setup endpoints more deed moment line code endpoint at refuses before =
+    let is = is_at endpoints line endpoint at in
     let some : 1 ≤ line = is.some in
-    let refused : first_fault (map (refusal_on All deed) (enumerate_from 1 endpoints.stations)) ≡ Some code =
-    least_refuses deed 1 (line - 1) code endpoints.stations station is.here refuses
+    let refused : first_fault (map (refusal_on All deed) (enumerate_from 1 endpoints.list)) ≡ Some code =
+    least_refuses deed 1 (line - 1) code endpoints.list endpoint is.here refuses
     (λ other another less there. before (1 + other) another (omega (arith, less, some)) (stands_at endpoints (1 + other) other another refl there)) in
     ap (λ (refusal : Option ℕ). unless_refused refusal endpoints (all_done setup endpoints more deed moment)) refused
 
 pub none_decides : (setup : Setup) (endpoints : Endpoints) (more : List Param) (deed : Deed) (moment : ℕ)
-    → ((line : ℕ) (station : Station) → station_at endpoints line ≡ Some station → refusal_by deed station ≡ None)
+    → ((line : ℕ) (endpoint : Endpoint) → endpoint_at endpoints line ≡ Some endpoint → refusal_by deed endpoint ≡ None)
     → (deed_done setup endpoints All more deed moment).told ≡ deed_on_all setup endpoints All deed moment
 unfolding refused_by
 none_decides setup endpoints more deed moment each =
-    let none : first_fault (map (refusal_on All deed) (enumerate_from 1 endpoints.stations)) ≡ None =
-    none_refuses deed 1 endpoints.stations (λ place station at. each (1 + place) station (stands_at endpoints (1 + place) place station refl at)) in
+    let none : first_fault (map (refusal_on All deed) (enumerate_from 1 endpoints.list)) ≡ None =
+    none_refuses deed 1 endpoints.list (λ place endpoint at. each (1 + place) endpoint (stands_at endpoints (1 + place) place endpoint refl at)) in
     ap (λ (refusal : Option ℕ). (unless_refused refusal endpoints (all_done setup endpoints more deed moment)).told) none
 
 -- On which lines it is done
@@ -279,43 +279,43 @@ abbrev Apart : ℕ → List ℕ → Type 0
 Apart line [] = Unit {0}
 Apart line (one ∷ more) = (line ≢ one) × Apart line more
 
-others_on : (lines : List ℕ) (endpoints : Endpoints) (turn : ℕ → Station → Effect Station) (line : ℕ) → Apart line lines → station_at (on_lines lines endpoints turn).value line ≡ station_at endpoints line
+others_on : (lines : List ℕ) (endpoints : Endpoints) (turn : ℕ → Endpoint → Effect Endpoint) (line : ℕ) → Apart line lines → endpoint_at (on_lines lines endpoints turn).value line ≡ endpoint_at endpoints line
 unfolding on_lines
 others_on [] endpoints turn line apart = refl
 others_on (one ∷ more) endpoints turn line apart =
     others_on more (on_line endpoints one (turn one)).value turn line apart.1 ∙ line_stays endpoints one line (turn one) apart.0
 
 -- the lines that pass a test
-abbrev Passing : (ℕ → Bool) → ℕ → List Station → List ℕ
-Passing test n stations = filter test (map (λ (one : ℕ × Station). one.0) (enumerate_from n stations))
+abbrev Passing : (ℕ → Bool) → ℕ → List Endpoint → List ℕ
+Passing test n list = filter test (map (λ (one : ℕ × Endpoint). one.0) (enumerate_from n list))
 
-passing_apart : (test : ℕ → Bool) (line n : ℕ) (stations : List Station) → test line ≡ false → Apart line (Passing test n stations)
+passing_apart : (test : ℕ → Bool) (line n : ℕ) (list : List Endpoint) → test line ≡ false → Apart line (Passing test n list)
 passing_apart test line n [] fails = tt
-passing_apart test line n (station ∷ more) fails = ⊎_elim
+passing_apart test line n (endpoint ∷ more) fails = ⊎_elim
     (λ (h : test n ≡ true). rw h ((λ (same : line ≡ n). absurd (let no : test n ≡ false = ap test (sym same) ∙ fails in cc)), passing_apart test line (n + 1) more fails))
     (λ (h : test n ≡ false). rw h (passing_apart test line (n + 1) more fails))
     (cases_Bool (test n))
 
-later_apart : (test : ℕ → Bool) (line n : ℕ) (stations : List Station) → line < n → Apart line (Passing test n stations)
+later_apart : (test : ℕ → Bool) (line n : ℕ) (list : List Endpoint) → line < n → Apart line (Passing test n list)
 later_apart test line n [] less = tt
-later_apart test line n (station ∷ more) less = ⊎_elim
+later_apart test line n (endpoint ∷ more) less = ⊎_elim
     (λ (h : test n ≡ true). rw h ((λ (same : line ≡ n). omega (arith, same, less)), later_apart test line (n + 1) more (omega (arith, less))))
     (λ (h : test n ≡ false). rw h (later_apart test line (n + 1) more (omega (arith, less))))
     (cases_Bool (test n))
 
-put_here : (stations : List Station) (place : ℕ) (was is : Station) → slice_get stations place ≡ Some was → slice_get (slice_set stations place is) place ≡ Some is
+put_here : (list : List Endpoint) (place : ℕ) (was is : Endpoint) → slice_get list place ≡ Some was → slice_get (slice_set list place is) place ≡ Some is
 put_here [] place was is at = absurd (none-some was at)
-put_here (first ∷ stations) zero was is at = refl
-put_here (first ∷ stations) (suc place) was is at = put_here stations place was is at
+put_here (first ∷ list) zero was is at = refl
+put_here (first ∷ list) (suc place) was is at = put_here list place was is at
 
-pub turned_here : (endpoints : Endpoints) (line : ℕ) (station : Station) (turn : Station → Effect Station) → station_at endpoints line ≡ Some station
-    → station_at (on_line endpoints line turn).value line ≡ Some (turn station).value
-turned_here endpoints line station turn at =
-    let is = is_at endpoints line station at in
+pub turned_here : (endpoints : Endpoints) (line : ℕ) (endpoint : Endpoint) (turn : Endpoint → Effect Endpoint) → endpoint_at endpoints line ≡ Some endpoint
+    → endpoint_at (on_line endpoints line turn).value line ≡ Some (turn endpoint).value
+turned_here endpoints line endpoint turn at =
+    let is = is_at endpoints line endpoint at in
     let some : 1 ≤ line = is.some in
-    ap (λ told. station_at told.value line) (on_this endpoints line station turn at)
-    ∙ stands_at (with_turn endpoints line (turn station)).value line (line - 1) (turn station).value (omega arith)
-    (put_here endpoints.stations (line - 1) station (turn station).value is.here)
+    ap (λ told. endpoint_at told.value line) (on_this endpoints line endpoint turn at)
+    ∙ stands_at (with_turn endpoints line (turn endpoint)).value line (line - 1) (turn endpoint).value (omega arith)
+    (put_here endpoints.list (line - 1) endpoint (turn endpoint).value is.here)
 
 same_line : (m n : ℕ) → (m == n) ≡ true → m ≡ n
 same_line m n h = grind (arith, nat_tests)
@@ -323,124 +323,124 @@ same_line m n h = grind (arith, nat_tests)
 other_line : (m n : ℕ) → (m == n) ≡ false → m ≢ n
 other_line m n h = grind (arith, nat_tests)
 
-each_on : (test : ℕ → Bool) (n : ℕ) (stations : List Station) (endpoints : Endpoints) (turn : ℕ → Station → Effect Station) (line : ℕ) (station : Station) → test line ≡ true → n ≤ line
-    → line < n + length stations → station_at endpoints line ≡ Some station → station_at (on_lines (Passing test n stations) endpoints turn).value line ≡ Some (turn line station).value
+each_on : (test : ℕ → Bool) (n : ℕ) (list : List Endpoint) (endpoints : Endpoints) (turn : ℕ → Endpoint → Effect Endpoint) (line : ℕ) (endpoint : Endpoint) → test line ≡ true → n ≤ line
+    → line < n + length list → endpoint_at endpoints line ≡ Some endpoint → endpoint_at (on_lines (Passing test n list) endpoints turn).value line ≡ Some (turn line endpoint).value
 unfolding on_lines
-each_on test n [] endpoints turn line station passes low high at = absurd (omega arith)
-each_on test n (first ∷ more) endpoints turn line station passes low high at =
-    by_first (λ (becomes : Endpoints) (apart : line ≢ n) (there : station_at becomes line ≡ Some station).
-    each_on test (n + 1) more becomes turn line station passes (omega (arith, low, apart)) (omega (arith, high)) there) (test n) refl where
-      by_line : ((becomes : Endpoints) → line ≢ n → station_at becomes line ≡ Some station
-          → station_at (on_lines (Passing test (n + 1) more) becomes turn).value line ≡ Some (turn line station).value)
-          → (b : Bool) → (line == n) ≡ b → station_at (on_lines (Passing test (n + 1) more) (on_line endpoints n (turn n)).value turn).value line ≡ Some (turn line station).value
+each_on test n [] endpoints turn line endpoint passes low high at = absurd (omega arith)
+each_on test n (first ∷ more) endpoints turn line endpoint passes low high at =
+    by_first (λ (becomes : Endpoints) (apart : line ≢ n) (there : endpoint_at becomes line ≡ Some endpoint).
+    each_on test (n + 1) more becomes turn line endpoint passes (omega (arith, low, apart)) (omega (arith, high)) there) (test n) refl where
+      by_line : ((becomes : Endpoints) → line ≢ n → endpoint_at becomes line ≡ Some endpoint
+          → endpoint_at (on_lines (Passing test (n + 1) more) becomes turn).value line ≡ Some (turn line endpoint).value)
+          → (b : Bool) → (line == n) ≡ b → endpoint_at (on_lines (Passing test (n + 1) more) (on_line endpoints n (turn n)).value turn).value line ≡ Some (turn line endpoint).value
       by_line later true e =
           let same : line ≡ n = same_line line n e in
-          let here : station_at endpoints n ≡ Some station = ap (station_at endpoints) (sym same) ∙ at in
+          let here : endpoint_at endpoints n ≡ Some endpoint = ap (endpoint_at endpoints) (sym same) ∙ at in
           others_on (Passing test (n + 1) more) (on_line endpoints n (turn n)).value turn line (later_apart test line (n + 1) more (omega (arith, same)))
-          ∙ ap (station_at (on_line endpoints n (turn n)).value) same ∙ turned_here endpoints n station (turn n) here
-          ∙ ap (λ (i : ℕ). Some (turn i station).value) (sym same)
+          ∙ ap (endpoint_at (on_line endpoints n (turn n)).value) same ∙ turned_here endpoints n endpoint (turn n) here
+          ∙ ap (λ (i : ℕ). Some (turn i endpoint).value) (sym same)
       by_line later false e =
           let apart : line ≢ n = other_line line n e in
           later (on_line endpoints n (turn n)).value apart (line_stays endpoints n line (turn n) apart ∙ at)
 
-      by_first : ((becomes : Endpoints) → line ≢ n → station_at becomes line ≡ Some station
-          → station_at (on_lines (Passing test (n + 1) more) becomes turn).value line ≡ Some (turn line station).value)
-          → (b : Bool) → test n ≡ b → station_at (on_lines (Passing test n (first ∷ more)) endpoints turn).value line ≡ Some (turn line station).value
+      by_first : ((becomes : Endpoints) → line ≢ n → endpoint_at becomes line ≡ Some endpoint
+          → endpoint_at (on_lines (Passing test (n + 1) more) becomes turn).value line ≡ Some (turn line endpoint).value)
+          → (b : Bool) → test n ≡ b → endpoint_at (on_lines (Passing test n (first ∷ more)) endpoints turn).value line ≡ Some (turn line endpoint).value
       by_first later true h = rw h (by_line later (line == n) refl)
       by_first later false h =
           let apart : line ≢ n = λ same. absurd (let no : test n ≡ true = ap test (sym same) ∙ passes in cc) in
           rw h (later endpoints apart at)
 
-inside : (stations : List Station) (place : ℕ) (station : Station) → slice_get stations place ≡ Some station → place < length stations
-inside [] place station at = absurd (none-some station at)
-inside (first ∷ more) zero station at = omega arith
-inside (first ∷ more) (suc place) station at = omega (arith, inside more place station at)
+inside : (list : List Endpoint) (place : ℕ) (endpoint : Endpoint) → slice_get list place ≡ Some endpoint → place < length list
+inside [] place endpoint at = absurd (none-some endpoint at)
+inside (first ∷ more) zero endpoint at = omega arith
+inside (first ∷ more) (suc place) endpoint at = omega (arith, inside more place endpoint at)
 
-pub done_on_each : (setup : Setup) (endpoints : Endpoints) (target : Target) (deed : Deed) (moment line : ℕ) (station : Station) → is_for target line ≡ true
-    → station_at endpoints line ≡ Some station → station_at (deed_on_all setup endpoints target deed moment).value line ≡ Some (deed_on setup deed moment line station).value
-done_on_each setup endpoints target deed moment line station for at =
-    let is = is_at endpoints line station at in
+pub done_on_each : (setup : Setup) (endpoints : Endpoints) (target : Target) (deed : Deed) (moment line : ℕ) (endpoint : Endpoint) → is_for target line ≡ true
+    → endpoint_at endpoints line ≡ Some endpoint → endpoint_at (deed_on_all setup endpoints target deed moment).value line ≡ Some (deed_on setup deed moment line endpoint).value
+done_on_each setup endpoints target deed moment line endpoint for at =
+    let is = is_at endpoints line endpoint at in
     let some : 1 ≤ line = is.some in
-    each_on (is_for target) 1 endpoints.stations endpoints (deed_on setup deed moment) line station for some
-    (omega (arith, some, inside endpoints.stations (line - 1) station is.here)) at
+    each_on (is_for target) 1 endpoints.list endpoints (deed_on setup deed moment) line endpoint for some
+    (omega (arith, some, inside endpoints.list (line - 1) endpoint is.here)) at
 
 pub others_are_left : (setup : Setup) (endpoints : Endpoints) (target : Target) (deed : Deed) (moment line : ℕ) → is_for target line ≡ false
-    → station_at (deed_on_all setup endpoints target deed moment).value line ≡ station_at endpoints line
+    → endpoint_at (deed_on_all setup endpoints target deed moment).value line ≡ endpoint_at endpoints line
 others_are_left setup endpoints target deed moment line for =
-    others_on (lines_meant endpoints target) endpoints (deed_on setup deed moment) line (passing_apart (is_for target) line 1 endpoints.stations for)
+    others_on (lines_meant endpoints target) endpoints (deed_on setup deed moment) line (passing_apart (is_for target) line 1 endpoints.list for)
 
 -- The line that is chosen
 
-abbrev Chosen : ℕ → List Station → Option ℕ
-Chosen n stations = option_map (λ (one : ℕ × Station). one.0) (find has_place (enumerate_from n stations))
+abbrev Chosen : ℕ → List Endpoint → Option ℕ
+Chosen n list = option_map (λ (one : ℕ × Endpoint). one.0) (find has_place (enumerate_from n list))
 
-record HasPlace (n line : ℕ) (stations : List Station) : Type 0 where
+record HasPlace (n line : ℕ) (list : List Endpoint) : Type 0 where
   place : ℕ
-  station : Station
+  endpoint : Endpoint
   is : line ≡ n + place
-  here : slice_get stations place ≡ Some station
-  has : has_place (line, station) ≡ true
+  here : slice_get list place ≡ Some endpoint
+  has : has_place (line, endpoint) ≡ true
 
-chosen_has : (n line : ℕ) (stations : List Station) → Chosen n stations ≡ Some line → HasPlace n line stations
+chosen_has : (n line : ℕ) (list : List Endpoint) → Chosen n list ≡ Some line → HasPlace n line list
 chosen_has n line [] e = absurd cc
 chosen_has n line (first ∷ more) e = ⊎_elim
     (λ (h : has_place (n, first) ≡ true).
     let here : Some n ≡ Some line = (rw h at e) in
     let same : n ≡ line = cc in
-    let it : HasPlace n line (first ∷ more) = record { place = 0; station = first; is = omega (arith, same); here = refl; has = h } in it)
+    let it : HasPlace n line (first ∷ more) = record { place = 0; endpoint = first; is = omega (arith, same); here = refl; has = h } in it)
     (λ (h : has_place (n, first) ≡ false).
     let there : Chosen (n + 1) more ≡ Some line = (rw h at e) in
     let rest = chosen_has (n + 1) line more there in
     let next : line ≡ n + suc rest.place = omega (arith, rest.is) in
-    let it : HasPlace n line (first ∷ more) = record { place = suc rest.place; station = rest.station; is = next; here = rest.here; has = rest.has } in it)
+    let it : HasPlace n line (first ∷ more) = record { place = suc rest.place; endpoint = rest.endpoint; is = next; here = rest.here; has = rest.has } in it)
     (cases_Bool (has_place (n, first)))
 
 pub chosen_place : (endpoints : Endpoints) (line : ℕ) → line_with_place endpoints ≡ Some line
-    → (station : Station) × (station_at endpoints line ≡ Some station) × (has_place (line, station) ≡ true)
+    → (endpoint : Endpoint) × (endpoint_at endpoints line ≡ Some endpoint) × (has_place (line, endpoint) ≡ true)
 unfolding line_with_place
 chosen_place endpoints line e =
-    let has = chosen_has 1 line endpoints.stations e in
-    (has.station, stands_at endpoints line has.place has.station has.is has.here, has.has)
+    let has = chosen_has 1 line endpoints.list e in
+    (has.endpoint, stands_at endpoints line has.place has.endpoint has.is has.here, has.has)
 
-none_before : (n line place : ℕ) (stations : List Station) (station : Station) → Chosen n stations ≡ Some line → n + place < line → slice_get stations place ≡ Some station
-    → has_place (n + place, station) ≡ false
-none_before n line place [] station e less at = absurd (none-some station at)
-none_before n line zero (first ∷ more) station e less at = ⊎_elim
+none_before : (n line place : ℕ) (list : List Endpoint) (endpoint : Endpoint) → Chosen n list ≡ Some line → n + place < line → slice_get list place ≡ Some endpoint
+    → has_place (n + place, endpoint) ≡ false
+none_before n line place [] endpoint e less at = absurd (none-some endpoint at)
+none_before n line zero (first ∷ more) endpoint e less at = ⊎_elim
     (λ (h : has_place (n, first) ≡ true).
     let here : Some n ≡ Some line = (rw h at e) in
     let same : n ≡ line = cc in
     let no : ⊥ = omega (arith, same, less) in absurd no)
-    (λ (h : has_place (n, first) ≡ false). let same : first ≡ station = cc in ap (λ (s : Station). has_place (n, s)) (sym same) ∙ h)
+    (λ (h : has_place (n, first) ≡ false). let same : first ≡ endpoint = cc in ap (λ (s : Endpoint). has_place (n, s)) (sym same) ∙ h)
     (cases_Bool (has_place (n, first)))
-none_before n line (suc place) (first ∷ more) station e less at = ⊎_elim
+none_before n line (suc place) (first ∷ more) endpoint e less at = ⊎_elim
     (λ (h : has_place (n, first) ≡ true).
     let here : Some n ≡ Some line = (rw h at e) in
     let same : n ≡ line = cc in
     let no : ⊥ = omega (arith, same, less) in absurd no)
     (λ (h : has_place (n, first) ≡ false).
     let there : Chosen (n + 1) more ≡ Some line = (rw h at e) in
-    none_before (n + 1) line place more station there (omega (arith, less)) at)
+    none_before (n + 1) line place more endpoint there (omega (arith, less)) at)
     (cases_Bool (has_place (n, first)))
 
-pub chosen_least : (endpoints : Endpoints) (line other : ℕ) (station : Station) → line_with_place endpoints ≡ Some line → other < line → station_at endpoints other ≡ Some station
-    → has_place (other, station) ≡ false
+pub chosen_least : (endpoints : Endpoints) (line other : ℕ) (endpoint : Endpoint) → line_with_place endpoints ≡ Some line → other < line → endpoint_at endpoints other ≡ Some endpoint
+    → has_place (other, endpoint) ≡ false
 unfolding line_with_place
-chosen_least endpoints line other station e less at =
-    let is = is_at endpoints other station at in
+chosen_least endpoints line other endpoint e less at =
+    let is = is_at endpoints other endpoint at in
     let some : 1 ≤ other = is.some in
-    none_before 1 line (other - 1) endpoints.stations station e (omega (arith, less, some)) is.here
+    none_before 1 line (other - 1) endpoints.list endpoint e (omega (arith, less, some)) is.here
 
-none_at_all : (n place : ℕ) (stations : List Station) (station : Station) → Chosen n stations ≡ None → slice_get stations place ≡ Some station → has_place (n + place, station) ≡ false
-none_at_all n place [] station e at = absurd (none-some station at)
-none_at_all n zero (first ∷ more) station e at = ⊎_elim
+none_at_all : (n place : ℕ) (list : List Endpoint) (endpoint : Endpoint) → Chosen n list ≡ None → slice_get list place ≡ Some endpoint → has_place (n + place, endpoint) ≡ false
+none_at_all n place [] endpoint e at = absurd (none-some endpoint at)
+none_at_all n zero (first ∷ more) endpoint e at = ⊎_elim
     (λ (h : has_place (n, first) ≡ true). absurd (let no : Some n ≡ None = (rw h at e) in cc))
-    (λ (h : has_place (n, first) ≡ false). let same : first ≡ station = cc in ap (λ (s : Station). has_place (n, s)) (sym same) ∙ h)
+    (λ (h : has_place (n, first) ≡ false). let same : first ≡ endpoint = cc in ap (λ (s : Endpoint). has_place (n, s)) (sym same) ∙ h)
     (cases_Bool (has_place (n, first)))
-none_at_all n (suc place) (first ∷ more) station e at = ⊎_elim
+none_at_all n (suc place) (first ∷ more) endpoint e at = ⊎_elim
     (λ (h : has_place (n, first) ≡ true). absurd (let no : Some n ≡ None = (rw h at e) in cc))
-    (λ (h : has_place (n, first) ≡ false). let there : Chosen (n + 1) more ≡ None = (rw h at e) in none_at_all (n + 1) place more station there at)
+    (λ (h : has_place (n, first) ≡ false). let there : Chosen (n + 1) more ≡ None = (rw h at e) in none_at_all (n + 1) place more endpoint there at)
     (cases_Bool (has_place (n, first)))
 
-pub none_chosen : (endpoints : Endpoints) (line : ℕ) (station : Station) → line_with_place endpoints ≡ None → station_at endpoints line ≡ Some station → has_place (line, station) ≡ false
+pub none_chosen : (endpoints : Endpoints) (line : ℕ) (endpoint : Endpoint) → line_with_place endpoints ≡ None → endpoint_at endpoints line ≡ Some endpoint → has_place (line, endpoint) ≡ false
 unfolding line_with_place
-none_chosen endpoints line station e at = none_at_all 1 (line - 1) endpoints.stations station e (is_at endpoints line station at).here
+none_chosen endpoints line endpoint e at = none_at_all 1 (line - 1) endpoints.list endpoint e (is_at endpoints line endpoint at).here

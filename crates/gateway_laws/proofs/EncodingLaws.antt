@@ -42,7 +42,7 @@ use Rattle.command_forms.specs.Verbs.{row_of}
 use Rattle.command_forms.proofs.RefusedLemmas.{coded_ok}
 use Rattle.command_forms.proofs.FormLemmas.{name_first, asked_behind, row_is, deed_of_row, deed_has_values}
 use Rattle.plain_machine.specs.declared.setup.Setup.{Setup}
-use Rattle.plain_machine.specs.declared.station.Station.{Station}
+use Rattle.plain_machine.specs.declared.endpoint.Endpoint.{Endpoint}
 use Rattle.plain_machine.specs.Effect.{silently}
 use Rattle.plain_machine.specs.Notifying.{noted}
 use Rattle.plain_machine.specs.Connecting.{connected}
@@ -201,23 +201,23 @@ only_is deed is = by_parts deed.entity deed.connections deed.request is.entity i
       → (record { entity = entity; encoding = deed.encoding; connections = connections; request = request }) ≡ only deed.encoding
   by_parts entity connections request one two three = rw (one, two, three) refl
 
-only_on : (setup : Setup) (encoding : Option Encoding) (moment line : ℕ) (station : Station)
-    → deed_on setup (only encoding) moment line station ≡ silently (record station { encoding = unwrap_or encoding station.encoding })
+only_on : (setup : Setup) (encoding : Option Encoding) (moment line : ℕ) (endpoint : Endpoint)
+    → deed_on setup (only encoding) moment line endpoint ≡ silently (record endpoint { encoding = unwrap_or encoding endpoint.encoding })
 unfolding deed_on noted connected
-only_on setup encoding moment line station = refl
+only_on setup encoding moment line endpoint = refl
 
-only_refused : (encoding : Option Encoding) (station : Station) → refusal_by (only encoding) station ≡ None
+only_refused : (encoding : Option Encoding) (endpoint : Endpoint) → refusal_by (only encoding) endpoint ≡ None
 unfolding connected
-only_refused encoding station = refl
+only_refused encoding endpoint = refl
 
-pub encoding_alone : (setup : Setup) (command : Command) (confirms : KValue) (target : Target) (deed : Deed) (moment line : ℕ) (station : Station) → command.verb ≡ Epcf
+pub encoding_alone : (setup : Setup) (command : Command) (confirms : KValue) (target : Target) (deed : Deed) (moment line : ℕ) (endpoint : Endpoint) → command.verb ≡ Epcf
     → form_of command confirms setup.names ≡ Ok (Does target deed)
-    → deed_on setup deed moment line station ≡ silently (record station { encoding = unwrap_or deed.encoding station.encoding })
-encoding_alone setup command confirms target deed moment line station verb e =
-    ap (λ (d : Deed). deed_on setup d moment line station) (only_is deed (encodes command confirms setup.names target deed verb e))
-    ∙ only_on setup deed.encoding moment line station
+    → deed_on setup deed moment line endpoint ≡ silently (record endpoint { encoding = unwrap_or deed.encoding endpoint.encoding })
+encoding_alone setup command confirms target deed moment line endpoint verb e =
+    ap (λ (d : Deed). deed_on setup d moment line endpoint) (only_is deed (encodes command confirms setup.names target deed verb e))
+    ∙ only_on setup deed.encoding moment line endpoint
 
-pub encoding_taken : (setup : Setup) (command : Command) (confirms : KValue) (target : Target) (deed : Deed) (station : Station) → command.verb ≡ Epcf
-    → form_of command confirms setup.names ≡ Ok (Does target deed) → refusal_by deed station ≡ None
-encoding_taken setup command confirms target deed station verb e =
-    ap (λ (d : Deed). refusal_by d station) (only_is deed (encodes command confirms setup.names target deed verb e)) ∙ only_refused deed.encoding station
+pub encoding_taken : (setup : Setup) (command : Command) (confirms : KValue) (target : Target) (deed : Deed) (endpoint : Endpoint) → command.verb ≡ Epcf
+    → form_of command confirms setup.names ≡ Ok (Does target deed) → refusal_by deed endpoint ≡ None
+encoding_taken setup command confirms target deed endpoint verb e =
+    ap (λ (d : Deed). refusal_by d endpoint) (only_is deed (encodes command confirms setup.names target deed verb e)) ∙ only_refused deed.encoding endpoint

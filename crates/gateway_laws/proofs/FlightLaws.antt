@@ -54,14 +54,14 @@ use Rattle.command_forms.specs.declared.forms.Deed.{Deed}
 use Rattle.plain_machine.specs.declared.post.Post.{Post}
 use Rattle.plain_machine.specs.declared.response.Response.{Response}
 use Rattle.plain_machine.specs.declared.setup.Setup.{Setup}
-use Rattle.plain_machine.specs.declared.station.Station.{Station}
+use Rattle.plain_machine.specs.declared.endpoint.Endpoint.{Endpoint}
 use Rattle.plain_machine.specs.Effect.{Effect, silently, effect_map, afterwards}
 use Rattle.plain_machine.specs.Event.{GatewayEvent}
 use Rattle.plain_machine.specs.Message.{Sent}
 use Rattle.plain_machine.specs.Posting.{numbers, first_number, number_after, id_on, line_of_id, repeated_as, resent_by, resent_on}
 use Rattle.plain_machine.specs.Announcing.{announced, announced_by, heard_by, heard_on, put_off, replied, replied_on}
 use Rattle.plain_machine.specs.Notifying.{posted, notification, with_notice, noted}
-use Rattle.plain_machine.specs.Machine.{Endpoints, Machine, serves, opening_station, opening, station_at, turned_at, on_line, with_own}
+use Rattle.plain_machine.specs.Machine.{Endpoints, Machine, serves, opening_endpoint, opening, endpoint_at, turned_at, on_line, with_own}
 use Rattle.plain_machine.specs.Acting.{acted_on, acted}
 use Rattle.plain_machine.specs.Requesting.{with_entity, with_connections, asked_if, deed_on}
 use Rattle.plain_machine.specs.Falling.{happened_on, happened_under, happened, pass}
@@ -69,7 +69,7 @@ use Rattle.plain_machine.specs.Responding.{responded_as, responded_on, redirecte
 use Rattle.plain_machine.specs.Happening.{effect}
 use Rattle.plain_machine.specs.Lists.{machine_after}
 use Rattle.plain_machine.specs.Flights.{Waits, HasOwnId, IsWith, InOrderBy, OwnInOrderBy, OwnIsInOrder, InOrderWhile, AreInOrder, BeginsNothing, IsSame, Carries}
-use Rattle.plain_machine.proofs.EffectLaws.{other_station, some_line, on_still}
+use Rattle.plain_machine.proofs.EffectLaws.{other_endpoint, some_line, on_still}
 use Rattle.mgcp_text.specs.Reading.{Outcome}
 use Rattle.timers.specs.declared.due_item.DueItem.{DueItem}
 use Rattle.plain_machine.specs.Answering.{handled}
@@ -209,9 +209,9 @@ begins_with line number route text moment below =
     record { message = sent_first (id_on line number) route text moment; flies = refl; own = line_of_its_id line number below }
 
 -- of a line, and the number of its next command
-pub record Orders (serving : Bool) (line : ℕ) (station : Station) : Type 0 where
-  pub order : InOrderWhile serving line station
-  pub below : station.post.number < numbers
+pub record Orders (serving : Bool) (line : ℕ) (endpoint : Endpoint) : Type 0 where
+  pub order : InOrderWhile serving line endpoint
+  pub below : endpoint.post.number < numbers
 
 abbrev Any : Sent → Type 0
 Any sent = Unit {0}
@@ -221,105 +221,105 @@ all_any [] = All-nil Any
 all_any (one ∷ sent) = All-cons Any one sent tt (all_any sent)
 
 -- it tells nothing, or waits from then on for the answer to what it tells
-noted_silent : (setup : Setup) (line moment : ℕ) (station : Station) (done : LineDone) → done.notice ≡ None → noted setup line moment station done ≡ silently (record station { line = done.line })
+noted_silent : (setup : Setup) (line moment : ℕ) (endpoint : Endpoint) (done : LineDone) → done.notice ≡ None → noted setup line moment endpoint done ≡ silently (record endpoint { line = done.line })
 unfolding noted
-noted_silent setup line moment station done none = ap (with_notice setup line moment (record station { line = done.line })) none
+noted_silent setup line moment endpoint done none = ap (with_notice setup line moment (record endpoint { line = done.line })) none
 
-noted_free : (setup : Setup) (line moment : ℕ) (station : Station) (done : LineDone) → station.post.number < numbers → station.post.restart ≡ Serving → station.post.pending ≡ None
-    → AwaitsIfNotified done → Orders true line (noted setup line moment station done).value
+noted_free : (setup : Setup) (line moment : ℕ) (endpoint : Endpoint) (done : LineDone) → endpoint.post.number < numbers → endpoint.post.restart ≡ Serving → endpoint.post.pending ≡ None
+    → AwaitsIfNotified done → Orders true line (noted setup line moment endpoint done).value
 unfolding noted
-noted_free setup line moment station done below serving none awaits = by_notice done.notice awaits where
+noted_free setup line moment endpoint done below serving none awaits = by_notice done.notice awaits where
   by_notice : (notice : Option Notice) → AwaitsIfNotified (record { line = done.line; notice = notice })
-      → Orders true line (with_notice setup line moment (record station { line = done.line }) notice).value
+      → Orders true line (with_notice setup line moment (record endpoint { line = done.line }) notice).value
   by_notice None awaits = record {
-    order = subst (λ (r : Restart). InOrderBy r line station.post.pending done.line.state) (sym serving)
+    order = subst (λ (r : Restart). InOrderBy r line endpoint.post.pending done.line.state) (sym serving)
         (subst (λ (p : Option InFlight). InOrderBy Serving line p done.line.state) (sym none) tt);
     below = below;
   }
   by_notice (Some notice) awaits = record {
-    order = subst (λ (r : Restart). InOrderBy r line (Some (sent_first (id_on line station.post.number) station.post.entity.route (written (notification setup line (id_on line station.post.number) notice)) moment)) done.line.state) (sym serving)
-        (awaits.state, line_of_its_id line station.post.number below);
-    below = next_below line station.post.number below;
+    order = subst (λ (r : Restart). InOrderBy r line (Some (sent_first (id_on line endpoint.post.number) endpoint.post.entity.route (written (notification setup line (id_on line endpoint.post.number) notice)) moment)) done.line.state) (sym serving)
+        (awaits.state, line_of_its_id line endpoint.post.number below);
+    below = next_below line endpoint.post.number below;
   }
 
-noted_orders : (setup : Setup) (line moment : ℕ) (station : Station) (done : LineDone) → Orders true line station → AwaitsIfNotified done
-    → (station.line.state ≡ Notification → WaitsOn done) → Orders true line (noted setup line moment station done).value
-noted_orders setup line moment station done orders awaits waits =
-    by_order (order_is station.post.restart line station.post.pending station.line.state orders.order) where
-      by_order : ((station.line.state ≡ Notification) ⊎ ((station.post.restart ≡ Serving) × (station.post.pending ≡ None)))
-          → Orders true line (noted setup line moment station done).value
+noted_orders : (setup : Setup) (line moment : ℕ) (endpoint : Endpoint) (done : LineDone) → Orders true line endpoint → AwaitsIfNotified done
+    → (endpoint.line.state ≡ Notification → WaitsOn done) → Orders true line (noted setup line moment endpoint done).value
+noted_orders setup line moment endpoint done orders awaits waits =
+    by_order (order_is endpoint.post.restart line endpoint.post.pending endpoint.line.state orders.order) where
+      by_order : ((endpoint.line.state ≡ Notification) ⊎ ((endpoint.post.restart ≡ Serving) × (endpoint.post.pending ≡ None)))
+          → Orders true line (noted setup line moment endpoint done).value
       by_order (inl is) =
           let on = waits is in
-          let still : Orders true line (record station { line = done.line }) = record {
-            order = waits_in_order station.post.restart line station.post.pending station.line.state done.line.state orders.order (λ was. on.state);
+          let still : Orders true line (record endpoint { line = done.line }) = record {
+            order = waits_in_order endpoint.post.restart line endpoint.post.pending endpoint.line.state done.line.state orders.order (λ was. on.state);
             below = orders.below;
           } in
-          subst (λ (t : Effect Station). Orders true line t.value) (sym (noted_silent setup line moment station done on.silent)) still
-      by_order (inr free) = noted_free setup line moment station done orders.below free.0 free.1 awaits
+          subst (λ (t : Effect Endpoint). Orders true line t.value) (sym (noted_silent setup line moment endpoint done on.silent)) still
+      by_order (inr free) = noted_free setup line moment endpoint done orders.below free.0 free.1 awaits
 
-noted_closed : (setup : Setup) (line moment : ℕ) (station : Station) (done : LineDone) → Orders false line station → WaitsOn done → Orders false line (noted setup line moment station done).value
-noted_closed setup line moment station done orders on =
-    let still : Orders false line (record station { line = done.line }) = record {
+noted_closed : (setup : Setup) (line moment : ℕ) (endpoint : Endpoint) (done : LineDone) → Orders false line endpoint → WaitsOn done → Orders false line (noted setup line moment endpoint done).value
+noted_closed setup line moment endpoint done orders on =
+    let still : Orders false line (record endpoint { line = done.line }) = record {
       order = record { restart = orders.order.restart; pending = orders.order.pending; state = on.state };
       below = orders.below;
     } in
-    subst (λ (t : Effect Station). Orders false line t.value) (sym (noted_silent setup line moment station done on.silent)) still
+    subst (λ (t : Effect Endpoint). Orders false line t.value) (sym (noted_silent setup line moment endpoint done on.silent)) still
 
-acted_orders : (setup : Setup) (serving : Bool) (line moment : ℕ) (act : Act) (station : Station) → Orders serving line station → Orders serving line (acted_on setup line moment act station).value
-acted_orders setup false line moment act station orders =
-    noted_closed setup line moment station (phoned station.line act moment) orders (phoned_waits station.line act moment orders.order.state)
-acted_orders setup true line moment act station orders =
-    noted_orders setup line moment station (phoned station.line act moment) orders (notifies_once.act station.line act moment) (phoned_waits station.line act moment)
+acted_orders : (setup : Setup) (serving : Bool) (line moment : ℕ) (act : Act) (endpoint : Endpoint) → Orders serving line endpoint → Orders serving line (acted_on setup line moment act endpoint).value
+acted_orders setup false line moment act endpoint orders =
+    noted_closed setup line moment endpoint (phoned endpoint.line act moment) orders (phoned_waits endpoint.line act moment orders.order.state)
+acted_orders setup true line moment act endpoint orders =
+    noted_orders setup line moment endpoint (phoned endpoint.line act moment) orders (notifies_once.act endpoint.line act moment) (phoned_waits endpoint.line act moment)
 
 asked_awaits : (request : Option Request) (line : LineState) (moment : ℕ) → AwaitsIfNotified (asked_if request line moment)
 asked_awaits None line moment = tt
 asked_awaits (Some request) line moment = notifies_once.request line request moment
 
-deed_orders : (setup : Setup) (deed : Deed) (line moment : ℕ) (station : Station) → Orders true line station → Orders true line (deed_on setup deed moment line station).value
+deed_orders : (setup : Setup) (deed : Deed) (line moment : ℕ) (endpoint : Endpoint) → Orders true line endpoint → Orders true line (deed_on setup deed moment line endpoint).value
 unfolding deed_on
-deed_orders setup deed line moment station orders =
-    noted_orders setup line moment (with_connections deed (with_entity deed.entity station)) (asked_if deed.request station.line moment)
-    (record { order = orders.order; below = orders.below }) (asked_awaits deed.request station.line moment) (asked_waits deed.request station.line moment)
+deed_orders setup deed line moment endpoint orders =
+    noted_orders setup line moment (with_connections deed (with_entity deed.entity endpoint)) (asked_if deed.request endpoint.line moment)
+    (record { order = orders.order; below = orders.below }) (asked_awaits deed.request endpoint.line moment) (asked_waits deed.request endpoint.line moment)
 
 -- what falls due of a post
 
 -- nothing is in flight of a line that is closed
-happened_closed : (setup : Setup) (due : DueKind) (line moment : ℕ) (station : Station) → Orders false line station → Orders false line (happened_on due setup line moment station).value
+happened_closed : (setup : Setup) (due : DueKind) (line moment : ℕ) (endpoint : Endpoint) → Orders false line endpoint → Orders false line (happened_on due setup line moment endpoint).value
 unfolding happened_on
-happened_closed setup (OfLine due) line moment station orders =
-    noted_closed setup line moment station (fired station.line due moment) orders (fired_waits station.line due moment orders.order.state)
-happened_closed setup Resend line moment station orders =
-    subst (λ (p : Option InFlight). Orders false line (posted station (resent_by p setup line moment station.post)).value) (sym orders.order.pending) orders
-happened_closed setup Announce line moment station orders =
-    subst (λ (r : Restart). Orders false line (posted station (announced_by r setup line moment station.post)).value) (sym orders.order.restart) orders
+happened_closed setup (OfLine due) line moment endpoint orders =
+    noted_closed setup line moment endpoint (fired endpoint.line due moment) orders (fired_waits endpoint.line due moment orders.order.state)
+happened_closed setup Resend line moment endpoint orders =
+    subst (λ (p : Option InFlight). Orders false line (posted endpoint (resent_by p setup line moment endpoint.post)).value) (sym orders.order.pending) orders
+happened_closed setup Announce line moment endpoint orders =
+    subst (λ (r : Restart). Orders false line (posted endpoint (announced_by r setup line moment endpoint.post)).value) (sym orders.order.restart) orders
 
-happened_open : (setup : Setup) (due : DueKind) (line moment : ℕ) (station : Station) → Orders true line station → Orders true line (happened_on due setup line moment station).value
+happened_open : (setup : Setup) (due : DueKind) (line moment : ℕ) (endpoint : Endpoint) → Orders true line endpoint → Orders true line (happened_on due setup line moment endpoint).value
 unfolding happened_on announced
-happened_open setup (OfLine due) line moment station orders =
-    noted_orders setup line moment station (fired station.line due moment) orders (notifies_once.firing station.line due moment) (fired_waits station.line due moment)
-happened_open setup Resend line moment station orders = by_pending station.post.pending orders.order where
-  by_repeat : (message : InFlight) (repeat : Repeat) → InOrderBy station.post.restart line (Some message) station.line.state
-      → Orders true line (posted station (repeated_as repeat setup line moment station.post message)).value
+happened_open setup (OfLine due) line moment endpoint orders =
+    noted_orders setup line moment endpoint (fired endpoint.line due moment) orders (notifies_once.firing endpoint.line due moment) (fired_waits endpoint.line due moment)
+happened_open setup Resend line moment endpoint orders = by_pending endpoint.post.pending orders.order where
+  by_repeat : (message : InFlight) (repeat : Repeat) → InOrderBy endpoint.post.restart line (Some message) endpoint.line.state
+      → Orders true line (posted endpoint (repeated_as repeat setup line moment endpoint.post message)).value
   by_repeat message SentAgain order =
-      record { order = sent_in_order station.post.restart line message (repeated message moment) station.line.state (repeated_same message moment).id order; below = orders.below }
+      record { order = sent_in_order endpoint.post.restart line message (repeated message moment) endpoint.line.state (repeated_same message moment).id order; below = orders.below }
   by_repeat message GivenUp order =
-      record { order = (refl, (flying_waits station.post.restart line message station.line.state order).0); below = orders.below }
+      record { order = (refl, (flying_waits endpoint.post.restart line message endpoint.line.state order).0); below = orders.below }
 
-  by_pending : (pending : Option InFlight) → InOrderBy station.post.restart line pending station.line.state
-      → Orders true line (posted station (resent_by pending setup line moment station.post)).value
+  by_pending : (pending : Option InFlight) → InOrderBy endpoint.post.restart line pending endpoint.line.state
+      → Orders true line (posted endpoint (resent_by pending setup line moment endpoint.post)).value
   by_pending None order = orders
   by_pending (Some message) order = by_repeat message (repeat_of message moment) order
-happened_open setup Announce line moment station orders = by_restart station.post.restart orders.order where
-  by_restart : (restart : Restart) → InOrderBy restart line station.post.pending station.line.state
-      → Orders true line (posted station (announced_by restart setup line moment station.post)).value
+happened_open setup Announce line moment endpoint orders = by_restart endpoint.post.restart orders.order where
+  by_restart : (restart : Restart) → InOrderBy restart line endpoint.post.pending endpoint.line.state
+      → Orders true line (posted endpoint (announced_by restart setup line moment endpoint.post)).value
   by_restart (Waiting until) order =
-      record { order = (begins_with line station.post.number _ _ moment orders.below, order.1); below = next_below line station.post.number orders.below }
+      record { order = (begins_with line endpoint.post.number _ _ moment orders.below, order.1); below = next_below line endpoint.post.number orders.below }
   by_restart Announced order = orders
   by_restart Serving order = orders
 
-happened_orders : (setup : Setup) (serving : Bool) (due : DueKind) (line moment : ℕ) (station : Station) → Orders serving line station → Orders serving line (happened_on due setup line moment station).value
-happened_orders setup false due line moment station orders = happened_closed setup due line moment station orders
-happened_orders setup true due line moment station orders = happened_open setup due line moment station orders
+happened_orders : (setup : Setup) (serving : Bool) (due : DueKind) (line moment : ℕ) (endpoint : Endpoint) → Orders serving line endpoint → Orders serving line (happened_on due setup line moment endpoint).value
+happened_orders setup false due line moment endpoint orders = happened_closed setup due line moment endpoint orders
+happened_orders setup true due line moment endpoint orders = happened_open setup due line moment endpoint orders
 
 -- a response
 
@@ -349,51 +349,51 @@ put_off_in_order (Waiting until) line response moment None state order = order
 put_off_in_order Announced line response moment None state order = absurd (none-some order.0.message order.0.flies)
 put_off_in_order Serving line response moment None state order = order
 
-responded_open : (setup : Setup) (line moment : ℕ) (response : Response) (station : Station) → Orders true line station → Orders true line (responded_on setup line moment response station).value
+responded_open : (setup : Setup) (line moment : ℕ) (response : Response) (endpoint : Endpoint) → Orders true line endpoint → Orders true line (responded_on setup line moment response endpoint).value
 unfolding responded_on replied announced
-responded_open setup line moment response station orders = by_heard (heard_on station.post response) refl where
-  by_heard : (heard : Heard) → heard_on station.post response ≡ heard → Orders true line (responded_as heard setup line moment response station).value
+responded_open setup line moment response endpoint orders = by_heard (heard_on endpoint.post response) refl where
+  by_heard : (heard : Heard) → heard_on endpoint.post response ≡ heard → Orders true line (responded_as heard setup line moment response endpoint).value
   by_heard Nothing e = orders
   by_heard PutOff e =
-      record { order = put_off_in_order station.post.restart line response moment station.post.pending station.line.state orders.order; below = orders.below }
+      record { order = put_off_in_order endpoint.post.restart line response moment endpoint.post.pending endpoint.line.state orders.order; below = orders.below }
   by_heard (Redirected agent) e =
-      let order : InOrderBy Announced line station.post.pending station.line.state =
-      subst (λ (r : Restart). InOrderBy r line station.post.pending station.line.state) (redirected_announced station.post response agent e) orders.order in
-      record { order = (begins_with line station.post.number _ _ moment orders.below, order.1); below = next_below line station.post.number orders.below }
+      let order : InOrderBy Announced line endpoint.post.pending endpoint.line.state =
+      subst (λ (r : Restart). InOrderBy r line endpoint.post.pending endpoint.line.state) (redirected_announced endpoint.post response agent e) orders.order in
+      record { order = (begins_with line endpoint.post.number _ _ moment orders.below, order.1); below = next_below line endpoint.post.number orders.below }
   by_heard (Answered agent) e =
-      noted_free setup line moment (record station { post = record station.post { entity = unwrap_or agent station.post.entity; pending = None; restart = Serving } })
-      (answered station.line moment) orders.below refl refl (notifies_once.answering station.line moment)
+      noted_free setup line moment (record endpoint { post = record endpoint.post { entity = unwrap_or agent endpoint.post.entity; pending = None; restart = Serving } })
+      (answered endpoint.line moment) orders.below refl refl (notifies_once.answering endpoint.line moment)
 
-responded_closed : (setup : Setup) (line moment : ℕ) (response : Response) (station : Station) → Orders false line station → Orders false line (responded_on setup line moment response station).value
+responded_closed : (setup : Setup) (line moment : ℕ) (response : Response) (endpoint : Endpoint) → Orders false line endpoint → Orders false line (responded_on setup line moment response endpoint).value
 unfolding responded_on
-responded_closed setup line moment response station orders =
-    let nothing : heard_on station.post response ≡ Nothing = ap (λ (p : Option InFlight). heard_by p station.post.restart response) orders.order.pending in
-    subst (λ (heard : Heard). Orders false line (responded_as heard setup line moment response station).value) (sym nothing) orders
+responded_closed setup line moment response endpoint orders =
+    let nothing : heard_on endpoint.post response ≡ Nothing = ap (λ (p : Option InFlight). heard_by p endpoint.post.restart response) orders.order.pending in
+    subst (λ (heard : Heard). Orders false line (responded_as heard setup line moment response endpoint).value) (sym nothing) orders
 
-responded_orders : (setup : Setup) (serving : Bool) (line moment : ℕ) (response : Response) (station : Station) → Orders serving line station
-    → Orders serving line (responded_on setup line moment response station).value
-responded_orders setup false line moment response station orders = responded_closed setup line moment response station orders
-responded_orders setup true line moment response station orders = responded_open setup line moment response station orders
+responded_orders : (setup : Setup) (serving : Bool) (line moment : ℕ) (response : Response) (endpoint : Endpoint) → Orders serving line endpoint
+    → Orders serving line (responded_on setup line moment response endpoint).value
+responded_orders setup false line moment response endpoint orders = responded_closed setup line moment response endpoint orders
+responded_orders setup true line moment response endpoint orders = responded_open setup line moment response endpoint orders
 
-redirected_orders : (agent : Entity) (line : ℕ) (station : Station) → Orders false line station → Orders false line (redirected_on agent line station).value
+redirected_orders : (agent : Entity) (line : ℕ) (endpoint : Endpoint) → Orders false line endpoint → Orders false line (redirected_on agent line endpoint).value
 unfolding redirected_on
-redirected_orders agent line station orders =
+redirected_orders agent line endpoint orders =
     record { order = record { restart = orders.order.restart; pending = orders.order.pending; state = orders.order.state }; below = orders.below }
 
-opened_orders : (setup : Setup) (agent : Option Entity) (line moment : ℕ) (station : Station) → Orders false line station → Orders true line (opened_on agent setup moment line station).value
+opened_orders : (setup : Setup) (agent : Option Entity) (line moment : ℕ) (endpoint : Endpoint) → Orders false line endpoint → Orders true line (opened_on agent setup moment line endpoint).value
 unfolding opened_on
-opened_orders setup agent line moment station orders =
-    noted_free setup line moment (with_entity agent station) (opened station.line moment) orders.below orders.order.restart orders.order.pending (notifies_once.serving station.line moment)
+opened_orders setup agent line moment endpoint orders =
+    noted_free setup line moment (with_entity agent endpoint) (opened endpoint.line moment) orders.below orders.order.restart orders.order.pending (notifies_once.serving endpoint.line moment)
 
 ordering : (setup : Setup) → Turns setup Orders Any
 ordering setup = record {
-  act = λ serving line moment act station orders. (acted_orders setup serving line moment act station orders, all_any _);
-  deed = λ command confirms target deed is line moment station orders.
-      (deed_orders setup deed line moment station orders, all_any _);
-  response = λ serving line moment response station read orders. (responded_orders setup serving line moment response station orders, all_any _);
-  happening = λ serving due line moment station orders. (happened_orders setup serving due line moment station orders, all_any _);
-  redirecting = λ agent line station read orders. (redirected_orders agent line station orders, all_any _);
-  opening = λ agent line moment station read orders. (opened_orders setup agent line moment station orders, all_any _);
+  act = λ serving line moment act endpoint orders. (acted_orders setup serving line moment act endpoint orders, all_any _);
+  deed = λ command confirms target deed is line moment endpoint orders.
+      (deed_orders setup deed line moment endpoint orders, all_any _);
+  response = λ serving line moment response endpoint read orders. (responded_orders setup serving line moment response endpoint orders, all_any _);
+  happening = λ serving due line moment endpoint orders. (happened_orders setup serving due line moment endpoint orders, all_any _);
+  redirecting = λ agent line endpoint read orders. (redirected_orders agent line endpoint orders, all_any _);
+  opening = λ agent line moment endpoint read orders. (opened_orders setup agent line moment endpoint orders, all_any _);
 }
 
 -- the gateway itself
@@ -461,7 +461,7 @@ own_ordering setup = record {
 
 pub opening_orders : (setup : Setup) → Holds Orders OwnOrders (opening setup).endpoints
 opening_orders setup = record {
-  stations = on_made (Orders false) (opening_station setup) 1 setup.names.lines
+  list = on_made (Orders false) (opening_endpoint setup) 1 setup.names.lines
       (λ i low high. record { order = record { restart = refl; pending = refl; state = refl }; below = omega arith });
   own = record { order = refl; below = omega arith };
 }
@@ -488,7 +488,7 @@ orders_handled setup m source outcome all = handled_on_all setup Orders OwnOrder
 pub in_order : (endpoints : Endpoints) → Holds Orders OwnOrders endpoints → AreInOrder endpoints
 in_order endpoints all = record {
   own = all.own.order;
-  lines = λ line station at. (of_line (Orders (serves endpoints)) endpoints line station all.stations at).order;
+  lines = λ line endpoint at. (of_line (Orders (serves endpoints)) endpoints line endpoint all.list at).order;
 }
 
 pub posts_in_order : (setup : Setup) (events : List GatewayEvent) → AreInOrder (machine_after setup (opening setup) events).endpoints
@@ -496,19 +496,19 @@ posts_in_order setup events = in_order (machine_after setup (opening setup) even
 
 -- A line waits for the answer to its command
 
-pub order_waits : (serving : Bool) (line : ℕ) (station : Station) → InOrderWhile serving line station → Waits line station
-order_waits false line station order =
-    subst (λ (p : Option InFlight). IfSome p (λ message. (station.line.state ≡ Notification) × (line_of_id message.id ≡ line))) (sym order.pending) tt
-order_waits true line station order = by_pending station.post.pending order where
-  by_pending : (pending : Option InFlight) → InOrderBy station.post.restart line pending station.line.state
-      → IfSome pending (λ message. (station.line.state ≡ Notification) × (line_of_id message.id ≡ line))
+pub order_waits : (serving : Bool) (line : ℕ) (endpoint : Endpoint) → InOrderWhile serving line endpoint → Waits line endpoint
+order_waits false line endpoint order =
+    subst (λ (p : Option InFlight). IfSome p (λ message. (endpoint.line.state ≡ Notification) × (line_of_id message.id ≡ line))) (sym order.pending) tt
+order_waits true line endpoint order = by_pending endpoint.post.pending order where
+  by_pending : (pending : Option InFlight) → InOrderBy endpoint.post.restart line pending endpoint.line.state
+      → IfSome pending (λ message. (endpoint.line.state ≡ Notification) × (line_of_id message.id ≡ line))
   by_pending None order = tt
-  by_pending (Some message) order = flying_waits station.post.restart line message station.line.state order
+  by_pending (Some message) order = flying_waits endpoint.post.restart line message endpoint.line.state order
 
-pub waits_for_the_answer : (setup : Setup) (events : List GatewayEvent) (line : ℕ) (station : Station)
-    → station_at (machine_after setup (opening setup) events).endpoints line ≡ Some station → Waits line station
-waits_for_the_answer setup events line station at =
-    order_waits (serves (machine_after setup (opening setup) events).endpoints) line station ((posts_in_order setup events).lines line station at)
+pub waits_for_the_answer : (setup : Setup) (events : List GatewayEvent) (line : ℕ) (endpoint : Endpoint)
+    → endpoint_at (machine_after setup (opening setup) events).endpoints line ≡ Some endpoint → Waits line endpoint
+waits_for_the_answer setup events line endpoint at =
+    order_waits (serves (machine_after setup (opening setup) events).endpoints) line endpoint ((posts_in_order setup events).lines line endpoint at)
 
 own_order_has : (own : Post) → OwnIsInOrder own → HasOwnId own
 unfolding same_with
@@ -527,35 +527,35 @@ has_own_id setup events = own_order_has (machine_after setup (opening setup) eve
 
 -- It has one command in flight
 
-pub noted_begins_nothing : (setup : Setup) (line moment : ℕ) (station : Station) (done : LineDone) → done.notice ≡ None → BeginsNothing station (noted setup line moment station done)
+pub noted_begins_nothing : (setup : Setup) (line moment : ℕ) (endpoint : Endpoint) (done : LineDone) → done.notice ≡ None → BeginsNothing endpoint (noted setup line moment endpoint done)
 unfolding noted
-noted_begins_nothing setup line moment station done none =
-    subst (λ (n : Option Notice). BeginsNothing station (with_notice setup line moment (record station { line = done.line }) n)) (sym none) (record { pending = refl; sent = refl })
+noted_begins_nothing setup line moment endpoint done none =
+    subst (λ (n : Option Notice). BeginsNothing endpoint (with_notice setup line moment (record endpoint { line = done.line }) n)) (sym none) (record { pending = refl; sent = refl })
 
-it_waits : (line : ℕ) (station : Station) (message : InFlight) → Waits line station → station.post.pending ≡ Some message → station.line.state ≡ Notification
-it_waits line station message waits pending =
-    (subst (λ (p : Option InFlight). IfSome p (λ message. (station.line.state ≡ Notification) × (line_of_id message.id ≡ line))) pending waits).0
+it_waits : (line : ℕ) (endpoint : Endpoint) (message : InFlight) → Waits line endpoint → endpoint.post.pending ≡ Some message → endpoint.line.state ≡ Notification
+it_waits line endpoint message waits pending =
+    (subst (λ (p : Option InFlight). IfSome p (λ message. (endpoint.line.state ≡ Notification) × (line_of_id message.id ≡ line))) pending waits).0
 
-pub no_command_at_an_act : (setup : Setup) (line moment : ℕ) (act : Act) (station : Station) (message : InFlight) → Waits line station → station.post.pending ≡ Some message
-    → BeginsNothing station (acted_on setup line moment act station)
-no_command_at_an_act setup line moment act station message waits pending =
-    noted_begins_nothing setup line moment station (phoned station.line act moment)
-    (phoned_waits station.line act moment (it_waits line station message waits pending)).silent
+pub no_command_at_an_act : (setup : Setup) (line moment : ℕ) (act : Act) (endpoint : Endpoint) (message : InFlight) → Waits line endpoint → endpoint.post.pending ≡ Some message
+    → BeginsNothing endpoint (acted_on setup line moment act endpoint)
+no_command_at_an_act setup line moment act endpoint message waits pending =
+    noted_begins_nothing setup line moment endpoint (phoned endpoint.line act moment)
+    (phoned_waits endpoint.line act moment (it_waits line endpoint message waits pending)).silent
 
-pub no_command_at_a_deed : (setup : Setup) (deed : Deed) (line moment : ℕ) (station : Station) (message : InFlight) → Waits line station
-    → station.post.pending ≡ Some message → BeginsNothing station (deed_on setup deed moment line station)
+pub no_command_at_a_deed : (setup : Setup) (deed : Deed) (line moment : ℕ) (endpoint : Endpoint) (message : InFlight) → Waits line endpoint
+    → endpoint.post.pending ≡ Some message → BeginsNothing endpoint (deed_on setup deed moment line endpoint)
 unfolding deed_on
-no_command_at_a_deed setup deed line moment station message waits pending =
-    let begins = noted_begins_nothing setup line moment (with_connections deed (with_entity deed.entity station)) (asked_if deed.request station.line moment)
-    (asked_waits deed.request station.line moment (it_waits line station message waits pending)).silent in
+no_command_at_a_deed setup deed line moment endpoint message waits pending =
+    let begins = noted_begins_nothing setup line moment (with_connections deed (with_entity deed.entity endpoint)) (asked_if deed.request endpoint.line moment)
+    (asked_waits deed.request endpoint.line moment (it_waits line endpoint message waits pending)).silent in
     record { pending = begins.pending; sent = begins.sent }
 
-pub no_command_when_due : (setup : Setup) (due : LineDue) (line moment : ℕ) (station : Station) (message : InFlight) → Waits line station → station.post.pending ≡ Some message
-    → BeginsNothing station (happened_on (OfLine due) setup line moment station)
+pub no_command_when_due : (setup : Setup) (due : LineDue) (line moment : ℕ) (endpoint : Endpoint) (message : InFlight) → Waits line endpoint → endpoint.post.pending ≡ Some message
+    → BeginsNothing endpoint (happened_on (OfLine due) setup line moment endpoint)
 unfolding happened_on
-no_command_when_due setup due line moment station message waits pending =
-    noted_begins_nothing setup line moment station (fired station.line due moment)
-    (fired_waits station.line due moment (it_waits line station message waits pending)).silent
+no_command_when_due setup due line moment endpoint message waits pending =
+    noted_begins_nothing setup line moment endpoint (fired endpoint.line due moment)
+    (fired_waits endpoint.line due moment (it_waits line endpoint message waits pending)).silent
 
 -- a response that isn't the answer leaves the message in flight
 abbrev LeavesIt : InFlight → Effect Post → Type 0
@@ -584,16 +584,16 @@ it_is_put_off response moment post message pending =
     subst (λ (p : Option InFlight). IfSome (option_map (λ message. heard message response.id response.code moment) p) (IsSame message)) (sym pending)
     (heard_same message response.id response.code moment)
 
-pub no_command_at_another_response : (setup : Setup) (line moment : ℕ) (response : Response) (station : Station) (message : InFlight) → station.post.pending ≡ Some message
+pub no_command_at_another_response : (setup : Setup) (line moment : ℕ) (response : Response) (endpoint : Endpoint) (message : InFlight) → endpoint.post.pending ≡ Some message
     → reply_of message response.id response.code ≢ replies.Answered
-    → ((responded_on setup line moment response station).sent ≡ []) × IfSome (responded_on setup line moment response station).value.post.pending (IsSame message)
+    → ((responded_on setup line moment response endpoint).sent ≡ []) × IfSome (responded_on setup line moment response endpoint).value.post.pending (IsSame message)
 unfolding responded_on replied
-no_command_at_another_response setup line moment response station message pending other =
-    by_heard (heard_on station.post response) (other_is_no_answer station.post response message pending other) where
+no_command_at_another_response setup line moment response endpoint message pending other =
+    by_heard (heard_on endpoint.post response) (other_is_no_answer endpoint.post response message pending other) where
       by_heard : (heard : Heard) → IsPutOff heard
-          → ((responded_as heard setup line moment response station).sent ≡ []) × IfSome (responded_as heard setup line moment response station).value.post.pending (IsSame message)
-      by_heard Nothing is = (refl, it_stays station.post message pending)
-      by_heard PutOff is = (refl, it_is_put_off response moment station.post message pending)
+          → ((responded_as heard setup line moment response endpoint).sent ≡ []) × IfSome (responded_as heard setup line moment response endpoint).value.post.pending (IsSame message)
+      by_heard Nothing is = (refl, it_stays endpoint.post message pending)
+      by_heard PutOff is = (refl, it_is_put_off response moment endpoint.post message pending)
       by_heard (Redirected agent) is = absurd is
       by_heard (Answered agent) is = absurd is
 
@@ -633,15 +633,15 @@ post_keeps setup line moment post message pending =
       by_repeat SentAgain = repeated_same message moment
       by_repeat GivenUp = tt
 
-pub repeat_carries : (setup : Setup) (line moment : ℕ) (station : Station) (message : InFlight) → station.post.pending ≡ Some message
-    → All (Carries line (message.repeats + 1) message) (happened_on Resend setup line moment station).sent
+pub repeat_carries : (setup : Setup) (line moment : ℕ) (endpoint : Endpoint) (message : InFlight) → endpoint.post.pending ≡ Some message
+    → All (Carries line (message.repeats + 1) message) (happened_on Resend setup line moment endpoint).sent
 unfolding happened_on
-repeat_carries setup line moment station message pending = post_carries setup line moment station.post message pending
+repeat_carries setup line moment endpoint message pending = post_carries setup line moment endpoint.post message pending
 
-pub repeat_keeps : (setup : Setup) (line moment : ℕ) (station : Station) (message : InFlight) → station.post.pending ≡ Some message
-    → IfSome (happened_on Resend setup line moment station).value.post.pending (IsSame message)
+pub repeat_keeps : (setup : Setup) (line moment : ℕ) (endpoint : Endpoint) (message : InFlight) → endpoint.post.pending ≡ Some message
+    → IfSome (happened_on Resend setup line moment endpoint).value.post.pending (IsSame message)
 unfolding happened_on
-repeat_keeps setup line moment station message pending = post_keeps setup line moment station.post message pending
+repeat_keeps setup line moment endpoint message pending = post_keeps setup line moment endpoint.post message pending
 
 pub own_carries : (setup : Setup) (moment : ℕ) (own : Post) (message : InFlight) → own.pending ≡ Some message
     → All (Carries 0 (message.repeats + 1) message) (happened_under Resend setup 0 moment own).sent
@@ -671,34 +671,34 @@ is_own setup endpoints moment response none =
     ap (λ (b : Bool). if b then own_heard setup endpoints moment response else on_line endpoints (line_of_id response.id) (responded_on setup (line_of_id response.id) moment response))
     ((Decides-eqb (line_of_id response.id) 0).1 none)
 
-pub line_stays : (endpoints : Endpoints) (line other : ℕ) (turn : Station → Effect Station) → other ≢ line → station_at (on_line endpoints line turn).value other ≡ station_at endpoints other
+pub line_stays : (endpoints : Endpoints) (line other : ℕ) (turn : Endpoint → Effect Endpoint) → other ≢ line → endpoint_at (on_line endpoints line turn).value other ≡ endpoint_at endpoints other
 unfolding on_line
-line_stays endpoints line other turn apart = by_station (station_at endpoints line) refl where
-  by_zero : (station : Station) (b c : Bool) → (line == 0) ≡ b → (other == 0) ≡ c → (if b then None else slice_get endpoints.stations (line - 1)) ≡ Some station
-      → (now : Station) → (if c then None else slice_get (slice_set endpoints.stations (line - 1) now) (other - 1)) ≡ (if c then None else slice_get endpoints.stations (other - 1))
-  by_zero station true c zero_line e at now = absurd cc
-  by_zero station false true some e at now = refl
-  by_zero station false false some more at now =
+line_stays endpoints line other turn apart = by_endpoint (endpoint_at endpoints line) refl where
+  by_zero : (endpoint : Endpoint) (b c : Bool) → (line == 0) ≡ b → (other == 0) ≡ c → (if b then None else slice_get endpoints.list (line - 1)) ≡ Some endpoint
+      → (now : Endpoint) → (if c then None else slice_get (slice_set endpoints.list (line - 1) now) (other - 1)) ≡ (if c then None else slice_get endpoints.list (other - 1))
+  by_zero endpoint true c zero_line e at now = absurd cc
+  by_zero endpoint false true some e at now = refl
+  by_zero endpoint false false some more at now =
       let one : line ≢ 0 = λ same. absurd (let b : (line == 0) ≡ true = (Decides-eqb line 0).1 same in cc) in
       let two : other ≢ 0 = λ same. absurd (let b : (other == 0) ≡ true = (Decides-eqb other 0).1 same in cc) in
-      other_station endpoints.stations (line - 1) (other - 1) now (λ same. apart (omega (arith, same, one, two)))
+      other_endpoint endpoints.list (line - 1) (other - 1) now (λ same. apart (omega (arith, same, one, two)))
 
-  by_station : (found : Option Station) → station_at endpoints line ≡ found → station_at (turned_at found endpoints line turn).value other ≡ station_at endpoints other
-  by_station None e = refl
-  by_station (Some station) e = by_zero station (line == 0) (other == 0) refl refl e _
+  by_endpoint : (found : Option Endpoint) → endpoint_at endpoints line ≡ found → endpoint_at (turned_at found endpoints line turn).value other ≡ endpoint_at endpoints other
+  by_endpoint None e = refl
+  by_endpoint (Some endpoint) e = by_zero endpoint (line == 0) (other == 0) refl refl e _
 
 pub others_stay : (setup : Setup) (endpoints : Endpoints) (moment : ℕ) (response : Response) (other : ℕ) → line_of_id response.id ≢ 0 → other ≢ line_of_id response.id
-    → station_at (responded setup endpoints moment response).value other ≡ station_at endpoints other
+    → endpoint_at (responded setup endpoints moment response).value other ≡ endpoint_at endpoints other
 others_stay setup endpoints moment response other some apart =
-    subst (λ (told : Effect Endpoints). station_at told.value other ≡ station_at endpoints other) (sym (is_of_line setup endpoints moment response some))
+    subst (λ (told : Effect Endpoints). endpoint_at told.value other ≡ endpoint_at endpoints other) (sym (is_of_line setup endpoints moment response some))
     (line_stays endpoints (line_of_id response.id) other (responded_on setup (line_of_id response.id) moment response) apart)
 
-pub own_stays_at : (endpoints : Endpoints) (line : ℕ) (turn : Station → Effect Station) → (on_line endpoints line turn).value.own ≡ endpoints.own
+pub own_stays_at : (endpoints : Endpoints) (line : ℕ) (turn : Endpoint → Effect Endpoint) → (on_line endpoints line turn).value.own ≡ endpoints.own
 unfolding on_line
-own_stays_at endpoints line turn = by_station (station_at endpoints line) where
-  by_station : (found : Option Station) → (turned_at found endpoints line turn).value.own ≡ endpoints.own
-  by_station None = refl
-  by_station (Some station) = refl
+own_stays_at endpoints line turn = by_endpoint (endpoint_at endpoints line) where
+  by_endpoint : (found : Option Endpoint) → (turned_at found endpoints line turn).value.own ≡ endpoints.own
+  by_endpoint None = refl
+  by_endpoint (Some endpoint) = refl
 
 pub own_stays : (setup : Setup) (endpoints : Endpoints) (moment : ℕ) (response : Response) → line_of_id response.id ≢ 0
     → (responded setup endpoints moment response).value.own ≡ endpoints.own
@@ -721,15 +721,15 @@ no_reply post response stranger = by_pending post.pending stranger where
   by_pending None stranger = refl
   by_pending (Some flight) apart = ap (λ (reply : Reply). heard_of post.restart reply response.code response.entity) (strange flight apart)
 
-pub a_stranger_does_nothing : (setup : Setup) (endpoints : Endpoints) (moment : ℕ) (response : Response) (station : Station) → station_at endpoints (line_of_id response.id) ≡ Some station
-    → IfSome station.post.pending (λ message. message.id ≢ response.id) → responded setup endpoints moment response ≡ silently endpoints
+pub a_stranger_does_nothing : (setup : Setup) (endpoints : Endpoints) (moment : ℕ) (response : Response) (endpoint : Endpoint) → endpoint_at endpoints (line_of_id response.id) ≡ Some endpoint
+    → IfSome endpoint.post.pending (λ message. message.id ≢ response.id) → responded setup endpoints moment response ≡ silently endpoints
 unfolding responded_on
-a_stranger_does_nothing setup endpoints moment response station at stranger =
+a_stranger_does_nothing setup endpoints moment response endpoint at stranger =
     let some : line_of_id response.id ≢ 0 = λ none. absurd (let yes : (line_of_id response.id == 0) ≡ true = (Decides-eqb (line_of_id response.id) 0).1 none in
-    let no = some_line endpoints (line_of_id response.id) station at in cc) in
+    let no = some_line endpoints (line_of_id response.id) endpoint at in cc) in
     is_of_line setup endpoints moment response some
-    ∙ on_still endpoints (line_of_id response.id) station (responded_on setup (line_of_id response.id) moment response) at
-    (ap (λ (heard : Heard). responded_as heard setup (line_of_id response.id) moment response station) (no_reply station.post response stranger))
+    ∙ on_still endpoints (line_of_id response.id) endpoint (responded_on setup (line_of_id response.id) moment response) at
+    (ap (λ (heard : Heard). responded_as heard setup (line_of_id response.id) moment response endpoint) (no_reply endpoint.post response stranger))
 
 -- what is heard by the gateway itself
 pub nothing_heard : (setup : Setup) (endpoints : Endpoints) (moment : ℕ) (response : Response) → line_of_id response.id ≡ 0 → heard_on endpoints.own response ≡ Nothing
@@ -745,10 +745,10 @@ a_stranger_to_itself setup endpoints moment response none stranger =
     nothing_heard setup endpoints moment response none (no_reply endpoints.own response stranger)
 
 pub lines_keep : (setup : Setup) (endpoints : Endpoints) (moment : ℕ) (response : Response) → line_of_id response.id ≡ 0 → heard_on endpoints.own response ≡ PutOff
-    → (responded setup endpoints moment response).value.stations ≡ endpoints.stations
+    → (responded setup endpoints moment response).value.list ≡ endpoints.list
 unfolding replied_on replied
 lines_keep setup endpoints moment response none is =
-    ap (λ (t : Effect Endpoints). t.value.stations) (is_own setup endpoints moment response none
+    ap (λ (t : Effect Endpoints). t.value.list) (is_own setup endpoints moment response none
     ∙ ap (λ (heard : Heard). afterwards (effect_map (with_own endpoints) (replied heard setup 0 moment response endpoints.own)) (λ next. lines_told heard setup moment next)) is)
 
 -- once it serves nothing is heard any more

@@ -28,7 +28,7 @@ use Rattle.command_forms.specs.declared.forms.Deed.{Deed}
 use Rattle.plain_machine.specs.declared.post.Post.{Post}
 use Rattle.plain_machine.specs.declared.response.Response.{Response}
 use Rattle.plain_machine.specs.declared.setup.Setup.{Setup}
-use Rattle.plain_machine.specs.declared.station.Station.{Station}
+use Rattle.plain_machine.specs.declared.endpoint.Endpoint.{Endpoint}
 use Rattle.plain_machine.specs.Effect.{Effect}
 use Rattle.plain_machine.specs.Acting.{acted_on, acted}
 use Rattle.plain_machine.specs.Answering.{handled, took_all}
@@ -38,7 +38,7 @@ use Rattle.plain_machine.specs.Done.{Done}
 use Rattle.plain_machine.specs.Event.{GatewayEvent}
 use Rattle.plain_machine.specs.Falling.{due_by, happened_on, happened_under, happened, go_on, passed, room, pass}
 use Rattle.plain_machine.specs.Happening.{effect}
-use Rattle.plain_machine.specs.Machine.{Endpoints, Machine, station_at, on_line, on_lines, on_own, on_either}
+use Rattle.plain_machine.specs.Machine.{Endpoints, Machine, endpoint_at, on_line, on_lines, on_own, on_either}
 use Rattle.plain_machine.specs.Announcing.{heard_on, replied_on}
 use Rattle.plain_machine.specs.Posting.{line_of_id}
 use Rattle.plain_machine.specs.Requesting.{encoding_with, connected_on, refusal_by, refused_by, lines_meant, deed_on, shown_by, unless_refused, deed_done, line_with_place, done_there, done_for}
@@ -47,34 +47,34 @@ use Rattle.plain_machine.proofs.EffectLaws.{turned_lines, happened_lines, handle
 use Rattle.gateway_laws.proofs.FlightLaws.{line_stays}
 use Rattle.gateway_laws.proofs.TurnLemmas.{Turns, Holds, of_line, acted_goes, happened_goes, pass_goes, handled_on_all, took_on_all, event_on_all}
 use Rattle.gateway_laws.proofs.StandingLemmas.{happenings, deed_connections, noted_same, happened_same, responded_same, redirected_same, opened_same, AnySent, AnyOwn, OfConnections, Keeps, connection_turns, any_own_turns}
-use Rattle.gateway_laws.proofs.NumberLaws.{one_more, one_station, all_from, at_next}
+use Rattle.gateway_laws.proofs.NumberLaws.{one_more, one_endpoint, all_from, at_next}
 use Rattle.gateway_laws.proofs.DeedLaws.{turned_here}
 
-abbrev connections_in : Option Station → Option Standing
-connections_in found = option_map (λ (station : Station). station.connections) found
+abbrev connections_in : Option Endpoint → Option Standing
+connections_in found = option_map (λ (endpoint : Endpoint). endpoint.connections) found
 
 -- What leaves connections as they are
 
-on_line_same : (endpoints : Endpoints) (line other : ℕ) (turn : Station → Effect Station) → ((station : Station) → (turn station).value.connections ≡ station.connections)
+on_line_same : (endpoints : Endpoints) (line other : ℕ) (turn : Endpoint → Effect Endpoint) → ((endpoint : Endpoint) → (turn endpoint).value.connections ≡ endpoint.connections)
     → standing_at (on_line endpoints line turn).value other ≡ standing_at endpoints other
 on_line_same endpoints line other turn same = by_test (other == line) refl where
-  by_station : (found : Option Station) → station_at endpoints line ≡ found → standing_at (on_line endpoints line turn).value line ≡ standing_at endpoints line
-  by_station None at = ap (λ (t : Effect Endpoints). standing_at t.value line) (on_nothing endpoints line turn at)
-  by_station (Some station) at = ap connections_in (turned_here endpoints line station turn at) ∙ ap Some (same station) ∙ sym (ap connections_in at)
+  by_endpoint : (found : Option Endpoint) → endpoint_at endpoints line ≡ found → standing_at (on_line endpoints line turn).value line ≡ standing_at endpoints line
+  by_endpoint None at = ap (λ (t : Effect Endpoints). standing_at t.value line) (on_nothing endpoints line turn at)
+  by_endpoint (Some endpoint) at = ap connections_in (turned_here endpoints line endpoint turn at) ∙ ap Some (same endpoint) ∙ sym (ap connections_in at)
 
   by_test : (b : Bool) → (other == line) ≡ b → standing_at (on_line endpoints line turn).value other ≡ standing_at endpoints other
   by_test true e =
-      subst (λ (x : ℕ). standing_at (on_line endpoints line turn).value x ≡ standing_at endpoints x) (sym ((Decides-eqb other line).0 e)) (by_station (station_at endpoints line) refl)
+      subst (λ (x : ℕ). standing_at (on_line endpoints line turn).value x ≡ standing_at endpoints x) (sym ((Decides-eqb other line).0 e)) (by_endpoint (endpoint_at endpoints line) refl)
   by_test false e = ap connections_in (line_stays endpoints line other turn (λ same. (let t : (other == line) ≡ true = (Decides-eqb other line).1 same in absurd cc)))
 
-either_same : (endpoints : Endpoints) (line other : ℕ) (own_turn : Post → Effect Post) (turn : Station → Effect Station) → ((station : Station) → (turn station).value.connections ≡ station.connections)
+either_same : (endpoints : Endpoints) (line other : ℕ) (own_turn : Post → Effect Post) (turn : Endpoint → Effect Endpoint) → ((endpoint : Endpoint) → (turn endpoint).value.connections ≡ endpoint.connections)
     → standing_at (on_either endpoints line own_turn turn).value other ≡ standing_at endpoints other
 either_same endpoints line other own_turn turn same = by_test (line == 0) where
   by_test : (b : Bool) → standing_at (if b then on_own endpoints own_turn else on_line endpoints line turn).value other ≡ standing_at endpoints other
   by_test true = refl
   by_test false = on_line_same endpoints line other turn same
 
-several_same : (lines : List ℕ) (endpoints : Endpoints) (other : ℕ) (turn : ℕ → Station → Effect Station) → ((line : ℕ) (station : Station) → (turn line station).value.connections ≡ station.connections)
+several_same : (lines : List ℕ) (endpoints : Endpoints) (other : ℕ) (turn : ℕ → Endpoint → Effect Endpoint) → ((line : ℕ) (endpoint : Endpoint) → (turn line endpoint).value.connections ≡ endpoint.connections)
     → standing_at (on_lines lines endpoints turn).value other ≡ standing_at endpoints other
 unfolding on_lines
 several_same [] endpoints other turn same = refl
@@ -83,15 +83,15 @@ several_same (line ∷ lines) endpoints other turn same =
 
 pub act_leaves : (setup : Setup) (endpoints : Endpoints) (line moment other : ℕ) (act : Act) → standing_at (acted setup endpoints line moment act).value other ≡ standing_at endpoints other
 act_leaves setup endpoints line moment other act =
-    on_line_same endpoints line other (acted_on setup line moment act) (λ station. noted_same setup line moment station (phoned station.line act moment))
+    on_line_same endpoints line other (acted_on setup line moment act) (λ endpoint. noted_same setup line moment endpoint (phoned endpoint.line act moment))
 
 told_leaves : (heard : Heard) (setup : Setup) (moment : ℕ) (endpoints : Endpoints) (other : ℕ) → standing_at (lines_told heard setup moment endpoints).value other ≡ standing_at endpoints other
 told_leaves Nothing setup moment endpoints other = refl
 told_leaves PutOff setup moment endpoints other = refl
 told_leaves (Redirected agent) setup moment endpoints other =
-    several_same (lines_meant endpoints All) endpoints other (redirected_on agent) (λ line station. redirected_same agent line station)
+    several_same (lines_meant endpoints All) endpoints other (redirected_on agent) (λ line endpoint. redirected_same agent line endpoint)
 told_leaves (Answered agent) setup moment endpoints other =
-    several_same (lines_meant endpoints All) endpoints other (opened_on agent setup moment) (λ line station. opened_same setup agent line moment station)
+    several_same (lines_meant endpoints All) endpoints other (opened_on agent setup moment) (λ line endpoint. opened_same setup agent line moment endpoint)
 
 pub response_leaves : (setup : Setup) (endpoints : Endpoints) (moment : ℕ) (response : Response) (other : ℕ)
     → standing_at (responded setup endpoints moment response).value other ≡ standing_at endpoints other
@@ -100,12 +100,12 @@ response_leaves setup endpoints moment response other = by_test (line_of_id resp
       else on_line endpoints (line_of_id response.id) (responded_on setup (line_of_id response.id) moment response)).value other ≡ standing_at endpoints other
   by_test true = told_leaves (heard_on endpoints.own response) setup moment (on_own endpoints (replied_on setup 0 moment response)).value other
   by_test false = on_line_same endpoints (line_of_id response.id) other (responded_on setup (line_of_id response.id) moment response)
-      (λ station. responded_same setup (line_of_id response.id) moment response station)
+      (λ endpoint. responded_same setup (line_of_id response.id) moment response endpoint)
 
 pub due_leaves : (setup : Setup) (endpoints : Endpoints) (item : DueItem) (other : ℕ) → standing_at (happened setup endpoints item).value other ≡ standing_at endpoints other
 due_leaves setup endpoints item other =
     either_same endpoints item.line other (happened_under item.kind setup 0 item.moment) (happened_on item.kind setup item.line item.moment)
-    (λ station. happened_same setup item.kind item.line item.moment station)
+    (λ endpoint. happened_same setup item.kind item.line item.moment endpoint)
 
 passed_leaves : (n : ℕ) (setup : Setup) (endpoints : Endpoints) (moment other : ℕ) → standing_at (passed n setup endpoints moment).value other ≡ standing_at endpoints other
 unfolding passed
@@ -122,10 +122,10 @@ pub pass_leaves : (setup : Setup) (endpoints : Endpoints) (moment other : ℕ) �
 unfolding pass
 pass_leaves setup endpoints moment other = passed_leaves (room endpoints moment) setup endpoints moment other
 
-kept_by : (setup : Setup) (deed : Deed) (moment line : ℕ) (station : Station) → deed.connections ≡ Keep → (deed_on setup deed moment line station).value.connections ≡ station.connections
+kept_by : (setup : Setup) (deed : Deed) (moment line : ℕ) (endpoint : Endpoint) → deed.connections ≡ Keep → (deed_on setup deed moment line endpoint).value.connections ≡ endpoint.connections
 unfolding after
-kept_by setup deed moment line station is =
-    deed_connections setup deed moment line station ∙ ap (λ (d : ConnectionDeed). after station.connections (happenings d (encoding_with deed station))) is
+kept_by setup deed moment line endpoint is =
+    deed_connections setup deed moment line endpoint ∙ ap (λ (d : ConnectionDeed). after endpoint.connections (happenings d (encoding_with deed endpoint))) is
 
 -- what a deed leaves that isn't one with connections
 abbrev Leaves : Endpoints → ℕ → Done → Type 0
@@ -134,7 +134,7 @@ Leaves endpoints other done = standing_at done.told.value other ≡ standing_at 
 deed_leaves_on : (setup : Setup) (endpoints : Endpoints) (lines : Target) (more : List Param) (deed : Deed) (moment other : ℕ) → deed.connections ≡ Keep
     → Leaves endpoints other (deed_done setup endpoints lines more deed moment)
 deed_leaves_on setup endpoints lines more deed moment other is =
-    by_refusal (refused_by endpoints lines deed) _ (several_same (lines_meant endpoints lines) endpoints other (deed_on setup deed moment) (λ line station. kept_by setup deed moment line station is)) where
+    by_refusal (refused_by endpoints lines deed) _ (several_same (lines_meant endpoints lines) endpoints other (deed_on setup deed moment) (λ line endpoint. kept_by setup deed moment line endpoint is)) where
       by_refusal : (refusal : Option ℕ) (done : Done) → Leaves endpoints other done → Leaves endpoints other (unless_refused refusal endpoints done)
       by_refusal (Some code) done leaves = refl
       by_refusal None done leaves = leaves
@@ -163,23 +163,23 @@ created_given encoding creation standing request fine = by_made (created encodin
       let next = next_number encoding creation standing done is in
       (ap (λ (number : ℕ). id_param number ∷ []) next.0, next.1)
 
-pub number_given : (setup : Setup) (deed : Deed) (creation : Creation) (moment line : ℕ) (station : Station) → deed.connections ≡ Create creation → refusal_by deed station ≡ None
-    → ((shown_by (connected_on deed station)).params ≡ id_param (station.connections.last + 1) ∷ [])
-    × ((deed_on setup deed moment line station).value.connections.last ≡ station.connections.last + 1)
-number_given setup deed creation moment line station is fine =
-    let encoding : Encoding = encoding_with deed station in
-    let was : Standing = station.connections in
-    let request : Option ℕ = option_and_then (refusal_of station.line) deed.request in
+pub number_given : (setup : Setup) (deed : Deed) (creation : Creation) (moment line : ℕ) (endpoint : Endpoint) → deed.connections ≡ Create creation → refusal_by deed endpoint ≡ None
+    → ((shown_by (connected_on deed endpoint)).params ≡ id_param (endpoint.connections.last + 1) ∷ [])
+    × ((deed_on setup deed moment line endpoint).value.connections.last ≡ endpoint.connections.last + 1)
+number_given setup deed creation moment line endpoint is fine =
+    let encoding : Encoding = encoding_with deed endpoint in
+    let was : Standing = endpoint.connections in
+    let request : Option ℕ = option_and_then (refusal_of endpoint.line) deed.request in
     let given = created_given encoding creation was request (subst (λ (d : ConnectionDeed). first_fault (result_err (connected d encoding was) ∷ request ∷ []) ≡ None) is fine) in (
       subst (λ (d : ConnectionDeed). (shown_by (connected d encoding was)).params ≡ id_param (was.last + 1) ∷ []) (sym is) given.0,
-      ap (λ (s : Standing). s.last) (deed_connections setup deed moment line station) ∙ ap (λ (d : ConnectionDeed). (after was (happenings d encoding)).last) is ∙ given.1,
+      ap (λ (s : Standing). s.last) (deed_connections setup deed moment line endpoint) ∙ ap (λ (d : ConnectionDeed). (after was (happenings d encoding)).last) is ∙ given.1,
     )
 
 -- The last number is never less
 
 -- of the connections of a line, where there was such a line
 abbrev NoLess : Endpoints → ℕ → Standing → Type 0
-NoLess were line standing = (was : Station) → station_at were line ≡ Some was → was.connections.last ≤ standing.last
+NoLess were line standing = (was : Endpoint) → endpoint_at were line ≡ Some was → was.connections.last ≤ standing.last
 
 le_trans : (a b c : ℕ) → a ≤ b → b ≤ c → a ≤ c
 le_trans a b c ab bc = omega arith
@@ -195,10 +195,10 @@ le_refl n = omega arith
 
 begins_last : (were : Endpoints) → Holds (OfConnections (NoLess were)) AnyOwn were
 begins_last were = record {
-  stations = all_from (OfConnections (NoLess were) false) 1 were.stations
-      (λ place station at was before.
-      let same : was ≡ station = one_station (station_at were (1 + place)) was station before (at_next were place ∙ at) in
-      subst (λ (s : Station). was.connections.last ≤ s.connections.last) same (le_refl was.connections.last));
+  list = all_from (OfConnections (NoLess were) false) 1 were.list
+      (λ place endpoint at was before.
+      let same : was ≡ endpoint = one_endpoint (endpoint_at were (1 + place)) was endpoint before (at_next were place ∙ at) in
+      subst (λ (s : Endpoint). was.connections.last ≤ s.connections.last) same (le_refl was.connections.last));
   own = tt;
 }
 
@@ -206,31 +206,31 @@ last_turns : (setup : Setup) (were : Endpoints) → Turns setup (OfConnections (
 last_turns setup were = connection_turns setup (NoLess were) (keeps_last were)
 
 -- a line is still there where there are as many
-still : (stations others : List Station) (place : ℕ) (was : Station) → length others ≡ length stations → slice_get stations place ≡ Some was
-    → (is : Station) × (slice_get others place ≡ Some is)
+still : (list others : List Endpoint) (place : ℕ) (was : Endpoint) → length others ≡ length list → slice_get list place ≡ Some was
+    → (is : Endpoint) × (slice_get others place ≡ Some is)
 still [] others place was as_many at = absurd (none-some was at)
-still (first ∷ stations) [] place was as_many at = absurd (omega (arith, as_many))
-still (first ∷ stations) (other ∷ others) zero was as_many at = (other, refl)
-still (first ∷ stations) (other ∷ others) (suc place) was as_many at = still stations others place was (omega (arith, as_many)) at
+still (first ∷ list) [] place was as_many at = absurd (omega (arith, as_many))
+still (first ∷ list) (other ∷ others) zero was as_many at = (other, refl)
+still (first ∷ list) (other ∷ others) (suc place) was as_many at = still list others place was (omega (arith, as_many)) at
 
-still_there : (were are : Endpoints) (line : ℕ) (was : Station) → length are.stations ≡ length were.stations → station_at were line ≡ Some was
-    → (is : Station) × (station_at are line ≡ Some is)
+still_there : (were are : Endpoints) (line : ℕ) (was : Endpoint) → length are.list ≡ length were.list → endpoint_at were line ≡ Some was
+    → (is : Endpoint) × (endpoint_at are line ≡ Some is)
 still_there were are line was as_many at = by_zero (line == 0) at where
-  by_zero : (b : Bool) → (if b then None else slice_get were.stations (line - 1)) ≡ Some was → (is : Station) × ((if b then None else slice_get are.stations (line - 1)) ≡ Some is)
+  by_zero : (b : Bool) → (if b then None else slice_get were.list (line - 1)) ≡ Some was → (is : Endpoint) × ((if b then None else slice_get are.list (line - 1)) ≡ Some is)
   by_zero true at = absurd (none-some was at)
-  by_zero false at = still were.stations are.stations (line - 1) was as_many at
+  by_zero false at = still were.list are.list (line - 1) was as_many at
 
-numbers_go_on : (were are : Endpoints) → length are.stations ≡ length were.stations → Holds (OfConnections (NoLess were)) AnyOwn are → NumbersGoOn were are
-numbers_go_on were are as_many holds line was at = by_station (station_at were line) refl at where
-  by_station : (found : Option Station) → station_at were line ≡ found → connections_in found ≡ Some was
+numbers_go_on : (were are : Endpoints) → length are.list ≡ length were.list → Holds (OfConnections (NoLess were)) AnyOwn are → NumbersGoOn were are
+numbers_go_on were are as_many holds line was at = by_endpoint (endpoint_at were line) refl at where
+  by_endpoint : (found : Option Endpoint) → endpoint_at were line ≡ found → connections_in found ≡ Some was
       → (is : Standing) × (standing_at are line ≡ Some is) × (was.last ≤ is.last)
-  by_station None before e = absurd cc
-  by_station (Some station) before e =
-      let here = still_there were are line station as_many before in
-      let same : station.connections ≡ was = cc in (
+  by_endpoint None before e = absurd cc
+  by_endpoint (Some endpoint) before e =
+      let here = still_there were are line endpoint as_many before in
+      let same : endpoint.connections ≡ was = cc in (
         here.0.connections,
         ap connections_in here.1,
-        subst (λ (s : Standing). s.last ≤ here.0.connections.last) same (of_line (OfConnections (NoLess were) false) are line here.0 holds.stations here.1 station before),
+        subst (λ (s : Standing). s.last ≤ here.0.connections.last) same (of_line (OfConnections (NoLess were) false) are line here.0 holds.list here.1 endpoint before),
       )
 
 pub act_goes_on : (setup : Setup) (endpoints : Endpoints) (line moment : ℕ) (act : Act) → NumbersGoOn endpoints (acted setup endpoints line moment act).value

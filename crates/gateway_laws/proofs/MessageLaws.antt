@@ -37,12 +37,12 @@ use Rattle.command_forms.specs.declared.forms.AuditTarget.TheVariants as audits
 use Rattle.command_forms.specs.declared.forms.Target.{Target}
 use Rattle.command_forms.specs.declared.forms.Target.TheVariants.{One, All as AllLines, Any as AnyLine}
 use Rattle.plain_machine.specs.declared.setup.Setup.{Setup}
-use Rattle.plain_machine.specs.declared.station.Station.{Station}
+use Rattle.plain_machine.specs.declared.endpoint.Endpoint.{Endpoint}
 use Rattle.transmission.specs.declared.output.OutDatagram.{OutDatagram}
 use Rattle.plain_machine.specs.Effect.{Effect}
 use Rattle.plain_machine.specs.Event.{GatewayEvent, datagram, phone, tick}
 use Rattle.plain_machine.specs.Message.{Sent, of_none, answer as answers, again, acknowledgement, datagram_of, datagrams_of}
-use Rattle.plain_machine.specs.Machine.{serves, Endpoints, Machine, opening, station_at, numbered}
+use Rattle.plain_machine.specs.Machine.{serves, Endpoints, Machine, opening, endpoint_at, numbered}
 use Rattle.transmission.specs.Texts.{largest_datagram, texts_of}
 use Rattle.transmission.specs.Packing.{messages_in}
 use Rattle.plain_machine.specs.Packing.{put_out}
@@ -172,7 +172,7 @@ HasLines setup endpoints = Holds (OfConnections (HasLine setup)) AnyOwn endpoint
 -- a machine that belongs to a setup, and whose commands in flight can go out again
 pub record Fits (setup : Setup) (m : Machine) : Type 0 where
   pub set_up : IsSetUp setup
-  pub lines : length m.endpoints.stations ≡ setup.names.lines
+  pub lines : length m.endpoints.list ≡ setup.names.lines
   pub holds : Holds (Always Sound) OwnSound m.endpoints
   pub places : HasLines setup m.endpoints
   pub shows : Holds (Always Shows) AnyOwn m.endpoints
@@ -180,23 +180,23 @@ pub record Fits (setup : Setup) (m : Machine) : Type 0 where
 -- An audit
 
 -- of one line, or of one connection
-line_answered : (setup : Setup) (m : Machine) (id line : ℕ) (audit : Audit) → Fits setup m → IsId id → IsFit id (answer_by (line_report (station_at m.endpoints line) id audit))
-line_answered setup m id line audit fits has = by_station (station_at m.endpoints line) refl where
-  by_connection : (station : Station) (connection : Option (List ℕ)) → IsShowable (audited_endpoint station)
-      → IsFit id (answer_by (report_by connection id (audited_endpoint station) (items_of audit.items)))
-  by_connection station None is =
-      report_goes id (endpoint_report id (audited_endpoint station) (items_of audit.items)) has
-      (λ answer e. line_written id (audited_endpoint station) (items_of audit.items) answer is e) (λ code e. line_code id (audited_endpoint station) (items_of audit.items) code e)
-  by_connection station (Some connection) is =
-      report_goes id (connection_report id (audited_endpoint station) connection (items_of audit.items)) has
-      (λ answer e. connection_written id (audited_endpoint station) connection (items_of audit.items) answer is e)
-      (λ code e. connection_code id (audited_endpoint station) connection (items_of audit.items) code e)
+line_answered : (setup : Setup) (m : Machine) (id line : ℕ) (audit : Audit) → Fits setup m → IsId id → IsFit id (answer_by (line_report (endpoint_at m.endpoints line) id audit))
+line_answered setup m id line audit fits has = by_endpoint (endpoint_at m.endpoints line) refl where
+  by_connection : (endpoint : Endpoint) (connection : Option (List ℕ)) → IsShowable (audited_endpoint endpoint)
+      → IsFit id (answer_by (report_by connection id (audited_endpoint endpoint) (items_of audit.items)))
+  by_connection endpoint None is =
+      report_goes id (endpoint_report id (audited_endpoint endpoint) (items_of audit.items)) has
+      (λ answer e. line_written id (audited_endpoint endpoint) (items_of audit.items) answer is e) (λ code e. line_code id (audited_endpoint endpoint) (items_of audit.items) code e)
+  by_connection endpoint (Some connection) is =
+      report_goes id (connection_report id (audited_endpoint endpoint) connection (items_of audit.items)) has
+      (λ answer e. connection_written id (audited_endpoint endpoint) connection (items_of audit.items) answer is e)
+      (λ code e. connection_code id (audited_endpoint endpoint) connection (items_of audit.items) code e)
 
-  by_station : (found : Option Station) → station_at m.endpoints line ≡ found → IsFit id (answer_by (line_report found id audit))
-  by_station None at = code_fits 500 id has (omega arith)
-  by_station (Some station) at =
-      by_connection station audit.connection (line_shows setup line station fits.set_up (of_line (Always Sound true) m.endpoints line station fits.holds.stations at)
-      (of_line (OfConnections (HasLine setup) true) m.endpoints line station fits.places.stations at) (of_line (Always Shows true) m.endpoints line station fits.shows.stations at))
+  by_endpoint : (found : Option Endpoint) → endpoint_at m.endpoints line ≡ found → IsFit id (answer_by (line_report found id audit))
+  by_endpoint None at = code_fits 500 id has (omega arith)
+  by_endpoint (Some endpoint) at =
+      by_connection endpoint audit.connection (line_shows setup line endpoint fits.set_up (of_line (Always Sound true) m.endpoints line endpoint fits.holds.list at)
+      (of_line (OfConnections (HasLine setup) true) m.endpoints line endpoint fits.places.list at) (of_line (Always Shows true) m.endpoints line endpoint fits.shows.list at))
 
 -- of all lines
 names_answered : (id : ℕ) (names : List Param) → IsId id → list_all is_writable_param names ≡ true → IsFit id (answer_by (fitting id (reported names)))
@@ -218,8 +218,8 @@ unfolding audited names_of
 audit_answered setup m id (audits.One line) audit fits has = line_answered setup m id line audit fits has
 audit_answered setup m id audits.All audit fits has =
     let lines : setup.names.lines ≤ most_lines = fits.set_up.lines in
-    let few : length m.endpoints.stations < 2 ^ 16 = omega (arith, fits.lines, lines) in
-    names_answered id (map (name_param setup) (numbered m.endpoints)) has (names_writable setup m.endpoints.stations fits.set_up.domain few)
+    let few : length m.endpoints.list < 2 ^ 16 = omega (arith, fits.lines, lines) in
+    names_answered id (map (name_param setup) (numbered m.endpoints)) has (names_writable setup m.endpoints.list fits.set_up.domain few)
 
 -- What a deed is answered
 
@@ -268,11 +268,11 @@ answer_with_goes id more deed shown has one is =
 
 shown_of_is : (setup : Setup) (endpoints : Endpoints) (lines : Target) (deed : Deed) → IsSetUp setup → HasLines setup endpoints → IsShown (shown_of endpoints lines deed)
 unfolding shown_of
-shown_of_is setup endpoints (One line) deed set_up has = by_station (station_at endpoints line) refl where
-  by_station : (found : Option Station) → station_at endpoints line ≡ found → IsShown (shown_on found deed)
-  by_station None at = nothing_is
-  by_station (Some station) at =
-      connected_is setup set_up line station.connections (of_line (OfConnections (HasLine setup) true) endpoints line station has.stations at) deed.connections (encoding_with deed station)
+shown_of_is setup endpoints (One line) deed set_up has = by_endpoint (endpoint_at endpoints line) refl where
+  by_endpoint : (found : Option Endpoint) → endpoint_at endpoints line ≡ found → IsShown (shown_on found deed)
+  by_endpoint None at = nothing_is
+  by_endpoint (Some endpoint) at =
+      connected_is setup set_up line endpoint.connections (of_line (OfConnections (HasLine setup) true) endpoints line endpoint has.list at) deed.connections (encoding_with deed endpoint)
 shown_of_is setup endpoints AllLines deed set_up has = nothing_is
 shown_of_is setup endpoints AnyLine deed set_up has = nothing_is
 
@@ -291,7 +291,7 @@ name_more setup line set_up few =
     let short = param_short (codes "Z") (name_text (patterns.One line) setup.names.domain) 72 (omega arith) (name_short line setup.names.domain few set_up.domain) in
     (rw fine refl, omega (arith, short, length-append (ended (param_line (name_of_line setup line))) []))
 
-target_answered : (setup : Setup) (endpoints : Endpoints) (target : Target) (deed : Deed) (moment id : ℕ) → IsSetUp setup → length endpoints.stations ≡ setup.names.lines
+target_answered : (setup : Setup) (endpoints : Endpoints) (target : Target) (deed : Deed) (moment id : ℕ) → IsSetUp setup → length endpoints.list ≡ setup.names.lines
     → HasLines setup endpoints → IsId id → AnswerGoes id (done_for setup endpoints target deed moment)
 target_answered setup endpoints (One line) deed moment id set_up lines places has = deed_answered setup endpoints (One line) [] deed moment id set_up places has no_more
 target_answered setup endpoints AllLines deed moment id set_up lines places has = deed_answered setup endpoints AllLines [] deed moment id set_up places has no_more

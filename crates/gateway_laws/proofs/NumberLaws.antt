@@ -21,9 +21,9 @@ use Rattle.connections.specs.Life.{Happening, creates, modifies, deletes, after_
 use Rattle.connections.proofs.IdentifierLemmas.{one_number}
 use Rattle.connections.proofs.LifeLaws.{never_past}
 use Rattle.plain_machine.specs.declared.setup.Setup.{Setup}
-use Rattle.plain_machine.specs.declared.station.Station.{Station}
+use Rattle.plain_machine.specs.declared.endpoint.Endpoint.{Endpoint}
 use Rattle.plain_machine.specs.Event.{GatewayEvent}
-use Rattle.plain_machine.specs.Machine.{Endpoints, Machine, serves, port_of, opening, station_at}
+use Rattle.plain_machine.specs.Machine.{Endpoints, Machine, serves, port_of, opening, endpoint_at}
 use Rattle.plain_machine.specs.Lists.{machine_after, plain, connections_of}
 use Rattle.plain_machine.specs.Calls.{connection_at, port_at, IsOnLine}
 use Rattle.plain_machine.proofs.ListLaws.{machine_on}
@@ -34,21 +34,21 @@ use Rattle.gateway_laws.proofs.StandingLemmas.{OfConnections, AnyOwn, AnySent, K
 -- what holds of the connections of each line from the opening on
 pub always : (setup : Setup) (C : ℕ → Standing → Type 0) → Keeps C
     → ((line : ℕ) → 1 ≤ line → line ≤ setup.names.lines → C line (no_connections setup.media_address (port_of setup line)))
-    → (events : List GatewayEvent) (line : ℕ) (station : Station) → station_at (plain setup events).endpoints line ≡ Some station → C line station.connections
-always setup C keeps opens events line station at =
-    of_line (OfConnections C (serves (plain setup events).endpoints)) (plain setup events).endpoints line station
-    (events_on_all setup (OfConnections C) AnyOwn AnySent (connection_turns setup C keeps) (any_own_turns setup C) (opening setup) events (connections_always setup C keeps opens)).stations at
+    → (events : List GatewayEvent) (line : ℕ) (endpoint : Endpoint) → endpoint_at (plain setup events).endpoints line ≡ Some endpoint → C line endpoint.connections
+always setup C keeps opens events line endpoint at =
+    of_line (OfConnections C (serves (plain setup events).endpoints)) (plain setup events).endpoints line endpoint
+    (events_on_all setup (OfConnections C) AnyOwn AnySent (connection_turns setup C keeps) (any_own_turns setup C) (opening setup) events (connections_always setup C keeps opens)).list at
 
 -- Places
 
-places_seen : (found : Option Station) (places : List (Option Connection)) → option_map (λ (station : Station). station.connections.places) found ≡ Some places
-    → (station : Station) × (found ≡ Some station) × (station.connections.places ≡ places)
+places_seen : (found : Option Endpoint) (places : List (Option Connection)) → option_map (λ (endpoint : Endpoint). endpoint.connections.places) found ≡ Some places
+    → (endpoint : Endpoint) × (found ≡ Some endpoint) × (endpoint.connections.places ≡ places)
 places_seen None places e = absurd cc
-places_seen (Some station) places e = (station, refl, (let same : station.connections.places ≡ places = cc in same))
+places_seen (Some endpoint) places e = (endpoint, refl, (let same : endpoint.connections.places ≡ places = cc in same))
 
 pub four_places : (setup : Setup) (events : List GatewayEvent) (line : ℕ) (places : List (Option Connection)) → connections_of (plain setup events) line ≡ Some places → length places ≡ 4
 four_places setup events line places e =
-    let seen = places_seen (station_at (plain setup events).endpoints line) places e in
+    let seen = places_seen (endpoint_at (plain setup events).endpoints line) places e in
     ap length (sym seen.2) ∙ (line_has_places setup events line seen.0 seen.1).places.four
 
 few_numbers : (places : List (Option Connection)) → length (numbers_in places) ≤ length places
@@ -79,9 +79,9 @@ none_more : (standing : Standing) → standing ≡ after standing []
 unfolding after
 none_more standing = refl
 
-pub line_life : (setup : Setup) (events : List GatewayEvent) (line : ℕ) (station : Station) → station_at (plain setup events).endpoints line ≡ Some station
-    → (happenings : List Happening) × (station.connections ≡ after (no_connections setup.media_address (port_of setup line)) happenings)
-line_life setup events line station at =
+pub line_life : (setup : Setup) (events : List GatewayEvent) (line : ℕ) (endpoint : Endpoint) → endpoint_at (plain setup events).endpoints line ≡ Some endpoint
+    → (happenings : List Happening) × (endpoint.connections ≡ after (no_connections setup.media_address (port_of setup line)) happenings)
+line_life setup events line endpoint at =
     let start : ℕ → Standing = λ line. no_connections setup.media_address (port_of setup line) in
     always setup (λ line standing. Life (start line) standing)
     (λ line standing happening life. (
@@ -89,7 +89,7 @@ line_life setup events line station at =
       ap (λ (s : Standing). after_one s happening) life.1
           ∙ sym (one_more (after (start line) life.0) happening) ∙ sym (after-append (start line) life.0 (happening ∷ [])),
     ))
-    (λ line low high. ([], none_more (start line))) events line station at
+    (λ line low high. ([], none_more (start line))) events line endpoint at
 
 -- Ports
 
@@ -105,21 +105,21 @@ record IsPort (setup : Setup) (line place port : ℕ) : Type 0 where
   is : port ≡ setup.media_base + 8 * (line - 1) + 2 * place
 
 port_seen : (setup : Setup) (events : List GatewayEvent) (line place port : ℕ) → port_at (plain setup events) line place ≡ Some port → IsPort setup line place port
-port_seen setup events line place port e = by_station (station_at (plain setup events).endpoints line) refl e where
-  by_held : (station : Station) (held : Option Connection) → get_or station.connections.places place None ≡ held
-      → HasLine setup line station.connections → option_map (λ connection. (described station.connections place connection).port) held ≡ Some port → IsPort setup line place port
-  by_held station None here has e = absurd cc
-  by_held station (Some connection) here has e =
-      let same : station.connections.port + 2 * place ≡ port = cc in
-      let first : station.connections.port ≡ setup.media_base + 8 * (line - 1) = has.places.port_is in
-      let four : length station.connections.places ≡ 4 = has.places.four in
-      record { some = has.some; inside = omega (arith, beyond station.connections.places place connection here, four); is = omega (arith, same, first) }
+port_seen setup events line place port e = by_endpoint (endpoint_at (plain setup events).endpoints line) refl e where
+  by_held : (endpoint : Endpoint) (held : Option Connection) → get_or endpoint.connections.places place None ≡ held
+      → HasLine setup line endpoint.connections → option_map (λ connection. (described endpoint.connections place connection).port) held ≡ Some port → IsPort setup line place port
+  by_held endpoint None here has e = absurd cc
+  by_held endpoint (Some connection) here has e =
+      let same : endpoint.connections.port + 2 * place ≡ port = cc in
+      let first : endpoint.connections.port ≡ setup.media_base + 8 * (line - 1) = has.places.port_is in
+      let four : length endpoint.connections.places ≡ 4 = has.places.four in
+      record { some = has.some; inside = omega (arith, beyond endpoint.connections.places place connection here, four); is = omega (arith, same, first) }
 
-  by_station : (found : Option Station) → station_at (plain setup events).endpoints line ≡ found
-      → option_and_then (λ station. option_map (λ connection. (described station.connections place connection).port) (get_or station.connections.places place None)) found ≡ Some port
+  by_endpoint : (found : Option Endpoint) → endpoint_at (plain setup events).endpoints line ≡ found
+      → option_and_then (λ endpoint. option_map (λ connection. (described endpoint.connections place connection).port) (get_or endpoint.connections.places place None)) found ≡ Some port
       → IsPort setup line place port
-  by_station None at e = absurd cc
-  by_station (Some station) at e = by_held station (get_or station.connections.places place None) refl (line_has_places setup events line station at) e
+  by_endpoint None at e = absurd cc
+  by_endpoint (Some endpoint) at e = by_held endpoint (get_or endpoint.connections.places place None) refl (line_has_places setup events line endpoint at) e
 
 apart_ports : (base line other place next : ℕ) → 1 ≤ line → 1 ≤ other → place < 4 → next < 4
     → base + 8 * (line - 1) + 2 * place ≡ base + 8 * (other - 1) + 2 * next → (line ≡ other) × (place ≡ next)
@@ -302,43 +302,43 @@ none_numbered setup line = record {
   apart = λ place other connection next here there same. absurd (no_place place connection here);
 }
 
--- a connection that is seen stands on a station
+-- a connection that is seen stands on an endpoint
 record IsSeen (m : Machine) (line place : ℕ) (connection : Connection) : Type 0 where
-  station : Station
-  at : station_at m.endpoints line ≡ Some station
-  here : get_or station.connections.places place None ≡ Some connection
+  endpoint : Endpoint
+  at : endpoint_at m.endpoints line ≡ Some endpoint
+  here : get_or endpoint.connections.places place None ≡ Some connection
 
 seen_at : (m : Machine) (line place : ℕ) (connection : Connection) → connection_at m line place ≡ Some connection → IsSeen m line place connection
-seen_at m line place connection e = by_station (station_at m.endpoints line) refl e where
-  by_station : (found : Option Station) → station_at m.endpoints line ≡ found → option_and_then (λ station. get_or station.connections.places place None) found ≡ Some connection
+seen_at m line place connection e = by_endpoint (endpoint_at m.endpoints line) refl e where
+  by_endpoint : (found : Option Endpoint) → endpoint_at m.endpoints line ≡ found → option_and_then (λ endpoint. get_or endpoint.connections.places place None) found ≡ Some connection
       → IsSeen m line place connection
-  by_station None at e = absurd cc
-  by_station (Some station) at e = record { station = station; at = at; here = e }
+  by_endpoint None at e = absurd cc
+  by_endpoint (Some endpoint) at e = record { endpoint = endpoint; at = at; here = e }
 
-pub one_station : (found : Option Station) (station other : Station) → found ≡ Some station → found ≡ Some other → station ≡ other
-one_station found station other one two = let same : Some station ≡ Some other = sym one ∙ two in cc
+pub one_endpoint : (found : Option Endpoint) (endpoint other : Endpoint) → found ≡ Some endpoint → found ≡ Some other → endpoint ≡ other
+one_endpoint found endpoint other one two = let same : Some endpoint ≡ Some other = sym one ∙ two in cc
 
-line_numbered : (setup : Setup) (events : List GatewayEvent) (line : ℕ) (station : Station) → station_at (plain setup events).endpoints line ≡ Some station → Numbered station.connections
-line_numbered setup events line station at =
+line_numbered : (setup : Setup) (events : List GatewayEvent) (line : ℕ) (endpoint : Endpoint) → endpoint_at (plain setup events).endpoints line ≡ Some endpoint → Numbered endpoint.connections
+line_numbered setup events line endpoint at =
     always setup (λ line standing. Numbered standing) (λ line standing happening n. numbered_on standing (after_one standing happening) (one_step standing happening) n)
-    (λ line low high. none_numbered setup line) events line station at
+    (λ line low high. none_numbered setup line) events line endpoint at
 
 pub numbers_apart : (setup : Setup) (events : List GatewayEvent) (line place other : ℕ) (connection next : Connection)
     → connection_at (plain setup events) line place ≡ Some connection → connection_at (plain setup events) line other ≡ Some next → connection.number ≡ next.number → place ≡ other
 numbers_apart setup events line place other connection next one two same =
     let p = seen_at (plain setup events) line place connection one in
     let q = seen_at (plain setup events) line other next two in
-    let together : q.station ≡ p.station = one_station (station_at (plain setup events).endpoints line) q.station p.station q.at p.at in
-    let there : get_or p.station.connections.places other None ≡ Some next = subst (λ (s : Station). get_or s.connections.places other None ≡ Some next) together q.here in
-    (line_numbered setup events line p.station p.at).apart place other connection next p.here there same
+    let together : q.endpoint ≡ p.endpoint = one_endpoint (endpoint_at (plain setup events).endpoints line) q.endpoint p.endpoint q.at p.at in
+    let there : get_or p.endpoint.connections.places other None ≡ Some next = subst (λ (s : Endpoint). get_or s.connections.places other None ≡ Some next) together q.here in
+    (line_numbered setup events line p.endpoint p.at).apart place other connection next p.here there same
 
 -- no number is past the greatest, so that no two connections have one identifier
 
-no_more : (setup : Setup) (events : List GatewayEvent) (line : ℕ) (station : Station) → station_at (plain setup events).endpoints line ≡ Some station → station.connections.last ≤ greatest
-no_more setup events line station at =
+no_more : (setup : Setup) (events : List GatewayEvent) (line : ℕ) (endpoint : Endpoint) → endpoint_at (plain setup events).endpoints line ≡ Some endpoint → endpoint.connections.last ≤ greatest
+no_more setup events line endpoint at =
     always setup (λ line standing. standing.last ≤ greatest)
     (λ line standing happening few. subst (λ (s : Standing). s.last ≤ greatest) (one_more standing happening) (never_past standing (happening ∷ []) few))
-    (λ line low high. omega arith) events line station at
+    (λ line low high. omega arith) events line endpoint at
 
 pub names_apart : (setup : Setup) (events : List GatewayEvent) (line place other : ℕ) (id : List ℕ) (connection next : Connection)
     → connection_at (plain setup events) line place ≡ Some connection → connection_at (plain setup events) line other ≡ Some next
@@ -349,8 +349,8 @@ names_apart setup events line place other id connection next one two named again
       few : (place : ℕ) (connection : Connection) → connection_at (plain setup events) line place ≡ Some connection → connection.number ≤ greatest
       few place connection e =
           let seen = seen_at (plain setup events) line place connection e in
-          let low : connection.number ≤ seen.station.connections.last = (line_numbered setup events line seen.station seen.at).below place connection seen.here in
-          let high : seen.station.connections.last ≤ greatest = no_more setup events line seen.station seen.at in
+          let low : connection.number ≤ seen.endpoint.connections.last = (line_numbered setup events line seen.endpoint seen.at).below place connection seen.here in
+          let high : seen.endpoint.connections.last ≤ greatest = no_more setup events line seen.endpoint seen.at in
           omega (arith, low, high)
 
 -- Never again
@@ -384,61 +384,61 @@ later_on was is next step later = record {
       absurd (omega (arith, low, same, last, new.0))
 
 -- of a machine, each line of which begins as it is
-pub all_from : (P : ℕ → Station → Type 0) (n : ℕ) (stations : List Station) → ((place : ℕ) (station : Station) → slice_get stations place ≡ Some station → P (n + place) station)
-    → OnAll P n stations
+pub all_from : (P : ℕ → Endpoint → Type 0) (n : ℕ) (list : List Endpoint) → ((place : ℕ) (endpoint : Endpoint) → slice_get list place ≡ Some endpoint → P (n + place) endpoint)
+    → OnAll P n list
 all_from P n [] each = tt
-all_from P n (station ∷ stations) each = (
-  subst (λ (i : ℕ). P i station) (let e : n + 0 ≡ n = omega arith in e) (each 0 station refl),
-  all_from P (n + 1) stations (λ place other at. subst (λ (i : ℕ). P i other) (let e : n + suc place ≡ n + 1 + place = omega arith in e) (each (suc place) other at)),
+all_from P n (endpoint ∷ list) each = (
+  subst (λ (i : ℕ). P i endpoint) (let e : n + 0 ≡ n = omega arith in e) (each 0 endpoint refl),
+  all_from P (n + 1) list (λ place other at. subst (λ (i : ℕ). P i other) (let e : n + suc place ≡ n + 1 + place = omega arith in e) (each (suc place) other at)),
 )
 
-pub at_next : (endpoints : Endpoints) (place : ℕ) → station_at endpoints (1 + place) ≡ slice_get endpoints.stations place
+pub at_next : (endpoints : Endpoints) (place : ℕ) → endpoint_at endpoints (1 + place) ≡ slice_get endpoints.list place
 at_next endpoints place = by_test (1 + place == 0) refl where
-  by_test : (b : Bool) → (1 + place == 0) ≡ b → (if b then None else slice_get endpoints.stations (1 + place - 1)) ≡ slice_get endpoints.stations place
+  by_test : (b : Bool) → (1 + place == 0) ≡ b → (if b then None else slice_get endpoints.list (1 + place - 1)) ≡ slice_get endpoints.list place
   by_test true e = absurd (let no : 1 + place ≡ 0 = grind (arith, nat_tests) in omega arith)
-  by_test false e = ap (slice_get endpoints.stations) (let same : 1 + place - 1 ≡ place = omega arith in same)
+  by_test false e = ap (slice_get endpoints.list) (let same : 1 + place - 1 ≡ place = omega arith in same)
 
-keeps_grown : (m : Machine) → Keeps (λ line standing. (was : Station) → station_at m.endpoints line ≡ Some was → Later was.connections standing)
+keeps_grown : (m : Machine) → Keeps (λ line standing. (was : Endpoint) → endpoint_at m.endpoints line ≡ Some was → Later was.connections standing)
 keeps_grown m line standing happening grown was at = later_on was.connections standing (after_one standing happening) (one_step standing happening) (grown was at)
 
-begins_grown : (m : Machine) → Holds (OfConnections (λ line standing. (was : Station) → station_at m.endpoints line ≡ Some was → Later was.connections standing)) AnyOwn m.endpoints
+begins_grown : (m : Machine) → Holds (OfConnections (λ line standing. (was : Endpoint) → endpoint_at m.endpoints line ≡ Some was → Later was.connections standing)) AnyOwn m.endpoints
 begins_grown m = record {
-  stations = all_from (OfConnections (λ line standing. (was : Station) → station_at m.endpoints line ≡ Some was → Later was.connections standing) false) 1 m.endpoints.stations
-      (λ place station at was before.
-      let same : was ≡ station = one_station (station_at m.endpoints (1 + place)) was station before (at_next m.endpoints place ∙ at) in
-      subst (λ (s : Station). Later was.connections s.connections) same (later_same was.connections));
+  list = all_from (OfConnections (λ line standing. (was : Endpoint) → endpoint_at m.endpoints line ≡ Some was → Later was.connections standing) false) 1 m.endpoints.list
+      (λ place endpoint at was before.
+      let same : was ≡ endpoint = one_endpoint (endpoint_at m.endpoints (1 + place)) was endpoint before (at_next m.endpoints place ∙ at) in
+      subst (λ (s : Endpoint). Later was.connections s.connections) same (later_same was.connections));
   own = tt;
 }
 
-grown : (setup : Setup) (m : Machine) (events : List GatewayEvent) (line : ℕ) (was is : Station) → station_at m.endpoints line ≡ Some was
-    → station_at (machine_after setup m events).endpoints line ≡ Some is → Later was.connections is.connections
+grown : (setup : Setup) (m : Machine) (events : List GatewayEvent) (line : ℕ) (was is : Endpoint) → endpoint_at m.endpoints line ≡ Some was
+    → endpoint_at (machine_after setup m events).endpoints line ≡ Some is → Later was.connections is.connections
 grown setup m events line was is before at =
-    of_line (OfConnections (λ line standing. (was : Station) → station_at m.endpoints line ≡ Some was → Later was.connections standing) false) (machine_after setup m events).endpoints line is
-    (events_on_all setup _ AnyOwn AnySent (connection_turns setup _ (keeps_grown m)) (any_own_turns setup _) m events (begins_grown m)).stations at was before
+    of_line (OfConnections (λ line standing. (was : Endpoint) → endpoint_at m.endpoints line ≡ Some was → Later was.connections standing) false) (machine_after setup m events).endpoints line is
+    (events_on_all setup _ AnyOwn AnySent (connection_turns setup _ (keeps_grown m)) (any_own_turns setup _) m events (begins_grown m)).list at was before
 
 -- a line that stands later stood before
-back : (setup : Setup) (m : Machine) (events : List GatewayEvent) (line : ℕ) (is : Station) → station_at (machine_after setup m events).endpoints line ≡ Some is
-    → (was : Station) × (station_at m.endpoints line ≡ Some was)
+back : (setup : Setup) (m : Machine) (events : List GatewayEvent) (line : ℕ) (is : Endpoint) → endpoint_at (machine_after setup m events).endpoints line ≡ Some is
+    → (was : Endpoint) × (endpoint_at m.endpoints line ≡ Some was)
 back setup m events line is at =
-    of_line (λ line station. (was : Station) × (station_at m.endpoints line ≡ Some was)) (machine_after setup m events).endpoints line is
-    (events_on_all setup (OfConnections (λ line standing. (was : Station) × (station_at m.endpoints line ≡ Some was))) AnyOwn AnySent
-    (connection_turns setup (λ line standing. (was : Station) × (station_at m.endpoints line ≡ Some was)) (λ line standing happening was. was)) (any_own_turns setup _) m events (record {
-      stations = all_from (OfConnections (λ line standing. (was : Station) × (station_at m.endpoints line ≡ Some was)) false) 1 m.endpoints.stations
-          (λ place station at. (station, at_next m.endpoints place ∙ at));
+    of_line (λ line endpoint. (was : Endpoint) × (endpoint_at m.endpoints line ≡ Some was)) (machine_after setup m events).endpoints line is
+    (events_on_all setup (OfConnections (λ line standing. (was : Endpoint) × (endpoint_at m.endpoints line ≡ Some was))) AnyOwn AnySent
+    (connection_turns setup (λ line standing. (was : Endpoint) × (endpoint_at m.endpoints line ≡ Some was)) (λ line standing happening was. was)) (any_own_turns setup _) m events (record {
+      list = all_from (OfConnections (λ line standing. (was : Endpoint) × (endpoint_at m.endpoints line ≡ Some was)) false) 1 m.endpoints.list
+          (λ place endpoint at. (endpoint, at_next m.endpoints place ∙ at));
       own = tt;
-    })).stations at
+    })).list at
 
 -- a number that is old stands later only if it stood
-old_stands : (setup : Setup) (m : Machine) (events : List GatewayEvent) (line number : ℕ) (was : Station) → station_at m.endpoints line ≡ Some was → number ≤ was.connections.last
+old_stands : (setup : Setup) (m : Machine) (events : List GatewayEvent) (line number : ℕ) (was : Endpoint) → endpoint_at m.endpoints line ≡ Some was → number ≤ was.connections.last
     → IsOnLine (machine_after setup m events) line number → IsOnLine m line number
 old_stands setup m events line number was before low stands =
     let seen = seen_at (machine_after setup m events) line stands.place stands.connection stands.here in
-    let later = grown setup m events line was seen.station before seen.at in
+    let later = grown setup m events line was seen.endpoint before seen.at in
     let has = later.old number low (record { place = stands.place; connection = stands.connection; here = seen.here; has = stands.has }) in
     record {
       place = has.place;
       connection = has.connection;
-      here = ap (option_and_then (λ (station : Station). get_or station.connections.places has.place None)) before ∙ has.here;
+      here = ap (option_and_then (λ (endpoint : Endpoint). get_or endpoint.connections.places has.place None)) before ∙ has.here;
       has = has.has;
     }
 
@@ -448,11 +448,11 @@ never_again setup before between later line number stood gone stands =
     let one : plain setup (before ++ between) ≡ machine_after setup (plain setup before) between = machine_on setup (opening setup) before between in
     let two : plain setup ((before ++ between) ++ later) ≡ machine_after setup (plain setup (before ++ between)) later = machine_on setup (opening setup) (before ++ between) later in
     let seen = seen_at (plain setup before) line stood.place stood.connection stood.here in
-    let low : stood.connection.number ≤ seen.station.connections.last = (line_numbered setup before line seen.station seen.at).below stood.place stood.connection seen.here in
+    let low : stood.connection.number ≤ seen.endpoint.connections.last = (line_numbered setup before line seen.endpoint seen.at).below stood.place stood.connection seen.here in
     let after_all : IsOnLine (machine_after setup (plain setup (before ++ between)) later) line number = subst (λ (m : Machine). IsOnLine m line number) two stands in
     let late = seen_at (machine_after setup (plain setup (before ++ between)) later) line after_all.place after_all.connection after_all.here in
-    let mid = back setup (plain setup (before ++ between)) later line late.station late.at in
-    let more = grown setup (plain setup before) between line seen.station mid.0 seen.at (subst (λ (m : Machine). station_at m.endpoints line ≡ Some mid.0) one mid.1) in
-    let last : seen.station.connections.last ≤ mid.0.connections.last = more.last in
+    let mid = back setup (plain setup (before ++ between)) later line late.endpoint late.at in
+    let more = grown setup (plain setup before) between line seen.endpoint mid.0 seen.at (subst (λ (m : Machine). endpoint_at m.endpoints line ≡ Some mid.0) one mid.1) in
+    let last : seen.endpoint.connections.last ≤ mid.0.connections.last = more.last in
     let same : stood.connection.number ≡ number = stood.has in
     gone (old_stands setup (plain setup (before ++ between)) later line number mid.0 mid.1 (omega (arith, low, last, same)) after_all)

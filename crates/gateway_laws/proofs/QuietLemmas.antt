@@ -34,14 +34,14 @@ use Rattle.command_forms.specs.declared.forms.Deed.{Deed}
 use Rattle.plain_machine.specs.declared.post.Post.{Post}
 use Rattle.plain_machine.specs.declared.response.Response.{Response}
 use Rattle.plain_machine.specs.declared.setup.Setup.{Setup}
-use Rattle.plain_machine.specs.declared.station.Station.{Station}
+use Rattle.plain_machine.specs.declared.endpoint.Endpoint.{Endpoint}
 use Rattle.transmission.specs.declared.output.OutDatagram.{OutDatagram}
 use Rattle.plain_machine.specs.Effect.{Effect}
 use Rattle.plain_machine.specs.Message.{Sent, is_answer, datagram_of, datagrams_of}
 use Rattle.plain_machine.specs.Posting.{line_of_id, repeated_as, resent_by, resent_on}
 use Rattle.plain_machine.specs.Announcing.{announced, announced_by, announced_on, heard_on, replied, replied_on}
 use Rattle.plain_machine.specs.Notifying.{posted, with_notice, noted}
-use Rattle.plain_machine.specs.Machine.{Endpoints, Machine, serves, station_at, turned_at, on_line, on_own, on_either, on_lines}
+use Rattle.plain_machine.specs.Machine.{Endpoints, Machine, serves, endpoint_at, turned_at, on_line, on_own, on_either, on_lines}
 use Rattle.plain_machine.specs.Acting.{acted_on, acted}
 use Rattle.plain_machine.specs.Falling.{due_by, happened_on, happened_under, happened, go_on, passed, room, pass}
 use Rattle.plain_machine.specs.Done.{Done}
@@ -69,10 +69,10 @@ quiet_both some more one two = answers-append some more ∙ ap (λ (x : List Out
 
 -- A turn of a line
 
-noted_quiet : (setup : Setup) (line moment : ℕ) (station : Station) (done : LineDone) → Quiet (noted setup line moment station done).sent
+noted_quiet : (setup : Setup) (line moment : ℕ) (endpoint : Endpoint) (done : LineDone) → Quiet (noted setup line moment endpoint done).sent
 unfolding noted
-noted_quiet setup line moment station done = by_notice done.notice where
-  by_notice : (notice : Option Notice) → Quiet (with_notice setup line moment (record station { line = done.line }) notice).sent
+noted_quiet setup line moment endpoint done = by_notice done.notice where
+  by_notice : (notice : Option Notice) → Quiet (with_notice setup line moment (record endpoint { line = done.line }) notice).sent
   by_notice None = refl
   by_notice (Some notice) = refl
 
@@ -94,11 +94,11 @@ announced_quiet setup line moment post = by_restart post.restart where
   by_restart Announced = refl
   by_restart Serving = refl
 
-happened_on_quiet : (due : DueKind) (setup : Setup) (line moment : ℕ) (station : Station) → Quiet (happened_on due setup line moment station).sent
+happened_on_quiet : (due : DueKind) (setup : Setup) (line moment : ℕ) (endpoint : Endpoint) → Quiet (happened_on due setup line moment endpoint).sent
 unfolding happened_on
-happened_on_quiet (OfLine due) setup line moment station = noted_quiet setup line moment station (fired station.line due moment)
-happened_on_quiet Resend setup line moment station = resent_quiet setup line moment station.post
-happened_on_quiet Announce setup line moment station = announced_quiet setup line moment station.post
+happened_on_quiet (OfLine due) setup line moment endpoint = noted_quiet setup line moment endpoint (fired endpoint.line due moment)
+happened_on_quiet Resend setup line moment endpoint = resent_quiet setup line moment endpoint.post
+happened_on_quiet Announce setup line moment endpoint = announced_quiet setup line moment endpoint.post
 
 own_happened_quiet : (due : DueKind) (setup : Setup) (moment : ℕ) (own : Post) → Quiet (happened_under due setup 0 moment own).sent
 unfolding happened_under
@@ -106,19 +106,19 @@ own_happened_quiet (OfLine due) setup moment own = refl
 own_happened_quiet Resend setup moment own = resent_quiet setup 0 moment own
 own_happened_quiet Announce setup moment own = announced_quiet setup 0 moment own
 
-deed_on_quiet : (setup : Setup) (deed : Deed) (moment line : ℕ) (station : Station) → Quiet (deed_on setup deed moment line station).sent
+deed_on_quiet : (setup : Setup) (deed : Deed) (moment line : ℕ) (endpoint : Endpoint) → Quiet (deed_on setup deed moment line endpoint).sent
 unfolding deed_on
-deed_on_quiet setup deed moment line station = noted_quiet setup line moment (with_connections deed (with_entity deed.entity station)) (asked_if deed.request station.line moment)
+deed_on_quiet setup deed moment line endpoint = noted_quiet setup line moment (with_connections deed (with_entity deed.entity endpoint)) (asked_if deed.request endpoint.line moment)
 
-responded_on_quiet : (setup : Setup) (line moment : ℕ) (response : Response) (station : Station) → Quiet (responded_on setup line moment response station).sent
+responded_on_quiet : (setup : Setup) (line moment : ℕ) (response : Response) (endpoint : Endpoint) → Quiet (responded_on setup line moment response endpoint).sent
 unfolding responded_on replied announced
-responded_on_quiet setup line moment response station = by_heard (heard_on station.post response) where
-  by_heard : (heard : Heard) → Quiet (responded_as heard setup line moment response station).sent
+responded_on_quiet setup line moment response endpoint = by_heard (heard_on endpoint.post response) where
+  by_heard : (heard : Heard) → Quiet (responded_as heard setup line moment response endpoint).sent
   by_heard Nothing = refl
   by_heard PutOff = refl
   by_heard (Redirected agent) = refl
   by_heard (Answered agent) =
-      let becomes = (posted station (replied (Answered agent) setup line moment response station.post)).value in
+      let becomes = (posted endpoint (replied (Answered agent) setup line moment response endpoint.post)).value in
       noted_quiet setup line moment becomes (answered becomes.line moment)
 
 own_responded_quiet : (setup : Setup) (moment : ℕ) (response : Response) (own : Post) → Quiet (replied_on setup 0 moment response own).sent
@@ -130,31 +130,31 @@ own_responded_quiet setup moment response own = by_heard (heard_on own response)
   by_heard (Redirected agent) = refl
   by_heard (Answered agent) = refl
 
-redirected_quiet : (agent : Entity) (line : ℕ) (station : Station) → Quiet (redirected_on agent line station).sent
+redirected_quiet : (agent : Entity) (line : ℕ) (endpoint : Endpoint) → Quiet (redirected_on agent line endpoint).sent
 unfolding redirected_on
-redirected_quiet agent line station = refl
+redirected_quiet agent line endpoint = refl
 
-opened_quiet : (agent : Option Entity) (setup : Setup) (moment line : ℕ) (station : Station) → Quiet (opened_on agent setup moment line station).sent
+opened_quiet : (agent : Option Entity) (setup : Setup) (moment line : ℕ) (endpoint : Endpoint) → Quiet (opened_on agent setup moment line endpoint).sent
 unfolding opened_on
-opened_quiet agent setup moment line station = noted_quiet setup line moment (with_entity agent station) (opened station.line moment)
+opened_quiet agent setup moment line endpoint = noted_quiet setup line moment (with_entity agent endpoint) (opened endpoint.line moment)
 
 -- An act, a response, and what falls due
 
-turned_quiet : (endpoints : Endpoints) (line : ℕ) (turn : Station → Effect Station) → ((station : Station) → Quiet (turn station).sent) → Quiet (on_line endpoints line turn).sent
+turned_quiet : (endpoints : Endpoints) (line : ℕ) (turn : Endpoint → Effect Endpoint) → ((endpoint : Endpoint) → Quiet (turn endpoint).sent) → Quiet (on_line endpoints line turn).sent
 unfolding on_line
-turned_quiet endpoints line turn quiet = by_station (station_at endpoints line) where
-  by_station : (found : Option Station) → Quiet (turned_at found endpoints line turn).sent
-  by_station None = refl
-  by_station (Some station) = quiet station
+turned_quiet endpoints line turn quiet = by_endpoint (endpoint_at endpoints line) where
+  by_endpoint : (found : Option Endpoint) → Quiet (turned_at found endpoints line turn).sent
+  by_endpoint None = refl
+  by_endpoint (Some endpoint) = quiet endpoint
 
-either_quiet : (endpoints : Endpoints) (line : ℕ) (own_turn : Post → Effect Post) (turn : Station → Effect Station) → ((own : Post) → Quiet (own_turn own).sent)
-    → ((station : Station) → Quiet (turn station).sent) → Quiet (on_either endpoints line own_turn turn).sent
+either_quiet : (endpoints : Endpoints) (line : ℕ) (own_turn : Post → Effect Post) (turn : Endpoint → Effect Endpoint) → ((own : Post) → Quiet (own_turn own).sent)
+    → ((endpoint : Endpoint) → Quiet (turn endpoint).sent) → Quiet (on_either endpoints line own_turn turn).sent
 either_quiet endpoints line own_turn turn own_quiet quiet = by_test (line == 0) where
   by_test : (b : Bool) → Quiet (if b then on_own endpoints own_turn else on_line endpoints line turn).sent
   by_test true = own_quiet endpoints.own
   by_test false = turned_quiet endpoints line turn quiet
 
-all_quiet : (lines : List ℕ) (endpoints : Endpoints) (turn : ℕ → Station → Effect Station) → ((line : ℕ) (station : Station) → Quiet (turn line station).sent)
+all_quiet : (lines : List ℕ) (endpoints : Endpoints) (turn : ℕ → Endpoint → Effect Endpoint) → ((line : ℕ) (endpoint : Endpoint) → Quiet (turn line endpoint).sent)
     → Quiet (on_lines lines endpoints turn).sent
 unfolding on_lines
 all_quiet [] endpoints turn quiet = refl
@@ -163,7 +163,7 @@ all_quiet (line ∷ lines) endpoints turn quiet =
 
 pub acted_quiet : (setup : Setup) (endpoints : Endpoints) (number moment : ℕ) (act : Act) → Quiet (acted setup endpoints number moment act).sent
 acted_quiet setup endpoints number moment act =
-    turned_quiet endpoints number (acted_on setup number moment act) (λ station. noted_quiet setup number moment station (phoned station.line act moment))
+    turned_quiet endpoints number (acted_on setup number moment act) (λ endpoint. noted_quiet setup number moment endpoint (phoned endpoint.line act moment))
 
 told_quiet : (heard : Heard) (setup : Setup) (moment : ℕ) (endpoints : Endpoints) → Quiet (lines_told heard setup moment endpoints).sent
 told_quiet Nothing setup moment endpoints = refl
@@ -198,7 +198,7 @@ heard_quiet (message (messages.Response code id params body)) setup m source =
 happened_quiet : (setup : Setup) (endpoints : Endpoints) (item : DueItem) → Quiet (happened setup endpoints item).sent
 happened_quiet setup endpoints item =
     either_quiet endpoints item.line (happened_under item.kind setup 0 item.moment) (happened_on item.kind setup item.line item.moment)
-    (own_happened_quiet item.kind setup item.moment) (λ station. happened_on_quiet item.kind setup item.line item.moment station)
+    (own_happened_quiet item.kind setup item.moment) (λ endpoint. happened_on_quiet item.kind setup item.line item.moment endpoint)
 
 passed_quiet : (n : ℕ) (setup : Setup) (endpoints : Endpoints) (moment : ℕ) → Quiet (passed n setup endpoints moment).sent
 unfolding passed

@@ -57,13 +57,13 @@ use Rattle.timers.specs.declared.kind.DueKind.{DueKind}
 use Rattle.timers.specs.declared.kind.DueKind.TheVariants.{OfLine, Resend, Announce}
 use Rattle.plain_machine.specs.declared.response.Response.{Response}
 use Rattle.plain_machine.specs.declared.setup.Setup.{Setup}
-use Rattle.plain_machine.specs.declared.station.Station.{Station}
+use Rattle.plain_machine.specs.declared.endpoint.Endpoint.{Endpoint}
 use Rattle.plain_machine.specs.Setup.{IsSetUp, most_lines}
 use Rattle.plain_machine.specs.Message.{Sent}
 use Rattle.plain_machine.specs.Posting.{repeated_as, resent_by}
 use Rattle.plain_machine.specs.Announcing.{announced, announced_by, heard_on, replied}
 use Rattle.plain_machine.specs.Notifying.{posted, with_notice, noted}
-use Rattle.plain_machine.specs.Machine.{port_of, opening_station, opening}
+use Rattle.plain_machine.specs.Machine.{port_of, opening_endpoint, opening}
 use Rattle.plain_machine.specs.Requesting.{with_entity, with_connections, encoding_with, asked_if, deed_on}
 use Rattle.plain_machine.specs.Falling.{happened_on}
 use Rattle.plain_machine.specs.Reporting.{audited_endpoint}
@@ -220,76 +220,76 @@ given_named hosts (Some param) entity was is old = by_entity (entity_of hosts pa
 
 -- The turns
 
-pub record Shows (line : ℕ) (station : Station) : Type 0 where
-  pub entity : is_entity_text station.post.entity.text ≡ true
-  pub places : AllShow station.connections.places
+pub record Shows (line : ℕ) (endpoint : Endpoint) : Type 0 where
+  pub entity : is_entity_text endpoint.post.entity.text ≡ true
+  pub places : AllShow endpoint.connections.places
 
-noted_entity : (setup : Setup) (line moment : ℕ) (station : Station) (done : LineDone) → (noted setup line moment station done).value.post.entity ≡ station.post.entity
+noted_entity : (setup : Setup) (line moment : ℕ) (endpoint : Endpoint) (done : LineDone) → (noted setup line moment endpoint done).value.post.entity ≡ endpoint.post.entity
 unfolding noted
-noted_entity setup line moment station done = by_notice done.notice where
-  by_notice : (notice : Option Notice) → (with_notice setup line moment (record station { line = done.line }) notice).value.post.entity ≡ station.post.entity
+noted_entity setup line moment endpoint done = by_notice done.notice where
+  by_notice : (notice : Option Notice) → (with_notice setup line moment (record endpoint { line = done.line }) notice).value.post.entity ≡ endpoint.post.entity
   by_notice None = refl
   by_notice (Some notice) = refl
 
-noted_shows : (setup : Setup) (line moment : ℕ) (station : Station) (done : LineDone) → Shows line station → Shows line (noted setup line moment station done).value
-noted_shows setup line moment station done shows = record {
-  entity = subst IsNamed (sym (noted_entity setup line moment station done)) shows.entity;
-  places = subst (λ (s : Standing). AllShow s.places) (sym (noted_same setup line moment station done)) shows.places;
+noted_shows : (setup : Setup) (line moment : ℕ) (endpoint : Endpoint) (done : LineDone) → Shows line endpoint → Shows line (noted setup line moment endpoint done).value
+noted_shows setup line moment endpoint done shows = record {
+  entity = subst IsNamed (sym (noted_entity setup line moment endpoint done)) shows.entity;
+  places = subst (λ (s : Standing). AllShow s.places) (sym (noted_same setup line moment endpoint done)) shows.places;
 }
 
 deed_shows : (setup : Setup) (command : Command) (confirms : KValue) (target : Target) (deed : Deed) → form_of command confirms setup.names ≡ Ok (Does target deed)
-    → (line moment : ℕ) (station : Station) → Shows line station → Shows line (deed_on setup deed moment line station).value
+    → (line moment : ℕ) (endpoint : Endpoint) → Shows line endpoint → Shows line (deed_on setup deed moment line endpoint).value
 unfolding deed_on
-deed_shows setup command confirms target deed is line moment station shows =
+deed_shows setup command confirms target deed is line moment endpoint shows =
     let has = deed_has_values command confirms setup.names target deed is in
-    let becomes = with_connections deed (with_entity deed.entity station) in
+    let becomes = with_connections deed (with_entity deed.entity endpoint) in
     record {
-      entity = subst IsNamed (sym (noted_entity setup line moment becomes (asked_if deed.request station.line moment)))
-          (given_named setup.names.table _ deed.entity station.post.entity has.entity shows.entity);
-      places = subst (λ (s : Standing). AllShow s.places) (sym (deed_connections setup deed moment line station))
-          (done_shows command.params command.body deed.connections (encoding_with deed station) station.connections has.connections shows.places);
+      entity = subst IsNamed (sym (noted_entity setup line moment becomes (asked_if deed.request endpoint.line moment)))
+          (given_named setup.names.table _ deed.entity endpoint.post.entity has.entity shows.entity);
+      places = subst (λ (s : Standing). AllShow s.places) (sym (deed_connections setup deed moment line endpoint))
+          (done_shows command.params command.body deed.connections (encoding_with deed endpoint) endpoint.connections has.connections shows.places);
     }
 
-happened_shows : (setup : Setup) (due : DueKind) (line moment : ℕ) (station : Station) → Shows line station → Shows line (happened_on due setup line moment station).value
+happened_shows : (setup : Setup) (due : DueKind) (line moment : ℕ) (endpoint : Endpoint) → Shows line endpoint → Shows line (happened_on due setup line moment endpoint).value
 unfolding happened_on announced
-happened_shows setup (OfLine due) line moment station shows = noted_shows setup line moment station (fired station.line due moment) shows
-happened_shows setup Resend line moment station shows = by_pending station.post.pending where
-  by_repeat : (flight : InFlight) (repeat : Repeat) → Shows line (posted station (repeated_as repeat setup line moment station.post flight)).value
+happened_shows setup (OfLine due) line moment endpoint shows = noted_shows setup line moment endpoint (fired endpoint.line due moment) shows
+happened_shows setup Resend line moment endpoint shows = by_pending endpoint.post.pending where
+  by_repeat : (flight : InFlight) (repeat : Repeat) → Shows line (posted endpoint (repeated_as repeat setup line moment endpoint.post flight)).value
   by_repeat flight SentAgain = record { entity = shows.entity; places = shows.places }
   by_repeat flight GivenUp = record { entity = shows.entity; places = shows.places }
 
-  by_pending : (pending : Option InFlight) → Shows line (posted station (resent_by pending setup line moment station.post)).value
+  by_pending : (pending : Option InFlight) → Shows line (posted endpoint (resent_by pending setup line moment endpoint.post)).value
   by_pending None = record { entity = shows.entity; places = shows.places }
   by_pending (Some flight) = by_repeat flight (repeat_of flight moment)
-happened_shows setup Announce line moment station shows = by_restart station.post.restart where
-  by_restart : (restart : Restart) → Shows line (posted station (announced_by restart setup line moment station.post)).value
+happened_shows setup Announce line moment endpoint shows = by_restart endpoint.post.restart where
+  by_restart : (restart : Restart) → Shows line (posted endpoint (announced_by restart setup line moment endpoint.post)).value
   by_restart (Waiting until) = record { entity = shows.entity; places = shows.places }
   by_restart Announced = record { entity = shows.entity; places = shows.places }
   by_restart Serving = record { entity = shows.entity; places = shows.places }
 
-responded_shows : (setup : Setup) (line moment : ℕ) (response : Response) (station : Station) → IsRead setup response → Shows line station
-    → Shows line (responded_on setup line moment response station).value
+responded_shows : (setup : Setup) (line moment : ℕ) (response : Response) (endpoint : Endpoint) → IsRead setup response → Shows line endpoint
+    → Shows line (responded_on setup line moment response endpoint).value
 unfolding responded_on replied announced
-responded_shows setup line moment response station read shows = by_heard (heard_on station.post response) (heard_read setup station.post response read) where
-  by_heard : (heard : Heard) → HeardRead setup heard → Shows line (responded_as heard setup line moment response station).value
+responded_shows setup line moment response endpoint read shows = by_heard (heard_on endpoint.post response) (heard_read setup endpoint.post response read) where
+  by_heard : (heard : Heard) → HeardRead setup heard → Shows line (responded_as heard setup line moment response endpoint).value
   by_heard Nothing named = shows
   by_heard PutOff named = record { entity = shows.entity; places = shows.places }
   by_heard (Redirected agent) named = record { entity = named_is setup agent named; places = shows.places }
   by_heard (Answered agent) named =
-      let becomes : Station = (posted station (replied (Answered agent) setup line moment response station.post)).value in
+      let becomes : Endpoint = (posted endpoint (replied (Answered agent) setup line moment response endpoint.post)).value in
       noted_shows setup line moment becomes (answered becomes.line moment)
-      (record { entity = perhaps_named setup agent station.post.entity named shows.entity; places = shows.places })
+      (record { entity = perhaps_named setup agent endpoint.post.entity named shows.entity; places = shows.places })
 
-redirected_shows : (setup : Setup) (agent : Entity) (line : ℕ) (station : Station) → IsEntity setup agent → Shows line station → Shows line (redirected_on agent line station).value
+redirected_shows : (setup : Setup) (agent : Entity) (line : ℕ) (endpoint : Endpoint) → IsEntity setup agent → Shows line endpoint → Shows line (redirected_on agent line endpoint).value
 unfolding redirected_on
-redirected_shows setup agent line station read shows = record { entity = named_is setup agent read; places = shows.places }
+redirected_shows setup agent line endpoint read shows = record { entity = named_is setup agent read; places = shows.places }
 
-opened_shows : (setup : Setup) (agent : Option Entity) (line moment : ℕ) (station : Station) → IfSome agent (IsEntity setup) → Shows line station
-    → Shows line (opened_on agent setup moment line station).value
+opened_shows : (setup : Setup) (agent : Option Entity) (line moment : ℕ) (endpoint : Endpoint) → IfSome agent (IsEntity setup) → Shows line endpoint
+    → Shows line (opened_on agent setup moment line endpoint).value
 unfolding opened_on
-opened_shows setup agent line moment station read shows =
-    noted_shows setup line moment (with_entity agent station) (opened station.line moment)
-    (record { entity = perhaps_named setup agent station.post.entity read shows.entity; places = shows.places })
+opened_shows setup agent line moment endpoint read shows =
+    noted_shows setup line moment (with_entity agent endpoint) (opened endpoint.line moment)
+    (record { entity = perhaps_named setup agent endpoint.post.entity read shows.entity; places = shows.places })
 
 any_sent : (sent : List Sent) → All AnySent sent
 any_sent [] = All-nil AnySent
@@ -297,24 +297,24 @@ any_sent (one ∷ sent) = All-cons AnySent one sent tt (any_sent sent)
 
 pub showing_turns : (setup : Setup) → Turns setup (Always Shows) AnySent
 showing_turns setup = record {
-  act = λ serving line moment act station shows. (noted_shows setup line moment station (phoned station.line act moment) shows, any_sent _);
-  deed = λ command confirms target deed is line moment station shows. (deed_shows setup command confirms target deed is line moment station shows, any_sent _);
-  response = λ serving line moment response station read shows. (responded_shows setup line moment response station read shows, any_sent _);
-  happening = λ serving due line moment station shows. (happened_shows setup due line moment station shows, any_sent _);
-  redirecting = λ agent line station read shows. (redirected_shows setup agent line station read shows, any_sent _);
-  opening = λ agent line moment station read shows. (opened_shows setup agent line moment station read shows, any_sent _);
+  act = λ serving line moment act endpoint shows. (noted_shows setup line moment endpoint (phoned endpoint.line act moment) shows, any_sent _);
+  deed = λ command confirms target deed is line moment endpoint shows. (deed_shows setup command confirms target deed is line moment endpoint shows, any_sent _);
+  response = λ serving line moment response endpoint read shows. (responded_shows setup line moment response endpoint read shows, any_sent _);
+  happening = λ serving due line moment endpoint shows. (happened_shows setup due line moment endpoint shows, any_sent _);
+  redirecting = λ agent line endpoint read shows. (redirected_shows setup agent line endpoint read shows, any_sent _);
+  opening = λ agent line moment endpoint read shows. (opened_shows setup agent line moment endpoint read shows, any_sent _);
 }
 
 pub showing_own_turns : (setup : Setup) → OwnTurns setup (Always Shows) AnyOwn AnySent
 showing_own_turns setup = record {
-  free = λ own any. inr (λ serving other line station shows. shows);
+  free = λ own any. inr (λ serving other line endpoint shows. shows);
   response = λ moment response own read any. (tt, any_sent _);
   happening = λ due moment own any. (tt, any_sent _);
 }
 
 pub opening_shows : (setup : Setup) → IsSetUp setup → Holds (Always Shows) AnyOwn (opening setup).endpoints
 opening_shows setup set_up = record {
-  stations = on_made Shows (opening_station setup) 1 setup.names.lines (λ i low high. record { entity = set_up.agent; places = (tt, (tt, (tt, (tt, tt)))) });
+  list = on_made Shows (opening_endpoint setup) 1 setup.names.lines (λ i low high. record { entity = set_up.agent; places = (tt, (tt, (tt, (tt, tt)))) });
   own = tt;
 }
 
@@ -324,15 +324,15 @@ not_any : (b : Bool) → not b ≡ true → b ≡ false
 not_any true e = absurd cc
 not_any false e = refl
 
-pub line_shows : (setup : Setup) (line : ℕ) (station : Station) → IsSetUp setup → Sound line station → HasLine setup line station.connections → Shows line station
-    → IsShowable (audited_endpoint station)
-line_shows setup line station set_up sound has shows =
+pub line_shows : (setup : Setup) (line : ℕ) (endpoint : Endpoint) → IsSetUp setup → Sound line endpoint → HasLine setup line endpoint.connections → Shows line endpoint
+    → IsShowable (audited_endpoint endpoint)
+line_shows setup line endpoint set_up sound has shows =
     let parts = and_parts _ _ shows.entity in
     let front = and_parts _ _ parts.0 in
     let address = address_is setup.media_address set_up.address in
-    let same : station.connections.address ≡ setup.media_address = has.places.address_is in
-    let port : station.connections.port ≡ port_of setup line = has.places.port_is in
-    let four : length station.connections.places ≡ 4 = has.places.four in
+    let same : endpoint.connections.address ≡ setup.media_address = has.places.address_is in
+    let port : endpoint.connections.port ≡ port_of setup line = has.places.port_is in
+    let four : length endpoint.connections.places ≡ 4 = has.places.four in
     let base : setup.media_base ≤ 64000 = set_up.ports in
     let few : line ≤ setup.names.lines = has.few in
     let lines : setup.names.lines ≤ most_lines = set_up.lines in

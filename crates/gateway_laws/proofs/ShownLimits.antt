@@ -32,7 +32,7 @@ use Rattle.command_forms.specs.declared.forms.ConnectionDeed.{ConnectionDeed}
 use Rattle.command_forms.specs.declared.forms.ConnectionDeed.TheVariants.{Keep, Create, Modify, Delete}
 use Rattle.plain_machine.specs.declared.setup.Setup.{Setup}
 use Rattle.plain_machine.specs.Setup.{is_address, IsSetUp, most_lines}
-use Rattle.plain_machine.specs.declared.station.Station.{Station}
+use Rattle.plain_machine.specs.declared.endpoint.Endpoint.{Endpoint}
 use Rattle.plain_machine.specs.Machine.{Endpoints, port_of}
 use Rattle.plain_machine.specs.Connecting.{Shown, nothing_shown, id_param, created_shown, modified_shown, counts_param, deleted_shown, showing, showing_what, connected}
 use Rattle.plain_machine.specs.Requesting.{shown_by, has_place, line_with_place}
@@ -93,18 +93,18 @@ nothing_is = record { each = refl; whole = refl; params = omega arith; body = om
 
 -- the line that is chosen is one of them
 
-chosen_within : (n line : ℕ) (stations : List Station) → option_map (λ (one : ℕ × Station). one.0) (find has_place (enumerate_from n stations)) ≡ Some line → line < n + length stations
+chosen_within : (n line : ℕ) (list : List Endpoint) → option_map (λ (one : ℕ × Endpoint). one.0) (find has_place (enumerate_from n list)) ≡ Some line → line < n + length list
 chosen_within n line [] e = absurd cc
-chosen_within n line (station ∷ stations) e = ⊎_elim
-    (λ (h : has_place (n, station) ≡ true). let here : Some n ≡ Some line = (rw h at e) in let same : n ≡ line = cc in omega arith)
-    (λ (h : has_place (n, station) ≡ false).
-    let there : option_map (λ (one : ℕ × Station). one.0) (find has_place (enumerate_from (n + 1) stations)) ≡ Some line = (rw h at e) in
-    omega (arith, chosen_within (n + 1) line stations there))
-    (cases_Bool (has_place (n, station)))
+chosen_within n line (endpoint ∷ list) e = ⊎_elim
+    (λ (h : has_place (n, endpoint) ≡ true). let here : Some n ≡ Some line = (rw h at e) in let same : n ≡ line = cc in omega arith)
+    (λ (h : has_place (n, endpoint) ≡ false).
+    let there : option_map (λ (one : ℕ × Endpoint). one.0) (find has_place (enumerate_from (n + 1) list)) ≡ Some line = (rw h at e) in
+    omega (arith, chosen_within (n + 1) line list there))
+    (cases_Bool (has_place (n, endpoint)))
 
-pub line_inside : (endpoints : Endpoints) (line : ℕ) → line_with_place endpoints ≡ Some line → line ≤ length endpoints.stations
+pub line_inside : (endpoints : Endpoints) (line : ℕ) → line_with_place endpoints ≡ Some line → line ≤ length endpoints.list
 unfolding line_with_place
-line_inside endpoints line e = omega (arith, chosen_within 1 line endpoints.stations e)
+line_inside endpoints line e = omega (arith, chosen_within 1 line endpoints.list e)
 
 -- the description of a connection of a line
 module _ (setup : Setup) (set_up : IsSetUp setup) (line : ℕ) (standing : Standing) (has : HasLine setup line standing) where

@@ -30,12 +30,12 @@ use Rattle.command_forms.specs.declared.forms.Deed.{Deed}
 use Rattle.plain_machine.specs.declared.post.Post.{Post}
 use Rattle.plain_machine.specs.declared.response.Response.{Response}
 use Rattle.plain_machine.specs.declared.setup.Setup.{Setup}
-use Rattle.plain_machine.specs.declared.station.Station.{Station}
+use Rattle.plain_machine.specs.declared.endpoint.Endpoint.{Endpoint}
 use Rattle.plain_machine.specs.Event.{GatewayEvent}
 use Rattle.plain_machine.specs.Message.{Sent}
 use Rattle.plain_machine.specs.Announcing.{heard_on, replied}
 use Rattle.plain_machine.specs.Notifying.{posted, with_notice, noted}
-use Rattle.plain_machine.specs.Machine.{serves, port_of, opening_station, opening, station_at}
+use Rattle.plain_machine.specs.Machine.{serves, port_of, opening_endpoint, opening, endpoint_at}
 use Rattle.plain_machine.specs.Connecting.{Shown, showing, showing_what, created_shown, modified_shown, deleted_shown, connected}
 use Rattle.plain_machine.specs.Requesting.{with_entity, with_connections, encoding_with, asked_if, deed_on}
 use Rattle.plain_machine.specs.Falling.{happened_on}
@@ -69,44 +69,44 @@ connected_after (Delete deletion) encoding was = left_showing_what (deleted_show
 
 -- A turn that is no deed leaves the connections as they are
 
-pub noted_same : (setup : Setup) (line moment : ℕ) (station : Station) (done : LineDone) → (noted setup line moment station done).value.connections ≡ station.connections
+pub noted_same : (setup : Setup) (line moment : ℕ) (endpoint : Endpoint) (done : LineDone) → (noted setup line moment endpoint done).value.connections ≡ endpoint.connections
 unfolding noted
-noted_same setup line moment station done = by_notice done.notice where
-  by_notice : (notice : Option Notice) → (with_notice setup line moment (record station { line = done.line }) notice).value.connections ≡ station.connections
+noted_same setup line moment endpoint done = by_notice done.notice where
+  by_notice : (notice : Option Notice) → (with_notice setup line moment (record endpoint { line = done.line }) notice).value.connections ≡ endpoint.connections
   by_notice None = refl
   by_notice (Some notice) = refl
 
-pub deed_connections : (setup : Setup) (deed : Deed) (moment line : ℕ) (station : Station)
-    → (deed_on setup deed moment line station).value.connections ≡ after station.connections (happenings deed.connections (encoding_with deed station))
+pub deed_connections : (setup : Setup) (deed : Deed) (moment line : ℕ) (endpoint : Endpoint)
+    → (deed_on setup deed moment line endpoint).value.connections ≡ after endpoint.connections (happenings deed.connections (encoding_with deed endpoint))
 unfolding deed_on
-deed_connections setup deed moment line station =
-    noted_same setup line moment (with_connections deed (with_entity deed.entity station)) (asked_if deed.request station.line moment)
-    ∙ connected_after deed.connections (encoding_with deed station) station.connections
+deed_connections setup deed moment line endpoint =
+    noted_same setup line moment (with_connections deed (with_entity deed.entity endpoint)) (asked_if deed.request endpoint.line moment)
+    ∙ connected_after deed.connections (encoding_with deed endpoint) endpoint.connections
 
-pub happened_same : (setup : Setup) (due : DueKind) (line moment : ℕ) (station : Station) → (happened_on due setup line moment station).value.connections ≡ station.connections
+pub happened_same : (setup : Setup) (due : DueKind) (line moment : ℕ) (endpoint : Endpoint) → (happened_on due setup line moment endpoint).value.connections ≡ endpoint.connections
 unfolding happened_on
-happened_same setup (OfLine due) line moment station = noted_same setup line moment station (fired station.line due moment)
-happened_same setup Resend line moment station = refl
-happened_same setup Announce line moment station = refl
+happened_same setup (OfLine due) line moment endpoint = noted_same setup line moment endpoint (fired endpoint.line due moment)
+happened_same setup Resend line moment endpoint = refl
+happened_same setup Announce line moment endpoint = refl
 
-pub responded_same : (setup : Setup) (line moment : ℕ) (response : Response) (station : Station) → (responded_on setup line moment response station).value.connections ≡ station.connections
+pub responded_same : (setup : Setup) (line moment : ℕ) (response : Response) (endpoint : Endpoint) → (responded_on setup line moment response endpoint).value.connections ≡ endpoint.connections
 unfolding responded_on
-responded_same setup line moment response station = by_heard (heard_on station.post response) where
-  by_heard : (heard : Heard) → (responded_as heard setup line moment response station).value.connections ≡ station.connections
+responded_same setup line moment response endpoint = by_heard (heard_on endpoint.post response) where
+  by_heard : (heard : Heard) → (responded_as heard setup line moment response endpoint).value.connections ≡ endpoint.connections
   by_heard Nothing = refl
   by_heard PutOff = refl
   by_heard (Redirected agent) = refl
   by_heard (Answered agent) =
-      let becomes = (posted station (replied (Answered agent) setup line moment response station.post)).value in
+      let becomes = (posted endpoint (replied (Answered agent) setup line moment response endpoint.post)).value in
       noted_same setup line moment becomes (answered becomes.line moment)
 
-pub redirected_same : (agent : Entity) (line : ℕ) (station : Station) → (redirected_on agent line station).value.connections ≡ station.connections
+pub redirected_same : (agent : Entity) (line : ℕ) (endpoint : Endpoint) → (redirected_on agent line endpoint).value.connections ≡ endpoint.connections
 unfolding redirected_on
-redirected_same agent line station = refl
+redirected_same agent line endpoint = refl
 
-pub opened_same : (setup : Setup) (agent : Option Entity) (line moment : ℕ) (station : Station) → (opened_on agent setup moment line station).value.connections ≡ station.connections
+pub opened_same : (setup : Setup) (agent : Option Entity) (line moment : ℕ) (endpoint : Endpoint) → (opened_on agent setup moment line endpoint).value.connections ≡ endpoint.connections
 unfolding opened_on
-opened_same setup agent line moment station = noted_same setup line moment (with_entity agent station) (opened station.line moment)
+opened_same setup agent line moment endpoint = noted_same setup line moment (with_entity agent endpoint) (opened endpoint.line moment)
 
 -- What they leave as it is
 
@@ -121,8 +121,8 @@ all_sent [] = All-nil AnySent
 all_sent (one ∷ sent) = All-cons AnySent one sent tt (all_sent sent)
 
 -- of the connections of a line
-abbrev pub OfConnections : (ℕ → Standing → Type 0) → Bool → ℕ → Station → Type 0
-OfConnections C serving line station = C line station.connections
+abbrev pub OfConnections : (ℕ → Standing → Type 0) → Bool → ℕ → Endpoint → Type 0
+OfConnections C serving line endpoint = C line endpoint.connections
 
 abbrev pub Keeps : (ℕ → Standing → Type 0) → Type 0
 Keeps C = (line : ℕ) (standing : Standing) (happening : Happening) → C line standing → C line (after_one standing happening)
@@ -134,21 +134,21 @@ kept_after C keeps line standing (happening ∷ more) holds = kept_after C keeps
 
 pub connection_turns : (setup : Setup) (C : ℕ → Standing → Type 0) → Keeps C → Turns setup (OfConnections C) AnySent
 connection_turns setup C keeps = record {
-  act = λ serving line moment act station holds. (subst (C line) (sym (noted_same setup line moment station (phoned station.line act moment))) holds, all_sent _);
-  deed = λ command confirms target deed is line moment station holds. (
-    subst (C line) (sym (deed_connections setup deed moment line station))
-        (kept_after C keeps line station.connections (happenings deed.connections (encoding_with deed station)) holds),
+  act = λ serving line moment act endpoint holds. (subst (C line) (sym (noted_same setup line moment endpoint (phoned endpoint.line act moment))) holds, all_sent _);
+  deed = λ command confirms target deed is line moment endpoint holds. (
+    subst (C line) (sym (deed_connections setup deed moment line endpoint))
+        (kept_after C keeps line endpoint.connections (happenings deed.connections (encoding_with deed endpoint)) holds),
     all_sent _,
   );
-  response = λ serving line moment response station read holds. (subst (C line) (sym (responded_same setup line moment response station)) holds, all_sent _);
-  happening = λ serving due line moment station holds. (subst (C line) (sym (happened_same setup due line moment station)) holds, all_sent _);
-  redirecting = λ agent line station read holds. (subst (C line) (sym (redirected_same agent line station)) holds, all_sent _);
-  opening = λ agent line moment station read holds. (subst (C line) (sym (opened_same setup agent line moment station)) holds, all_sent _);
+  response = λ serving line moment response endpoint read holds. (subst (C line) (sym (responded_same setup line moment response endpoint)) holds, all_sent _);
+  happening = λ serving due line moment endpoint holds. (subst (C line) (sym (happened_same setup due line moment endpoint)) holds, all_sent _);
+  redirecting = λ agent line endpoint read holds. (subst (C line) (sym (redirected_same agent line endpoint)) holds, all_sent _);
+  opening = λ agent line moment endpoint read holds. (subst (C line) (sym (opened_same setup agent line moment endpoint)) holds, all_sent _);
 }
 
 pub any_own_turns : (setup : Setup) (C : ℕ → Standing → Type 0) → OwnTurns setup (OfConnections C) AnyOwn AnySent
 any_own_turns setup C = record {
-  free = λ own holds. inr (λ serving other line station is. is);
+  free = λ own holds. inr (λ serving other line endpoint is. is);
   response = λ moment response own read holds. (tt, all_sent _);
   happening = λ due moment own holds. (tt, all_sent _);
 }
@@ -158,7 +158,7 @@ pub connections_always : (setup : Setup) (C : ℕ → Standing → Type 0) → K
     → ((line : ℕ) → 1 ≤ line → line ≤ setup.names.lines → C line (no_connections setup.media_address (port_of setup line)))
     → Holds (OfConnections C) AnyOwn (opening setup).endpoints
 connections_always setup C keeps opens = record {
-  stations = on_made (OfConnections C false) (opening_station setup) 1 setup.names.lines (λ line low high. opens line low (omega (arith, high)));
+  list = on_made (OfConnections C false) (opening_endpoint setup) 1 setup.names.lines (λ line low high. opens line low (omega (arith, high)));
   own = tt;
 }
 
@@ -229,9 +229,9 @@ opening_has_places setup = connections_always setup (HasLine setup) (keeps_place
     (λ line low high. record { some = low; few = high; places = record { address_is = refl; port_is = refl; four = refl } })
 
 -- of each line whatever happens
-pub line_has_places : (setup : Setup) (events : List GatewayEvent) (line : ℕ) (station : Station)
-    → station_at (machine_after setup (opening setup) events).endpoints line ≡ Some station → HasLine setup line station.connections
-line_has_places setup events line station at =
-    of_line (OfConnections (HasLine setup) (serves (machine_after setup (opening setup) events).endpoints)) (machine_after setup (opening setup) events).endpoints line station
+pub line_has_places : (setup : Setup) (events : List GatewayEvent) (line : ℕ) (endpoint : Endpoint)
+    → endpoint_at (machine_after setup (opening setup) events).endpoints line ≡ Some endpoint → HasLine setup line endpoint.connections
+line_has_places setup events line endpoint at =
+    of_line (OfConnections (HasLine setup) (serves (machine_after setup (opening setup) events).endpoints)) (machine_after setup (opening setup) events).endpoints line endpoint
     (events_on_all setup (OfConnections (HasLine setup)) AnyOwn AnySent (connection_turns setup (HasLine setup) (keeps_places setup)) (any_own_turns setup (HasLine setup))
-    (opening setup) events (opening_has_places setup)).stations at
+    (opening setup) events (opening_has_places setup)).list at

@@ -1,4 +1,4 @@
--- What holds of each station and of the gateway itself whatever happens, and of all that they send: what does at each turn.
+-- What holds of each endpoint and of the gateway itself whatever happens, and of all that they send: what does at each turn.
 use Rattle.std.proofs.Common.{◌≡◌, ◌≢◌, ℕ, zero, suc, ◌+◌, ◌-◌, ◌<◌, ◌≤◌, Bool, true, false, ◌==◌, if◌then◌else◌, List, [], ◌∷◌, codes, Option, Some, None, Result, Ok, Err, inl, inr, refl, sym, ap, ◌∙◌, subst, arith}
 use Rattle.std.specs.Prelude.{◌⊎◌, All, IfSome, map, slice_get, slice_set, option_and_then}
 use Rattle.std.specs.List.{range_with_len}
@@ -41,13 +41,13 @@ use Rattle.timers.specs.declared.due_item.DueItem.{DueItem}
 use Rattle.plain_machine.specs.declared.post.Post.{Post}
 use Rattle.plain_machine.specs.declared.response.Response.{Response}
 use Rattle.plain_machine.specs.declared.setup.Setup.{Setup}
-use Rattle.plain_machine.specs.declared.station.Station.{Station}
+use Rattle.plain_machine.specs.declared.endpoint.Endpoint.{Endpoint}
 use Rattle.plain_machine.specs.Effect.{Effect, silently, effect_map, afterwards}
 use Rattle.plain_machine.specs.Event.{GatewayEvent, datagram, phone, tick}
 use Rattle.plain_machine.specs.Message.{Sent}
 use Rattle.plain_machine.specs.Posting.{line_of_id, repeated_as, resent_by}
 use Rattle.plain_machine.specs.Announcing.{announced, announced_by, heard_by, heard_on, replied, replied_on}
-use Rattle.plain_machine.specs.Machine.{Endpoints, Machine, serves, station_at, with_turn, turned_at, on_line, with_own, on_own, on_lines}
+use Rattle.plain_machine.specs.Machine.{Endpoints, Machine, serves, endpoint_at, with_turn, turned_at, on_line, with_own, on_own, on_lines}
 use Rattle.transmission.specs.Texts.{texts_of}
 use Rattle.plain_machine.specs.Acting.{acted_on, acted}
 use Rattle.plain_machine.specs.Falling.{due_by, happened_on, happened_under, happened, go_on, passed, room, pass}
@@ -60,30 +60,30 @@ use Rattle.plain_machine.specs.Happening.{effect}
 use Rattle.plain_machine.specs.Lists.{machine_after}
 use Rattle.gateway_laws.proofs.AllLemmas.{OnAll, Gives, AllGone, all_go}
 
--- Of all stations, whose lines are numbered from here
+-- Of all endpoints, whose lines are numbered from here
 
-pub on_one : (P : ℕ → Station → Type 0) (n : ℕ) (stations : List Station) (place : ℕ) (station : Station) → OnAll P n stations → slice_get stations place ≡ Some station
-    → P (n + place) station
-on_one P n [] place station all at = absurd (none-some station at)
-on_one P n (first ∷ stations) zero station all at =
-    let same : first ≡ station = (cc) in
+pub on_one : (P : ℕ → Endpoint → Type 0) (n : ℕ) (list : List Endpoint) (place : ℕ) (endpoint : Endpoint) → OnAll P n list → slice_get list place ≡ Some endpoint
+    → P (n + place) endpoint
+on_one P n [] place endpoint all at = absurd (none-some endpoint at)
+on_one P n (first ∷ list) zero endpoint all at =
+    let same : first ≡ endpoint = (cc) in
     let here : n ≡ n + zero = omega arith in
-    subst (λ (i : ℕ). P i station) here (subst (P n) same all.0)
-on_one P n (first ∷ stations) (suc place) station all at =
+    subst (λ (i : ℕ). P i endpoint) here (subst (P n) same all.0)
+on_one P n (first ∷ list) (suc place) endpoint all at =
     let here : n + 1 + place ≡ n + suc place = omega arith in
-    subst (λ (i : ℕ). P i station) here (on_one P (n + 1) stations place station all.1 at)
+    subst (λ (i : ℕ). P i endpoint) here (on_one P (n + 1) list place endpoint all.1 at)
 
-on_set : (P : ℕ → Station → Type 0) (n : ℕ) (stations : List Station) (place : ℕ) (station : Station) → OnAll P n stations → P (n + place) station
-    → OnAll P n (slice_set stations place station)
-on_set P n [] place station all is = tt
-on_set P n (first ∷ stations) zero station all is =
+on_set : (P : ℕ → Endpoint → Type 0) (n : ℕ) (list : List Endpoint) (place : ℕ) (endpoint : Endpoint) → OnAll P n list → P (n + place) endpoint
+    → OnAll P n (slice_set list place endpoint)
+on_set P n [] place endpoint all is = tt
+on_set P n (first ∷ list) zero endpoint all is =
     let here : n + zero ≡ n = omega arith in
-    (subst (λ (i : ℕ). P i station) here is, all.1)
-on_set P n (first ∷ stations) (suc place) station all is =
+    (subst (λ (i : ℕ). P i endpoint) here is, all.1)
+on_set P n (first ∷ list) (suc place) endpoint all is =
     let here : n + suc place ≡ n + 1 + place = omega arith in
-    (all.0, on_set P (n + 1) stations place station all.1 (subst (λ (i : ℕ). P i station) here is))
+    (all.0, on_set P (n + 1) list place endpoint all.1 (subst (λ (i : ℕ). P i endpoint) here is))
 
-pub on_made : (P : ℕ → Station → Type 0) (made : ℕ → Station) (n count : ℕ) → ((i : ℕ) → n ≤ i → i < n + count → P i (made i))
+pub on_made : (P : ℕ → Endpoint → Type 0) (made : ℕ → Endpoint) (n count : ℕ) → ((i : ℕ) → n ≤ i → i < n + count → P i (made i))
     → OnAll P n (map made (range_with_len n count))
 on_made P made n zero each = tt
 on_made P made n (suc count) each =
@@ -141,36 +141,36 @@ response_read setup id code params = by_value (param_at (codes "N") params) wher
 
 -- A turn
 
-abbrev pub Good : (ℕ → Station → Type 0) → (Sent → Type 0) → ℕ → Effect Station → Type 0
+abbrev pub Good : (ℕ → Endpoint → Type 0) → (Sent → Type 0) → ℕ → Effect Endpoint → Type 0
 Good P Q line turn = Gives (P line) Q turn
 
--- each turn keeps what holds of the station, while the gateway serves and while it doesn't yet, and what it sends is so; the
+-- each turn keeps what holds of the endpoint, while the gateway serves and while it doesn't yet, and what it sends is so; the
 -- answer to the gateway's announcement makes what holds while it serves
-pub record Turns (setup : Setup) (P : Bool → ℕ → Station → Type 0) (Q : Sent → Type 0) : Type 0 where
-  pub act : (serving : Bool) (line moment : ℕ) (act : Act) (station : Station) → P serving line station → Good (P serving) Q line (acted_on setup line moment act station)
+pub record Turns (setup : Setup) (P : Bool → ℕ → Endpoint → Type 0) (Q : Sent → Type 0) : Type 0 where
+  pub act : (serving : Bool) (line moment : ℕ) (act : Act) (endpoint : Endpoint) → P serving line endpoint → Good (P serving) Q line (acted_on setup line moment act endpoint)
   pub deed : (command : Command) (confirms : KValue) (target : Target) (deed : Deed) → form_of command confirms setup.names ≡ Ok (Does target deed)
-      → (line moment : ℕ) (station : Station) → P true line station → Good (P true) Q line (deed_on setup deed moment line station)
-  pub response : (serving : Bool) (line moment : ℕ) (response : Response) (station : Station) → IsRead setup response → P serving line station
-      → Good (P serving) Q line (responded_on setup line moment response station)
-  pub happening : (serving : Bool) (due : DueKind) (line moment : ℕ) (station : Station) → P serving line station → Good (P serving) Q line (happened_on due setup line moment station)
-  pub redirecting : (agent : Entity) (line : ℕ) (station : Station) → IsEntity setup agent → P false line station → Good (P false) Q line (redirected_on agent line station)
-  pub opening : (agent : Option Entity) (line moment : ℕ) (station : Station) → IfSome agent (IsEntity setup) → P false line station
-      → Good (P true) Q line (opened_on agent setup moment line station)
+      → (line moment : ℕ) (endpoint : Endpoint) → P true line endpoint → Good (P true) Q line (deed_on setup deed moment line endpoint)
+  pub response : (serving : Bool) (line moment : ℕ) (response : Response) (endpoint : Endpoint) → IsRead setup response → P serving line endpoint
+      → Good (P serving) Q line (responded_on setup line moment response endpoint)
+  pub happening : (serving : Bool) (due : DueKind) (line moment : ℕ) (endpoint : Endpoint) → P serving line endpoint → Good (P serving) Q line (happened_on due setup line moment endpoint)
+  pub redirecting : (agent : Entity) (line : ℕ) (endpoint : Endpoint) → IsEntity setup agent → P false line endpoint → Good (P false) Q line (redirected_on agent line endpoint)
+  pub opening : (agent : Option Entity) (line moment : ℕ) (endpoint : Endpoint) → IfSome agent (IsEntity setup) → P false line endpoint
+      → Good (P true) Q line (opened_on agent setup moment line endpoint)
 
 -- what holds whether or not it serves
-abbrev pub Always : (ℕ → Station → Type 0) → Bool → ℕ → Station → Type 0
-Always P serving line station = P line station
+abbrev pub Always : (ℕ → Endpoint → Type 0) → Bool → ℕ → Endpoint → Type 0
+Always P serving line endpoint = P line endpoint
 
 -- while the gateway serves it has nothing in flight
 abbrev pub IsFree : Post → Type 0
 IsFree own = is_serving own.restart ≡ true → own.pending ≡ None
 
 -- it is all the same whether the gateway serves
-abbrev pub IsEqual : (Bool → ℕ → Station → Type 0) → Type 0
-IsEqual P = (serving other : Bool) (line : ℕ) (station : Station) → P serving line station → P other line station
+abbrev pub IsEqual : (Bool → ℕ → Endpoint → Type 0) → Type 0
+IsEqual P = (serving other : Bool) (line : ℕ) (endpoint : Endpoint) → P serving line endpoint → P other line endpoint
 
 -- and so does each turn of the gateway itself
-pub record OwnTurns (setup : Setup) (P : Bool → ℕ → Station → Type 0) (R : Post → Type 0) (Q : Sent → Type 0) : Type 1 where
+pub record OwnTurns (setup : Setup) (P : Bool → ℕ → Endpoint → Type 0) (R : Post → Type 0) (Q : Sent → Type 0) : Type 1 where
   pub free : (own : Post) → R own → IsFree own ⊎ IsEqual P
   pub response : (moment : ℕ) (response : Response) (own : Post) → IsRead setup response → R own
       → Gives R Q (replied_on setup 0 moment response own)
@@ -198,74 +198,74 @@ happening_serves setup Announce moment own free = by_restart own.restart where
   by_restart Announced = refl
   by_restart Serving = refl
 
--- of all stations, and of the gateway itself
-pub record Holds (P : Bool → ℕ → Station → Type 0) (R : Post → Type 0) (endpoints : Endpoints) : Type 0 where
-  pub stations : OnAll (P (serves endpoints)) 1 endpoints.stations
+-- of all endpoints, and of the gateway itself
+pub record Holds (P : Bool → ℕ → Endpoint → Type 0) (R : Post → Type 0) (endpoints : Endpoints) : Type 0 where
+  pub list : OnAll (P (serves endpoints)) 1 endpoints.list
   pub own : R endpoints.own
 
 -- the endpoints after it, and what is sent
-pub record GoesOn (P : Bool → ℕ → Station → Type 0) (R : Post → Type 0) (Q : Sent → Type 0) (is : Effect Endpoints) : Type 0 where
+pub record GoesOn (P : Bool → ℕ → Endpoint → Type 0) (R : Post → Type 0) (Q : Sent → Type 0) (is : Effect Endpoints) : Type 0 where
   pub holds : Holds P R is.value
   pub sent : All Q is.sent
 
--- the station of a line
-pub of_line : (P : ℕ → Station → Type 0) (endpoints : Endpoints) (line : ℕ) (station : Station) → OnAll P 1 endpoints.stations → station_at endpoints line ≡ Some station
-    → P line station
-of_line P endpoints line station all at = by_zero (line == 0) refl at where
+-- the endpoint of a line
+pub of_line : (P : ℕ → Endpoint → Type 0) (endpoints : Endpoints) (line : ℕ) (endpoint : Endpoint) → OnAll P 1 endpoints.list → endpoint_at endpoints line ≡ Some endpoint
+    → P line endpoint
+of_line P endpoints line endpoint all at = by_zero (line == 0) refl at where
   one_more : (line == 0) ≡ false → 1 + (line - 1) ≡ line
   one_more some = grind (arith, nat_tests)
 
-  by_zero : (b : Bool) → (line == 0) ≡ b → (if b then None else slice_get endpoints.stations (line - 1)) ≡ Some station → P line station
-  by_zero true e at = absurd (none-some station at)
-  by_zero false e at = subst (λ (i : ℕ). P i station) (one_more e) (on_one P 1 endpoints.stations (line - 1) station all at)
+  by_zero : (b : Bool) → (line == 0) ≡ b → (if b then None else slice_get endpoints.list (line - 1)) ≡ Some endpoint → P line endpoint
+  by_zero true e at = absurd (none-some endpoint at)
+  by_zero false e at = subst (λ (i : ℕ). P i endpoint) (one_more e) (on_one P 1 endpoints.list (line - 1) endpoint all at)
 
-turned : (P : Bool → ℕ → Station → Type 0) (R : Post → Type 0) (Q : Sent → Type 0) (endpoints : Endpoints) (line : ℕ) (station : Station) (turn : Effect Station) → Holds P R endpoints
-    → station_at endpoints line ≡ Some station → Good (P (serves endpoints)) Q line turn → GoesOn P R Q (with_turn endpoints line turn)
-turned P R Q endpoints line station turn all at good = by_zero (line == 0) refl at where
+turned : (P : Bool → ℕ → Endpoint → Type 0) (R : Post → Type 0) (Q : Sent → Type 0) (endpoints : Endpoints) (line : ℕ) (endpoint : Endpoint) (turn : Effect Endpoint) → Holds P R endpoints
+    → endpoint_at endpoints line ≡ Some endpoint → Good (P (serves endpoints)) Q line turn → GoesOn P R Q (with_turn endpoints line turn)
+turned P R Q endpoints line endpoint turn all at good = by_zero (line == 0) refl at where
   one_more : (line == 0) ≡ false → line ≡ 1 + (line - 1)
   one_more some = grind (arith, nat_tests)
 
-  by_zero : (b : Bool) → (line == 0) ≡ b → (if b then None else slice_get endpoints.stations (line - 1)) ≡ Some station → GoesOn P R Q (with_turn endpoints line turn)
-  by_zero true e at = absurd (none-some station at)
+  by_zero : (b : Bool) → (line == 0) ≡ b → (if b then None else slice_get endpoints.list (line - 1)) ≡ Some endpoint → GoesOn P R Q (with_turn endpoints line turn)
+  by_zero true e at = absurd (none-some endpoint at)
   by_zero false e at =
       record {
-        holds = record { stations = on_set (P (serves endpoints)) 1 endpoints.stations (line - 1) turn.value all.stations (subst (λ (i : ℕ). P (serves endpoints) i turn.value) (one_more e) good.0); own = all.own };
+        holds = record { list = on_set (P (serves endpoints)) 1 endpoints.list (line - 1) turn.value all.list (subst (λ (i : ℕ). P (serves endpoints) i turn.value) (one_more e) good.0); own = all.own };
         sent = good.1;
       }
 
-module _ (setup : Setup) (P : Bool → ℕ → Station → Type 0) (R : Post → Type 0) (Q : Sent → Type 0) (turns : Turns setup P Q) (own_turns : OwnTurns setup P R Q) where
+module _ (setup : Setup) (P : Bool → ℕ → Endpoint → Type 0) (R : Post → Type 0) (Q : Sent → Type 0) (turns : Turns setup P Q) (own_turns : OwnTurns setup P R Q) where
   stays : (endpoints : Endpoints) → Holds P R endpoints → GoesOn P R Q (silently endpoints)
   stays endpoints all = record { holds = all; sent = All-nil Q }
 
-  -- what holds of all stations holds of them whether or not the gateway serves
-  moved : (serving other : Bool) → IsEqual P → (n : ℕ) (stations : List Station) → OnAll (P serving) n stations → OnAll (P other) n stations
+  -- what holds of all endpoints holds of them whether or not the gateway serves
+  moved : (serving other : Bool) → IsEqual P → (n : ℕ) (list : List Endpoint) → OnAll (P serving) n list → OnAll (P other) n list
   moved serving other equal n [] all = tt
-  moved serving other equal n (station ∷ stations) all = (equal serving other n station all.0, moved serving other equal (n + 1) stations all.1)
+  moved serving other equal n (endpoint ∷ list) all = (equal serving other n endpoint all.0, moved serving other equal (n + 1) list all.1)
 
   -- one line has a turn
-  turned_goes : (endpoints : Endpoints) (line : ℕ) (turn : Station → Effect Station) → Holds P R endpoints
-      → ((station : Station) → P (serves endpoints) line station → Good (P (serves endpoints)) Q line (turn station)) → GoesOn P R Q (on_line endpoints line turn)
+  turned_goes : (endpoints : Endpoints) (line : ℕ) (turn : Endpoint → Effect Endpoint) → Holds P R endpoints
+      → ((endpoint : Endpoint) → P (serves endpoints) line endpoint → Good (P (serves endpoints)) Q line (turn endpoint)) → GoesOn P R Q (on_line endpoints line turn)
   unfolding on_line
-  turned_goes endpoints line turn all good = by_station (station_at endpoints line) refl where
-    by_station : (found : Option Station) → station_at endpoints line ≡ found → GoesOn P R Q (turned_at found endpoints line turn)
-    by_station None e = stays endpoints all
-    by_station (Some station) e = turned P R Q endpoints line station _ all e (good station (of_line (P (serves endpoints)) endpoints line station all.stations e))
+  turned_goes endpoints line turn all good = by_endpoint (endpoint_at endpoints line) refl where
+    by_endpoint : (found : Option Endpoint) → endpoint_at endpoints line ≡ found → GoesOn P R Q (turned_at found endpoints line turn)
+    by_endpoint None e = stays endpoints all
+    by_endpoint (Some endpoint) e = turned P R Q endpoints line endpoint _ all e (good endpoint (of_line (P (serves endpoints)) endpoints line endpoint all.list e))
 
   -- it leaves the post of the gateway itself
-  own_kept : (endpoints : Endpoints) (line : ℕ) (turn : Station → Effect Station) → (on_line endpoints line turn).value.own ≡ endpoints.own
+  own_kept : (endpoints : Endpoints) (line : ℕ) (turn : Endpoint → Effect Endpoint) → (on_line endpoints line turn).value.own ≡ endpoints.own
   unfolding on_line
-  own_kept endpoints line turn = by_station (station_at endpoints line) where
-    by_station : (found : Option Station) → (turned_at found endpoints line turn).value.own ≡ endpoints.own
-    by_station None = refl
-    by_station (Some station) = refl
+  own_kept endpoints line turn = by_endpoint (endpoint_at endpoints line) where
+    by_endpoint : (found : Option Endpoint) → (turned_at found endpoints line turn).value.own ≡ endpoints.own
+    by_endpoint None = refl
+    by_endpoint (Some endpoint) = refl
 
   -- several lines have theirs
-  several_go : (serving : Bool) (lines : List ℕ) (endpoints : Endpoints) (turn : ℕ → Station → Effect Station) → serves endpoints ≡ serving → Holds P R endpoints
-      → ((line : ℕ) (station : Station) → P serving line station → Good (P serving) Q line (turn line station)) → GoesOn P R Q (on_lines lines endpoints turn)
+  several_go : (serving : Bool) (lines : List ℕ) (endpoints : Endpoints) (turn : ℕ → Endpoint → Effect Endpoint) → serves endpoints ≡ serving → Holds P R endpoints
+      → ((line : ℕ) (endpoint : Endpoint) → P serving line endpoint → Good (P serving) Q line (turn line endpoint)) → GoesOn P R Q (on_lines lines endpoints turn)
   unfolding on_lines
   several_go serving [] endpoints turn is all good = stays endpoints all
   several_go serving (line ∷ lines) endpoints turn is all good =
-      let here = subst (λ (b : Bool). (station : Station) → P b line station → Good (P b) Q line (turn line station)) (sym is) (good line) in
+      let here = subst (λ (b : Bool). (endpoint : Endpoint) → P b line endpoint → Good (P b) Q line (turn line endpoint)) (sym is) (good line) in
       let first = turned_goes endpoints line (turn line) all here in
       let still : serves (on_line endpoints line (turn line)).value ≡ serving = ap (λ (own : Post). is_serving own.restart) (own_kept endpoints line (turn line)) ∙ is in
       let rest = several_go serving lines (on_line endpoints line (turn line)).value turn still first.holds good in
@@ -285,12 +285,12 @@ module _ (setup : Setup) (P : Bool → ℕ → Station → Type 0) (R : Post →
       afterwards (effect_map (with_own endpoints) (OwnAs heard endpoints moment response)) (λ next. lines_told heard setup moment next)
 
   -- the lines have their turns after it
-  then_all : (serving : Bool) (first : Effect Endpoints) (turn : ℕ → Station → Effect Station) → serves first.value ≡ serving → R first.value.own → All Q first.sent
+  then_all : (serving : Bool) (first : Effect Endpoints) (turn : ℕ → Endpoint → Effect Endpoint) → serves first.value ≡ serving → R first.value.own → All Q first.sent
       → AllGone (P serving) Q first.value (on_all first.value turn) → GoesOn P R Q (afterwards first (λ next. on_all next turn))
   then_all serving first turn is own sent gone =
       let same : serves (on_all first.value turn).value ≡ serving = ap (λ (own : Post). is_serving own.restart) gone.own ∙ is in
       record {
-        holds = record { stations = subst (λ (b : Bool). OnAll (P b) 1 (on_all first.value turn).value.stations) (sym same) gone.stations; own = subst R (sym gone.own) own };
+        holds = record { list = subst (λ (b : Bool). OnAll (P b) 1 (on_all first.value turn).value.list) (sym same) gone.list; own = subst R (sym gone.own) own };
         sent = All-append Q first.sent _ sent gone.sent;
       }
 
@@ -305,28 +305,28 @@ module _ (setup : Setup) (P : Bool → ℕ → Station → Type 0) (R : Post →
           by_serving true is = absurd (some (sym e ∙ ap (λ (pending : Option InFlight). heard_by pending endpoints.own.restart response) (free is)))
           by_serving false is = refl
 
-        closed : (heard : Heard) → heard_on endpoints.own response ≡ heard → heard ≢ Nothing → OnAll (P false) 1 endpoints.stations
+        closed : (heard : Heard) → heard_on endpoints.own response ≡ heard → heard ≢ Nothing → OnAll (P false) 1 endpoints.list
         closed heard e some = by_free (own_turns.free endpoints.own all.own) where
-          by_free : (IsFree endpoints.own ⊎ IsEqual P) → OnAll (P false) 1 endpoints.stations
-          by_free (inl free) = subst (λ (b : Bool). OnAll (P b) 1 endpoints.stations) (not_serving heard free e some) all.stations
-          by_free (inr equal) = moved (serves endpoints) false equal 1 endpoints.stations all.stations
+          by_free : (IsFree endpoints.own ⊎ IsEqual P) → OnAll (P false) 1 endpoints.list
+          by_free (inl free) = subst (λ (b : Bool). OnAll (P b) 1 endpoints.list) (not_serving heard free e some) all.list
+          by_free (inr equal) = moved (serves endpoints) false equal 1 endpoints.list all.list
 
         by_heard : (heard : Heard) → heard_on endpoints.own response ≡ heard → HeardRead setup heard
             → Gives R Q (OwnAs heard endpoints moment response) → GoesOn P R Q (HeardAs heard endpoints moment response)
         by_heard Nothing e named goes =
-            record { holds = record { stations = all.stations; own = goes.0 }; sent = All-append Q (OwnAs Nothing endpoints moment response).sent [] goes.1 (All-nil Q) }
+            record { holds = record { list = all.list; own = goes.0 }; sent = All-append Q (OwnAs Nothing endpoints moment response).sent [] goes.1 (All-nil Q) }
         by_heard PutOff e named goes =
-            record { holds = record { stations = all.stations; own = goes.0 }; sent = All-append Q (OwnAs PutOff endpoints moment response).sent [] goes.1 (All-nil Q) }
+            record { holds = record { list = all.list; own = goes.0 }; sent = All-append Q (OwnAs PutOff endpoints moment response).sent [] goes.1 (All-nil Q) }
         by_heard (Redirected agent) e named goes =
             let first : Effect Endpoints = effect_map (with_own endpoints) (OwnAs (Redirected agent) endpoints moment response) in
             let apart : Redirected agent ≢ Nothing = λ same. absurd cc in
             then_all false first (redirected_on agent) refl goes.0 goes.1
-            (all_go (P false) (P false) Q (redirected_on agent) (λ line station holds. turns.redirecting agent line station named holds) first.value (closed (Redirected agent) e apart))
+            (all_go (P false) (P false) Q (redirected_on agent) (λ line endpoint holds. turns.redirecting agent line endpoint named holds) first.value (closed (Redirected agent) e apart))
         by_heard (Answered agent) e named goes =
             let first : Effect Endpoints = effect_map (with_own endpoints) (OwnAs (Answered agent) endpoints moment response) in
             let apart : Answered agent ≢ Nothing = λ same. absurd cc in
             then_all true first (opened_on agent setup moment) refl goes.0 goes.1
-            (all_go (P false) (P true) Q (opened_on agent setup moment) (λ line station holds. turns.opening agent line moment station named holds) first.value
+            (all_go (P false) (P true) Q (opened_on agent setup moment) (λ line endpoint holds. turns.opening agent line moment endpoint named holds) first.value
             (closed (Answered agent) e apart))
 
   pub responded_goes : (endpoints : Endpoints) (moment : ℕ) (response : Response) → IsRead setup response → Holds P R endpoints → GoesOn P R Q (responded setup endpoints moment response)
@@ -335,7 +335,7 @@ module _ (setup : Setup) (P : Bool → ℕ → Station → Type 0) (R : Post →
         else on_line endpoints (line_of_id response.id) (responded_on setup (line_of_id response.id) moment response))
     by_test true = own_heard_goes endpoints moment response read all
     by_test false = turned_goes endpoints (line_of_id response.id) (responded_on setup (line_of_id response.id) moment response) all
-        (λ station holds. turns.response (serves endpoints) (line_of_id response.id) moment response station read holds)
+        (λ endpoint holds. turns.response (serves endpoints) (line_of_id response.id) moment response endpoint read holds)
 
   -- What falls due
 
@@ -344,14 +344,14 @@ module _ (setup : Setup) (P : Bool → ℕ → Station → Type 0) (R : Post →
     after : Bool
     after = is_serving (happened_under item.kind setup 0 item.moment endpoints.own).value.restart
 
-    by_free : (IsFree endpoints.own ⊎ IsEqual P) → OnAll (P after) 1 endpoints.stations
-    by_free (inl free) = subst (λ (b : Bool). OnAll (P b) 1 endpoints.stations) (sym (happening_serves setup item.kind item.moment endpoints.own free)) all.stations
-    by_free (inr equal) = moved (serves endpoints) after equal 1 endpoints.stations all.stations
+    by_free : (IsFree endpoints.own ⊎ IsEqual P) → OnAll (P after) 1 endpoints.list
+    by_free (inl free) = subst (λ (b : Bool). OnAll (P b) 1 endpoints.list) (sym (happening_serves setup item.kind item.moment endpoints.own free)) all.list
+    by_free (inr equal) = moved (serves endpoints) after equal 1 endpoints.list all.list
 
     by_test : (b : Bool) → GoesOn P R Q (if b then on_own endpoints (happened_under item.kind setup 0 item.moment) else on_line endpoints item.line (happened_on item.kind setup item.line item.moment))
     by_test true =
         let goes = own_turns.happening item.kind item.moment endpoints.own all.own in
-        record { holds = record { stations = by_free (own_turns.free endpoints.own all.own); own = goes.0 }; sent = goes.1 }
+        record { holds = record { list = by_free (own_turns.free endpoints.own all.own); own = goes.0 }; sent = goes.1 }
     by_test false = turned_goes endpoints item.line (happened_on item.kind setup item.line item.moment) all (turns.happening (serves endpoints) item.kind item.line item.moment)
 
   passed_goes : (n : ℕ) (endpoints : Endpoints) (moment : ℕ) → Holds P R endpoints → GoesOn P R Q (passed n setup endpoints moment)
@@ -380,13 +380,13 @@ module _ (setup : Setup) (P : Bool → ℕ → Station → Type 0) (R : Post →
   unless_goes (Some code) endpoints done all goes = stays endpoints all
 
   abbrev DeedGoes : Deed → Type 0
-  DeedGoes deed = (line moment : ℕ) (station : Station) → P true line station → Good (P true) Q line (deed_on setup deed moment line station)
+  DeedGoes deed = (line moment : ℕ) (endpoint : Endpoint) → P true line endpoint → Good (P true) Q line (deed_on setup deed moment line endpoint)
 
   deed_goes : (endpoints : Endpoints) (lines : Target) (more : List Param) (deed : Deed) (moment : ℕ) → serves endpoints ≡ true → Holds P R endpoints → DeedGoes deed
       → DoneGoes (deed_done setup endpoints lines more deed moment)
   deed_goes endpoints lines more deed moment is all good =
       unless_goes (refused_by endpoints lines deed) endpoints _ all
-      (several_go true (lines_meant endpoints lines) endpoints _ is all (λ line station. good line moment station))
+      (several_go true (lines_meant endpoints lines) endpoints _ is all (λ line endpoint. good line moment endpoint))
 
   target_goes : (endpoints : Endpoints) (target : Target) (deed : Deed) (moment : ℕ) → serves endpoints ≡ true → Holds P R endpoints → DeedGoes deed
       → DoneGoes (done_for setup endpoints target deed moment)

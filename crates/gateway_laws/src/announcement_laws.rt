@@ -24,7 +24,7 @@ ghost use Rattle.command_forms.specs.declared.forms.Deed.{Deed};
 ghost use Rattle.plain_machine.specs.declared.post.Post.{Post};
 ghost use Rattle.plain_machine.specs.declared.response.Response.{Response};
 ghost use Rattle.plain_machine.specs.declared.setup.Setup.{Setup};
-ghost use Rattle.plain_machine.specs.declared.station.Station.{Station};
+ghost use Rattle.plain_machine.specs.declared.endpoint.Endpoint.{Endpoint};
 ghost use Rattle.plain_machine.specs.Effect.{silently};
 ghost use Rattle.plain_machine.specs.Event.{GatewayEvent};
 ghost use Rattle.plain_machine.specs.Message.{Sent};
@@ -110,21 +110,21 @@ pub fn an_announcement_goes_on_until_it_is_answered()
 /// due of the line makes it send. The giving up and the announcement leave the line, and what it quarantined, as it is. An
 /// agent that the answer to the announcement names is notified from then on.
 pub fn a_line_that_gave_up_waits_and_announces_itself()
-    ensures act { (setup : Setup) (line moment until : ℕ) (act : Act) (station : Station) → IsInOrder line station →
-        station.post.restart ≡ Waiting until → BeginsNothing station (acted_on setup line moment act station) }
-    ensures deed { (setup : Setup) (deed : Deed) (line moment until : ℕ) (station : Station) → IsInOrder line station →
-        station.post.restart ≡ Waiting until → BeginsNothing station (deed_on setup deed moment line station) }
-    ensures due { (setup : Setup) (due : LineDue) (line moment until : ℕ) (station : Station) → IsInOrder line station →
-        station.post.restart ≡ Waiting until → BeginsNothing station (happened_on (OfLine due) setup line moment station) }
-    ensures response { (setup : Setup) (line moment until : ℕ) (response : Response) (station : Station) →
-        IsInOrder line station → station.post.restart ≡ Waiting until →
-        BeginsNothing station (responded_on setup line moment response station) }
-    ensures kept { (setup : Setup) (line moment : ℕ) (station : Station) →
-        (happened_on Resend setup line moment station).value.line ≡ station.line }
-    ensures kept_too { (setup : Setup) (line moment : ℕ) (station : Station) →
-        (happened_on Announce setup line moment station).value.line ≡ station.line }
-    ensures named { (setup : Setup) (line moment : ℕ) (response : Response) (agent : Entity) (station : Station) →
-        heard_on station.post response ≡ Answered (Some agent) →
-        ((responded_on setup line moment response station).value.post.entity ≡ agent)
-        × All (λ (sent : Sent). sent.to ≡ at agent.route 0) (responded_on setup line moment response station).sent }
+    ensures act { (setup : Setup) (line moment until : ℕ) (act : Act) (endpoint : Endpoint) → IsInOrder line endpoint →
+        endpoint.post.restart ≡ Waiting until → BeginsNothing endpoint (acted_on setup line moment act endpoint) }
+    ensures deed { (setup : Setup) (deed : Deed) (line moment until : ℕ) (endpoint : Endpoint) → IsInOrder line endpoint →
+        endpoint.post.restart ≡ Waiting until → BeginsNothing endpoint (deed_on setup deed moment line endpoint) }
+    ensures due { (setup : Setup) (due : LineDue) (line moment until : ℕ) (endpoint : Endpoint) → IsInOrder line endpoint →
+        endpoint.post.restart ≡ Waiting until → BeginsNothing endpoint (happened_on (OfLine due) setup line moment endpoint) }
+    ensures response { (setup : Setup) (line moment until : ℕ) (response : Response) (endpoint : Endpoint) →
+        IsInOrder line endpoint → endpoint.post.restart ≡ Waiting until →
+        BeginsNothing endpoint (responded_on setup line moment response endpoint) }
+    ensures kept { (setup : Setup) (line moment : ℕ) (endpoint : Endpoint) →
+        (happened_on Resend setup line moment endpoint).value.line ≡ endpoint.line }
+    ensures kept_too { (setup : Setup) (line moment : ℕ) (endpoint : Endpoint) →
+        (happened_on Announce setup line moment endpoint).value.line ≡ endpoint.line }
+    ensures named { (setup : Setup) (line moment : ℕ) (response : Response) (agent : Entity) (endpoint : Endpoint) →
+        heard_on endpoint.post response ≡ Answered (Some agent) →
+        ((responded_on setup line moment response endpoint).value.post.entity ≡ agent)
+        × All (λ (sent : Sent). sent.to ≡ at agent.route 0) (responded_on setup line moment response endpoint).sent }
 {}

@@ -25,7 +25,7 @@ ghost use Rattle.command_forms.specs.Order.{form_of};
 ghost use Rattle.timers.specs.declared.due_item.DueItem.{DueItem};
 ghost use Rattle.plain_machine.specs.declared.response.Response.{Response};
 ghost use Rattle.plain_machine.specs.declared.setup.Setup.{Setup};
-ghost use Rattle.plain_machine.specs.declared.station.Station.{Station};
+ghost use Rattle.plain_machine.specs.declared.endpoint.Endpoint.{Endpoint};
 ghost use Rattle.plain_machine.specs.Effect.{silently};
 ghost use Rattle.plain_machine.specs.Acting.{acted};
 ghost use Rattle.plain_machine.specs.Answering.{Transaction, transaction_of, handled, took_all};
@@ -33,7 +33,7 @@ ghost use Rattle.plain_machine.specs.Connecting.{id_param};
 ghost use Rattle.plain_machine.specs.Event.{GatewayEvent};
 ghost use Rattle.plain_machine.specs.Falling.{happened, pass};
 ghost use Rattle.plain_machine.specs.Happening.{effect};
-ghost use Rattle.plain_machine.specs.Machine.{Endpoints, Machine, port_of, station_at};
+ghost use Rattle.plain_machine.specs.Machine.{Endpoints, Machine, port_of, endpoint_at};
 ghost use Rattle.plain_machine.specs.Done.{only_answer};
 ghost use Rattle.plain_machine.specs.Requesting.{connected_on, refusal_by, shown_by, deed_on, deed_on_all, deed_done, done_for};
 ghost use Rattle.plain_machine.specs.Requesting.{has_place, line_with_place};
@@ -49,10 +49,10 @@ pub fn a_line_has_at_most_four_connections()
         connections_of (plain setup events) line ≡ Some places → length places ≡ 4 }
     ensures most { (setup : Setup) (events : List GatewayEvent) (line : ℕ) (places : List (Option Connection)) →
         connections_of (plain setup events) line ≡ Some places → length (numbers_in places) ≤ 4 }
-    ensures life { (setup : Setup) (events : List GatewayEvent) (line : ℕ) (station : Station) →
-        station_at (plain setup events).endpoints line ≡ Some station →
+    ensures life { (setup : Setup) (events : List GatewayEvent) (line : ℕ) (endpoint : Endpoint) →
+        endpoint_at (plain setup events).endpoints line ≡ Some endpoint →
         (happenings : List Happening)
-        × (station.connections ≡ after (no_connections setup.media_address (port_of setup line)) happenings) }
+        × (endpoint.connections ≡ after (no_connections setup.media_address (port_of setup line)) happenings) }
 {}
 
 /// Nothing but a deed that creates, modifies or deletes changes the connections of a line: an act at a telephone, a
@@ -97,10 +97,10 @@ pub fn a_number_is_never_given_twice_on_a_line()
 /// line: that is answered, and is the last one from then on. And no last number ever gets less: at an act, a text of a
 /// datagram or all of them, a thing that falls due or all that does.
 pub fn a_number_is_given_once_within_an_event_too()
-    ensures given { (setup : Setup) (deed : Deed) (creation : Creation) (moment line : ℕ) (station : Station) →
-        deed.connections ≡ deeds.Create creation → refusal_by deed station ≡ None →
-        ((shown_by (connected_on deed station)).params ≡ id_param (station.connections.last + 1) ∷ [])
-        × ((deed_on setup deed moment line station).value.connections.last ≡ station.connections.last + 1) }
+    ensures given { (setup : Setup) (deed : Deed) (creation : Creation) (moment line : ℕ) (endpoint : Endpoint) →
+        deed.connections ≡ deeds.Create creation → refusal_by deed endpoint ≡ None →
+        ((shown_by (connected_on deed endpoint)).params ≡ id_param (endpoint.connections.last + 1) ∷ [])
+        × ((deed_on setup deed moment line endpoint).value.connections.last ≡ endpoint.connections.last + 1) }
     ensures act { (setup : Setup) (endpoints : Endpoints) (line moment : ℕ) (act : Act) →
         NumbersGoOn endpoints (acted setup endpoints line moment act).value }
     ensures due { (setup : Setup) (endpoints : Endpoints) (item : DueItem) →
@@ -133,62 +133,62 @@ pub fn what_is_refused_changes_no_line()
 
 /// A deletion that the line doesn't refuse empties the places of the connections that it means, and no others.
 pub fn a_deletion_empties_what_it_means()
-    ensures meant { (setup : Setup) (deed : Deed) (deletion : Deletion) (moment line place : ℕ) (station : Station)
-        (connection : Connection) → deed.connections ≡ deeds.Delete deletion → refusal_by deed station ≡ None →
-        get_or station.connections.places place None ≡ Some connection → is_meant deletion connection ≡ true →
-        get_or (deed_on setup deed moment line station).value.connections.places place None ≡ None }
-    ensures others { (setup : Setup) (deed : Deed) (deletion : Deletion) (moment line place : ℕ) (station : Station)
+    ensures meant { (setup : Setup) (deed : Deed) (deletion : Deletion) (moment line place : ℕ) (endpoint : Endpoint)
+        (connection : Connection) → deed.connections ≡ deeds.Delete deletion → refusal_by deed endpoint ≡ None →
+        get_or endpoint.connections.places place None ≡ Some connection → is_meant deletion connection ≡ true →
+        get_or (deed_on setup deed moment line endpoint).value.connections.places place None ≡ None }
+    ensures others { (setup : Setup) (deed : Deed) (deletion : Deletion) (moment line place : ℕ) (endpoint : Endpoint)
         (connection : Connection) → deed.connections ≡ deeds.Delete deletion →
-        get_or station.connections.places place None ≡ Some connection → is_meant deletion connection ≡ false →
-        get_or (deed_on setup deed moment line station).value.connections.places place None ≡ Some connection }
-    ensures free { (setup : Setup) (deed : Deed) (deletion : Deletion) (moment line place : ℕ) (station : Station) →
-        deed.connections ≡ deeds.Delete deletion → get_or station.connections.places place None ≡ None →
-        get_or (deed_on setup deed moment line station).value.connections.places place None ≡ None }
+        get_or endpoint.connections.places place None ≡ Some connection → is_meant deletion connection ≡ false →
+        get_or (deed_on setup deed moment line endpoint).value.connections.places place None ≡ Some connection }
+    ensures free { (setup : Setup) (deed : Deed) (deletion : Deletion) (moment line place : ℕ) (endpoint : Endpoint) →
+        deed.connections ≡ deeds.Delete deletion → get_or endpoint.connections.places place None ≡ None →
+        get_or (deed_on setup deed moment line endpoint).value.connections.places place None ≡ None }
 {}
 
 /// What an EndpointConfiguration changes is the encoding alone (RFC 3435, 2.3.2): a line that it is for has that which is
 /// given from then on, is else as it was, and sends nothing; and no line refuses it.
 pub fn an_endpoint_configuration_gives_an_encoding()
     ensures alone { (setup : Setup) (command : Command) (confirms : KValue) (target : Target) (deed : Deed)
-        (moment line : ℕ) (station : Station) → command.verb ≡ Epcf →
+        (moment line : ℕ) (endpoint : Endpoint) → command.verb ≡ Epcf →
         form_of command confirms setup.names ≡ Ok (Does target deed) →
-        deed_on setup deed moment line station
-        ≡ silently (record station { encoding = unwrap_or deed.encoding station.encoding }) }
+        deed_on setup deed moment line endpoint
+        ≡ silently (record endpoint { encoding = unwrap_or deed.encoding endpoint.encoding }) }
     ensures taken { (setup : Setup) (command : Command) (confirms : KValue) (target : Target) (deed : Deed)
-        (station : Station) → command.verb ≡ Epcf → form_of command confirms setup.names ≡ Ok (Does target deed) →
-        refusal_by deed station ≡ None }
+        (endpoint : Endpoint) → command.verb ≡ Epcf → form_of command confirms setup.names ≡ Ok (Does target deed) →
+        refusal_by deed endpoint ≡ None }
 {}
 
 /// Of a deed on all lines the least line that refuses it gives the code, and then nothing is done. Where none refuses, it is
 /// done.
 pub fn the_least_line_that_refuses_decides()
     ensures refuses { (setup : Setup) (endpoints : Endpoints) (more : List Param) (deed : Deed) (moment line code : ℕ)
-        (station : Station) → station_at endpoints line ≡ Some station → refusal_by deed station ≡ Some code →
-        ((other : ℕ) (another : Station) → other < line → station_at endpoints other ≡ Some another →
+        (endpoint : Endpoint) → endpoint_at endpoints line ≡ Some endpoint → refusal_by deed endpoint ≡ Some code →
+        ((other : ℕ) (another : Endpoint) → other < line → endpoint_at endpoints other ≡ Some another →
         refusal_by deed another ≡ None) →
         deed_done setup endpoints All more deed moment ≡ only_answer endpoints (plain_code code) }
     ensures fine { (setup : Setup) (endpoints : Endpoints) (more : List Param) (deed : Deed) (moment : ℕ) →
-        ((line : ℕ) (station : Station) → station_at endpoints line ≡ Some station → refusal_by deed station ≡ None) →
+        ((line : ℕ) (endpoint : Endpoint) → endpoint_at endpoints line ≡ Some endpoint → refusal_by deed endpoint ≡ None) →
         (deed_done setup endpoints All more deed moment).told ≡ deed_on_all setup endpoints All deed moment }
 {}
 
 /// A deed that is done is done once on each line that it is for, by what the line was, and leaves every other line as it is.
 pub fn a_deed_is_done_on_its_lines()
     ensures each { (setup : Setup) (endpoints : Endpoints) (target : Target) (deed : Deed) (moment line : ℕ)
-        (station : Station) → is_for target line ≡ true → station_at endpoints line ≡ Some station →
-        station_at (deed_on_all setup endpoints target deed moment).value line
-        ≡ Some (deed_on setup deed moment line station).value }
+        (endpoint : Endpoint) → is_for target line ≡ true → endpoint_at endpoints line ≡ Some endpoint →
+        endpoint_at (deed_on_all setup endpoints target deed moment).value line
+        ≡ Some (deed_on setup deed moment line endpoint).value }
     ensures others { (setup : Setup) (endpoints : Endpoints) (target : Target) (deed : Deed) (moment line : ℕ) →
         is_for target line ≡ false →
-        station_at (deed_on_all setup endpoints target deed moment).value line ≡ station_at endpoints line }
+        endpoint_at (deed_on_all setup endpoints target deed moment).value line ≡ endpoint_at endpoints line }
 {}
 
 /// Any one line is the least that has a place for one more connection.
 pub fn the_line_that_is_chosen_is_the_least_with_a_place()
     ensures place { (endpoints : Endpoints) (line : ℕ) → line_with_place endpoints ≡ Some line →
-        (station : Station) × (station_at endpoints line ≡ Some station) × (has_place (line, station) ≡ true) }
-    ensures least { (endpoints : Endpoints) (line other : ℕ) (station : Station) → line_with_place endpoints ≡ Some line →
-        other < line → station_at endpoints other ≡ Some station → has_place (other, station) ≡ false }
-    ensures none { (endpoints : Endpoints) (line : ℕ) (station : Station) → line_with_place endpoints ≡ None →
-        station_at endpoints line ≡ Some station → has_place (line, station) ≡ false }
+        (endpoint : Endpoint) × (endpoint_at endpoints line ≡ Some endpoint) × (has_place (line, endpoint) ≡ true) }
+    ensures least { (endpoints : Endpoints) (line other : ℕ) (endpoint : Endpoint) → line_with_place endpoints ≡ Some line →
+        other < line → endpoint_at endpoints other ≡ Some endpoint → has_place (other, endpoint) ≡ false }
+    ensures none { (endpoints : Endpoints) (line : ℕ) (endpoint : Endpoint) → line_with_place endpoints ≡ None →
+        endpoint_at endpoints line ≡ Some endpoint → has_place (line, endpoint) ≡ false }
 {}

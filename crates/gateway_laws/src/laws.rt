@@ -40,7 +40,7 @@ pub fn events_go_on()
 
 /// No line is ever lost or added.
 pub fn lines_stay()
-    ensures { (setup : Setup) (events : List GatewayEvent) → length (plain setup events).endpoints.stations ≡ setup.names.lines }
+    ensures { (setup : Setup) (events : List GatewayEvent) → length (plain setup events).endpoints.list ≡ setup.names.lines }
 {}
 
 /// The clock is moved by a tick alone.

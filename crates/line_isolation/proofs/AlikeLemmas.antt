@@ -14,11 +14,11 @@ use Rattle.restart.specs.declared.heard.Heard.TheVariants.{Nothing, PutOff, Redi
 use Rattle.plain_machine.specs.declared.post.Post.{Post}
 use Rattle.plain_machine.specs.declared.response.Response.{Response}
 use Rattle.plain_machine.specs.declared.setup.Setup.{Setup}
-use Rattle.plain_machine.specs.declared.station.Station.{Station}
+use Rattle.plain_machine.specs.declared.endpoint.Endpoint.{Endpoint}
 use Rattle.plain_machine.specs.Effect.{Effect, silently, afterwards}
 use Rattle.plain_machine.specs.Message.{of_none, acknowledgement, Sent}
 use Rattle.plain_machine.specs.Posting.{line_of_id}
-use Rattle.plain_machine.specs.Machine.{Endpoints, station_at, on_line, on_lines, on_own}
+use Rattle.plain_machine.specs.Machine.{Endpoints, endpoint_at, on_line, on_lines, on_own}
 use Rattle.plain_machine.specs.Acting.{acted_on, acted}
 use Rattle.plain_machine.specs.Announcing.{heard_on, replied_on}
 use Rattle.plain_machine.specs.Falling.{post_due, pass}
@@ -32,7 +32,7 @@ use Rattle.line_isolation.proofs.PassLemmas.{passes_once, line_passes, own_passe
 -- they have the same line, and the same of their own
 pub record AreAlike (line : ℕ) (one other : Endpoints) : Type 0 where
   pub own : other.own ≡ one.own
-  pub station : station_at other line ≡ station_at one line
+  pub endpoint : endpoint_at other line ≡ endpoint_at one line
 
 -- and the line sends the same
 pub record ToldAlike (line : ℕ) (one other : Effect Endpoints) : Type 0 where
@@ -43,14 +43,14 @@ pub nothing_told : (line : ℕ) (one other : Endpoints) → AreAlike line one ot
 nothing_told line one other alike = record { endpoints = alike; sent = refl }
 
 -- the same turn on both
-pub turn_alike : (line : ℕ) (one other : Endpoints) (turn : Station → Effect Station) (is was : Effect Endpoints) → AreAlike line one other
+pub turn_alike : (line : ℕ) (one other : Endpoints) (turn : Endpoint → Effect Endpoint) (is was : Effect Endpoints) → AreAlike line one other
     → LineTurns line one turn is → LineTurns line other turn was → is.value.own ≡ one.own → was.value.own ≡ other.own → ToldAlike line is was
 turn_alike line one other turn is was alike here there own own' = record {
   endpoints = record {
     own = own' ∙ alike.own ∙ sym own;
-    station = there.station ∙ ap (option_map (λ (s : Station). (turn s).value)) alike.station ∙ sym here.station;
+    endpoint = there.endpoint ∙ ap (option_map (λ (s : Endpoint). (turn s).value)) alike.endpoint ∙ sym here.endpoint;
   };
-  sent = here.sent ∙ ap (sent_by turn) (sym alike.station) ∙ sym there.sent;
+  sent = here.sent ∙ ap (sent_by turn) (sym alike.endpoint) ∙ sym there.sent;
 }
 
 -- one thing after another
@@ -66,19 +66,19 @@ afterwards_alike line first other next alike rest = record {
 
 module _ (setup : Setup) (line : ℕ) where
   -- what comes to one line
-  one_line_alike : (one other : Endpoints) (n : ℕ) (turn : Station → Effect Station) → ((s : Station) → OwnedBy n (turn s).sent) → AreAlike line one other
+  one_line_alike : (one other : Endpoints) (n : ℕ) (turn : Endpoint → Effect Endpoint) → ((s : Endpoint) → OwnedBy n (turn s).sent) → AreAlike line one other
       → ToldAlike line (on_line one n turn) (on_line other n turn)
   one_line_alike one other n turn owned alike =
       turn_alike line one other (turn_if (n == line) turn) (on_line one n turn) (on_line other n turn) alike
       (on_one_line one line n turn owned) (on_one_line other line n turn owned) (own_stays_on one n turn) (own_stays_on other n turn)
 
   -- and to all of them
-  all_alike : (one other : Endpoints) (turn : ℕ → Station → Effect Station) → ((n : ℕ) (s : Station) → OwnedBy n (turn n s).sent) → AreAlike line one other
+  all_alike : (one other : Endpoints) (turn : ℕ → Endpoint → Effect Endpoint) → ((n : ℕ) (s : Endpoint) → OwnedBy n (turn n s).sent) → AreAlike line one other
       → ToldAlike line (on_all one turn) (on_all other turn)
   all_alike one other turn owned alike =
       turn_alike line one other (turn_if true (turn line)) (on_all one turn) (on_all other turn) alike
       (on_many_lines (is_for All) turn owned one line) (on_many_lines (is_for All) turn owned other line)
-      (own_stays (passing_from (is_for All) 1 one.stations) one turn) (own_stays (passing_from (is_for All) 1 other.stations) other turn)
+      (own_stays (passing_from (is_for All) 1 one.list) one turn) (own_stays (passing_from (is_for All) 1 other.list) other turn)
 
   pub acted_alike : (one other : Endpoints) (n moment : ℕ) (act : Act) → AreAlike line one other
       → ToldAlike line (acted setup one n moment act) (acted setup other n moment act)
@@ -92,7 +92,7 @@ module _ (setup : Setup) (line : ℕ) where
       subst (λ (b : Bool). LineTurns line one (turn_if b (acted_on setup n moment act)) (acted setup one n moment act)) apart
       (on_one_line one line n (acted_on setup n moment act) (acted_owned setup n moment act)) in
       turn_alike line one other silently (acted setup one n moment act) (silently other) alike turns
-      (record { station = silent_stays (station_at other line); sent = sym (silent_sends (station_at other line)) })
+      (record { endpoint = silent_stays (endpoint_at other line); sent = sym (silent_sends (endpoint_at other line)) })
       (own_stays_on one n (acted_on setup n moment act)) refl
 
   -- Responses
@@ -107,7 +107,7 @@ module _ (setup : Setup) (line : ℕ) where
   own_turn_alike : (one other : Endpoints) (moment : ℕ) (response : Response) → AreAlike line one other
       → ToldAlike line (on_own one (replied_on setup 0 moment response)) (on_own other (replied_on setup 0 moment response))
   own_turn_alike one other moment response alike = record {
-    endpoints = record { own = ap (λ (own : Post). (replied_on setup 0 moment response own).value) alike.own; station = alike.station };
+    endpoints = record { own = ap (λ (own : Post). (replied_on setup 0 moment response own).value) alike.own; endpoint = alike.endpoint };
     sent = ap (λ (own : Post). of_line line (replied_on setup 0 moment response own).sent) (sym alike.own);
   }
 
@@ -170,12 +170,12 @@ module _ (setup : Setup) (line : ℕ) where
       (own_passes setup moment one)
 
   line_passed : (one other : Endpoints) (moment : ℕ) → 1 ≤ line → AreAlike line one other
-      → seen (λ (e : Endpoints). station_at e line) line (pass setup other moment)
-      ≡ seen (λ (e : Endpoints). station_at e line) line (pass setup one moment)
+      → seen (λ (e : Endpoints). endpoint_at e line) line (pass setup other moment)
+      ≡ seen (λ (e : Endpoints). endpoint_at e line) line (pass setup one moment)
   line_passed one other moment some alike =
-      passes_once (line_due line) (line_happens setup line) moment (station_at one line) _ _
-      (subst (λ (found : Option Station). PassesAlone (line_due line) (line_happens setup line) moment found
-      (seen (λ (e : Endpoints). station_at e line) line (pass setup other moment))) alike.station (line_passes setup line moment some other))
+      passes_once (line_due line) (line_happens setup line) moment (endpoint_at one line) _ _
+      (subst (λ (found : Option Endpoint). PassesAlone (line_due line) (line_happens setup line) moment found
+      (seen (λ (e : Endpoints). endpoint_at e line) line (pass setup other moment))) alike.endpoint (line_passes setup line moment some other))
       (line_passes setup line moment some one)
 
   pub pass_alike : (one other : Endpoints) (moment : ℕ) → AreAlike line one other → ToldAlike line (pass setup one moment) (pass setup other moment)
@@ -189,13 +189,13 @@ module _ (setup : Setup) (line : ℕ) where
         let none : line ≡ 0 = (Decides-eqb line 0).0 e in
         subst (λ (n : ℕ). ToldAlike n (pass setup one moment) (pass setup other moment)) (sym none)
         (record {
-          endpoints = record { own = ap (λ (t : Effect Post). t.value) own; station = refl };
+          endpoints = record { own = ap (λ (t : Effect Post). t.value) own; endpoint = refl };
           sent = sym (ap (λ (t : Effect Post). t.sent) own);
         })
     by_zero false e =
         let apart : line ≡ 0 → ⊥ = λ none. (let t : (line == 0) ≡ true = (Decides-eqb line 0).1 none in cc) in
         let mine = line_passed one other moment (omega (arith, apart)) alike in
         record {
-          endpoints = record { own = ap (λ (t : Effect Post). t.value) own; station = ap (λ (t : Effect (Option Station)). t.value) mine };
-          sent = sym (ap (λ (t : Effect (Option Station)). t.sent) mine);
+          endpoints = record { own = ap (λ (t : Effect Post). t.value) own; endpoint = ap (λ (t : Effect (Option Endpoint)). t.value) mine };
+          sent = sym (ap (λ (t : Effect (Option Endpoint)). t.sent) mine);
         }

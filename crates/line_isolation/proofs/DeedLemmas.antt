@@ -20,17 +20,17 @@ use Rattle.command_forms.specs.declared.forms.Target.TheVariants.{One}
 use Rattle.restart.specs.Restarting.{is_serving}
 use Rattle.plain_machine.specs.declared.post.Post.{Post}
 use Rattle.plain_machine.specs.declared.setup.Setup.{Setup}
-use Rattle.plain_machine.specs.declared.station.Station.{Station}
+use Rattle.plain_machine.specs.declared.endpoint.Endpoint.{Endpoint}
 use Rattle.plain_machine.specs.Effect.{Effect, silently}
 use Rattle.plain_machine.specs.Answering.{line_of_name}
 use Rattle.plain_machine.specs.Commanding.{audited, answer_by, done_by, commanded}
 use Rattle.plain_machine.specs.Done.{Done, only_answer}
-use Rattle.plain_machine.specs.Machine.{Endpoints, serves, station_at}
+use Rattle.plain_machine.specs.Machine.{Endpoints, serves, endpoint_at}
 use Rattle.plain_machine.specs.Message.{Sent}
 use Rattle.plain_machine.specs.Reporting.{line_report}
 use Rattle.plain_machine.specs.Requesting.{refusal_by, refusal_on, deed_on, shown_on, shown_of, answer_with, deed_done, done_for}
 use Rattle.machine_laws.specs.Refusals.{refusal_at, IsRefused, NoneRefuses}
-use Rattle.machine_laws.proofs.DeedLaws.{refused_deed, refused_or_not, done_answer, done_station, done_sent, own_alone}
+use Rattle.machine_laws.proofs.DeedLaws.{refused_deed, refused_or_not, done_answer, done_endpoint, done_sent, own_alone}
 use Rattle.machine_laws.proofs.LineLemmas.{sent_from_each, all_there}
 use Rattle.line_isolation.specs.Apart.{is_single}
 use Rattle.line_isolation.specs.Belonging.{of_line}
@@ -46,8 +46,8 @@ pub record DoneAlike (line : ℕ) (one other : Done) : Type 0 where
 pub only_alike : (line : ℕ) (one other : Endpoints) (a b : Answer) → AreAlike line one other → b ≡ a → DoneAlike line (only_answer one a) (only_answer other b)
 only_alike line one other a b alike same = record { told = nothing_told line one other alike; answer = same }
 
-if_turned : (b : Bool) (turn : Station → Effect Station) (found : Option Station)
-    → option_map (λ (s : Station). if b then (turn s).value else s) found ≡ option_map (λ (s : Station). (turn_if b turn s).value) found
+if_turned : (b : Bool) (turn : Endpoint → Effect Endpoint) (found : Option Endpoint)
+    → option_map (λ (s : Endpoint). if b then (turn s).value else s) found ≡ option_map (λ (s : Endpoint). (turn_if b turn s).value) found
 if_turned true turn found = refl
 if_turned false turn found = refl
 
@@ -55,10 +55,10 @@ if_turned false turn found = refl
 done_turns : (setup : Setup) (endpoints : Endpoints) (target : Target) (deed : Deed) (moment line : ℕ) → NoneRefuses endpoints target deed
     → LineTurns line endpoints (turn_if (is_for target line) (deed_on setup deed moment line)) (deed_done setup endpoints target [] deed moment).told
 done_turns setup endpoints target deed moment line none = record {
-  station = done_station setup endpoints target [] deed moment line none
-      ∙ if_turned (is_for target line) (deed_on setup deed moment line) (station_at endpoints line);
+  endpoint = done_endpoint setup endpoints target [] deed moment line none
+      ∙ if_turned (is_for target line) (deed_on setup deed moment line) (endpoint_at endpoints line);
   sent = ap (of_line line) (done_sent setup endpoints target [] deed moment none
-      ∙ sym (sent_from_each (is_for target) 1 endpoints.stations endpoints (deed_on setup deed moment) (all_there endpoints)))
+      ∙ sym (sent_from_each (is_for target) 1 endpoints.list endpoints (deed_on setup deed moment) (all_there endpoints)))
       ∙ (on_many_lines (is_for target) (deed_on setup deed moment) (deed_owned setup deed moment) endpoints line).sent;
 }
 
@@ -71,10 +71,10 @@ apart_from line other apart = by_test (line == other) refl where
   by_test true e = absurd (apart (sym ((Decides-eqb line other).0 e)))
 
 not_meant : (endpoints : Endpoints) (deed : Deed) (line other : ℕ) → other ≢ line → refusal_at endpoints (One line) deed other ≡ None
-not_meant endpoints deed line other apart = by_station (station_at endpoints other) where
-  by_station : (found : Option Station) → option_and_then (λ (s : Station). refusal_on (One line) deed (other, s)) found ≡ None
-  by_station None = refl
-  by_station (Some station) = ap (λ (b : Bool). if b then refusal_by deed station else None) (apart_from line other apart)
+not_meant endpoints deed line other apart = by_endpoint (endpoint_at endpoints other) where
+  by_endpoint : (found : Option Endpoint) → option_and_then (λ (s : Endpoint). refusal_on (One line) deed (other, s)) found ≡ None
+  by_endpoint None = refl
+  by_endpoint (Some endpoint) = ap (λ (b : Bool). if b then refusal_by deed endpoint else None) (apart_from line other apart)
 
 abbrev one_refused : (endpoints : Endpoints) (deed : Deed) (line code : ℕ) → refusal_at endpoints (One line) deed line ≡ Some code → IsRefused endpoints (One line) deed
 one_refused endpoints deed line code is = record {
@@ -101,7 +101,7 @@ module _ (setup : Setup) (line : ℕ) (one other : Endpoints) (alike : AreAlike 
   unfolding shown_of
   deed_alike deed moment = by_refusal (refusal_at one (One line) deed line) refl same where
     same : refusal_at other (One line) deed line ≡ refusal_at one (One line) deed line
-    same = ap (λ (found : Option Station). option_and_then (λ (s : Station). refusal_on (One line) deed (line, s)) found) alike.station
+    same = ap (λ (found : Option Endpoint). option_and_then (λ (s : Endpoint). refusal_on (One line) deed (line, s)) found) alike.endpoint
 
     by_refusal : (found : Option ℕ) → refusal_at one (One line) deed line ≡ found → refusal_at other (One line) deed line ≡ refusal_at one (One line) deed line
         → DoneAlike line (deed_done setup one (One line) [] deed moment) (deed_done setup other (One line) [] deed moment)
@@ -119,7 +119,7 @@ module _ (setup : Setup) (line : ℕ) (one other : Endpoints) (alike : AreAlike 
               (done_turns setup one (One line) deed moment line here) (done_turns setup other (One line) deed moment line there)
               (own_alone setup one (One line) [] deed moment) (own_alone setup other (One line) [] deed moment);
           answer = done_answer setup other (One line) [] deed moment there
-              ∙ ap (λ (found : Option Station). answer_with [] deed (shown_on found deed)) alike.station
+              ∙ ap (λ (found : Option Endpoint). answer_with [] deed (shown_on found deed)) alike.endpoint
               ∙ sym (done_answer setup one (One line) [] deed moment here);
         }
 
@@ -128,7 +128,7 @@ module _ (setup : Setup) (line : ℕ) (one other : Endpoints) (alike : AreAlike 
       → DoneAlike line (only_answer one (answer_by (audited setup one id (audits.One line) audit))) (only_answer other (answer_by (audited setup other id (audits.One line) audit)))
   unfolding audited
   report_alike id audit =
-      only_alike line one other _ _ alike (ap (λ (found : Option Station). answer_by (line_report found id audit)) alike.station)
+      only_alike line one other _ _ alike (ap (λ (found : Option Endpoint). answer_by (line_report found id audit)) alike.endpoint)
 
   asks_alike : (asks : Result Asks ℕ) (moment id : ℕ) → ((target : AuditTarget) (audit : Audit) → asks ≡ Ok (Reports target audit) → target_for target ≡ One line)
       → ((target : Target) (deed : Deed) → asks ≡ Ok (Does target deed) → target ≡ One line)
@@ -171,7 +171,7 @@ module _ (setup : Setup) (line n : ℕ) (apart : (n == line) ≡ false) (one oth
         subst (λ (b : Bool). LineTurns line one (turn_if b (deed_on setup deed moment line)) (deed_done setup one (One n) [] deed moment).told) apart
         (done_turns setup one (One n) deed moment line none) in
         turn_alike line one other silently (deed_done setup one (One n) [] deed moment).told (silently other) alike turns
-        (record { station = silent_stays (station_at other line); sent = sym (silent_sends (station_at other line)) })
+        (record { endpoint = silent_stays (endpoint_at other line); sent = sym (silent_sends (endpoint_at other line)) })
         (own_alone setup one (One n) [] deed moment) refl
 
   asks_elsewhere : (asks : Result Asks ℕ) (moment id : ℕ) → ((target : Target) (deed : Deed) → asks ≡ Ok (Does target deed) → target ≡ One n)

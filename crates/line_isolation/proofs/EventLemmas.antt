@@ -12,11 +12,11 @@ use Rattle.transmission.specs.Texts.{texts_of, largest_datagram}
 use Rattle.mgcp_text.specs.Reading.{read_text}
 use Rattle.mg_line.specs.declared.phone.Act.{Act}
 use Rattle.plain_machine.specs.declared.setup.Setup.{Setup}
-use Rattle.plain_machine.specs.declared.station.Station.{Station}
+use Rattle.plain_machine.specs.declared.endpoint.Endpoint.{Endpoint}
 use Rattle.plain_machine.specs.Effect.{Effect, silently}
 use Rattle.plain_machine.specs.Event.{GatewayEvent, datagram, phone, tick}
 use Rattle.plain_machine.specs.Message.{Sent}
-use Rattle.plain_machine.specs.Machine.{Machine, told_in, station_at, opening}
+use Rattle.plain_machine.specs.Machine.{Machine, told_in, endpoint_at, opening}
 use Rattle.plain_machine.specs.Acting.{acted}
 use Rattle.plain_machine.specs.Answering.{handled, took_all}
 use Rattle.plain_machine.specs.Falling.{pass}
@@ -240,9 +240,9 @@ module _ (setup : Setup) (keep : ℕ → Bool) (line : ℕ) where
     by_line false is = refl
     by_line true is =
         let same : n ≡ line = (Decides-eqb n line).0 is in
-        let stands : station_at alone.endpoints n ≡ station_at m.endpoints n =
-        ap (station_at alone.endpoints) same ∙ agree.endpoints.station ∙ ap (station_at m.endpoints) (sym same) in
-        both_true {t = true} (ap (λ (found : Option Station). is_none (act_refusal found act)) stands ∙ fine) refl
+        let stands : endpoint_at alone.endpoints n ≡ endpoint_at m.endpoints n =
+        ap (endpoint_at alone.endpoints) same ∙ agree.endpoints.endpoint ∙ ap (endpoint_at m.endpoints) (sym same) in
+        both_true {t = true} (ap (λ (found : Option Endpoint). is_none (act_refusal found act)) stands ∙ fine) refl
 
   all_taken : (m alone : Machine) (events : List GatewayEvent) → Agree keep line m alone → EventsFit setup keep line m events → are_taken setup m events ≡ true
       → are_taken setup alone (own_events setup line events) ≡ true
@@ -258,14 +258,14 @@ module _ (setup : Setup) (keep : ℕ → Bool) (line : ℕ) where
 
   pub as_under_its_own : (events : List GatewayEvent) → EventsFit setup keep line (opening setup) events → AsUnderItsOwn setup line events
   as_under_its_own events fits =
-      let opens : Agree keep line (opening setup) (opening setup) = record { now = refl; endpoints = record { own = refl; station = refl }; history = none } in
+      let opens : Agree keep line (opening setup) (opening setup) = record { now = refl; endpoints = record { own = refl; endpoint = refl }; history = none } in
       let h = isolated (opening setup) (opening setup) events opens fits in
-      let same : station_at (plain setup events).endpoints line ≡ station_at (plain setup (own_events setup line events)).endpoints line = sym h.machines.endpoints.station in
+      let same : endpoint_at (plain setup events).endpoints line ≡ endpoint_at (plain setup (own_events setup line events)).endpoints line = sym h.machines.endpoints.endpoint in
       record {
-        hook = ap (option_map (λ (s : Station). s.line.hook)) same;
-        signals = ap (option_map (λ (s : Station). s.line.signals)) same;
-        connections = ap (option_map (λ (s : Station). s.connections.places)) same;
-        lost = ap (option_map (λ (s : Station). s.line.quarantined.lost)) same;
+        hook = ap (option_map (λ (s : Endpoint). s.line.hook)) same;
+        signals = ap (option_map (λ (s : Endpoint). s.line.signals)) same;
+        connections = ap (option_map (λ (s : Endpoint). s.connections.places)) same;
+        lost = ap (option_map (λ (s : Endpoint). s.line.quarantined.lost)) same;
         sent = h.sent_same;
         taken = λ fine. all_taken (opening setup) (opening setup) events opens fits fine;
       }

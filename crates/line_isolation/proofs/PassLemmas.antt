@@ -6,10 +6,10 @@ use Rattle.std.proofs.lemmas.Bool.Decides.{Decides-eqb}
 use Rattle.std.proofs.lemmas.Option.{none-some}
 use Rattle.timers.specs.declared.due_item.DueItem.{DueItem}
 use Rattle.plain_machine.specs.declared.setup.Setup.{Setup}
-use Rattle.plain_machine.specs.declared.station.Station.{Station}
+use Rattle.plain_machine.specs.declared.endpoint.Endpoint.{Endpoint}
 use Rattle.plain_machine.specs.Effect.{Effect, behind}
 use Rattle.plain_machine.specs.Message.{Sent}
-use Rattle.plain_machine.specs.Machine.{Endpoints, station_at, on_line, on_own}
+use Rattle.plain_machine.specs.Machine.{Endpoints, endpoint_at, on_line, on_own}
 use Rattle.plain_machine.specs.Falling.{due_on, post_due, due_at, due_by, if_by, happened_on, happened_under, happened, pass}
 use Rattle.plain_machine.proofs.EffectLaws.{either_own, either_line, on_this, on_nothing}
 use Rattle.plain_machine.proofs.FirstLemmas.{item_same, first_at, none_by}
@@ -116,24 +116,24 @@ not_zero line some = by_test (line == 0) refl where
   by_test true e = absurd (let none : line ≡ 0 = (Decides-eqb line 0).0 e in omega (arith, some, none))
   by_test false e = refl
 
-due_at_line : (endpoints : Endpoints) (line : ℕ) → 1 ≤ line → due_at endpoints line ≡ line_due line (station_at endpoints line)
+due_at_line : (endpoints : Endpoints) (line : ℕ) → 1 ≤ line → due_at endpoints line ≡ line_due line (endpoint_at endpoints line)
 due_at_line endpoints line some =
-    ap (λ (b : Bool). if b then post_due 0 endpoints.own else option_and_then (λ (s : Station). due_on (line, s)) (station_at endpoints line)) (not_zero line some)
+    ap (λ (b : Bool). if b then post_due 0 endpoints.own else option_and_then (λ (s : Endpoint). due_on (line, s)) (endpoint_at endpoints line)) (not_zero line some)
 
 module _ (setup : Setup) (line moment : ℕ) (some : 1 ≤ line) where
   abbrev LineHere : Endpoints → DueItem → Type 0
-  LineHere endpoints item = Here (line_due line) (line_happens setup line) setup moment line (λ (e : Endpoints). station_at e line) endpoints item
+  LineHere endpoints item = Here (line_due line) (line_happens setup line) setup moment line (λ (e : Endpoints). endpoint_at e line) endpoints item
 
   line_here : (endpoints : Endpoints) (item : DueItem) → due_by endpoints moment ≡ Some item → item.line ≡ line → LineHere endpoints item
   line_here endpoints item is same = record {
-    first = by_moment_is moment (line_due line (station_at endpoints line)) item due_here first.1;
-    becomes = (by_station (station_at endpoints line) refl).0;
-    sends = (by_station (station_at endpoints line) refl).1;
+    first = by_moment_is moment (line_due line (endpoint_at endpoints line)) item due_here first.1;
+    becomes = (by_endpoint (endpoint_at endpoints line) refl).0;
+    sends = (by_endpoint (endpoint_at endpoints line) refl).1;
   } where
     first : (due_at endpoints item.line ≡ Some item) × (item.moment ≤ moment)
     first = first_at endpoints moment item is
 
-    due_here : line_due line (station_at endpoints line) ≡ Some item
+    due_here : line_due line (endpoint_at endpoints line) ≡ Some item
     due_here = sym (due_at_line endpoints line some) ∙ ap (due_at endpoints) (sym same) ∙ first.0
 
     turns : happened setup endpoints item ≡ on_line endpoints line (happened_on item.kind setup line item.moment)
@@ -142,34 +142,34 @@ module _ (setup : Setup) (line moment : ℕ) (some : 1 ≤ line) where
         (ap (λ (n : ℕ). n == 0) same ∙ not_zero line some)
         ∙ ap (λ (n : ℕ). on_line endpoints n (happened_on item.kind setup n item.moment)) same
 
-    by_station : (found : Option Station) → station_at endpoints line ≡ found
-        → (station_at (happened setup endpoints item).value line ≡ (line_happens setup line item found).value)
+    by_endpoint : (found : Option Endpoint) → endpoint_at endpoints line ≡ found
+        → (endpoint_at (happened setup endpoints item).value line ≡ (line_happens setup line item found).value)
         × (of_line line (happened setup endpoints item).sent ≡ (line_happens setup line item found).sent)
-    by_station None at = absurd (none-some item (ap (line_due line) (sym at) ∙ due_here))
-    by_station (Some station) at = (
-      ap (λ (t : Effect Endpoints). station_at t.value line) turns ∙ this_turns endpoints line (happened_on item.kind setup line item.moment)
-          ∙ ap (option_map (λ (s : Station). (happened_on item.kind setup line item.moment s).value)) at,
-      ap (λ (t : Effect Endpoints). of_line line t.sent) (turns ∙ on_this endpoints line station (happened_on item.kind setup line item.moment) at)
-          ∙ owned_here line _ (happened_owned item.kind setup line item.moment station),
+    by_endpoint None at = absurd (none-some item (ap (line_due line) (sym at) ∙ due_here))
+    by_endpoint (Some endpoint) at = (
+      ap (λ (t : Effect Endpoints). endpoint_at t.value line) turns ∙ this_turns endpoints line (happened_on item.kind setup line item.moment)
+          ∙ ap (option_map (λ (s : Endpoint). (happened_on item.kind setup line item.moment s).value)) at,
+      ap (λ (t : Effect Endpoints). of_line line t.sent) (turns ∙ on_this endpoints line endpoint (happened_on item.kind setup line item.moment) at)
+          ∙ owned_here line _ (happened_owned item.kind setup line item.moment endpoint),
     )
 
   line_there : (endpoints : Endpoints) (item : DueItem) → due_by endpoints moment ≡ Some item → (item.line == line) ≡ false
-      → There setup line (λ (e : Endpoints). station_at e line) endpoints item
+      → There setup line (λ (e : Endpoints). endpoint_at e line) endpoints item
   line_there endpoints item is apart = record {
     stays = others_wait setup endpoints item line (λ same. (let t : (item.line == line) ≡ true = (Decides-eqb item.line line).1 (sym same) in absurd cc));
     silent = owned_elsewhere item.line line (happened setup endpoints item).sent (happening_owned setup endpoints item) apart;
   }
 
-  line_none : (endpoints : Endpoints) → due_by endpoints moment ≡ None → if_by moment (line_due line (station_at endpoints line)) ≡ None
+  line_none : (endpoints : Endpoints) → due_by endpoints moment ≡ None → if_by moment (line_due line (endpoint_at endpoints line)) ≡ None
   line_none endpoints is =
-      later_is moment (line_due line (station_at endpoints line))
+      later_is moment (line_due line (endpoint_at endpoints line))
       (λ other due. none_by endpoints moment line other is (due_at_line endpoints line some ∙ due))
 
   pub line_passes : (endpoints : Endpoints)
-      → PassesAlone (line_due line) (line_happens setup line) moment (station_at endpoints line)
-      (seen (λ (e : Endpoints). station_at e line) line (pass setup endpoints moment))
+      → PassesAlone (line_due line) (line_happens setup line) moment (endpoint_at endpoints line)
+      (seen (λ (e : Endpoints). endpoint_at e line) line (pass setup endpoints moment))
   line_passes endpoints =
-      passes (line_due line) (line_happens setup line) setup moment line (λ (e : Endpoints). station_at e line) line_here line_there line_none endpoints
+      passes (line_due line) (line_happens setup line) setup moment line (λ (e : Endpoints). endpoint_at e line) line_here line_there line_none endpoints
 
 -- The gateway itself
 

@@ -3,7 +3,7 @@ use Rattle.std.specs.Prelude.{◌≡◌, ℕ, Option, Some, None, option_and_the
 use Rattle.timers.specs.declared.due_item.DueItem.{DueItem}
 use Rattle.plain_machine.specs.declared.post.Post.{Post}
 use Rattle.plain_machine.specs.declared.setup.Setup.{Setup}
-use Rattle.plain_machine.specs.declared.station.Station.{Station}
+use Rattle.plain_machine.specs.declared.endpoint.Endpoint.{Endpoint}
 use Rattle.plain_machine.specs.Effect.{Effect, silently, effect_map, behind}
 use Rattle.plain_machine.specs.Machine.{Endpoints}
 use Rattle.plain_machine.specs.Falling.{due_on, if_by, happened_on, happened_under}
@@ -20,13 +20,13 @@ pub data PassesAlone {S : Type 0} (due : S → Option DueItem) (happens : DueIte
       → PassesAlone due happens moment (happens item was).value rest
       → is ≡ behind (happens item was).sent rest → PassesAlone due happens moment was is
 
--- of the station of a line, if there is one
-abbrev pub line_due : ℕ → Option Station → Option DueItem
-line_due line found = option_and_then (λ station. due_on (line, station)) found
+-- of the endpoint of a line, if there is one
+abbrev pub line_due : ℕ → Option Endpoint → Option DueItem
+line_due line found = option_and_then (λ endpoint. due_on (line, endpoint)) found
 
-abbrev pub line_happens : Setup → ℕ → DueItem → Option Station → Effect (Option Station)
+abbrev pub line_happens : Setup → ℕ → DueItem → Option Endpoint → Effect (Option Endpoint)
 line_happens setup line item None = silently None
-line_happens setup line item (Some station) = effect_map Some (happened_on item.kind setup line item.moment station)
+line_happens setup line item (Some endpoint) = effect_map Some (happened_on item.kind setup line item.moment endpoint)
 
 -- of the gateway itself
 abbrev pub own_happens : Setup → DueItem → Post → Effect Post

@@ -3,11 +3,11 @@ ghost use Rattle.std.specs.Prelude.{◌≡◌, ◌≤◌, ℕ, List, Option};
 ghost use Rattle.timers.specs.declared.due_item.DueItem.{DueItem};
 ghost use Rattle.plain_machine.specs.declared.post.Post.{Post};
 ghost use Rattle.plain_machine.specs.declared.setup.Setup.{Setup};
-ghost use Rattle.plain_machine.specs.declared.station.Station.{Station};
+ghost use Rattle.plain_machine.specs.declared.endpoint.Endpoint.{Endpoint};
 ghost use Rattle.plain_machine.specs.Effect.{Effect};
 ghost use Rattle.plain_machine.specs.Event.{GatewayEvent};
 ghost use Rattle.plain_machine.specs.Falling.{post_due, pass};
-ghost use Rattle.plain_machine.specs.Machine.{Endpoints, station_at};
+ghost use Rattle.plain_machine.specs.Machine.{Endpoints, endpoint_at};
 ghost use Rattle.line_isolation.specs.Apart.{LinesKeepApart};
 ghost use Rattle.line_isolation.specs.Isolation.{AsUnderItsOwn};
 ghost use Rattle.line_isolation.specs.Passing.{seen, PassesAlone, line_due, line_happens, own_happens};
@@ -24,12 +24,12 @@ pub fn lines_that_keep_apart_are_isolated()
 /// of the gateway itself. There is only one outcome of that.
 pub fn each_line_passes_alone()
     ensures line { (setup : Setup) (endpoints : Endpoints) (line moment : ℕ) → 1 ≤ line →
-        PassesAlone (line_due line) (line_happens setup line) moment (station_at endpoints line)
-        (seen (λ (e : Endpoints). station_at e line) line (pass setup endpoints moment)) }
+        PassesAlone (line_due line) (line_happens setup line) moment (endpoint_at endpoints line)
+        (seen (λ (e : Endpoints). endpoint_at e line) line (pass setup endpoints moment)) }
     ensures own { (setup : Setup) (endpoints : Endpoints) (moment : ℕ) →
         PassesAlone (post_due 0) (own_happens setup) moment endpoints.own
         (seen (λ (e : Endpoints). e.own) 0 (pass setup endpoints moment)) }
-    ensures line_once { (setup : Setup) (line moment : ℕ) (was : Option Station) (one other : Effect (Option Station)) →
+    ensures line_once { (setup : Setup) (line moment : ℕ) (was : Option Endpoint) (one other : Effect (Option Endpoint)) →
         PassesAlone (line_due line) (line_happens setup line) moment was one →
         PassesAlone (line_due line) (line_happens setup line) moment was other → one ≡ other }
     ensures own_once { (setup : Setup) (moment : ℕ) (was : Post) (one other : Effect Post) →

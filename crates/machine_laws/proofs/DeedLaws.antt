@@ -24,14 +24,14 @@ use Rattle.command_forms.specs.declared.forms.Deed.{Deed}
 use Rattle.command_forms.specs.declared.forms.Target.{Target}
 use Rattle.command_forms.specs.declared.forms.Target.TheVariants.{One, All as AllLines, Any as AnyLine}
 use Rattle.plain_machine.specs.declared.setup.Setup.{Setup}
-use Rattle.plain_machine.specs.declared.station.Station.{Station}
+use Rattle.plain_machine.specs.declared.endpoint.Endpoint.{Endpoint}
 use Rattle.plain_machine.specs.Effect.{silently}
 use Rattle.plain_machine.specs.Connecting.{Shown, nothing_shown, done_code, connected}
 use Rattle.plain_machine.specs.Commanding.{done_by, commanded}
 use Rattle.plain_machine.specs.Done.{Done, only_answer}
 use Rattle.plain_machine.specs.Event.{GatewayEvent}
 use Rattle.plain_machine.specs.Lists.{plain}
-use Rattle.plain_machine.specs.Machine.{serves, Endpoints, opening, station_at, numbered}
+use Rattle.plain_machine.specs.Machine.{serves, Endpoints, opening, endpoint_at, numbered}
 use Rattle.plain_machine.specs.Reporting.{name_of_line}
 use Rattle.plain_machine.specs.Requesting.{refusal_on, refused_by, lines_meant, encoding_with, deed_on, deed_on_all, shown_by, shown_on, shown_of, answer_with, unless_refused, deed_done, line_with_place, done_there, done_for}
 use Rattle.command_forms.proofs.FormLemmas.{form_lines}
@@ -49,47 +49,47 @@ done_whole setup endpoints lines more deed moment = record {
 
 -- The first line that refuses
 
-abbrev refusal_in : Target → Deed → ℕ → List Station → ℕ → Option ℕ
-refusal_in lines deed n stations place = option_and_then (λ (station : Station). refusal_on lines deed (n + place, station)) (slice_get stations place)
+abbrev refusal_in : Target → Deed → ℕ → List Endpoint → ℕ → Option ℕ
+refusal_in lines deed n list place = option_and_then (λ (endpoint : Endpoint). refusal_on lines deed (n + place, endpoint)) (slice_get list place)
 
-abbrev first_in : Target → Deed → ℕ → List Station → Option ℕ
-first_in lines deed n stations = first_fault (map (refusal_on lines deed) (enumerate_from n stations))
+abbrev first_in : Target → Deed → ℕ → List Endpoint → Option ℕ
+first_in lines deed n list = first_fault (map (refusal_on lines deed) (enumerate_from n list))
 
-shifted : (lines : Target) (deed : Deed) (n : ℕ) (first : Station) (stations : List Station) (place : ℕ)
-    → refusal_in lines deed n (first ∷ stations) (suc place) ≡ refusal_in lines deed (n + 1) stations place
-shifted lines deed n first stations place =
+shifted : (lines : Target) (deed : Deed) (n : ℕ) (first : Endpoint) (list : List Endpoint) (place : ℕ)
+    → refusal_in lines deed n (first ∷ list) (suc place) ≡ refusal_in lines deed (n + 1) list place
+shifted lines deed n first list place =
     let same : n + suc place ≡ n + 1 + place = omega arith in
-    ap (λ (x : ℕ). option_and_then (λ (station : Station). refusal_on lines deed (x, station)) (slice_get stations place)) same
+    ap (λ (x : ℕ). option_and_then (λ (endpoint : Endpoint). refusal_on lines deed (x, endpoint)) (slice_get list place)) same
 
-at_front : (lines : Target) (deed : Deed) (n : ℕ) (first : Station) (stations : List Station) → refusal_in lines deed n (first ∷ stations) 0 ≡ refusal_on lines deed (n, first)
-at_front lines deed n first stations = let same : n + 0 ≡ n = omega arith in ap (λ (x : ℕ). refusal_on lines deed (x, first)) same
+at_front : (lines : Target) (deed : Deed) (n : ℕ) (first : Endpoint) (list : List Endpoint) → refusal_in lines deed n (first ∷ list) 0 ≡ refusal_on lines deed (n, first)
+at_front lines deed n first list = let same : n + 0 ≡ n = omega arith in ap (λ (x : ℕ). refusal_on lines deed (x, first)) same
 
-first_refuses : (lines : Target) (deed : Deed) (n : ℕ) (stations : List Station) (place code : ℕ) → refusal_in lines deed n stations place ≡ Some code
-    → ((before : ℕ) → before < place → refusal_in lines deed n stations before ≡ None) → first_in lines deed n stations ≡ Some code
+first_refuses : (lines : Target) (deed : Deed) (n : ℕ) (list : List Endpoint) (place code : ℕ) → refusal_in lines deed n list place ≡ Some code
+    → ((before : ℕ) → before < place → refusal_in lines deed n list before ≡ None) → first_in lines deed n list ≡ Some code
 first_refuses lines deed n [] place code refuses none = absurd (none-some code refuses)
-first_refuses lines deed n (first ∷ stations) zero code refuses none =
-    ap (λ (x : Option ℕ). first_fault (x ∷ map (refusal_on lines deed) (enumerate_from (n + 1) stations))) (sym (at_front lines deed n first stations) ∙ refuses)
-first_refuses lines deed n (first ∷ stations) (suc place) code refuses none =
-    ap (λ (x : Option ℕ). first_fault (x ∷ map (refusal_on lines deed) (enumerate_from (n + 1) stations))) (sym (at_front lines deed n first stations) ∙ none 0 (omega arith))
-    ∙ first_refuses lines deed (n + 1) stations place code (sym (shifted lines deed n first stations place) ∙ refuses)
-    (λ before less. sym (shifted lines deed n first stations before) ∙ none (suc before) (omega (arith, less)))
+first_refuses lines deed n (first ∷ list) zero code refuses none =
+    ap (λ (x : Option ℕ). first_fault (x ∷ map (refusal_on lines deed) (enumerate_from (n + 1) list))) (sym (at_front lines deed n first list) ∙ refuses)
+first_refuses lines deed n (first ∷ list) (suc place) code refuses none =
+    ap (λ (x : Option ℕ). first_fault (x ∷ map (refusal_on lines deed) (enumerate_from (n + 1) list))) (sym (at_front lines deed n first list) ∙ none 0 (omega arith))
+    ∙ first_refuses lines deed (n + 1) list place code (sym (shifted lines deed n first list place) ∙ refuses)
+    (λ before less. sym (shifted lines deed n first list before) ∙ none (suc before) (omega (arith, less)))
 
-none_refuses : (lines : Target) (deed : Deed) (n : ℕ) (stations : List Station) → ((place : ℕ) → refusal_in lines deed n stations place ≡ None) → first_in lines deed n stations ≡ None
+none_refuses : (lines : Target) (deed : Deed) (n : ℕ) (list : List Endpoint) → ((place : ℕ) → refusal_in lines deed n list place ≡ None) → first_in lines deed n list ≡ None
 none_refuses lines deed n [] none = refl
-none_refuses lines deed n (first ∷ stations) none =
-    ap (λ (x : Option ℕ). first_fault (x ∷ map (refusal_on lines deed) (enumerate_from (n + 1) stations))) (sym (at_front lines deed n first stations) ∙ none 0)
-    ∙ none_refuses lines deed (n + 1) stations (λ place. sym (shifted lines deed n first stations place) ∙ none (suc place))
+none_refuses lines deed n (first ∷ list) none =
+    ap (λ (x : Option ℕ). first_fault (x ∷ map (refusal_on lines deed) (enumerate_from (n + 1) list))) (sym (at_front lines deed n first list) ∙ none 0)
+    ∙ none_refuses lines deed (n + 1) list (λ place. sym (shifted lines deed n first list place) ∙ none (suc place))
 
 -- a line is at its place
-line_at : (endpoints : Endpoints) (lines : Target) (deed : Deed) (place : ℕ) → refusal_at endpoints lines deed (1 + place) ≡ refusal_in lines deed 1 endpoints.stations place
+line_at : (endpoints : Endpoints) (lines : Target) (deed : Deed) (place : ℕ) → refusal_at endpoints lines deed (1 + place) ≡ refusal_in lines deed 1 endpoints.list place
 line_at endpoints lines deed place = by_zero (1 + place == 0) refl where
   by_zero : (b : Bool) → (1 + place == 0) ≡ b
-      → option_and_then (λ (station : Station). refusal_on lines deed (1 + place, station)) (if b then None else slice_get endpoints.stations (1 + place - 1))
-      ≡ refusal_in lines deed 1 endpoints.stations place
+      → option_and_then (λ (endpoint : Endpoint). refusal_on lines deed (1 + place, endpoint)) (if b then None else slice_get endpoints.list (1 + place - 1))
+      ≡ refusal_in lines deed 1 endpoints.list place
   by_zero true zero_line = absurd (let same : 1 + place ≡ 0 = (Decides-eqb (1 + place) 0).0 zero_line in omega (arith, same))
   by_zero false some =
       let same : 1 + place - 1 ≡ place = omega arith in
-      ap (λ (x : ℕ). option_and_then (λ (station : Station). refusal_on lines deed (1 + place, station)) (slice_get endpoints.stations x)) same
+      ap (λ (x : ℕ). option_and_then (λ (endpoint : Endpoint). refusal_on lines deed (1 + place, endpoint)) (slice_get endpoints.list x)) same
 
 least_refuses : (endpoints : Endpoints) (lines : Target) (deed : Deed) (line code : ℕ) → refusal_at endpoints lines deed line ≡ Some code
     → ((other : ℕ) → other < line → refusal_at endpoints lines deed other ≡ None) → refused_by endpoints lines deed ≡ Some code
@@ -97,7 +97,7 @@ unfolding refused_by
 least_refuses endpoints lines deed zero code refuses none = absurd (none-some code refuses)
 least_refuses endpoints lines deed (suc place) code refuses none =
     let same : suc place ≡ 1 + place = omega arith in
-    first_refuses lines deed 1 endpoints.stations place code
+    first_refuses lines deed 1 endpoints.list place code
     (sym (line_at endpoints lines deed place) ∙ ap (refusal_at endpoints lines deed) (sym same) ∙ refuses)
     (λ before less. sym (line_at endpoints lines deed before) ∙ none (1 + before) (omega (arith, less)))
 
@@ -132,16 +132,16 @@ refused_below endpoints lines deed (suc n) = by_rest (refused_below endpoints li
   by_rest (inr none) = by_this (refusal_at endpoints lines deed n) refl none
 
 -- there is no line behind the last
-none_behind : (endpoints : Endpoints) (lines : Target) (deed : Deed) → NoneBelow endpoints lines deed (1 + length endpoints.stations) → NoneRefuses endpoints lines deed
-none_behind endpoints lines deed none line = by_station (station_at endpoints line) refl where
-  by_station : (found : Option Station) → station_at endpoints line ≡ found → option_and_then (λ (station : Station). refusal_on lines deed (line, station)) found ≡ None
-  by_station None at = refl
-  by_station (Some station) at =
-      ap (option_and_then (λ (station : Station). refusal_on lines deed (line, station))) (sym at) ∙ none line (place_of endpoints line station at).1
+none_behind : (endpoints : Endpoints) (lines : Target) (deed : Deed) → NoneBelow endpoints lines deed (1 + length endpoints.list) → NoneRefuses endpoints lines deed
+none_behind endpoints lines deed none line = by_endpoint (endpoint_at endpoints line) refl where
+  by_endpoint : (found : Option Endpoint) → endpoint_at endpoints line ≡ found → option_and_then (λ (endpoint : Endpoint). refusal_on lines deed (line, endpoint)) found ≡ None
+  by_endpoint None at = refl
+  by_endpoint (Some endpoint) at =
+      ap (option_and_then (λ (endpoint : Endpoint). refusal_on lines deed (line, endpoint))) (sym at) ∙ none line (place_of endpoints line endpoint at).1
 
 pub refused_or_not : (endpoints : Endpoints) (lines : Target) (deed : Deed) → IsRefused endpoints lines deed ⊎ NoneRefuses endpoints lines deed
-refused_or_not endpoints lines deed = by_all (refused_below endpoints lines deed (1 + length endpoints.stations)) where
-  by_all : IsRefused endpoints lines deed ⊎ NoneBelow endpoints lines deed (1 + length endpoints.stations) → IsRefused endpoints lines deed ⊎ NoneRefuses endpoints lines deed
+refused_or_not endpoints lines deed = by_all (refused_below endpoints lines deed (1 + length endpoints.list)) where
+  by_all : IsRefused endpoints lines deed ⊎ NoneBelow endpoints lines deed (1 + length endpoints.list) → IsRefused endpoints lines deed ⊎ NoneRefuses endpoints lines deed
   by_all (inl refused) = inl refused
   by_all (inr none) = inr (none_behind endpoints lines deed none)
 
@@ -149,7 +149,7 @@ refused_or_not endpoints lines deed = by_all (refused_below endpoints lines deed
 
 none_of_all : (endpoints : Endpoints) (lines : Target) (deed : Deed) → NoneRefuses endpoints lines deed → refused_by endpoints lines deed ≡ None
 unfolding refused_by
-none_of_all endpoints lines deed none = none_refuses lines deed 1 endpoints.stations (λ place. sym (line_at endpoints lines deed place) ∙ none (1 + place))
+none_of_all endpoints lines deed none = none_refuses lines deed 1 endpoints.list (λ place. sym (line_at endpoints lines deed place) ∙ none (1 + place))
 
 all_done : (setup : Setup) (endpoints : Endpoints) (lines : Target) (more : List Param) (deed : Deed) (moment : ℕ) → NoneRefuses endpoints lines deed
     → deed_done setup endpoints lines more deed moment ≡ done_whole setup endpoints lines more deed moment
@@ -166,11 +166,11 @@ none_shown : (endpoints : Endpoints) (lines : Target) (deed : Deed) → deed.con
 unfolding shown_of connected
 none_shown endpoints AllLines deed keeps = refl
 none_shown endpoints AnyLine deed keeps = refl
-none_shown endpoints (One line) deed keeps = by_station (station_at endpoints line) where
-  by_station : (found : Option Station) → shown_on found deed ≡ nothing_shown
-  by_station None = refl
-  by_station (Some station) =
-      ap (λ (connections : ConnectionDeed). shown_by (connected connections (encoding_with deed station) station.connections)) keeps
+none_shown endpoints (One line) deed keeps = by_endpoint (endpoint_at endpoints line) where
+  by_endpoint : (found : Option Endpoint) → shown_on found deed ≡ nothing_shown
+  by_endpoint None = refl
+  by_endpoint (Some endpoint) =
+      ap (λ (connections : ConnectionDeed). shown_by (connected connections (encoding_with deed endpoint) endpoint.connections)) keeps
 
 pub done_keeping : (setup : Setup) (endpoints : Endpoints) (lines : Target) (deed : Deed) (moment : ℕ) → NoneRefuses endpoints lines deed → deed.connections ≡ Keep
     → (deed_done setup endpoints lines [] deed moment).answer ≡ plain_code 200
@@ -179,48 +179,48 @@ done_keeping setup endpoints lines deed moment none keeps =
     ∙ ap (λ (shown : Shown). answer_with [] deed shown) (none_shown endpoints lines deed keeps)
     ∙ ap (λ (connections : ConnectionDeed). let answer : Answer = record { code = done_code connections; params = []; body = [] } in answer) keeps
 
-apart_from_passing : (p : ℕ → Bool) (n line : ℕ) (stations : List Station) → p line ≡ false → All (λ (one : ℕ). line ≢ one) (passing_from p n stations)
-apart_from_passing p n line stations fails k d within same =
-    let passes = filter_passes p (map (λ (one : ℕ × Station). one.0) (enumerate_from n stations)) k d within in
+apart_from_passing : (p : ℕ → Bool) (n line : ℕ) (list : List Endpoint) → p line ≡ false → All (λ (one : ℕ). line ≢ one) (passing_from p n list)
+apart_from_passing p n line list fails k d within same =
+    let passes = filter_passes p (map (λ (one : ℕ × Endpoint). one.0) (enumerate_from n list)) k d within in
     let both : true ≡ false = sym passes ∙ sym (ap p same) ∙ fails in
     absurd cc
 
-deed_station : (setup : Setup) (endpoints : Endpoints) (lines : Target) (deed : Deed) (moment line : ℕ)
-    → station_at (deed_on_all setup endpoints lines deed moment).value line
-    ≡ option_map (λ (station : Station). if is_for lines line then (deed_on setup deed moment line station).value else station) (station_at endpoints line)
-deed_station setup endpoints lines deed moment line = by_station (station_at endpoints line) refl where
-  by_test : (station : Station) (b : Bool) → is_for lines line ≡ b → station_at endpoints line ≡ Some station
-      → station_at (deed_on_all setup endpoints lines deed moment).value line ≡ Some (if b then (deed_on setup deed moment line station).value else station)
-  by_test station true meant at =
-      let place = place_of endpoints line station at in
-      among_from (is_for lines) 1 endpoints.stations endpoints (deed_on setup deed moment) line place.0 place.1 meant
-      ∙ ap (option_map (λ (s : Station). (deed_on setup deed moment line s).value)) at
-  by_test station false other at =
-      not_among (lines_meant endpoints lines) endpoints (deed_on setup deed moment) line (apart_from_passing (is_for lines) 1 line endpoints.stations other) ∙ at
+deed_endpoint : (setup : Setup) (endpoints : Endpoints) (lines : Target) (deed : Deed) (moment line : ℕ)
+    → endpoint_at (deed_on_all setup endpoints lines deed moment).value line
+    ≡ option_map (λ (endpoint : Endpoint). if is_for lines line then (deed_on setup deed moment line endpoint).value else endpoint) (endpoint_at endpoints line)
+deed_endpoint setup endpoints lines deed moment line = by_endpoint (endpoint_at endpoints line) refl where
+  by_test : (endpoint : Endpoint) (b : Bool) → is_for lines line ≡ b → endpoint_at endpoints line ≡ Some endpoint
+      → endpoint_at (deed_on_all setup endpoints lines deed moment).value line ≡ Some (if b then (deed_on setup deed moment line endpoint).value else endpoint)
+  by_test endpoint true meant at =
+      let place = place_of endpoints line endpoint at in
+      among_from (is_for lines) 1 endpoints.list endpoints (deed_on setup deed moment) line place.0 place.1 meant
+      ∙ ap (option_map (λ (s : Endpoint). (deed_on setup deed moment line s).value)) at
+  by_test endpoint false other at =
+      not_among (lines_meant endpoints lines) endpoints (deed_on setup deed moment) line (apart_from_passing (is_for lines) 1 line endpoints.list other) ∙ at
 
-  by_station : (found : Option Station) → station_at endpoints line ≡ found
-      → station_at (deed_on_all setup endpoints lines deed moment).value line
-      ≡ option_map (λ (station : Station). if is_for lines line then (deed_on setup deed moment line station).value else station) found
-  by_station None at = none_stays (lines_meant endpoints lines) endpoints (deed_on setup deed moment) line at
-  by_station (Some station) at = by_test station (is_for lines line) refl at
+  by_endpoint : (found : Option Endpoint) → endpoint_at endpoints line ≡ found
+      → endpoint_at (deed_on_all setup endpoints lines deed moment).value line
+      ≡ option_map (λ (endpoint : Endpoint). if is_for lines line then (deed_on setup deed moment line endpoint).value else endpoint) found
+  by_endpoint None at = none_stays (lines_meant endpoints lines) endpoints (deed_on setup deed moment) line at
+  by_endpoint (Some endpoint) at = by_test endpoint (is_for lines line) refl at
 
-pub done_station : (setup : Setup) (endpoints : Endpoints) (lines : Target) (more : List Param) (deed : Deed) (moment line : ℕ) → NoneRefuses endpoints lines deed
-    → station_at (deed_done setup endpoints lines more deed moment).told.value line
-    ≡ option_map (λ (station : Station). if is_for lines line then (deed_on setup deed moment line station).value else station) (station_at endpoints line)
-done_station setup endpoints lines more deed moment line none =
-    ap (λ (x : Done). station_at x.told.value line) (all_done setup endpoints lines more deed moment none) ∙ deed_station setup endpoints lines deed moment line
+pub done_endpoint : (setup : Setup) (endpoints : Endpoints) (lines : Target) (more : List Param) (deed : Deed) (moment line : ℕ) → NoneRefuses endpoints lines deed
+    → endpoint_at (deed_done setup endpoints lines more deed moment).told.value line
+    ≡ option_map (λ (endpoint : Endpoint). if is_for lines line then (deed_on setup deed moment line endpoint).value else endpoint) (endpoint_at endpoints line)
+done_endpoint setup endpoints lines more deed moment line none =
+    ap (λ (x : Done). endpoint_at x.told.value line) (all_done setup endpoints lines more deed moment none) ∙ deed_endpoint setup endpoints lines deed moment line
 
 pub done_sent : (setup : Setup) (endpoints : Endpoints) (lines : Target) (more : List Param) (deed : Deed) (moment : ℕ) → NoneRefuses endpoints lines deed
     → (deed_done setup endpoints lines more deed moment).told.sent
-    ≡ flat_map (λ (one : ℕ × Station). (deed_on setup deed moment one.0 one.1).sent) (filter (λ (one : ℕ × Station). is_for lines one.0) (numbered endpoints))
+    ≡ flat_map (λ (one : ℕ × Endpoint). (deed_on setup deed moment one.0 one.1).sent) (filter (λ (one : ℕ × Endpoint). is_for lines one.0) (numbered endpoints))
 done_sent setup endpoints lines more deed moment none =
     ap (λ (x : Done). x.told.sent) (all_done setup endpoints lines more deed moment none)
-    ∙ sent_from_each (is_for lines) 1 endpoints.stations endpoints (deed_on setup deed moment) (all_there endpoints)
+    ∙ sent_from_each (is_for lines) 1 endpoints.list endpoints (deed_on setup deed moment) (all_there endpoints)
 
 -- One line
 
 pub one_line_alone : (setup : Setup) (endpoints : Endpoints) (more : List Param) (deed : Deed) (moment line other : ℕ) → other ≢ line
-    → station_at (deed_done setup endpoints (One line) more deed moment).told.value other ≡ station_at endpoints other
+    → endpoint_at (deed_done setup endpoints (One line) more deed moment).told.value other ≡ endpoint_at endpoints other
 one_line_alone setup endpoints more deed moment line other apart = by_refusal (refused_by endpoints (One line) deed) where
   not_meant : is_for (One line) other ≡ false
   not_meant = by_test (line == other) refl where
@@ -229,10 +229,10 @@ one_line_alone setup endpoints more deed moment line other apart = by_refusal (r
     by_test false e = refl
 
   by_refusal : (refusal : Option ℕ)
-      → station_at (unless_refused refusal endpoints (done_whole setup endpoints (One line) more deed moment)).told.value other
-      ≡ station_at endpoints other
+      → endpoint_at (unless_refused refusal endpoints (done_whole setup endpoints (One line) more deed moment)).told.value other
+      ≡ endpoint_at endpoints other
   by_refusal None =
-      not_among (lines_meant endpoints (One line)) endpoints (deed_on setup deed moment) other (apart_from_passing (is_for (One line)) 1 other endpoints.stations not_meant)
+      not_among (lines_meant endpoints (One line)) endpoints (deed_on setup deed moment) other (apart_from_passing (is_for (One line)) 1 other endpoints.list not_meant)
   by_refusal (Some code) = refl
 
 pub own_alone : (setup : Setup) (endpoints : Endpoints) (lines : Target) (more : List Param) (deed : Deed) (moment : ℕ)
@@ -268,27 +268,27 @@ pub deed_on_no_line : (setup : Setup) (endpoints : Endpoints) (deed : Deed) (mom
     → done_for setup endpoints AnyLine deed moment ≡ only_answer endpoints (plain_code 410)
 deed_on_no_line setup endpoints deed moment is = ap (λ (found : Option ℕ). done_there found setup endpoints deed moment) is
 
--- a line from 1 to the number of stations has one
-get_within : (stations : List Station) (n : ℕ) → n < length stations → is_some (slice_get stations n) ≡ true
+-- a line from 1 to the number of endpoints has one
+get_within : (list : List Endpoint) (n : ℕ) → n < length list → is_some (slice_get list n) ≡ true
 get_within [] n less = absurd (omega (arith, less))
-get_within (station ∷ rest) zero less = refl
-get_within (station ∷ rest) (suc n) less = get_within rest n (omega (arith, less))
+get_within (endpoint ∷ rest) zero less = refl
+get_within (endpoint ∷ rest) (suc n) less = get_within rest n (omega (arith, less))
 
-station_there : (endpoints : Endpoints) (line : ℕ) → 1 ≤ line → line ≤ length endpoints.stations → is_some (station_at endpoints line) ≡ true
-station_there endpoints line first last = by_zero (line == 0) refl where
-  by_zero : (b : Bool) → (line == 0) ≡ b → is_some (if b then None else slice_get endpoints.stations (line - 1)) ≡ true
+endpoint_there : (endpoints : Endpoints) (line : ℕ) → 1 ≤ line → line ≤ length endpoints.list → is_some (endpoint_at endpoints line) ≡ true
+endpoint_there endpoints line first last = by_zero (line == 0) refl where
+  by_zero : (b : Bool) → (line == 0) ≡ b → is_some (if b then None else slice_get endpoints.list (line - 1)) ≡ true
   by_zero true e = absurd (let no : line ≡ 0 = (Decides-eqb line 0).0 e in omega (arith, no, first))
-  by_zero false e = get_within endpoints.stations (line - 1) (omega (arith, first, last))
+  by_zero false e = get_within endpoints.list (line - 1) (omega (arith, first, last))
 
 pub audit_finds : (setup : Setup) (events : List GatewayEvent) (command : Command) (confirms : KValue) (line : ℕ) (audit : Audit)
     → form_while (serves (plain setup events).endpoints) command confirms setup.names ≡ Ok (Reports (audits.One line) audit)
-    → is_some (station_at (plain setup events).endpoints line) ≡ true
+    → is_some (endpoint_at (plain setup events).endpoints line) ≡ true
 audit_finds setup events command confirms line audit is =
     let asks : Asks = Reports (audits.One line) audit in
     let serving : Bool = serves (plain setup events).endpoints in
     let known : AreOf setup.names.lines (One line) = form_lines command confirms setup.names asks (while_taken serving command confirms setup.names asks is) in
-    let lines : length (plain setup events).endpoints.stations ≡ setup.names.lines = lines_after setup (opening setup) events ∙ lines_of_opening setup in
-    station_there (plain setup events).endpoints line (known.0) (omega (arith, known.1, lines))
+    let lines : length (plain setup events).endpoints.list ≡ setup.names.lines = lines_after setup (opening setup) events ∙ lines_of_opening setup in
+    endpoint_there (plain setup events).endpoints line (known.0) (omega (arith, known.1, lines))
 
 pub audit_stays : (setup : Setup) (endpoints : Endpoints) (moment id : ℕ) (command : Command) (confirms : KValue) (lines : AuditTarget) (audit : Audit)
     → form_while (serves endpoints) command confirms setup.names ≡ Ok (Reports lines audit) → (commanded setup endpoints moment id command confirms).told ≡ silently endpoints

@@ -23,14 +23,14 @@ use Rattle.history.specs.Looking.{Looked, new, repeat, confirmed, full, look_of}
 use Rattle.history.proofs.LookLaws.{repeat_kept}
 use Rattle.outbound.specs.Flight.{InFlight}
 use Rattle.plain_machine.specs.declared.setup.Setup.{Setup}
-use Rattle.plain_machine.specs.declared.station.Station.{Station}
+use Rattle.plain_machine.specs.declared.endpoint.Endpoint.{Endpoint}
 use Rattle.plain_machine.specs.declared.refusal.Refusal.TheVariants.{ClockBack, TickTooFar}
 use Rattle.plain_machine.specs.Effect.{Effect, silently}
 use Rattle.plain_machine.specs.Setup.{IsSetUp, most_lines}
 use Rattle.plain_machine.specs.Event.{GatewayEvent, datagram, phone, tick}
 use Rattle.plain_machine.specs.Message.{of_none, again, acknowledgement, Sent, text_of}
 use Rattle.plain_machine.specs.Posting.{first_number}
-use Rattle.plain_machine.specs.Machine.{Endpoints, Machine, opening, opening_station}
+use Rattle.plain_machine.specs.Machine.{Endpoints, Machine, opening, opening_endpoint}
 use Rattle.transmission.specs.Texts.{texts_of}
 use Rattle.plain_machine.specs.Arriving.{clock_after}
 use Rattle.plain_machine.specs.Done.{Done, only_answer}
@@ -47,7 +47,7 @@ use Rattle.gateway_laws.proofs.NoticeLemmas.{opening_is_fine}
 use Rattle.gateway_laws.proofs.MessageLaws.{nothing_kept, opening_fits, Fits, code_is, code_fits, command_answered, handled_fits, event_fits, AreKept, event_goes}
 use Rattle.plain_machine.proofs.EffectLaws.{handled_now, effect_now}
 use Rattle.machine_laws.proofs.EachLemmas.{Each, each_both, each_weaker, one_behind}
-use Rattle.machine_laws.proofs.GatewayTurns.{OwnStands, Stationed, log_turns}
+use Rattle.machine_laws.proofs.GatewayTurns.{OwnStands, LineStands, log_turns}
 use Rattle.machine_laws.proofs.LogTurns.{Goes, Stands, acted_goes, command_goes, log_both, on_later, pass_goes, responded_goes}
 use Rattle.machine_laws.proofs.PostLogs.{InLog, Logged, Own, Posted, WasBegun}
 use Rattle.machine_laws.proofs.TellsLemmas.{AreAnswers, tells_on}
@@ -63,7 +63,7 @@ said_on log more firsts later until sent s = (tells_on log more firsts later (te
 -- the endpoints by this moment
 pub record EndpointsStand (until : ℕ) (log : List Begun) (endpoints : Endpoints) : Type 0 where
   pub logged : Logged until log
-  pub stations : OnAll (Stationed until log) 1 endpoints.stations
+  pub list : OnAll (LineStands until log) 1 endpoints.list
   pub own : OwnStands until log endpoints.own
 
 -- what is done is said by the gateway's lines and itself alone
@@ -161,13 +161,13 @@ acknowledged_says log firsts now source code id params has = by_test (asks_for_a
 
 -- what a turn of the endpoints gives
 from_goes : (setup : Setup) (until : ℕ) (set_up : IsSetUp setup) (log : List Begun) (is : Effect Endpoints)
-    → Goes setup until (Stationed until) (OwnStands until) (Own until) (Logged until) (log_turns setup until set_up) log is → ToldGoes until log is
+    → Goes setup until (LineStands until) (OwnStands until) (Own until) (Logged until) (log_turns setup until set_up) log is → ToldGoes until log is
 from_goes setup until set_up log is goes =
-    record { stands = record { logged = goes.stands.log_holds; stations = goes.stands.stations; own = goes.stands.own }; sent_own = goes.sent }
+    record { stands = record { logged = goes.stands.log_holds; list = goes.stands.list; own = goes.stands.own }; sent_own = goes.sent }
 
 to_stands : (setup : Setup) (until : ℕ) (set_up : IsSetUp setup) (log : List Begun) (endpoints : Endpoints) → EndpointsStand until log endpoints
-    → Stands setup until (Stationed until) (OwnStands until) (Own until) (Logged until) (log_turns setup until set_up) log endpoints
-to_stands setup until set_up log endpoints s = record { log_holds = s.logged; stations = s.stations; own = s.own }
+    → Stands setup until (LineStands until) (OwnStands until) (Own until) (Logged until) (log_turns setup until set_up) log endpoints
+to_stands setup until set_up log endpoints s = record { log_holds = s.logged; list = s.list; own = s.own }
 
 handled_goes : (setup : Setup) (log : List Begun) (m : Machine) (source : SocketAddrV4) (outcome : Outcome) → Fits setup m → EndpointsStand m.now log m.endpoints
     → AreAnswers (firsts_in m.history) → IfSome (id_in outcome) IsId → TextGoes log m (handled setup m source outcome)
@@ -182,12 +182,12 @@ handled_goes setup log m source (message (messages.Command verb id name params b
     let t = command_with setup m id said (k_of params) in
     transacted_goes log _ m source t stands answered (answer_is t has (command_answered setup m id said (k_of params) fits has).is)
     (from_goes setup m.now fits.set_up log t.done.told
-    (command_goes setup m.now (Stationed m.now) (OwnStands m.now) (Own m.now) (Logged m.now) (log_turns setup m.now fits.set_up) said (k_of params) log m.endpoints id
+    (command_goes setup m.now (LineStands m.now) (OwnStands m.now) (Own m.now) (Logged m.now) (log_turns setup m.now fits.set_up) said (k_of params) log m.endpoints id
     (to_stands setup m.now fits.set_up log m.endpoints stands))) refl
 handled_goes setup log m source (message (messages.Response code id params body)) fits stands answered has =
     let response = response_with setup id code params in
     let goes = from_goes setup m.now fits.set_up log (responded setup m.endpoints m.now response)
-    (responded_goes setup m.now (Stationed m.now) (OwnStands m.now) (Own m.now) (Logged m.now) (log_turns setup m.now fits.set_up) log m.endpoints response
+    (responded_goes setup m.now (LineStands m.now) (OwnStands m.now) (Own m.now) (Logged m.now) (log_turns setup m.now fits.set_up) log m.endpoints response
     (to_stands setup m.now fits.set_up log m.endpoints stands)) in
     let own = (responded setup m.endpoints m.now response).sent in
     let ack = acknowledged m.now source code id params in
@@ -255,9 +255,9 @@ stands_later now later past log endpoints s = record {
     begun = each_weaker (WasBegun now) (WasBegun later) (λ b w. record { name = w.name; reads = w.reads; past = omega (arith, past, w.past) }) log s.logged.begun;
     apart = s.logged.apart;
   };
-  stations = on_later (Stationed now log) (Stationed later log) 1 endpoints.stations
-      (λ i station low is. record { sound = is.sound; post = record { below = is.post.below; counts = is.post.counts; flight = flight_later now later past log station.post.pending is.post.flight } })
-      s.stations;
+  list = on_later (LineStands now log) (LineStands later log) 1 endpoints.list
+      (λ i endpoint low is. record { sound = is.sound; post = record { below = is.post.below; counts = is.post.counts; flight = flight_later now later past log endpoint.post.pending is.post.flight } })
+      s.list;
   own = record {
     sound = s.own.sound;
     post = record { below = s.own.post.below; counts = s.own.post.counts; flight = flight_later now later past log endpoints.own.pending s.own.post.flight };
@@ -294,7 +294,7 @@ event_holds setup log m (datagram source bytes) h taken =
     }
 event_holds setup log m (phone line act) h taken =
     let goes = from_goes setup m.now h.fits.set_up log _
-    (acted_goes setup m.now (Stationed m.now) (OwnStands m.now) (Own m.now) (Logged m.now) (log_turns setup m.now h.fits.set_up) log m.endpoints line act (to_stands setup m.now h.fits.set_up log m.endpoints h.stands)) in
+    (acted_goes setup m.now (LineStands m.now) (OwnStands m.now) (Own m.now) (Logged m.now) (log_turns setup m.now h.fits.set_up) log m.endpoints line act (to_stands setup m.now h.fits.set_up log m.endpoints h.stands)) in
     record {
       holds = record { fits = event_fits setup m (phone line act) h.fits; stands = goes.stands; kept = h.kept; answers = h.answers };
       more = [];
@@ -304,7 +304,7 @@ event_holds setup log m (phone line act) h taken =
 event_holds setup log m (tick moment) h taken =
     let past = tick_on m moment taken in
     let goes = from_goes setup moment h.fits.set_up log _
-    (pass_goes setup moment (Stationed moment) (OwnStands moment) (Own moment) (Logged moment) (log_turns setup moment h.fits.set_up) log m.endpoints
+    (pass_goes setup moment (LineStands moment) (OwnStands moment) (Own moment) (Logged moment) (log_turns setup moment h.fits.set_up) log m.endpoints
     (to_stands setup moment h.fits.set_up log m.endpoints (stands_later m.now moment past log m.endpoints h.stands))) in
     record {
       holds = record { fits = event_fits setup m (tick moment) h.fits; stands = goes.stands; kept = h.kept; answers = h.answers };
@@ -319,7 +319,7 @@ opening_stands setup set_up =
     let sound = opening_is_sound setup set_up in
     record {
       logged = record { begun = tt; apart = λ few. λ i j d less none. absurd (omega arith) };
-      stations = on_made (Stationed 0 []) (opening_station setup) 1 setup.names.lines
+      list = on_made (LineStands 0 []) (opening_endpoint setup) 1 setup.names.lines
           (λ i low high. record {
             sound = record { some = low; few = omega (arith, high, lines); below = omega arith; fine = opening_is_fine; flight = tt };
             post = record { below = omega arith; counts = λ few. record { count = first_of i low; below = tt }; flight = tt };

@@ -1,4 +1,4 @@
--- What holds of each station and of the gateway itself beside the commands that began so far, and of all that they send: what
+-- What holds of each endpoint and of the gateway itself beside the commands that began so far, and of all that they send: what
 -- does at each turn.
 use Rattle.std.proofs.Common.{◌≡◌, ◌≢◌, ℕ, zero, suc, ◌+◌, ◌-◌, ◌≤◌, Bool, true, false, ◌==◌, if◌then◌else◌, List, [], ◌∷◌, ◌++◌, Option, Some, None, Result, Ok, Err, inl, inr, refl, sym, ap, ◌∙◌, subst, arith, append-nil, append_assoc}
 use Rattle.std.specs.Prelude.{◌⊎◌, slice_get, slice_set}
@@ -23,12 +23,12 @@ use Rattle.timers.specs.declared.due_item.DueItem.{DueItem}
 use Rattle.plain_machine.specs.declared.post.Post.{Post}
 use Rattle.plain_machine.specs.declared.response.Response.{Response}
 use Rattle.plain_machine.specs.declared.setup.Setup.{Setup}
-use Rattle.plain_machine.specs.declared.station.Station.{Station}
+use Rattle.plain_machine.specs.declared.endpoint.Endpoint.{Endpoint}
 use Rattle.plain_machine.specs.Effect.{Effect, silently, behind}
 use Rattle.plain_machine.specs.Message.{Sent}
 use Rattle.plain_machine.specs.Posting.{line_of_id}
 use Rattle.plain_machine.specs.Announcing.{heard_on, replied_on}
-use Rattle.plain_machine.specs.Machine.{Endpoints, serves, station_at, with_turn, turned_at, on_line, on_own, on_lines}
+use Rattle.plain_machine.specs.Machine.{Endpoints, serves, endpoint_at, with_turn, turned_at, on_line, on_own, on_lines}
 use Rattle.plain_machine.specs.Acting.{acted_on, acted}
 use Rattle.plain_machine.specs.Falling.{due_on, post_due, first_due, due_by, happened_under, happened_on, happened, go_on, passed, room, pass}
 use Rattle.plain_machine.specs.Done.{Done}
@@ -37,29 +37,29 @@ use Rattle.plain_machine.specs.Commanding.{done_by, commanded}
 use Rattle.plain_machine.specs.Responding.{responded_on, redirected_on, opened_on, on_all, lines_told, own_heard, responded}
 use Rattle.gateway_laws.proofs.AllLemmas.{OnAll}
 use Rattle.gateway_laws.proofs.TurnLemmas.{of_line}
-use Rattle.plain_machine.proofs.FirstLemmas.{IsDueOn, first_on, by_moment, station_is, post_line, station_line}
+use Rattle.plain_machine.proofs.FirstLemmas.{IsDueOn, first_on, by_moment, endpoint_is, post_line, endpoint_line}
 use Rattle.machine_laws.proofs.EachLemmas.{Each, each_both, each_weaker}
 use Rattle.machine_laws.proofs.KeepLemmas.{EffectKeeps}
 use Rattle.machine_laws.specs.Saying.{Begun, begun_at, begun_in}
 
--- Of all stations from this line on
+-- Of all endpoints from this line on
 
-pub on_later : (P P' : ℕ → Station → Type 0) (n : ℕ) (stations : List Station) → ((i : ℕ) (station : Station) → n ≤ i → P i station → P' i station) → OnAll P n stations → OnAll P' n stations
+pub on_later : (P P' : ℕ → Endpoint → Type 0) (n : ℕ) (list : List Endpoint) → ((i : ℕ) (endpoint : Endpoint) → n ≤ i → P i endpoint → P' i endpoint) → OnAll P n list → OnAll P' n list
 on_later P P' n [] step all = tt
-on_later P P' n (station ∷ stations) step all =
-    (step n station (omega arith) all.0, on_later P P' (n + 1) stations (λ i st low is. step i st (omega (arith, low)) is) all.1)
+on_later P P' n (endpoint ∷ list) step all =
+    (step n endpoint (omega arith) all.0, on_later P P' (n + 1) list (λ i st low is. step i st (omega (arith, low)) is) all.1)
 
-on_turned : (P P' : ℕ → Station → Type 0) (n : ℕ) (stations : List Station) (place : ℕ) (station : Station)
-    → ((i : ℕ) (other : Station) → i ≢ n + place → P i other → P' i other) → P' (n + place) station → OnAll P n stations → OnAll P' n (slice_set stations place station)
-on_turned P P' n [] place station step is all = tt
-on_turned P P' n (first ∷ stations) zero station step is all = (
-  subst (λ (i : ℕ). P' i station) (let e : n + zero ≡ n = omega arith in e) is,
-  on_later P P' (n + 1) stations (λ i st low holds. step i st (λ same. absurd (omega (arith, same, low))) holds) all.1,
+on_turned : (P P' : ℕ → Endpoint → Type 0) (n : ℕ) (list : List Endpoint) (place : ℕ) (endpoint : Endpoint)
+    → ((i : ℕ) (other : Endpoint) → i ≢ n + place → P i other → P' i other) → P' (n + place) endpoint → OnAll P n list → OnAll P' n (slice_set list place endpoint)
+on_turned P P' n [] place endpoint step is all = tt
+on_turned P P' n (first ∷ list) zero endpoint step is all = (
+  subst (λ (i : ℕ). P' i endpoint) (let e : n + zero ≡ n = omega arith in e) is,
+  on_later P P' (n + 1) list (λ i st low holds. step i st (λ same. absurd (omega (arith, same, low))) holds) all.1,
 )
-on_turned P P' n (first ∷ stations) (suc place) station step is all =
+on_turned P P' n (first ∷ list) (suc place) endpoint step is all =
     let here : n + suc place ≡ n + 1 + place = omega arith in (
       step n first (λ same. absurd (omega (arith, same))) all.0,
-      on_turned P P' (n + 1) stations place station (λ i st other holds. step i st (λ same. other (same ∙ here)) holds) (subst (λ (i : ℕ). P' i station) here is) all.1,
+      on_turned P P' (n + 1) list place endpoint (λ i st other holds. step i st (λ same. other (same ∙ here)) holds) (subst (λ (i : ℕ). P' i endpoint) here is) all.1,
     )
 
 -- What began with some messages, and with more
@@ -70,35 +70,35 @@ log_both log some more =
 
 -- What a turn keeps: P of a line, R of the gateway itself, Q of what is sent, and L of all that began
 
-abbrev pub Good : (List Begun → ℕ → Station → Type 0) → (List Begun → Sent → Type 0) → (List Begun → Type 0) → List Begun → ℕ → Effect Station → Type 0
+abbrev pub Good : (List Begun → ℕ → Endpoint → Type 0) → (List Begun → Sent → Type 0) → (List Begun → Type 0) → List Begun → ℕ → Effect Endpoint → Type 0
 Good P Q L log line turn = EffectKeeps (λ (x : List Begun). P x line) Q L log line turn
 
 abbrev pub OwnGood : (List Begun → Post → Type 0) → (List Begun → Sent → Type 0) → (List Begun → Type 0) → List Begun → Effect Post → Type 0
 OwnGood R Q L log turn = EffectKeeps R Q L log 0 turn
 
 -- each turn by this moment keeps what holds
-pub record LogTurns (setup : Setup) (until : ℕ) (P : List Begun → ℕ → Station → Type 0) (R : List Begun → Post → Type 0) (Q : List Begun → Sent → Type 0) (L : List Begun → Type 0) : Type 0 where
-  pub act : (log : List Begun) (line : ℕ) (act : Act) (station : Station) → L log → P log line station → Good P Q L log line (acted_on setup line until act station)
+pub record LogTurns (setup : Setup) (until : ℕ) (P : List Begun → ℕ → Endpoint → Type 0) (R : List Begun → Post → Type 0) (Q : List Begun → Sent → Type 0) (L : List Begun → Type 0) : Type 0 where
+  pub act : (log : List Begun) (line : ℕ) (act : Act) (endpoint : Endpoint) → L log → P log line endpoint → Good P Q L log line (acted_on setup line until act endpoint)
   pub deed : (command : Command) (confirms : KValue) (target : Target) (deed : Deed) → form_of command confirms setup.names ≡ Ok (Does target deed)
-      → (log : List Begun) (line : ℕ) (station : Station) → L log → P log line station → Good P Q L log line (deed_on setup deed until line station)
-  pub response : (log : List Begun) (line : ℕ) (response : Response) (station : Station) → L log → P log line station → Good P Q L log line (responded_on setup line until response station)
-  pub happening : (log : List Begun) (line : ℕ) (item : DueItem) (station : Station) → L log → P log line station → due_on (line, station) ≡ Some item → item.moment ≤ until
-      → Good P Q L log line (happened_on item.kind setup line item.moment station)
-  pub redirecting : (log : List Begun) (agent : Entity) (line : ℕ) (station : Station) → L log → P log line station → Good P Q L log line (redirected_on agent line station)
-  pub opening : (log : List Begun) (agent : Option Entity) (line : ℕ) (station : Station) → L log → P log line station → Good P Q L log line (opened_on agent setup until line station)
+      → (log : List Begun) (line : ℕ) (endpoint : Endpoint) → L log → P log line endpoint → Good P Q L log line (deed_on setup deed until line endpoint)
+  pub response : (log : List Begun) (line : ℕ) (response : Response) (endpoint : Endpoint) → L log → P log line endpoint → Good P Q L log line (responded_on setup line until response endpoint)
+  pub happening : (log : List Begun) (line : ℕ) (item : DueItem) (endpoint : Endpoint) → L log → P log line endpoint → due_on (line, endpoint) ≡ Some item → item.moment ≤ until
+      → Good P Q L log line (happened_on item.kind setup line item.moment endpoint)
+  pub redirecting : (log : List Begun) (agent : Entity) (line : ℕ) (endpoint : Endpoint) → L log → P log line endpoint → Good P Q L log line (redirected_on agent line endpoint)
+  pub opening : (log : List Begun) (agent : Option Entity) (line : ℕ) (endpoint : Endpoint) → L log → P log line endpoint → Good P Q L log line (opened_on agent setup until line endpoint)
   pub own_response : (log : List Begun) (response : Response) (own : Post) → L log → R log own → OwnGood R Q L log (replied_on setup 0 until response own)
   pub own_happening : (log : List Begun) (item : DueItem) (own : Post) → L log → R log own → post_due 0 own ≡ Some item → item.moment ≤ until
       → OwnGood R Q L log (happened_under item.kind setup 0 item.moment own)
   -- what others begin changes nothing of it
-  pub others : (log new : List Begun) (line : ℕ) (station : Station) → Each (λ (b : Begun). line_of_id b.id ≢ line) new → P log line station → P (log ++ new) line station
+  pub others : (log new : List Begun) (line : ℕ) (endpoint : Endpoint) → Each (λ (b : Begun). line_of_id b.id ≢ line) new → P log line endpoint → P (log ++ new) line endpoint
   pub own_others : (log new : List Begun) (own : Post) → Each (λ (b : Begun). line_of_id b.id ≢ 0) new → R log own → R (log ++ new) own
   pub more : (log new : List Begun) (sent : Sent) → Q log sent → Q (log ++ new) sent
 
-module _ (setup : Setup) (until : ℕ) (P : List Begun → ℕ → Station → Type 0) (R : List Begun → Post → Type 0) (Q : List Begun → Sent → Type 0) (L : List Begun → Type 0)
+module _ (setup : Setup) (until : ℕ) (P : List Begun → ℕ → Endpoint → Type 0) (R : List Begun → Post → Type 0) (Q : List Begun → Sent → Type 0) (L : List Begun → Type 0)
     (turns : LogTurns setup until P R Q L) where
   pub record Stands (log : List Begun) (endpoints : Endpoints) : Type 0 where
     pub log_holds : L log
-    pub stations : OnAll (P log) 1 endpoints.stations
+    pub list : OnAll (P log) 1 endpoints.list
     pub own : R log endpoints.own
 
   pub record Goes (log : List Begun) (is : Effect Endpoints) : Type 0 where
@@ -121,21 +121,21 @@ module _ (setup : Setup) (until : ℕ) (P : List Begun → ℕ → Station → T
             two.sent);
       }
 
-  turned : (log : List Begun) (endpoints : Endpoints) (line : ℕ) (station : Station) (turn : Effect Station) → Stands log endpoints → station_at endpoints line ≡ Some station
+  turned : (log : List Begun) (endpoints : Endpoints) (line : ℕ) (endpoint : Endpoint) (turn : Effect Endpoint) → Stands log endpoints → endpoint_at endpoints line ≡ Some endpoint
       → Good P Q L log line turn → Goes log (with_turn endpoints line turn)
-  turned log endpoints line station turn s at good = by_zero (line == 0) refl at where
+  turned log endpoints line endpoint turn s at good = by_zero (line == 0) refl at where
     one_more : (line == 0) ≡ false → line ≡ 1 + (line - 1)
     one_more some = grind (arith, nat_tests)
 
-    by_zero : (b : Bool) → (line == 0) ≡ b → (if b then None else slice_get endpoints.stations (line - 1)) ≡ Some station → Goes log (with_turn endpoints line turn)
-    by_zero true e at = absurd (none-some station at)
+    by_zero : (b : Bool) → (line == 0) ≡ b → (if b then None else slice_get endpoints.list (line - 1)) ≡ Some endpoint → Goes log (with_turn endpoints line turn)
+    by_zero true e at = absurd (none-some endpoint at)
     by_zero false e at = record {
       stands = record {
         log_holds = good.log_holds;
-        stations = on_turned (P log) (P (log ++ begun_in turn.sent)) 1 endpoints.stations (line - 1) turn.value
+        list = on_turned (P log) (P (log ++ begun_in turn.sent)) 1 endpoints.list (line - 1) turn.value
             (λ i other apart holds. turns.others log (begun_in turn.sent) i other
             (each_weaker (λ (b : Begun). line_of_id b.id ≡ line) (λ (b : Begun). line_of_id b.id ≢ i) (λ b of. λ same. apart (sym same ∙ of ∙ one_more e)) (begun_in turn.sent) good.of) holds)
-            (subst (λ (i : ℕ). P (log ++ begun_in turn.sent) i turn.value) (one_more e) good.holds) s.stations;
+            (subst (λ (i : ℕ). P (log ++ begun_in turn.sent) i turn.value) (one_more e) good.holds) s.list;
         own = turns.own_others log (begun_in turn.sent) endpoints.own
             (each_weaker (λ (b : Begun). line_of_id b.id ≡ line) (λ (b : Begun). line_of_id b.id ≢ 0)
             (λ b of. λ none. absurd (let some : line ≡ 1 + (line - 1) = one_more e in omega (arith, of, none, some))) (begun_in turn.sent) good.of)
@@ -144,32 +144,32 @@ module _ (setup : Setup) (until : ℕ) (P : List Begun → ℕ → Station → T
       sent = good.sent_holds;
     }
 
-  abbrev LineGoes : List Begun → ℕ → (Station → Effect Station) → Type 0
-  LineGoes log line turn = (station : Station) → L log → P log line station → Good P Q L log line (turn station)
+  abbrev LineGoes : List Begun → ℕ → (Endpoint → Effect Endpoint) → Type 0
+  LineGoes log line turn = (endpoint : Endpoint) → L log → P log line endpoint → Good P Q L log line (turn endpoint)
 
-  turned_goes : (log : List Begun) (endpoints : Endpoints) (line : ℕ) (turn : Station → Effect Station) → Stands log endpoints → LineGoes log line turn → Goes log (on_line endpoints line turn)
+  turned_goes : (log : List Begun) (endpoints : Endpoints) (line : ℕ) (turn : Endpoint → Effect Endpoint) → Stands log endpoints → LineGoes log line turn → Goes log (on_line endpoints line turn)
   unfolding on_line
-  turned_goes log endpoints line turn s good = by_station (station_at endpoints line) refl where
-    by_station : (found : Option Station) → station_at endpoints line ≡ found → Goes log (turned_at found endpoints line turn)
-    by_station None e = stays log endpoints s
-    by_station (Some station) e = turned log endpoints line station _ s e (good station s.log_holds (of_line (P log) endpoints line station s.stations e))
+  turned_goes log endpoints line turn s good = by_endpoint (endpoint_at endpoints line) refl where
+    by_endpoint : (found : Option Endpoint) → endpoint_at endpoints line ≡ found → Goes log (turned_at found endpoints line turn)
+    by_endpoint None e = stays log endpoints s
+    by_endpoint (Some endpoint) e = turned log endpoints line endpoint _ s e (good endpoint s.log_holds (of_line (P log) endpoints line endpoint s.list e))
 
   -- the gateway itself has its turn
   own_turned : (log : List Begun) (endpoints : Endpoints) (turn : Post → Effect Post) → Stands log endpoints → OwnGood R Q L log (turn endpoints.own) → Goes log (on_own endpoints turn)
   own_turned log endpoints turn s good = record {
     stands = record {
       log_holds = good.log_holds;
-      stations = on_later (P log) (P (log ++ begun_in (turn endpoints.own).sent)) 1 endpoints.stations
-          (λ i station low holds. turns.others log (begun_in (turn endpoints.own).sent) i station
+      list = on_later (P log) (P (log ++ begun_in (turn endpoints.own).sent)) 1 endpoints.list
+          (λ i endpoint low holds. turns.others log (begun_in (turn endpoints.own).sent) i endpoint
           (each_weaker (λ (b : Begun). line_of_id b.id ≡ 0) (λ (b : Begun). line_of_id b.id ≢ i) (λ b of. λ same. absurd (omega (arith, of, same, low))) (begun_in (turn endpoints.own).sent) good.of) holds)
-          s.stations;
+          s.list;
       own = good.holds;
     };
     sent = good.sent_holds;
   }
 
   -- several lines have theirs
-  several_go : (lines : List ℕ) (log : List Begun) (endpoints : Endpoints) (turn : ℕ → Station → Effect Station) → Stands log endpoints → ((log : List Begun) (line : ℕ) → LineGoes log line (turn line))
+  several_go : (lines : List ℕ) (log : List Begun) (endpoints : Endpoints) (turn : ℕ → Endpoint → Effect Endpoint) → Stands log endpoints → ((log : List Begun) (line : ℕ) → LineGoes log line (turn line))
       → Goes log (on_lines lines endpoints turn)
   unfolding on_lines
   several_go [] log endpoints turn s good = stays log endpoints s
@@ -179,7 +179,7 @@ module _ (setup : Setup) (until : ℕ) (P : List Begun → ℕ → Station → T
       both_go log here (on_lines lines here.value turn) first (several_go lines (log ++ begun_in here.sent) here.value turn first.stands good)
 
   pub acted_goes : (log : List Begun) (endpoints : Endpoints) (line : ℕ) (act : Act) → Stands log endpoints → Goes log (acted setup endpoints line until act)
-  acted_goes log endpoints line act s = turned_goes log endpoints line (acted_on setup line until act) s (λ station holds has. turns.act log line act station holds has)
+  acted_goes log endpoints line act s = turned_goes log endpoints line (acted_on setup line until act) s (λ endpoint holds has. turns.act log line act endpoint holds has)
 
   -- A response
 
@@ -187,9 +187,9 @@ module _ (setup : Setup) (until : ℕ) (P : List Begun → ℕ → Station → T
   lines_go Nothing log endpoints s = stays log endpoints s
   lines_go PutOff log endpoints s = stays log endpoints s
   lines_go (Redirected agent) log endpoints s =
-      several_go (lines_meant endpoints AllLines) log endpoints (redirected_on agent) s (λ log line station holds has. turns.redirecting log agent line station holds has)
+      several_go (lines_meant endpoints AllLines) log endpoints (redirected_on agent) s (λ log line endpoint holds has. turns.redirecting log agent line endpoint holds has)
   lines_go (Answered agent) log endpoints s =
-      several_go (lines_meant endpoints AllLines) log endpoints (opened_on agent setup until) s (λ log line station holds has. turns.opening log agent line station holds has)
+      several_go (lines_meant endpoints AllLines) log endpoints (opened_on agent setup until) s (λ log line endpoint holds has. turns.opening log agent line endpoint holds has)
 
   own_heard_goes : (log : List Begun) (endpoints : Endpoints) (response : Response) → Stands log endpoints → Goes log (own_heard setup endpoints until response)
   own_heard_goes log endpoints response s =
@@ -204,7 +204,7 @@ module _ (setup : Setup) (until : ℕ) (P : List Begun → ℕ → Station → T
         else on_line endpoints (line_of_id response.id) (responded_on setup (line_of_id response.id) until response))
     by_test true = own_heard_goes log endpoints response s
     by_test false = turned_goes log endpoints (line_of_id response.id) (responded_on setup (line_of_id response.id) until response) s
-        (λ station holds has. turns.response log (line_of_id response.id) response station holds has)
+        (λ endpoint holds has. turns.response log (line_of_id response.id) response endpoint holds has)
 
   -- What falls due
 
@@ -217,17 +217,17 @@ module _ (setup : Setup) (until : ℕ) (P : List Begun → ℕ → Station → T
     Happens : Bool → Type 0
     Happens b = Goes log (if b then on_own endpoints (happened_under item.kind setup 0 item.moment) else on_line endpoints item.line (happened_on item.kind setup item.line item.moment))
 
-    at_station : (on : IsDueOn 1 endpoints.stations item) → Goes log (on_line endpoints item.line (happened_on item.kind setup item.line item.moment))
-    at_station on =
-        let at = station_is endpoints item on in
-        subst (λ (found : Option Station). Goes log (turned_at found endpoints item.line (happened_on item.kind setup item.line item.moment))) (sym at)
-        (turned log endpoints item.line on.station _ s at
-        (turns.happening log item.line item on.station s.log_holds (of_line (P log) endpoints item.line on.station s.stations at) on.due by.1))
+    at_endpoint : (on : IsDueOn 1 endpoints.list item) → Goes log (on_line endpoints item.line (happened_on item.kind setup item.line item.moment))
+    at_endpoint on =
+        let at = endpoint_is endpoints item on in
+        subst (λ (found : Option Endpoint). Goes log (turned_at found endpoints item.line (happened_on item.kind setup item.line item.moment))) (sym at)
+        (turned log endpoints item.line on.endpoint _ s at
+        (turns.happening log item.line item on.endpoint s.log_holds (of_line (P log) endpoints item.line on.endpoint s.list at) on.due by.1))
 
-    by_case : (post_due 0 endpoints.own ≡ Some item) ⊎ IsDueOn 1 endpoints.stations item → Happens (item.line == 0)
+    by_case : (post_due 0 endpoints.own ≡ Some item) ⊎ IsDueOn 1 endpoints.list item → Happens (item.line == 0)
     by_case (inl is) = subst Happens (sym ((Decides-eqb item.line 0).1 (post_line 0 endpoints.own item is)))
         (own_turned log endpoints (happened_under item.kind setup 0 item.moment) s (turns.own_happening log item endpoints.own s.log_holds s.own is by.1))
-    by_case (inr on) = subst Happens (sym (station_line endpoints item on)) (at_station on)
+    by_case (inr on) = subst Happens (sym (endpoint_line endpoints item on)) (at_endpoint on)
 
   passed_goes : (n : ℕ) (log : List Begun) (endpoints : Endpoints) → Stands log endpoints → Goes log (passed n setup endpoints until)
   unfolding passed
@@ -275,7 +275,7 @@ module _ (setup : Setup) (until : ℕ) (P : List Begun → ℕ → Station → T
   form_goes false command confirms (Ok (Does target deed)) is log endpoints id s = absurd (while_none command confirms setup.names target deed is)
   form_goes true command confirms (Ok (Does target deed)) is log endpoints id s =
       target_goes log endpoints target deed s
-      (λ log line station holds has. turns.deed command confirms target deed (while_taken true command confirms setup.names (Does target deed) is) log line station holds has)
+      (λ log line endpoint holds has. turns.deed command confirms target deed (while_taken true command confirms setup.names (Does target deed) is) log line endpoint holds has)
 
   pub command_goes : (command : Command) (confirms : KValue) (log : List Begun) (endpoints : Endpoints) (id : ℕ) → Stands log endpoints
       → Goes log (commanded setup endpoints until id command confirms).told

@@ -15,7 +15,7 @@ use Rattle.command_forms.specs.declared.forms.Target.{Target}
 use Rattle.command_forms.specs.declared.forms.Target.TheVariants.{One, All as AllLines, Any as AnyLine}
 use Rattle.command_forms.specs.declared.forms.Deed.{Deed}
 use Rattle.plain_machine.specs.declared.setup.Setup.{Setup}
-use Rattle.plain_machine.specs.declared.station.Station.{Station}
+use Rattle.plain_machine.specs.declared.endpoint.Endpoint.{Endpoint}
 use Rattle.plain_machine.specs.Effect.{Effect}
 use Rattle.plain_machine.specs.Answering.{Transaction, reply, response_to, command_with, executed}
 use Rattle.plain_machine.specs.Commanding.{done_by, commanded}
@@ -24,7 +24,7 @@ use Rattle.plain_machine.specs.Message.{answer, own_of, Sent}
 use Rattle.plain_machine.specs.Reporting.{name_of_line}
 use Rattle.plain_machine.specs.Requesting.{refused_by, deed_on, deed_on_all, shown_of, answer_with, unless_refused, deed_done, line_with_place, done_there, done_for}
 use Rattle.machine_laws.specs.Owning.{IsOfALine, IsOfALesserLine}
-use Rattle.machine_laws.proofs.LineLemmas.{sent_in, stations_passing, sent_from_each, all_there}
+use Rattle.machine_laws.proofs.LineLemmas.{sent_in, endpoints_passing, sent_from_each, all_there}
 use Rattle.machine_laws.proofs.SendLemmas.{OnceAtMost, silent, once, deed_once}
 
 pub answer_first : (m : Machine) (source : SocketAddrV4) (t : Transaction) → (executed m source t).sent ≡ reply m source t.line (answer (response_to t)) ∷ t.done.told.sent
@@ -67,19 +67,19 @@ before_them n mine sent (once one is own) order =
       pairs = AllPairs-cons IsOfALesserLine one sent (λ k d within. lesser n one (get_or sent k d) own (order.from k d within)) order.pairs;
     })
 
-in_order : (p : ℕ → Bool) (n : ℕ) (stations : List Station) (turn : ℕ → Station → Effect Station) → ((line : ℕ) (station : Station) → OnceAtMost line (turn line station).sent)
-    → InOrder n (sent_in turn (stations_passing p n stations))
+in_order : (p : ℕ → Bool) (n : ℕ) (list : List Endpoint) (turn : ℕ → Endpoint → Effect Endpoint) → ((line : ℕ) (endpoint : Endpoint) → OnceAtMost line (turn line endpoint).sent)
+    → InOrder n (sent_in turn (endpoints_passing p n list))
 in_order p n [] turn each = nothing n
-in_order p n (first ∷ stations) turn each = by_test (p n) (in_order p (n + 1) stations turn each) where
-  by_test : (b : Bool) → InOrder (n + 1) (sent_in turn (stations_passing p (n + 1) stations))
-      → InOrder n (sent_in turn (if b then (n, first) ∷ stations_passing p (n + 1) stations else stations_passing p (n + 1) stations))
+in_order p n (first ∷ list) turn each = by_test (p n) (in_order p (n + 1) list turn each) where
+  by_test : (b : Bool) → InOrder (n + 1) (sent_in turn (endpoints_passing p (n + 1) list))
+      → InOrder n (sent_in turn (if b then (n, first) ∷ endpoints_passing p (n + 1) list else endpoints_passing p (n + 1) list))
   by_test true order = before_them n (turn n first).sent _ (each n first) order
   by_test false order = record { from = lower n _ order.from; pairs = order.pairs }
 
 deeds_in_order : (setup : Setup) (endpoints : Endpoints) (lines : Target) (deed : Deed) (moment : ℕ) → InOrder 1 (deed_on_all setup endpoints lines deed moment).sent
 deeds_in_order setup endpoints lines deed moment =
-    subst (InOrder 1) (sym (sent_from_each (is_for lines) 1 endpoints.stations endpoints (deed_on setup deed moment) (all_there endpoints)))
-    (in_order (is_for lines) 1 endpoints.stations (deed_on setup deed moment) (λ line station. deed_once setup deed moment line station))
+    subst (InOrder 1) (sym (sent_from_each (is_for lines) 1 endpoints.list endpoints (deed_on setup deed moment) (all_there endpoints)))
+    (in_order (is_for lines) 1 endpoints.list (deed_on setup deed moment) (λ line endpoint. deed_once setup deed moment line endpoint))
 
 deed_in_order : (setup : Setup) (endpoints : Endpoints) (lines : Target) (more : List Param) (deed : Deed) (moment : ℕ)
     → InOrder 1 (deed_done setup endpoints lines more deed moment).told.sent

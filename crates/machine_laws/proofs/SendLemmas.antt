@@ -14,7 +14,7 @@ use Rattle.timers.specs.declared.kind.DueKind.TheVariants.{OfLine, Resend, Annou
 use Rattle.command_forms.specs.declared.forms.Deed.{Deed}
 use Rattle.plain_machine.specs.declared.post.Post.{Post}
 use Rattle.plain_machine.specs.declared.setup.Setup.{Setup}
-use Rattle.plain_machine.specs.declared.station.Station.{Station}
+use Rattle.plain_machine.specs.declared.endpoint.Endpoint.{Endpoint}
 use Rattle.plain_machine.specs.Message.{own_of, Sent}
 use Rattle.endpoint_names.specs.declared.entity.Entity.{Entity}
 use Rattle.restart.specs.declared.restart.Restart.{Restart}
@@ -34,44 +34,44 @@ use Rattle.gateway_laws.proofs.AllLemmas.{OnAll}
 use Rattle.gateway_laws.proofs.TurnLemmas.{Turns, OwnTurns, Holds}
 use Rattle.machine_laws.specs.Owning.{is_acknowledgement}
 
--- any station
-abbrev pub Any : Bool → ℕ → Station → Type 0
-Any serving line station = Unit {0}
+-- any endpoint
+abbrev pub Any : Bool → ℕ → Endpoint → Type 0
+Any serving line endpoint = Unit {0}
 
 abbrev pub AnyOwn : Post → Type 0
 AnyOwn own = Unit {0}
 
-on_any : (n : ℕ) (stations : List Station) → OnAll (Any true) n stations
+on_any : (n : ℕ) (list : List Endpoint) → OnAll (Any true) n list
 on_any n [] = tt
-on_any n (station ∷ stations) = (tt, on_any (n + 1) stations)
+on_any n (endpoint ∷ list) = (tt, on_any (n + 1) list)
 
 pub holds_any : (endpoints : Endpoints) → Holds Any AnyOwn endpoints
-holds_any endpoints = record { stations = on_any 1 endpoints.stations; own = tt }
+holds_any endpoints = record { list = on_any 1 endpoints.list; own = tt }
 
 -- no acknowledgement
 abbrev pub NoAck : Sent → Type 0
 NoAck sent = is_acknowledgement sent.said ≡ false
 
-noted_none : (setup : Setup) (line moment : ℕ) (station : Station) (done : LineDone) → All NoAck (noted setup line moment station done).sent
+noted_none : (setup : Setup) (line moment : ℕ) (endpoint : Endpoint) (done : LineDone) → All NoAck (noted setup line moment endpoint done).sent
 unfolding noted
-noted_none setup line moment station done = by_notice done.notice where
-  by_notice : (notice : Option Notice) → All NoAck (with_notice setup line moment (record station { line = done.line }) notice).sent
+noted_none setup line moment endpoint done = by_notice done.notice where
+  by_notice : (notice : Option Notice) → All NoAck (with_notice setup line moment (record endpoint { line = done.line }) notice).sent
   by_notice None = All-nil NoAck
   by_notice (Some notice) = All-cons NoAck _ [] refl (All-nil NoAck)
 
-deed_none : (setup : Setup) (deed : Deed) (moment line : ℕ) (station : Station) → All NoAck (deed_on setup deed moment line station).sent
+deed_none : (setup : Setup) (deed : Deed) (moment line : ℕ) (endpoint : Endpoint) → All NoAck (deed_on setup deed moment line endpoint).sent
 unfolding deed_on
-deed_none setup deed moment line station = noted_none setup line moment (with_connections deed (with_entity deed.entity station)) (asked_if deed.request station.line moment)
+deed_none setup deed moment line endpoint = noted_none setup line moment (with_connections deed (with_entity deed.entity endpoint)) (asked_if deed.request endpoint.line moment)
 
-responded_none : (setup : Setup) (line moment : ℕ) (response : Response) (station : Station) → All NoAck (responded_on setup line moment response station).sent
+responded_none : (setup : Setup) (line moment : ℕ) (response : Response) (endpoint : Endpoint) → All NoAck (responded_on setup line moment response endpoint).sent
 unfolding responded_on replied announced
-responded_none setup line moment response station = by_heard (heard_on station.post response) where
-  by_heard : (heard : Heard) → All NoAck (responded_as heard setup line moment response station).sent
+responded_none setup line moment response endpoint = by_heard (heard_on endpoint.post response) where
+  by_heard : (heard : Heard) → All NoAck (responded_as heard setup line moment response endpoint).sent
   by_heard Nothing = All-nil NoAck
   by_heard PutOff = All-nil NoAck
   by_heard (Redirected agent) = All-cons NoAck _ [] refl (All-nil NoAck)
   by_heard (Answered agent) =
-      let becomes : Station = (posted station (replied (Answered agent) setup line moment response station.post)).value in
+      let becomes : Endpoint = (posted endpoint (replied (Answered agent) setup line moment response endpoint.post)).value in
       noted_none setup line moment becomes (answered becomes.line moment)
 
 resent_none : (setup : Setup) (line moment : ℕ) (post : Post) → All NoAck (resent_on setup line moment post).sent
@@ -92,11 +92,11 @@ announced_none setup line moment post = by_restart post.restart where
   by_restart Announced = All-nil NoAck
   by_restart Serving = All-nil NoAck
 
-happened_none : (due : DueKind) (setup : Setup) (line moment : ℕ) (station : Station) → All NoAck (happened_on due setup line moment station).sent
+happened_none : (due : DueKind) (setup : Setup) (line moment : ℕ) (endpoint : Endpoint) → All NoAck (happened_on due setup line moment endpoint).sent
 unfolding happened_on
-happened_none (OfLine due) setup line moment station = noted_none setup line moment station (fired station.line due moment)
-happened_none Resend setup line moment station = resent_none setup line moment station.post
-happened_none Announce setup line moment station = announced_none setup line moment station.post
+happened_none (OfLine due) setup line moment endpoint = noted_none setup line moment endpoint (fired endpoint.line due moment)
+happened_none Resend setup line moment endpoint = resent_none setup line moment endpoint.post
+happened_none Announce setup line moment endpoint = announced_none setup line moment endpoint.post
 
 own_happened_none : (due : DueKind) (setup : Setup) (moment : ℕ) (own : Post) → All NoAck (happened_under due setup 0 moment own).sent
 unfolding happened_under
@@ -113,29 +113,29 @@ own_responded_none setup moment response own = by_heard (heard_on own response) 
   by_heard (Redirected agent) = All-cons NoAck _ [] refl (All-nil NoAck)
   by_heard (Answered agent) = All-nil NoAck
 
-redirected_none : (agent : Entity) (line : ℕ) (station : Station) → All NoAck (redirected_on agent line station).sent
+redirected_none : (agent : Entity) (line : ℕ) (endpoint : Endpoint) → All NoAck (redirected_on agent line endpoint).sent
 unfolding redirected_on
-redirected_none agent line station = All-nil NoAck
+redirected_none agent line endpoint = All-nil NoAck
 
-opened_none : (agent : Option Entity) (setup : Setup) (moment line : ℕ) (station : Station) → All NoAck (opened_on agent setup moment line station).sent
+opened_none : (agent : Option Entity) (setup : Setup) (moment line : ℕ) (endpoint : Endpoint) → All NoAck (opened_on agent setup moment line endpoint).sent
 unfolding opened_on
-opened_none agent setup moment line station = noted_none setup line moment (with_entity agent station) (opened station.line moment)
+opened_none agent setup moment line endpoint = noted_none setup line moment (with_entity agent endpoint) (opened endpoint.line moment)
 
 pub none_own_turns : (setup : Setup) → OwnTurns setup Any AnyOwn NoAck
 none_own_turns setup = record {
-  free = λ own any. inr (λ serving other line station is. tt);
+  free = λ own any. inr (λ serving other line endpoint is. tt);
   response = λ moment response own read any. (tt, own_responded_none setup moment response own);
   happening = λ due moment own any. (tt, own_happened_none due setup moment own);
 }
 
 pub none_turns : (setup : Setup) → Turns setup Any NoAck
 none_turns setup = record {
-  act = λ serving line moment act station any. (tt, noted_none setup line moment station (phoned station.line act moment));
-  deed = λ command confirms target deed is line moment station any. (tt, deed_none setup deed moment line station);
-  response = λ serving line moment response station read any. (tt, responded_none setup line moment response station);
-  happening = λ serving due line moment station any. (tt, happened_none due setup line moment station);
-  redirecting = λ agent line station read any. (tt, redirected_none agent line station);
-  opening = λ agent line moment station read any. (tt, opened_none agent setup moment line station);
+  act = λ serving line moment act endpoint any. (tt, noted_none setup line moment endpoint (phoned endpoint.line act moment));
+  deed = λ command confirms target deed is line moment endpoint any. (tt, deed_none setup deed moment line endpoint);
+  response = λ serving line moment response endpoint read any. (tt, responded_none setup line moment response endpoint);
+  happening = λ serving due line moment endpoint any. (tt, happened_none due setup line moment endpoint);
+  redirecting = λ agent line endpoint read any. (tt, redirected_none agent line endpoint);
+  opening = λ agent line moment endpoint read any. (tt, opened_none agent setup moment line endpoint);
 }
 
 -- What a line sends because of a deed
@@ -145,13 +145,13 @@ pub data OnceAtMost (line : ℕ) (sent : List Sent) : Type 0 where
   silent : sent ≡ [] → OnceAtMost line sent
   once : (one : Sent) → sent ≡ one ∷ [] → one.owner ≡ own_of line → OnceAtMost line sent
 
-noted_once : (setup : Setup) (line moment : ℕ) (station : Station) (done : LineDone) → OnceAtMost line (noted setup line moment station done).sent
+noted_once : (setup : Setup) (line moment : ℕ) (endpoint : Endpoint) (done : LineDone) → OnceAtMost line (noted setup line moment endpoint done).sent
 unfolding noted
-noted_once setup line moment station done = by_notice done.notice where
-  by_notice : (notice : Option Notice) → OnceAtMost line (with_notice setup line moment (record station { line = done.line }) notice).sent
+noted_once setup line moment endpoint done = by_notice done.notice where
+  by_notice : (notice : Option Notice) → OnceAtMost line (with_notice setup line moment (record endpoint { line = done.line }) notice).sent
   by_notice None = silent refl
   by_notice (Some notice) = once _ refl refl
 
-pub deed_once : (setup : Setup) (deed : Deed) (moment line : ℕ) (station : Station) → OnceAtMost line (deed_on setup deed moment line station).sent
+pub deed_once : (setup : Setup) (deed : Deed) (moment line : ℕ) (endpoint : Endpoint) → OnceAtMost line (deed_on setup deed moment line endpoint).sent
 unfolding deed_on
-deed_once setup deed moment line station = noted_once setup line moment (with_connections deed (with_entity deed.entity station)) (asked_if deed.request station.line moment)
+deed_once setup deed moment line endpoint = noted_once setup line moment (with_connections deed (with_entity deed.entity endpoint)) (asked_if deed.request endpoint.line moment)

@@ -11,7 +11,7 @@ use Rattle.timers.specs.declared.kind.DueKind.{DueKind}
 use Rattle.timers.specs.declared.kind.DueKind.TheVariants.{OfLine, Resend}
 use Rattle.timers.specs.declared.due_item.DueItem.{DueItem}
 use Rattle.plain_machine.specs.declared.setup.Setup.{Setup}
-use Rattle.plain_machine.specs.declared.station.Station.{Station}
+use Rattle.plain_machine.specs.declared.endpoint.Endpoint.{Endpoint}
 use Rattle.plain_machine.specs.Effect.{Effect}
 use Rattle.plain_machine.specs.Acting.{acted}
 use Rattle.plain_machine.specs.Answering.{handled, took_all}
@@ -19,7 +19,7 @@ use Rattle.plain_machine.specs.Event.{GatewayEvent}
 use Rattle.plain_machine.specs.Falling.{happened_on, happened_under, happened, pass}
 use Rattle.plain_machine.specs.Flights.{IsSame, Carries}
 use Rattle.plain_machine.specs.Lists.{plain}
-use Rattle.plain_machine.specs.Machine.{Endpoints, Machine, serves, opening, station_at, on_line, on_own}
+use Rattle.plain_machine.specs.Machine.{Endpoints, Machine, serves, opening, endpoint_at, on_line, on_own}
 use Rattle.gateway_laws.proofs.AllLemmas.{OnAll}
 use Rattle.plain_machine.proofs.EffectLaws.{either_own, either_line, some_line, on_this}
 use Rattle.gateway_laws.proofs.FlightLaws.{Orders, OwnOrders, opening_orders, all_order, orders_acted, orders_happened, orders_passed, orders_handled, in_order, order_waits, no_command_when_due, repeat_carries, repeat_keeps, own_carries, own_keeps}
@@ -29,32 +29,32 @@ use Rattle.machine_laws.proofs.LineLemmas.{others_stay_on, own_stays_on, this_tu
 
 -- All lines
 
-on_all : (P : ℕ → Station → Type 0) (endpoints : Endpoints) (n : ℕ) (stations : List Station) → ((line : ℕ) (station : Station) → station_at endpoints line ≡ Some station → P line station)
-    → AreThere endpoints n stations → OnAll P n stations
+on_all : (P : ℕ → Endpoint → Type 0) (endpoints : Endpoints) (n : ℕ) (list : List Endpoint) → ((line : ℕ) (endpoint : Endpoint) → endpoint_at endpoints line ≡ Some endpoint → P line endpoint)
+    → AreThere endpoints n list → OnAll P n list
 on_all P endpoints n [] each there = tt
-on_all P endpoints n (first ∷ stations) each there = (each n first here, on_all P endpoints (n + 1) stations each behind) where
-  here : station_at endpoints n ≡ Some first
-  here = let same : n + 0 ≡ n = omega arith in subst (λ (line : ℕ). station_at endpoints line ≡ Some first) same (there 0 first refl)
+on_all P endpoints n (first ∷ list) each there = (each n first here, on_all P endpoints (n + 1) list each behind) where
+  here : endpoint_at endpoints n ≡ Some first
+  here = let same : n + 0 ≡ n = omega arith in subst (λ (line : ℕ). endpoint_at endpoints line ≡ Some first) same (there 0 first refl)
 
-  behind : AreThere endpoints (n + 1) stations
-  behind place station at =
+  behind : AreThere endpoints (n + 1) list
+  behind place endpoint at =
       let next : n + suc place ≡ n + 1 + place = omega arith in
-      subst (λ (line : ℕ). station_at endpoints line ≡ Some station) next (there (suc place) station at)
+      subst (λ (line : ℕ). endpoint_at endpoints line ≡ Some endpoint) next (there (suc place) endpoint at)
 
 abbrev AllHold : Endpoints → Type 0
 AllHold endpoints = Holds Orders OwnOrders endpoints
 
 all_in_order : (endpoints : Endpoints) → KeepOrder endpoints → AllHold endpoints
 all_in_order endpoints keep = record {
-  stations = on_all (Orders (serves endpoints)) endpoints 1 endpoints.stations
-      (λ line station at. record { order = keep.order.lines line station at; below = keep.next.lines line station at }) (all_there endpoints);
+  list = on_all (Orders (serves endpoints)) endpoints 1 endpoints.list
+      (λ line endpoint at. record { order = keep.order.lines line endpoint at; below = keep.next.lines line endpoint at }) (all_there endpoints);
   own = record { order = keep.order.own; below = keep.next.own };
 }
 
 each_in_order : (endpoints : Endpoints) → AllHold endpoints → KeepOrder endpoints
 each_in_order endpoints all = record {
   order = in_order endpoints all;
-  next = record { lines = λ line station at. (of_line (Orders (serves endpoints)) endpoints line station all.stations at).below; own = all.own.below };
+  next = record { lines = λ line endpoint at. (of_line (Orders (serves endpoints)) endpoints line endpoint all.list at).below; own = all.own.below };
 }
 
 pub opening_waits : (setup : Setup) → KeepOrder (opening setup).endpoints
@@ -88,51 +88,51 @@ texts_wait setup m source (text ∷ texts) keep =
 -- What falls due on a line whose command is in flight
 
 -- it happens on the line
-on_the_line : (setup : Setup) (endpoints : Endpoints) (item : DueItem) (station : Station) → station_at endpoints item.line ≡ Some station
+on_the_line : (setup : Setup) (endpoints : Endpoints) (item : DueItem) (endpoint : Endpoint) → endpoint_at endpoints item.line ≡ Some endpoint
     → happened setup endpoints item ≡ on_line endpoints item.line (happened_on item.kind setup item.line item.moment)
-on_the_line setup endpoints item station at =
-    either_line endpoints item.line (happened_under item.kind setup 0 item.moment) (happened_on item.kind setup item.line item.moment) (some_line endpoints item.line station at)
+on_the_line setup endpoints item endpoint at =
+    either_line endpoints item.line (happened_under item.kind setup 0 item.moment) (happened_on item.kind setup item.line item.moment) (some_line endpoints item.line endpoint at)
 
-line_turned : (setup : Setup) (endpoints : Endpoints) (item : DueItem) (due : DueKind) (station : Station) → item.kind ≡ due → station_at endpoints item.line ≡ Some station
-    → station_at (happened setup endpoints item).value item.line ≡ Some (happened_on due setup item.line item.moment station).value
-line_turned setup endpoints item due station is at =
-    ap (λ (x : Effect Endpoints). station_at x.value item.line) (on_the_line setup endpoints item station at)
+line_turned : (setup : Setup) (endpoints : Endpoints) (item : DueItem) (due : DueKind) (endpoint : Endpoint) → item.kind ≡ due → endpoint_at endpoints item.line ≡ Some endpoint
+    → endpoint_at (happened setup endpoints item).value item.line ≡ Some (happened_on due setup item.line item.moment endpoint).value
+line_turned setup endpoints item due endpoint is at =
+    ap (λ (x : Effect Endpoints). endpoint_at x.value item.line) (on_the_line setup endpoints item endpoint at)
     ∙ this_turns endpoints item.line (happened_on item.kind setup item.line item.moment)
-    ∙ ap (option_map (λ (s : Station). (happened_on item.kind setup item.line item.moment s).value)) at
-    ∙ ap (λ (which : DueKind). Some (happened_on which setup item.line item.moment station).value) is
+    ∙ ap (option_map (λ (s : Endpoint). (happened_on item.kind setup item.line item.moment s).value)) at
+    ∙ ap (λ (which : DueKind). Some (happened_on which setup item.line item.moment endpoint).value) is
 
-line_sent : (setup : Setup) (endpoints : Endpoints) (item : DueItem) (due : DueKind) (station : Station) → item.kind ≡ due → station_at endpoints item.line ≡ Some station
-    → (happened setup endpoints item).sent ≡ (happened_on due setup item.line item.moment station).sent
-line_sent setup endpoints item due station is at =
-    ap (λ (x : Effect Endpoints). x.sent) (on_the_line setup endpoints item station at ∙ on_this endpoints item.line station (happened_on item.kind setup item.line item.moment) at)
-    ∙ ap (λ (which : DueKind). (happened_on which setup item.line item.moment station).sent) is
+line_sent : (setup : Setup) (endpoints : Endpoints) (item : DueItem) (due : DueKind) (endpoint : Endpoint) → item.kind ≡ due → endpoint_at endpoints item.line ≡ Some endpoint
+    → (happened setup endpoints item).sent ≡ (happened_on due setup item.line item.moment endpoint).sent
+line_sent setup endpoints item due endpoint is at =
+    ap (λ (x : Effect Endpoints). x.sent) (on_the_line setup endpoints item endpoint at ∙ on_this endpoints item.line endpoint (happened_on item.kind setup item.line item.moment) at)
+    ∙ ap (λ (which : DueKind). (happened_on which setup item.line item.moment endpoint).sent) is
 
-pub line_silent : (setup : Setup) (endpoints : Endpoints) (item : DueItem) (due : LineDue) (station : Station) (message : InFlight) → KeepOrder endpoints → item.kind ≡ OfLine due
-    → station_at endpoints item.line ≡ Some station → in_flight station ≡ Some message
+pub line_silent : (setup : Setup) (endpoints : Endpoints) (item : DueItem) (due : LineDue) (endpoint : Endpoint) (message : InFlight) → KeepOrder endpoints → item.kind ≡ OfLine due
+    → endpoint_at endpoints item.line ≡ Some endpoint → in_flight endpoint ≡ Some message
     → ((happened setup endpoints item).sent ≡ [])
-    × IfSome (station_at (happened setup endpoints item).value item.line) (λ after. in_flight after ≡ Some message)
-line_silent setup endpoints item due station message are is at flight =
-    let begins = no_command_when_due setup due item.line item.moment station message (order_waits (serves endpoints) item.line station (are.order.lines item.line station at)) flight in (
-      line_sent setup endpoints item (OfLine due) station is at ∙ begins.sent,
-      subst (λ (x : Option Station). IfSome x (λ after. in_flight after ≡ Some message)) (sym (line_turned setup endpoints item (OfLine due) station is at)) (begins.pending ∙ flight),
+    × IfSome (endpoint_at (happened setup endpoints item).value item.line) (λ after. in_flight after ≡ Some message)
+line_silent setup endpoints item due endpoint message are is at flight =
+    let begins = no_command_when_due setup due item.line item.moment endpoint message (order_waits (serves endpoints) item.line endpoint (are.order.lines item.line endpoint at)) flight in (
+      line_sent setup endpoints item (OfLine due) endpoint is at ∙ begins.sent,
+      subst (λ (x : Option Endpoint). IfSome x (λ after. in_flight after ≡ Some message)) (sym (line_turned setup endpoints item (OfLine due) endpoint is at)) (begins.pending ∙ flight),
     )
 
-pub command_again : (setup : Setup) (endpoints : Endpoints) (item : DueItem) (station : Station) (message : InFlight) → item.kind ≡ Resend
-    → station_at endpoints item.line ≡ Some station → in_flight station ≡ Some message
+pub command_again : (setup : Setup) (endpoints : Endpoints) (item : DueItem) (endpoint : Endpoint) (message : InFlight) → item.kind ≡ Resend
+    → endpoint_at endpoints item.line ≡ Some endpoint → in_flight endpoint ≡ Some message
     → All (Carries item.line (message.repeats + 1) message) (happened setup endpoints item).sent
-    × IfSome (station_at (happened setup endpoints item).value item.line) (λ after. IfSome (in_flight after) (IsSame message))
-command_again setup endpoints item station message is at flight = (
-  subst (All (Carries item.line (message.repeats + 1) message)) (sym (line_sent setup endpoints item Resend station is at)) (repeat_carries setup item.line item.moment station message flight),
-  subst (λ (x : Option Station). IfSome x (λ after. IfSome (in_flight after) (IsSame message))) (sym (line_turned setup endpoints item Resend station is at))
-      (repeat_keeps setup item.line item.moment station message flight),
+    × IfSome (endpoint_at (happened setup endpoints item).value item.line) (λ after. IfSome (in_flight after) (IsSame message))
+command_again setup endpoints item endpoint message is at flight = (
+  subst (All (Carries item.line (message.repeats + 1) message)) (sym (line_sent setup endpoints item Resend endpoint is at)) (repeat_carries setup item.line item.moment endpoint message flight),
+  subst (λ (x : Option Endpoint). IfSome x (λ after. IfSome (in_flight after) (IsSame message))) (sym (line_turned setup endpoints item Resend endpoint is at))
+      (repeat_keeps setup item.line item.moment endpoint message flight),
 )
 
 pub others_wait : (setup : Setup) (endpoints : Endpoints) (item : DueItem) (other : ℕ) → other ≢ item.line
-    → station_at (happened setup endpoints item).value other ≡ station_at endpoints other
+    → endpoint_at (happened setup endpoints item).value other ≡ endpoint_at endpoints other
 others_wait setup endpoints item other apart = by_test (item.line == 0) where
   by_test : (b : Bool)
-      → station_at (if b then on_own endpoints (happened_under item.kind setup 0 item.moment) else on_line endpoints item.line (happened_on item.kind setup item.line item.moment)).value other
-      ≡ station_at endpoints other
+      → endpoint_at (if b then on_own endpoints (happened_under item.kind setup 0 item.moment) else on_line endpoints item.line (happened_on item.kind setup item.line item.moment)).value other
+      ≡ endpoint_at endpoints other
   by_test true = refl
   by_test false = others_stay_on endpoints item.line other (happened_on item.kind setup item.line item.moment) apart
 

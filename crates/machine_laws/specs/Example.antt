@@ -3,7 +3,7 @@ use Rattle.std.specs.Prelude.{ℕ, List, [], ◌∷◌, codes, Some, None}
 use Rattle.std.specs.declared.net.socket_addr.SocketAddrV4.{SocketAddrV4}
 use Rattle.command_forms.specs.declared.forms.ConnectionDeed.TheVariants as deeds
 use Rattle.mg_line.specs.declared.phone.Act.TheVariants as acts
-use Rattle.mg_line.specs.Story.{requests, with_signals}
+use Rattle.mg_line.specs.Scenario.{requests, with_signals}
 use Rattle.command_forms.specs.declared.forms.Deed.{Deed}
 use Rattle.plain_machine.specs.Arriving.{arrival}
 use Rattle.plain_machine.specs.Event.{phone}

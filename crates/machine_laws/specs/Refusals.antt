@@ -2,13 +2,13 @@
 use Rattle.std.specs.Prelude.{◌≡◌, ℕ, ◌<◌, Option, Some, None, option_and_then}
 use Rattle.command_forms.specs.declared.forms.Target.{Target}
 use Rattle.command_forms.specs.declared.forms.Deed.{Deed}
-use Rattle.plain_machine.specs.Machine.{Endpoints, station_at}
+use Rattle.plain_machine.specs.Machine.{Endpoints, endpoint_at}
 use Rattle.plain_machine.specs.Requesting.{refusal_on}
 
 -- the code with which the line with this number refuses a deed, if there is such a line, it is meant, and it refuses
 abbrev pub refusal_at : Endpoints → Target → Deed → ℕ → Option ℕ
 refusal_at endpoints lines deed line =
-    option_and_then (λ station. refusal_on lines deed (line, station)) (station_at endpoints line)
+    option_and_then (λ endpoint. refusal_on lines deed (line, endpoint)) (endpoint_at endpoints line)
 
 -- a line refuses the deed: the least that does, with its code
 pub record IsRefused (endpoints : Endpoints) (lines : Target) (deed : Deed) : Type 0 where

@@ -1,21 +1,21 @@
 -- What is said of lines that wait for the answer to their command, at each thing that happens (RFC 3435, 4.4.1 and 4.4.7).
 use Rattle.std.specs.Prelude.{◌≡◌, ℕ, ◌<◌, Option, Some}
 use Rattle.outbound.specs.Flight.{InFlight}
-use Rattle.plain_machine.specs.declared.station.Station.{Station}
+use Rattle.plain_machine.specs.declared.endpoint.Endpoint.{Endpoint}
 use Rattle.plain_machine.specs.Flights.{AreInOrder}
-use Rattle.plain_machine.specs.Machine.{Endpoints, station_at}
+use Rattle.plain_machine.specs.Machine.{Endpoints, endpoint_at}
 use Rattle.plain_machine.specs.Posting.{numbers}
 
 -- the command of a line that is in flight, and the number of its next one
-abbrev pub in_flight : Station → Option InFlight
-in_flight station = station.post.pending
+abbrev pub in_flight : Endpoint → Option InFlight
+in_flight endpoint = endpoint.post.pending
 
-abbrev pub next_number : Station → ℕ
-next_number station = station.post.number
+abbrev pub next_number : Endpoint → ℕ
+next_number endpoint = endpoint.post.number
 
 -- the number of the next command of each line is one of a line's numbers, and so it is of the gateway itself
 pub record HaveNumbers (endpoints : Endpoints) : Type 0 where
-  pub lines : (line : ℕ) (station : Station) → station_at endpoints line ≡ Some station → next_number station < numbers
+  pub lines : (line : ℕ) (endpoint : Endpoint) → endpoint_at endpoints line ≡ Some endpoint → next_number endpoint < numbers
   pub own : endpoints.own.number < numbers
 
 -- what is in flight agrees with where announcements are, and so it goes on to do, since the numbers are numbers

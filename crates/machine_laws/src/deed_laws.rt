@@ -16,13 +16,13 @@ ghost use Rattle.command_forms.specs.declared.forms.Deed.{Deed};
 ghost use Rattle.command_forms.specs.declared.forms.Target.{Target};
 ghost use Rattle.command_forms.specs.declared.forms.Target.TheVariants.{One, All, Any};
 ghost use Rattle.plain_machine.specs.declared.setup.Setup.{Setup};
-ghost use Rattle.plain_machine.specs.declared.station.Station.{Station};
+ghost use Rattle.plain_machine.specs.declared.endpoint.Endpoint.{Endpoint};
 ghost use Rattle.plain_machine.specs.Effect.{silently};
 ghost use Rattle.plain_machine.specs.Commanding.{commanded};
 ghost use Rattle.plain_machine.specs.Done.{only_answer};
 ghost use Rattle.plain_machine.specs.Event.{GatewayEvent};
 ghost use Rattle.plain_machine.specs.Lists.{plain};
-ghost use Rattle.plain_machine.specs.Machine.{serves, Endpoints, station_at, numbered};
+ghost use Rattle.plain_machine.specs.Machine.{serves, Endpoints, endpoint_at, numbered};
 ghost use Rattle.plain_machine.specs.Reporting.{name_of_line};
 ghost use Rattle.plain_machine.specs.Requesting.{deed_on, shown_of, answer_with, deed_done, line_with_place, done_for};
 ghost use Rattle.machine_laws.specs.Refusals.{IsRefused, NoneRefuses};
@@ -71,17 +71,17 @@ pub fn a_deed_that_no_line_refuses_is_done_on_each()
     ensures keeping { (setup : Setup) (endpoints : Endpoints) (lines : Target) (deed : Deed) (moment : ℕ) →
         NoneRefuses endpoints lines deed → deed.connections ≡ Keep →
         (deed_done setup endpoints lines [] deed moment).answer ≡ plain_code 200 }
-    ensures station { (setup : Setup) (endpoints : Endpoints) (lines : Target) (more : List Param) (deed : Deed)
+    ensures endpoint { (setup : Setup) (endpoints : Endpoints) (lines : Target) (more : List Param) (deed : Deed)
         (moment line : ℕ) → NoneRefuses endpoints lines deed →
-        station_at (deed_done setup endpoints lines more deed moment).told.value line
-        ≡ option_map (λ (station : Station).
-        if is_for lines line then (deed_on setup deed moment line station).value else station)
-        (station_at endpoints line) }
+        endpoint_at (deed_done setup endpoints lines more deed moment).told.value line
+        ≡ option_map (λ (endpoint : Endpoint).
+        if is_for lines line then (deed_on setup deed moment line endpoint).value else endpoint)
+        (endpoint_at endpoints line) }
     ensures sent { (setup : Setup) (endpoints : Endpoints) (lines : Target) (more : List Param) (deed : Deed)
         (moment : ℕ) → NoneRefuses endpoints lines deed →
         (deed_done setup endpoints lines more deed moment).told.sent
-        ≡ flat_map (λ (one : ℕ × Station). (deed_on setup deed moment one.0 one.1).sent)
-        (filter (λ (one : ℕ × Station). is_for lines one.0) (numbered endpoints)) }
+        ≡ flat_map (λ (one : ℕ × Endpoint). (deed_on setup deed moment one.0 one.1).sent)
+        (filter (λ (one : ℕ × Endpoint). is_for lines one.0) (numbered endpoints)) }
 {}
 
 /// A deed on one line changes that line alone, be it done or refused; and no deed changes what the gateway keeps for
@@ -89,8 +89,8 @@ pub fn a_deed_that_no_line_refuses_is_done_on_each()
 pub fn a_deed_on_one_line_changes_that_line_alone()
     ensures others { (setup : Setup) (endpoints : Endpoints) (more : List Param) (deed : Deed)
         (moment line other : ℕ) → other ≢ line →
-        station_at (deed_done setup endpoints (One line) more deed moment).told.value other
-        ≡ station_at endpoints other }
+        endpoint_at (deed_done setup endpoints (One line) more deed moment).told.value other
+        ≡ endpoint_at endpoints other }
     ensures own { (setup : Setup) (endpoints : Endpoints) (lines : Target) (more : List Param) (deed : Deed)
         (moment : ℕ) → (deed_done setup endpoints lines more deed moment).told.value.own ≡ endpoints.own }
 {}
@@ -100,7 +100,7 @@ pub fn an_audit_of_one_line_finds_it()
     ensures { (setup : Setup) (events : List GatewayEvent) (command : Command) (confirms : KValue) (line : ℕ) (audit : Audit) →
         let endpoints = (plain setup events).endpoints in
         form_while (serves endpoints) command confirms setup.names ≡ Ok (Reports (audits.One line) audit) →
-        is_some (station_at endpoints line) ≡ true }
+        is_some (endpoint_at endpoints line) ≡ true }
 {}
 
 /// An audit changes nothing and has nothing sent, nor does a command that has a fault.

@@ -8,7 +8,7 @@ ghost use Rattle.mgcp_text.specs.Answer.{plain_code};
 ghost use Rattle.mgcp_text.specs.declared.message.Message.TheVariants as messages;
 ghost use Rattle.outbound.specs.Flight.{sent_first};
 ghost use Rattle.plain_machine.specs.Event.{phone};
-ghost use Rattle.plain_machine.specs.Example.{example, agent, agent_route, other_agent, lifted, station_then, to_agent_at, to_other_at};
+ghost use Rattle.plain_machine.specs.Example.{example, agent, agent_route, other_agent, lifted, endpoint_then, to_agent_at, to_other_at};
 ghost use Rattle.plain_machine.specs.Message.{answer, again, command, resent, text_of, datagrams_of};
 ghost use Rattle.plain_machine.specs.Packing.{put_out};
 ghost use Rattle.plain_machine.specs.Requesting.{deed_done};
@@ -129,8 +129,8 @@ pub fn messages_of_lines_are_in_the_order_of_the_lines()
 
 /// A line whose command is in flight waits for the answer, and counts its commands.
 pub fn a_line_that_is_lifted_waits()
-    ensures flight { option_map in_flight (station_then (phone 1 acts.OffHook ∷ []) 1)
+    ensures flight { option_map in_flight (endpoint_then (phone 1 acts.OffHook ∷ []) 1)
         ≡ Some (Some (sent_first 10000000 agent_route lifted 1000)) }
-    ensures number { option_map next_number (station_then (phone 1 acts.OffHook ∷ []) 1) ≡ Some 1 }
-    ensures other { option_map in_flight (station_then (phone 1 acts.OffHook ∷ []) 2) ≡ Some None }
+    ensures number { option_map next_number (endpoint_then (phone 1 acts.OffHook ∷ []) 1) ≡ Some 1 }
+    ensures other { option_map in_flight (endpoint_then (phone 1 acts.OffHook ∷ []) 2) ≡ Some None }
 {}

@@ -8,14 +8,14 @@ ghost use Rattle.outbound.specs.Flight.{InFlight};
 ghost use Rattle.timers.specs.declared.kind.DueKind.TheVariants.{OfLine, Resend};
 ghost use Rattle.timers.specs.declared.due_item.DueItem.{DueItem};
 ghost use Rattle.plain_machine.specs.declared.setup.Setup.{Setup};
-ghost use Rattle.plain_machine.specs.declared.station.Station.{Station};
+ghost use Rattle.plain_machine.specs.declared.endpoint.Endpoint.{Endpoint};
 ghost use Rattle.plain_machine.specs.Acting.{acted};
 ghost use Rattle.plain_machine.specs.Answering.{handled, took_all};
 ghost use Rattle.plain_machine.specs.Event.{GatewayEvent};
 ghost use Rattle.plain_machine.specs.Falling.{happened, pass};
 ghost use Rattle.plain_machine.specs.Flights.{IsSame, Carries};
 ghost use Rattle.plain_machine.specs.Lists.{plain};
-ghost use Rattle.plain_machine.specs.Machine.{Machine, Endpoints, station_at, opening};
+ghost use Rattle.plain_machine.specs.Machine.{Machine, Endpoints, endpoint_at, opening};
 ghost use Rattle.machine_laws.specs.Waiting.{in_flight, KeepOrder};
 
 /// While its command is in flight a line waits for the answer, what is in flight agrees with where announcements are, and
@@ -41,20 +41,20 @@ pub fn lines_wait_at_each_thing_that_happens()
 /// is next, or nothing, and leaves it in flight or gives it up. Other lines stay as they are, and so does the gateway itself.
 /// Of its own command, which falls due as that of line 0, the same holds.
 pub fn what_falls_due_begins_nothing_while_a_command_is_in_flight()
-    ensures line { (setup : Setup) (endpoints : Endpoints) (item : DueItem) (due : LineDue) (station : Station)
+    ensures line { (setup : Setup) (endpoints : Endpoints) (item : DueItem) (due : LineDue) (endpoint : Endpoint)
         (message : InFlight) → KeepOrder endpoints → item.kind ≡ OfLine due →
-        station_at endpoints item.line ≡ Some station → in_flight station ≡ Some message →
+        endpoint_at endpoints item.line ≡ Some endpoint → in_flight endpoint ≡ Some message →
         ((happened setup endpoints item).sent ≡ [])
-        × IfSome (station_at (happened setup endpoints item).value item.line)
+        × IfSome (endpoint_at (happened setup endpoints item).value item.line)
         (λ after. in_flight after ≡ Some message) }
-    ensures command { (setup : Setup) (endpoints : Endpoints) (item : DueItem) (station : Station)
+    ensures command { (setup : Setup) (endpoints : Endpoints) (item : DueItem) (endpoint : Endpoint)
         (message : InFlight) → item.kind ≡ Resend →
-        station_at endpoints item.line ≡ Some station → in_flight station ≡ Some message →
+        endpoint_at endpoints item.line ≡ Some endpoint → in_flight endpoint ≡ Some message →
         All (Carries item.line (message.repeats + 1) message) (happened setup endpoints item).sent
-        × IfSome (station_at (happened setup endpoints item).value item.line)
+        × IfSome (endpoint_at (happened setup endpoints item).value item.line)
         (λ after. IfSome (in_flight after) (IsSame message)) }
     ensures others { (setup : Setup) (endpoints : Endpoints) (item : DueItem) (other : ℕ) → other ≢ item.line →
-        station_at (happened setup endpoints item).value other ≡ station_at endpoints other }
+        endpoint_at (happened setup endpoints item).value other ≡ endpoint_at endpoints other }
     ensures own_command { (setup : Setup) (endpoints : Endpoints) (item : DueItem) (message : InFlight) →
         item.kind ≡ Resend → item.line ≡ 0 → endpoints.own.pending ≡ Some message →
         All (Carries 0 (message.repeats + 1) message) (happened setup endpoints item).sent

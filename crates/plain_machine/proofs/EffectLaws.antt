@@ -11,10 +11,10 @@ use Rattle.mgcp_text.specs.Confirmation.{k_of}
 use Rattle.mgcp_text.specs.Reading.{Outcome, message, no_header, bad_version, bad_body, read_text}
 use Rattle.plain_machine.specs.declared.post.Post.{Post}
 use Rattle.plain_machine.specs.declared.setup.Setup.{Setup}
-use Rattle.plain_machine.specs.declared.station.Station.{Station}
+use Rattle.plain_machine.specs.declared.endpoint.Endpoint.{Endpoint}
 use Rattle.plain_machine.specs.Effect.{Effect, silently}
 use Rattle.plain_machine.specs.Event.{GatewayEvent, datagram, phone, tick}
-use Rattle.plain_machine.specs.Machine.{Endpoints, Machine, serves, station_at, with_turn, turned_at, on_line, on_own, on_either, on_lines}
+use Rattle.plain_machine.specs.Machine.{Endpoints, Machine, serves, endpoint_at, with_turn, turned_at, on_line, on_own, on_either, on_lines}
 use Rattle.transmission.specs.Texts.{texts_of}
 use Rattle.plain_machine.specs.Arriving.{clock_after}
 use Rattle.history.specs.Memory.{most_firsts}
@@ -41,25 +41,25 @@ use Rattle.plain_machine.specs.Answering.{Transaction, executed, transacted_by, 
 use Rattle.plain_machine.specs.Happening.{effect}
 
 abbrev lines_in : Endpoints → ℕ
-lines_in endpoints = length endpoints.stations
+lines_in endpoints = length endpoints.list
 
-set_same : (stations : List Station) (i : ℕ) (station : Station) → length (slice_set stations i station) ≡ length stations
-set_same stations i station = grind (arith, common_steps)
+set_same : (list : List Endpoint) (i : ℕ) (endpoint : Endpoint) → length (slice_set list i endpoint) ≡ length list
+set_same list i endpoint = grind (arith, common_steps)
 
-pub turned_lines : (endpoints : Endpoints) (line : ℕ) (turn : Station → Effect Station) → lines_in (on_line endpoints line turn).value ≡ lines_in endpoints
+pub turned_lines : (endpoints : Endpoints) (line : ℕ) (turn : Endpoint → Effect Endpoint) → lines_in (on_line endpoints line turn).value ≡ lines_in endpoints
 unfolding on_line
-turned_lines endpoints line turn = by_station (station_at endpoints line) where
-  by_station : (found : Option Station) → lines_in (turned_at found endpoints line turn).value ≡ lines_in endpoints
-  by_station None = refl
-  by_station (Some station) = set_same endpoints.stations (line - 1) _
+turned_lines endpoints line turn = by_endpoint (endpoint_at endpoints line) where
+  by_endpoint : (found : Option Endpoint) → lines_in (turned_at found endpoints line turn).value ≡ lines_in endpoints
+  by_endpoint None = refl
+  by_endpoint (Some endpoint) = set_same endpoints.list (line - 1) _
 
-either_lines : (endpoints : Endpoints) (line : ℕ) (own_turn : Post → Effect Post) (turn : Station → Effect Station) → lines_in (on_either endpoints line own_turn turn).value ≡ lines_in endpoints
+either_lines : (endpoints : Endpoints) (line : ℕ) (own_turn : Post → Effect Post) (turn : Endpoint → Effect Endpoint) → lines_in (on_either endpoints line own_turn turn).value ≡ lines_in endpoints
 either_lines endpoints line own_turn turn = by_test (line == 0) where
   by_test : (b : Bool) → lines_in (if b then on_own endpoints own_turn else on_line endpoints line turn).value ≡ lines_in endpoints
   by_test true = refl
   by_test false = turned_lines endpoints line turn
 
-several_lines : (lines : List ℕ) (endpoints : Endpoints) (turn : ℕ → Station → Effect Station) → lines_in (on_lines lines endpoints turn).value ≡ lines_in endpoints
+several_lines : (lines : List ℕ) (endpoints : Endpoints) (turn : ℕ → Endpoint → Effect Endpoint) → lines_in (on_lines lines endpoints turn).value ≡ lines_in endpoints
 unfolding on_lines
 several_lines [] endpoints turn = refl
 several_lines (line ∷ lines) endpoints turn = several_lines lines (on_line endpoints line (turn line)).value turn ∙ turned_lines endpoints line (turn line)
@@ -126,7 +126,7 @@ handled_keeps setup m source (message (messages.Response code id params body)) =
 pub handled_now : (setup : Setup) (m : Machine) (source : SocketAddrV4) (outcome : Outcome) → (handled setup m source outcome).value.now ≡ m.now
 handled_now setup m source outcome = (handled_keeps setup m source outcome).now
 
-pub handled_lines : (setup : Setup) (m : Machine) (source : SocketAddrV4) (outcome : Outcome) → length (handled setup m source outcome).value.endpoints.stations ≡ length m.endpoints.stations
+pub handled_lines : (setup : Setup) (m : Machine) (source : SocketAddrV4) (outcome : Outcome) → length (handled setup m source outcome).value.endpoints.list ≡ length m.endpoints.list
 handled_lines setup m source outcome = (handled_keeps setup m source outcome).lines
 
 took_keeps : (setup : Setup) (m : Machine) (source : SocketAddrV4) (texts : List (List ℕ)) → Keeps m (took_all setup m source texts)
@@ -137,10 +137,10 @@ took_keeps setup m source (text ∷ texts) =
     let rest = took_keeps setup (handled setup m source (read_text text)).value source texts in
     record { lines = rest.lines ∙ first.lines; now = rest.now ∙ first.now }
 
-pub took_lines : (setup : Setup) (m : Machine) (source : SocketAddrV4) (texts : List (List ℕ)) → length (took_all setup m source texts).value.endpoints.stations ≡ length m.endpoints.stations
+pub took_lines : (setup : Setup) (m : Machine) (source : SocketAddrV4) (texts : List (List ℕ)) → length (took_all setup m source texts).value.endpoints.list ≡ length m.endpoints.list
 took_lines setup m source texts = (took_keeps setup m source texts).lines
 
--- what falls due changes a station, and adds none
+-- what falls due changes an endpoint, and adds none
 pub happened_lines : (setup : Setup) (endpoints : Endpoints) (item : DueItem) → lines_in (happened setup endpoints item).value ≡ lines_in endpoints
 happened_lines setup endpoints item =
     either_lines endpoints item.line (happened_under item.kind setup 0 item.moment) (happened_on item.kind setup item.line item.moment)
@@ -160,7 +160,7 @@ pass_lines setup endpoints moment = passed_lines (room endpoints moment) setup e
 
 -- no line is lost
 pub effect_lines : (setup : Setup) (m : Machine) (event : GatewayEvent)
-    → length (effect setup m event).value.endpoints.stations ≡ length m.endpoints.stations
+    → length (effect setup m event).value.endpoints.list ≡ length m.endpoints.list
 unfolding effect
 effect_lines setup m (datagram source bytes) = (took_keeps setup m source (texts_of bytes)).lines
 effect_lines setup m (phone line act) = turned_lines m.endpoints line (acted_on setup line m.now act)
@@ -173,57 +173,57 @@ effect_now setup m (datagram source bytes) = (took_keeps setup m source (texts_o
 effect_now setup m (phone line act) = refl
 effect_now setup m (tick moment) = refl
 
--- a station that is put where it stands
-pub same_station : (test : Bool) (stations : List Station) (place : ℕ) (station : Station) → (if test then None else slice_get stations place) ≡ Some station
-    → slice_set stations place station ≡ stations
-same_station true stations place station at = absurd cc
-same_station false stations place station at =
-    ap (λ (x : Station). slice_set stations place x) (sym (get_or_from_slice_get stations place station station at)) ∙ set-get_or stations place station
+-- an endpoint that is put where it stands
+pub same_endpoint : (test : Bool) (list : List Endpoint) (place : ℕ) (endpoint : Endpoint) → (if test then None else slice_get list place) ≡ Some endpoint
+    → slice_set list place endpoint ≡ list
+same_endpoint true list place endpoint at = absurd cc
+same_endpoint false list place endpoint at =
+    ap (λ (x : Endpoint). slice_set list place x) (sym (get_or_from_slice_get list place endpoint endpoint at)) ∙ set-get_or list place endpoint
 
 -- and the others stand where they stood
-pub other_station : (stations : List Station) (place other : ℕ) (station : Station) → (other ≡ place → ⊥) → slice_get (slice_set stations place station) other ≡ slice_get stations other
-other_station [] place other station apart = refl
-other_station (first ∷ stations) zero zero station apart = absurd (apart refl)
-other_station (first ∷ stations) zero (suc other) station apart = refl
-other_station (first ∷ stations) (suc place) zero station apart = refl
-other_station (first ∷ stations) (suc place) (suc other) station apart = other_station stations place other station (λ same. apart (ap suc same))
+pub other_endpoint : (list : List Endpoint) (place other : ℕ) (endpoint : Endpoint) → (other ≡ place → ⊥) → slice_get (slice_set list place endpoint) other ≡ slice_get list other
+other_endpoint [] place other endpoint apart = refl
+other_endpoint (first ∷ list) zero zero endpoint apart = absurd (apart refl)
+other_endpoint (first ∷ list) zero (suc other) endpoint apart = refl
+other_endpoint (first ∷ list) (suc place) zero endpoint apart = refl
+other_endpoint (first ∷ list) (suc place) (suc other) endpoint apart = other_endpoint list place other endpoint (λ same. apart (ap suc same))
 
--- a station that stays as it is, and sends nothing
-pub turned_still : (endpoints : Endpoints) (line : ℕ) (station : Station) → station_at endpoints line ≡ Some station
-    → with_turn endpoints line (silently station) ≡ silently endpoints
-turned_still endpoints line station at =
-    let same : slice_set endpoints.stations (line - 1) station ≡ endpoints.stations = same_station (line == 0) endpoints.stations (line - 1) station at in
-    ap (λ (x : List Station). let e : Endpoints = record endpoints { stations = x } in silently e) same
+-- an endpoint that stays as it is, and sends nothing
+pub turned_still : (endpoints : Endpoints) (line : ℕ) (endpoint : Endpoint) → endpoint_at endpoints line ≡ Some endpoint
+    → with_turn endpoints line (silently endpoint) ≡ silently endpoints
+turned_still endpoints line endpoint at =
+    let same : slice_set endpoints.list (line - 1) endpoint ≡ endpoints.list = same_endpoint (line == 0) endpoints.list (line - 1) endpoint at in
+    ap (λ (x : List Endpoint). let e : Endpoints = record endpoints { list = x } in silently e) same
 
 -- the gateway itself, and a line
-pub either_own : (endpoints : Endpoints) (line : ℕ) (own_turn : Post → Effect Post) (turn : Station → Effect Station) → (line == 0) ≡ true
+pub either_own : (endpoints : Endpoints) (line : ℕ) (own_turn : Post → Effect Post) (turn : Endpoint → Effect Endpoint) → (line == 0) ≡ true
     → on_either endpoints line own_turn turn ≡ on_own endpoints own_turn
 either_own endpoints line own_turn turn is = ap (λ (b : Bool). if b then on_own endpoints own_turn else on_line endpoints line turn) is
 
-pub either_line : (endpoints : Endpoints) (line : ℕ) (own_turn : Post → Effect Post) (turn : Station → Effect Station) → (line == 0) ≡ false
+pub either_line : (endpoints : Endpoints) (line : ℕ) (own_turn : Post → Effect Post) (turn : Endpoint → Effect Endpoint) → (line == 0) ≡ false
     → on_either endpoints line own_turn turn ≡ on_line endpoints line turn
 either_line endpoints line own_turn turn is = ap (λ (b : Bool). if b then on_own endpoints own_turn else on_line endpoints line turn) is
 
 -- a line that there is isn't the gateway itself
-pub some_line : (endpoints : Endpoints) (line : ℕ) (station : Station) → station_at endpoints line ≡ Some station → (line == 0) ≡ false
-some_line endpoints line station at = by_zero (line == 0) refl at where
-  by_zero : (b : Bool) → (line == 0) ≡ b → (if b then None else slice_get endpoints.stations (line - 1)) ≡ Some station → b ≡ false
+pub some_line : (endpoints : Endpoints) (line : ℕ) (endpoint : Endpoint) → endpoint_at endpoints line ≡ Some endpoint → (line == 0) ≡ false
+some_line endpoints line endpoint at = by_zero (line == 0) refl at where
+  by_zero : (b : Bool) → (line == 0) ≡ b → (if b then None else slice_get endpoints.list (line - 1)) ≡ Some endpoint → b ≡ false
   by_zero true e at = absurd cc
   by_zero false e at = refl
 
 -- where there is such a line
-pub on_this : (endpoints : Endpoints) (line : ℕ) (station : Station) (turn : Station → Effect Station) → station_at endpoints line ≡ Some station
-    → on_line endpoints line turn ≡ with_turn endpoints line (turn station)
+pub on_this : (endpoints : Endpoints) (line : ℕ) (endpoint : Endpoint) (turn : Endpoint → Effect Endpoint) → endpoint_at endpoints line ≡ Some endpoint
+    → on_line endpoints line turn ≡ with_turn endpoints line (turn endpoint)
 unfolding on_line
-on_this endpoints line station turn at = ap (λ (x : Option Station). turned_at x endpoints line turn) at
+on_this endpoints line endpoint turn at = ap (λ (x : Option Endpoint). turned_at x endpoints line turn) at
 
 -- where there is none
-pub on_nothing : (endpoints : Endpoints) (line : ℕ) (turn : Station → Effect Station) → station_at endpoints line ≡ None → on_line endpoints line turn ≡ silently endpoints
+pub on_nothing : (endpoints : Endpoints) (line : ℕ) (turn : Endpoint → Effect Endpoint) → endpoint_at endpoints line ≡ None → on_line endpoints line turn ≡ silently endpoints
 unfolding on_line
-on_nothing endpoints line turn at = ap (λ (x : Option Station). turned_at x endpoints line turn) at
+on_nothing endpoints line turn at = ap (λ (x : Option Endpoint). turned_at x endpoints line turn) at
 
--- a line whose station stays, and sends nothing
-pub on_still : (endpoints : Endpoints) (line : ℕ) (station : Station) (turn : Station → Effect Station) → station_at endpoints line ≡ Some station → turn station ≡ silently station
+-- a line whose endpoint stays, and sends nothing
+pub on_still : (endpoints : Endpoints) (line : ℕ) (endpoint : Endpoint) (turn : Endpoint → Effect Endpoint) → endpoint_at endpoints line ≡ Some endpoint → turn endpoint ≡ silently endpoint
     → on_line endpoints line turn ≡ silently endpoints
-on_still endpoints line station turn at still =
-    on_this endpoints line station turn at ∙ ap (λ (t : Effect Station). with_turn endpoints line t) still ∙ turned_still endpoints line station at
+on_still endpoints line endpoint turn at still =
+    on_this endpoints line endpoint turn at ∙ ap (λ (t : Effect Endpoint). with_turn endpoints line t) still ∙ turned_still endpoints line endpoint at

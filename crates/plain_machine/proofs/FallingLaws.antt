@@ -9,37 +9,37 @@ use Rattle.std.proofs.lemmas.List.Sums.{sum_by-set, sum_by-cons}
 use Rattle.std.proofs.lemmas.Option.{slice_get_within, get_or_from_slice_get}
 use Rattle.timers.specs.declared.due_item.DueItem.{DueItem}
 use Rattle.plain_machine.specs.declared.setup.Setup.{Setup}
-use Rattle.plain_machine.specs.declared.station.Station.{Station}
+use Rattle.plain_machine.specs.declared.endpoint.Endpoint.{Endpoint}
 use Rattle.plain_machine.specs.Effect.{Effect, silently, behind, afterwards}
 use Rattle.plain_machine.specs.Machine.{Endpoints, with_turn, with_own, on_own}
 use Rattle.plain_machine.specs.Falling.{due_on, post_due, first_due, due_by, happened_on, happened_under, happened, go_on, passed, room, pass, things_of_a_line, own_things}
-use Rattle.plain_machine.proofs.EffectLaws.{happened_lines, other_station, either_own, either_line, on_this}
-use Rattle.plain_machine.proofs.FirstLemmas.{IsDueOn, first_on, post_line, by_moment, station_is, station_line, earliest_own, earliest_on}
+use Rattle.plain_machine.proofs.EffectLaws.{happened_lines, other_endpoint, either_own, either_line, on_this}
+use Rattle.plain_machine.proofs.FirstLemmas.{IsDueOn, first_on, post_line, by_moment, endpoint_is, endpoint_line, earliest_own, earliest_on}
 use Rattle.plain_machine.proofs.LeftLemmas.{post_has, Happens, has_by, first_happens, none_before, due_count, twelve_at_most, happens_less, post_happens, own_none_before, own_count, two_at_most, own_happens_less}
 
 -- How much is due up to a moment
 
 abbrev total : ℕ → Endpoints → ℕ
-total moment endpoints = sum_by (due_count moment) endpoints.stations + own_count moment endpoints.own
+total moment endpoints = sum_by (due_count moment) endpoints.list + own_count moment endpoints.own
 
-sum_most : (moment : ℕ) (stations : List Station) → sum_by (due_count moment) stations ≤ things_of_a_line * length stations
+sum_most : (moment : ℕ) (list : List Endpoint) → sum_by (due_count moment) list ≤ things_of_a_line * length list
 sum_most moment [] = omega arith
-sum_most moment (station ∷ stations) =
-    omega (arith, sum_by-cons (due_count moment) station stations, twelve_at_most moment station, sum_most moment stations)
+sum_most moment (endpoint ∷ list) =
+    omega (arith, sum_by-cons (due_count moment) endpoint list, twelve_at_most moment endpoint, sum_most moment list)
 
 abbrev per_moment : Endpoints → ℕ
-per_moment endpoints = things_of_a_line * length endpoints.stations + own_things
+per_moment endpoints = things_of_a_line * length endpoints.list + own_things
 
 total_most : (moment : ℕ) (endpoints : Endpoints) → total moment endpoints ≤ per_moment endpoints
-total_most moment endpoints = omega (arith, sum_most moment endpoints.stations, two_at_most moment endpoints.own)
+total_most moment endpoints = omega (arith, sum_most moment endpoints.list, two_at_most moment endpoints.own)
 
 -- What happens on one line, or of the gateway itself
 
-happened_is : (setup : Setup) (endpoints : Endpoints) (item : DueItem) (is : IsDueOn 1 endpoints.stations item)
-    → happened setup endpoints item ≡ with_turn endpoints item.line (happened_on item.kind setup item.line item.moment is.station)
+happened_is : (setup : Setup) (endpoints : Endpoints) (item : DueItem) (is : IsDueOn 1 endpoints.list item)
+    → happened setup endpoints item ≡ with_turn endpoints item.line (happened_on item.kind setup item.line item.moment is.endpoint)
 happened_is setup endpoints item is =
-    either_line endpoints item.line (happened_under item.kind setup 0 item.moment) (happened_on item.kind setup item.line item.moment) (station_line endpoints item is)
-    ∙ on_this endpoints item.line is.station (happened_on item.kind setup item.line item.moment) (station_is endpoints item is)
+    either_line endpoints item.line (happened_under item.kind setup 0 item.moment) (happened_on item.kind setup item.line item.moment) (endpoint_line endpoints item is)
+    ∙ on_this endpoints item.line is.endpoint (happened_on item.kind setup item.line item.moment) (endpoint_is endpoints item is)
 
 own_happened_is : (setup : Setup) (endpoints : Endpoints) (item : DueItem) → post_due 0 endpoints.own ≡ Some item
     → happened setup endpoints item ≡ on_own endpoints (happened_under item.kind setup 0 item.moment)
@@ -47,12 +47,12 @@ own_happened_is setup endpoints item is =
     either_own endpoints item.line (happened_under item.kind setup 0 item.moment) (happened_on item.kind setup item.line item.moment)
     (ap (λ (line : ℕ). line == 0) (post_line 0 endpoints.own item is))
 
-less_sum : (moment : ℕ) (stations : List Station) (place : ℕ) (was is : Station) → slice_get stations place ≡ Some was → due_count moment is < due_count moment was
-    → sum_by (due_count moment) (slice_set stations place is) < sum_by (due_count moment) stations
-less_sum moment stations place was is at less =
-    let here : get_or stations place was ≡ was = get_or_from_slice_get stations place was was at in
-    let sums = sum_by-set (due_count moment) stations place is was (slice_get_within stations place was at) in
-    let same : due_count moment (get_or stations place was) ≡ due_count moment was = ap (due_count moment) here in
+less_sum : (moment : ℕ) (list : List Endpoint) (place : ℕ) (was is : Endpoint) → slice_get list place ≡ Some was → due_count moment is < due_count moment was
+    → sum_by (due_count moment) (slice_set list place is) < sum_by (due_count moment) list
+less_sum moment list place was is at less =
+    let here : get_or list place was ≡ was = get_or_from_slice_get list place was was at in
+    let sums = sum_by-set (due_count moment) list place is was (slice_get_within list place was at) in
+    let same : due_count moment (get_or list place was) ≡ due_count moment was = ap (due_count moment) here in
     omega (arith, sums, same, less)
 
 first_less : (a b c : ℕ) → a < b → a + c < b + c
@@ -65,15 +65,15 @@ second_less a b c less = omega (arith, less)
 less_to_come : (setup : Setup) (endpoints : Endpoints) (item : DueItem) → first_due endpoints ≡ Some item
     → total item.moment (happened setup endpoints item).value < total item.moment endpoints
 less_to_come setup endpoints item first = by_case (first_on endpoints item first) where
-  by_case : (post_due 0 endpoints.own ≡ Some item) ⊎ IsDueOn 1 endpoints.stations item → total item.moment (happened setup endpoints item).value < total item.moment endpoints
+  by_case : (post_due 0 endpoints.own ≡ Some item) ⊎ IsDueOn 1 endpoints.list item → total item.moment (happened setup endpoints item).value < total item.moment endpoints
   by_case (inl is) =
       rw (own_happened_is setup endpoints item is)
       (second_less _ _ _ (own_happens_less item.moment item.kind endpoints.own _ (post_happens setup 0 endpoints.own item is)))
   by_case (inr is) =
       let place : item.line - 1 ≡ is.place = omega (arith, is.line) in
       rw (happened_is setup endpoints item is, place)
-      (first_less _ _ _ (less_sum item.moment endpoints.stations is.place is.station _ is.at
-      (happens_less item.moment item.kind is.station _ (first_happens setup item.line is.station item is.due))))
+      (first_less _ _ _ (less_sum item.moment endpoints.list is.place is.endpoint _ is.at
+      (happens_less item.moment item.kind is.endpoint _ (first_happens setup item.line is.endpoint item is.due))))
 
 -- and something was due then
 some_due : (setup : Setup) (endpoints : Endpoints) (item : DueItem) → first_due endpoints ≡ Some item → 0 < total item.moment endpoints
@@ -81,10 +81,10 @@ some_due setup endpoints item first = omega (arith, less_to_come setup endpoints
 
 -- Nothing falls due earlier than what happened
 
-get_set_same : (stations : List Station) (place : ℕ) (was is station : Station) → slice_get stations place ≡ Some was → slice_get (slice_set stations place is) place ≡ Some station
-    → is ≡ station
-get_set_same stations place was is station at found =
-    sym (get_or-set_same stations place is is (slice_get_within stations place was at)) ∙ get_or_from_slice_get (slice_set stations place is) place station is found
+get_set_same : (list : List Endpoint) (place : ℕ) (was is endpoint : Endpoint) → slice_get list place ≡ Some was → slice_get (slice_set list place is) place ≡ Some endpoint
+    → is ≡ endpoint
+get_set_same list place was is endpoint at found =
+    sym (get_or-set_same list place is is (slice_get_within list place was at)) ∙ get_or_from_slice_get (slice_set list place is) place endpoint is found
 
 -- after what happened to the gateway itself
 own_not_earlier : (setup : Setup) (endpoints : Endpoints) (item next : DueItem) → first_due endpoints ≡ Some item → post_due 0 endpoints.own ≡ Some item
@@ -96,52 +96,52 @@ own_not_earlier setup endpoints item next first is after =
       by_each (inl before) = own_none_before endpoints.own item next.kind next.moment is before
       by_each (inr later) = omega (arith, later)
 
-      by_case : (post_due 0 (happened_under item.kind setup 0 item.moment endpoints.own).value ≡ Some next) ⊎ IsDueOn 1 endpoints.stations next → item.moment ≤ next.moment
+      by_case : (post_due 0 (happened_under item.kind setup 0 item.moment endpoints.own).value ≡ Some next) ⊎ IsDueOn 1 endpoints.list next → item.moment ≤ next.moment
       by_case (inl own) =
           by_each ((post_happens setup 0 endpoints.own item is).each next.kind next.moment
           (post_happens setup 0 (happened_under item.kind setup 0 item.moment endpoints.own).value next own).on)
       by_case (inr on) =
-          earliest_on endpoints item next on.place on.station first on.at (subst (λ (l : ℕ). due_on (l, on.station) ≡ Some next) on.line on.due)
+          earliest_on endpoints item next on.place on.endpoint first on.at (subst (λ (l : ℕ). due_on (l, on.endpoint) ≡ Some next) on.line on.due)
 
 -- after what happened on a line
-line_not_earlier : (setup : Setup) (endpoints : Endpoints) (item next : DueItem) → first_due endpoints ≡ Some item → (is : IsDueOn 1 endpoints.stations item)
-    → IsDueOn 1 (happened setup endpoints item).value.stations next → item.moment ≤ next.moment
+line_not_earlier : (setup : Setup) (endpoints : Endpoints) (item next : DueItem) → first_due endpoints ≡ Some item → (is : IsDueOn 1 endpoints.list item)
+    → IsDueOn 1 (happened setup endpoints item).value.list next → item.moment ≤ next.moment
 line_not_earlier setup endpoints item next first is later =
-    let now = (happened_on item.kind setup item.line item.moment is.station).value in
-    let h = first_happens setup item.line is.station item is.due in
+    let now = (happened_on item.kind setup item.line item.moment is.endpoint).value in
+    let h = first_happens setup item.line is.endpoint item is.due in
     let place : item.line - 1 ≡ is.place = omega (arith, is.line) in
-    let stations : (happened setup endpoints item).value.stations ≡ slice_set endpoints.stations is.place now =
-    ap (λ (t : Effect Endpoints). t.value.stations) (happened_is setup endpoints item is) ∙ ap (λ (p : ℕ). slice_set endpoints.stations p now) place in
-    let at : slice_get (slice_set endpoints.stations is.place now) later.place ≡ Some later.station =
-    subst (λ (xs : List Station). slice_get xs later.place ≡ Some later.station) stations later.at in
-    by_place is.place is.station now later.place later.station is.at is.due h at (subst (λ (l : ℕ). due_on (l, later.station) ≡ Some next) later.line later.due)
-    (first_happens setup next.line later.station next later.due).on (later.place == is.place) refl where
-      by_each : (was : Station) → due_on (item.line, was) ≡ Some item → (has_by next.moment was next.kind ≡ true) ⊎ (item.moment < next.moment) → item.moment ≤ next.moment
+    let list : (happened setup endpoints item).value.list ≡ slice_set endpoints.list is.place now =
+    ap (λ (t : Effect Endpoints). t.value.list) (happened_is setup endpoints item is) ∙ ap (λ (p : ℕ). slice_set endpoints.list p now) place in
+    let at : slice_get (slice_set endpoints.list is.place now) later.place ≡ Some later.endpoint =
+    subst (λ (xs : List Endpoint). slice_get xs later.place ≡ Some later.endpoint) list later.at in
+    by_place is.place is.endpoint now later.place later.endpoint is.at is.due h at (subst (λ (l : ℕ). due_on (l, later.endpoint) ≡ Some next) later.line later.due)
+    (first_happens setup next.line later.endpoint next later.due).on (later.place == is.place) refl where
+      by_each : (was : Endpoint) → due_on (item.line, was) ≡ Some item → (has_by next.moment was next.kind ≡ true) ⊎ (item.moment < next.moment) → item.moment ≤ next.moment
       by_each was due (inl before) = none_before item.line was item next.kind next.moment due before
       by_each was due (inr later) = omega (arith, later)
 
-      by_place : (place : ℕ) (was now : Station) (other : ℕ) (station : Station) → slice_get endpoints.stations place ≡ Some was → due_on (item.line, was) ≡ Some item
-          → Happens item.moment item.kind was now → slice_get (slice_set endpoints.stations place now) other ≡ Some station → due_on (1 + other, station) ≡ Some next
-          → has_by next.moment station next.kind ≡ true → (b : Bool) → (other == place) ≡ b → item.moment ≤ next.moment
-      by_place place was now other station at due h found on has true e =
+      by_place : (place : ℕ) (was now : Endpoint) (other : ℕ) (endpoint : Endpoint) → slice_get endpoints.list place ≡ Some was → due_on (item.line, was) ≡ Some item
+          → Happens item.moment item.kind was now → slice_get (slice_set endpoints.list place now) other ≡ Some endpoint → due_on (1 + other, endpoint) ≡ Some next
+          → has_by next.moment endpoint next.kind ≡ true → (b : Bool) → (other == place) ≡ b → item.moment ≤ next.moment
+      by_place place was now other endpoint at due h found on has true e =
           let same_place : other ≡ place = (Decides-eqb other place).0 e in
-          let here : slice_get (slice_set endpoints.stations place now) place ≡ Some station = subst (λ (p : ℕ). slice_get (slice_set endpoints.stations place now) p ≡ Some station) same_place found in
-          let same : now ≡ station = get_set_same endpoints.stations place was now station at here in
-          by_each was due (h.each next.kind next.moment (subst (λ (s : Station). has_by next.moment s next.kind ≡ true) (sym same) has))
-      by_place place was now other station at due h found on has false e =
-          earliest_on endpoints item next other station first
-          (sym (other_station endpoints.stations place other now (λ same. absurd (let b : (other == place) ≡ true = (Decides-eqb other place).1 same in cc))) ∙ found) on
+          let here : slice_get (slice_set endpoints.list place now) place ≡ Some endpoint = subst (λ (p : ℕ). slice_get (slice_set endpoints.list place now) p ≡ Some endpoint) same_place found in
+          let same : now ≡ endpoint = get_set_same endpoints.list place was now endpoint at here in
+          by_each was due (h.each next.kind next.moment (subst (λ (s : Endpoint). has_by next.moment s next.kind ≡ true) (sym same) has))
+      by_place place was now other endpoint at due h found on has false e =
+          earliest_on endpoints item next other endpoint first
+          (sym (other_endpoint endpoints.list place other now (λ same. absurd (let b : (other == place) ≡ true = (Decides-eqb other place).1 same in cc))) ∙ found) on
 
 not_earlier : (setup : Setup) (endpoints : Endpoints) (item next : DueItem) → first_due endpoints ≡ Some item → first_due (happened setup endpoints item).value ≡ Some next
     → item.moment ≤ next.moment
 not_earlier setup endpoints item next first after = by_case (first_on endpoints item first) where
-  by_next : IsDueOn 1 endpoints.stations item → (post_due 0 (happened setup endpoints item).value.own ≡ Some next) ⊎ IsDueOn 1 (happened setup endpoints item).value.stations next
+  by_next : IsDueOn 1 endpoints.list item → (post_due 0 (happened setup endpoints item).value.own ≡ Some next) ⊎ IsDueOn 1 (happened setup endpoints item).value.list next
       → item.moment ≤ next.moment
   by_next is (inl own) =
       earliest_own endpoints item next first (subst (λ (t : Effect Endpoints). post_due 0 t.value.own ≡ Some next) (happened_is setup endpoints item is) own)
   by_next is (inr later) = line_not_earlier setup endpoints item next first is later
 
-  by_case : (post_due 0 endpoints.own ≡ Some item) ⊎ IsDueOn 1 endpoints.stations item → item.moment ≤ next.moment
+  by_case : (post_due 0 endpoints.own ≡ Some item) ⊎ IsDueOn 1 endpoints.list item → item.moment ≤ next.moment
   by_case (inl is) = own_not_earlier setup endpoints item next first is after
   by_case (inr is) = by_next is (first_on (happened setup endpoints item).value next after)
 

@@ -1,4 +1,4 @@
--- What a rule gives: what something becomes, and what is sent because of it. Of a post, of a line's station, of the
+-- What a rule gives: what something becomes, and what is sent because of it. Of a post, of a line's endpoint, of the
 -- endpoints and of the whole machine it is one record.
 use Rattle.std.specs.Prelude.{List, [], ◌++◌}
 use Rattle.plain_machine.specs.Message.{Sent}

@@ -11,12 +11,12 @@ use Rattle.timers.specs.declared.due_item.DueItem.{DueItem}
 use Rattle.timers.specs.Order.{earlier}
 use Rattle.plain_machine.specs.declared.post.Post.{Post}
 use Rattle.plain_machine.specs.declared.setup.Setup.{Setup}
-use Rattle.plain_machine.specs.declared.station.Station.{Station}
+use Rattle.plain_machine.specs.declared.endpoint.Endpoint.{Endpoint}
 use Rattle.plain_machine.specs.Effect.{Effect, silently, afterwards}
 use Rattle.plain_machine.specs.Posting.{resent_on}
 use Rattle.plain_machine.specs.Announcing.{announced_on}
 use Rattle.plain_machine.specs.Notifying.{posted, noted}
-use Rattle.plain_machine.specs.Machine.{Endpoints, station_at, on_either, numbered}
+use Rattle.plain_machine.specs.Machine.{Endpoints, endpoint_at, on_either, numbered}
 
 -- What falls due first
 
@@ -35,14 +35,14 @@ post_due line post =
     earlier (option_map (command_item line) post.pending) (option_map (announcement_item line) (announced_at post.restart))
 
 -- what falls due first on a line: of several at one moment, that of its post comes last (this gateway's profile)
-unfoldable pub due_on : ℕ × Station → Option DueItem
+unfoldable pub due_on : ℕ × Endpoint → Option DueItem
 due_on one = earlier (option_map (line_item one.0) (due_of one.1.line)) (post_due one.0 one.1.post)
 
 -- what falls due first of the line with this number, if there is one, or of the gateway itself, which is line 0
 abbrev pub due_at : Endpoints → ℕ → Option DueItem
 due_at endpoints line =
     if line == 0 then post_due 0 endpoints.own
-    else option_and_then (λ station. due_on (line, station)) (station_at endpoints line)
+    else option_and_then (λ endpoint. due_on (line, endpoint)) (endpoint_at endpoints line)
 
 -- what falls due first of all: the earliest, and of several as early that of the least line
 unfoldable pub first_due : Endpoints → Option DueItem
@@ -62,11 +62,11 @@ is_due endpoints moment = is_some (due_by endpoints moment)
 
 -- What then happens
 
--- what falls due on a station, at this moment: where its command is given up, or an announcement begins, the line waits on
-unfoldable pub happened_on : DueKind → Setup → ℕ → ℕ → Station → Effect Station
-happened_on (OfLine due) setup line moment station = noted setup line moment station (fired station.line due moment)
-happened_on Resend setup line moment station = posted station (resent_on setup line moment station.post)
-happened_on Announce setup line moment station = posted station (announced_on setup line moment station.post)
+-- what falls due on an endpoint, at this moment: where its command is given up, or an announcement begins, the line waits on
+unfoldable pub happened_on : DueKind → Setup → ℕ → ℕ → Endpoint → Effect Endpoint
+happened_on (OfLine due) setup line moment endpoint = noted setup line moment endpoint (fired endpoint.line due moment)
+happened_on Resend setup line moment endpoint = posted endpoint (resent_on setup line moment endpoint.post)
+happened_on Announce setup line moment endpoint = posted endpoint (announced_on setup line moment endpoint.post)
 
 -- what falls due under a post, at this moment: of what falls due of lines there is nothing
 unfoldable pub happened_under : DueKind → Setup → ℕ → ℕ → Post → Effect Post
@@ -99,7 +99,7 @@ own_things = 2
 -- more things can't happen up to this moment: what starts at a moment falls due later, so that at one moment each of these
 -- things happens at most once
 abbrev pub room : Endpoints → ℕ → ℕ
-room endpoints moment = (moment + 1) * (things_of_a_line * length endpoints.stations + own_things)
+room endpoints moment = (moment + 1) * (things_of_a_line * length endpoints.list + own_things)
 
 -- What is due up to this moment happens: while there is something, the first happens at its own moment. The law
 -- `what_is_due_happens_in_its_order` says so without a number.

@@ -9,14 +9,14 @@ use Rattle.restart.specs.declared.restart.Restart.TheVariants.{Serving}
 use Rattle.restart.specs.Restarting.{begun, is_serving}
 use Rattle.plain_machine.specs.declared.setup.Setup.{Setup}
 use Rattle.plain_machine.specs.declared.post.Post.{Post}
-use Rattle.plain_machine.specs.declared.station.Station.{Station}
+use Rattle.plain_machine.specs.declared.endpoint.Endpoint.{Endpoint}
 use Rattle.history.specs.declared.entry.Entry.{Entry}
 use Rattle.plain_machine.specs.Effect.{Effect, silently, effect_map, afterwards}
 use Rattle.plain_machine.specs.Posting.{wait_of}
 
--- all that changes but the clock: the stations, of which the first is line 1, and the post of the gateway itself
+-- all that changes but the clock: the endpoints, of which the first is line 1, and the post of the gateway itself
 pub record Endpoints : Type 0 where
-  pub stations : List Station
+  pub list : List Endpoint
   pub own : Post
 
 -- its history has every first and what it confirmed, in order, and forgets nothing (RFC 3435, 3.5.1)
@@ -39,8 +39,8 @@ port_of setup line = setup.media_base + 8 * (line - 1)
 
 -- every line is as a line opens, with the encoding mu and without connections; its numbers begin with 0, and it has nothing
 -- to announce
-abbrev pub opening_station : Setup → ℕ → Station
-opening_station setup line = record {
+abbrev pub opening_endpoint : Setup → ℕ → Endpoint
+opening_endpoint setup line = record {
   line = opening_line;
   post = opening_post setup 0 Serving;
   encoding = Mu;
@@ -53,7 +53,7 @@ opening_own setup = opening_post setup 1 (begun 0 (wait_of setup 0))
 
 abbrev pub opening_endpoints : Setup → Endpoints
 opening_endpoints setup = record {
-  stations = map (opening_station setup) (range_with_len 1 setup.names.lines);
+  list = map (opening_endpoint setup) (range_with_len 1 setup.names.lines);
   own = opening_own setup;
 }
 
@@ -64,24 +64,24 @@ opening setup = record { now = 0; endpoints = opening_endpoints setup; history =
 abbrev pub serves : Endpoints → Bool
 serves endpoints = is_serving endpoints.own.restart
 
--- the station of the line with this number, if there is one: the numbers begin with 1
-abbrev pub station_at : Endpoints → ℕ → Option Station
-station_at endpoints line = if line == 0 then None else slice_get endpoints.stations (line - 1)
+-- the endpoint of the line with this number, if there is one: the numbers begin with 1
+abbrev pub endpoint_at : Endpoints → ℕ → Option Endpoint
+endpoint_at endpoints line = if line == 0 then None else slice_get endpoints.list (line - 1)
 
-abbrev pub with_station : Endpoints → ℕ → Station → Endpoints
-with_station endpoints line station = record endpoints { stations = slice_set endpoints.stations (line - 1) station }
+abbrev pub with_endpoint : Endpoints → ℕ → Endpoint → Endpoints
+with_endpoint endpoints line endpoint = record endpoints { list = slice_set endpoints.list (line - 1) endpoint }
 
--- this becomes of the station of this line
-abbrev pub with_turn : Endpoints → ℕ → Effect Station → Effect Endpoints
-with_turn endpoints line turn = effect_map (with_station endpoints line) turn
+-- this becomes of the endpoint of this line
+abbrev pub with_turn : Endpoints → ℕ → Effect Endpoint → Effect Endpoints
+with_turn endpoints line turn = effect_map (with_endpoint endpoints line) turn
 
-abbrev pub turned_at : Option Station → Endpoints → ℕ → (Station → Effect Station) → Effect Endpoints
+abbrev pub turned_at : Option Endpoint → Endpoints → ℕ → (Endpoint → Effect Endpoint) → Effect Endpoints
 turned_at None endpoints line turn = silently endpoints
-turned_at (Some station) endpoints line turn = with_turn endpoints line (turn station)
+turned_at (Some endpoint) endpoints line turn = with_turn endpoints line (turn endpoint)
 
--- What comes to one line: this becomes of its station; where there is no such line, nothing happens.
-unfoldable pub on_line : Endpoints → ℕ → (Station → Effect Station) → Effect Endpoints
-on_line endpoints line turn = turned_at (station_at endpoints line) endpoints line turn
+-- What comes to one line: this becomes of its endpoint; where there is no such line, nothing happens.
+unfoldable pub on_line : Endpoints → ℕ → (Endpoint → Effect Endpoint) → Effect Endpoints
+on_line endpoints line turn = turned_at (endpoint_at endpoints line) endpoints line turn
 
 abbrev pub with_own : Endpoints → Post → Endpoints
 with_own endpoints own = record endpoints { own = own }
@@ -91,14 +91,14 @@ abbrev pub on_own : Endpoints → (Post → Effect Post) → Effect Endpoints
 on_own endpoints turn = effect_map (with_own endpoints) (turn endpoints.own)
 
 -- What comes to one of both: the gateway itself is line 0.
-abbrev pub on_either : Endpoints → ℕ → (Post → Effect Post) → (Station → Effect Station) → Effect Endpoints
+abbrev pub on_either : Endpoints → ℕ → (Post → Effect Post) → (Endpoint → Effect Endpoint) → Effect Endpoints
 on_either endpoints line own_turn turn = if line == 0 then on_own endpoints own_turn else on_line endpoints line turn
 
 -- What comes to several lines, one after the other.
-unfoldable pub on_lines : List ℕ → Endpoints → (ℕ → Station → Effect Station) → Effect Endpoints
+unfoldable pub on_lines : List ℕ → Endpoints → (ℕ → Endpoint → Effect Endpoint) → Effect Endpoints
 on_lines [] endpoints turn = silently endpoints
 on_lines (line ∷ lines) endpoints turn = afterwards (on_line endpoints line (turn line)) (λ next. on_lines lines next turn)
 
--- the stations with the numbers of their lines
-abbrev pub numbered : Endpoints → List (ℕ × Station)
-numbered endpoints = enumerate_from 1 endpoints.stations
+-- the endpoints with the numbers of their lines
+abbrev pub numbered : Endpoints → List (ℕ × Endpoint)
+numbered endpoints = enumerate_from 1 endpoints.list

@@ -18,31 +18,31 @@ use Rattle.event_requests.specs.declared.request.Request.{Request}
 use Rattle.mg_line.specs.Line.{LineState, LineDone}
 use Rattle.mg_line.specs.Requesting.{refusal_of, asked}
 use Rattle.plain_machine.specs.declared.setup.Setup.{Setup}
-use Rattle.plain_machine.specs.declared.station.Station.{Station}
+use Rattle.plain_machine.specs.declared.endpoint.Endpoint.{Endpoint}
 use Rattle.command_forms.specs.declared.forms.Deed.{Deed}
 use Rattle.plain_machine.specs.Effect.{Effect}
 use Rattle.plain_machine.specs.Notifying.{noted}
-use Rattle.plain_machine.specs.Machine.{Endpoints, station_at, on_lines, numbered}
+use Rattle.plain_machine.specs.Machine.{Endpoints, endpoint_at, on_lines, numbered}
 use Rattle.plain_machine.specs.Done.{Done, only_answer}
 use Rattle.plain_machine.specs.Reporting.{name_of_line}
 use Rattle.plain_machine.specs.Connecting.{Shown, nothing_shown, done_code, connected}
 
 -- what becomes of the connections of a line; an encoding that is given counts already (RFC 3435, 2.3.2)
-abbrev pub encoding_with : Deed → Station → Encoding
-encoding_with deed station = unwrap_or deed.encoding station.encoding
+abbrev pub encoding_with : Deed → Endpoint → Encoding
+encoding_with deed endpoint = unwrap_or deed.encoding endpoint.encoding
 
-abbrev pub connected_on : Deed → Station → Result (Left Shown) ℕ
-connected_on deed station = connected deed.connections (encoding_with deed station) station.connections
+abbrev pub connected_on : Deed → Endpoint → Result (Left Shown) ℕ
+connected_on deed endpoint = connected deed.connections (encoding_with deed endpoint) endpoint.connections
 
 -- whether the lines refuse it
 
 -- the code with which a line refuses it, by its connections first; where nothing is requested no request is refused
-abbrev pub refusal_by : Deed → Station → Option ℕ
-refusal_by deed station = first_fault (result_err (connected_on deed station)
-    ∷ option_and_then (refusal_of station.line) deed.request ∷ [])
+abbrev pub refusal_by : Deed → Endpoint → Option ℕ
+refusal_by deed endpoint = first_fault (result_err (connected_on deed endpoint)
+    ∷ option_and_then (refusal_of endpoint.line) deed.request ∷ [])
 
 -- if it is for that line
-abbrev pub refusal_on : Target → Deed → ℕ × Station → Option ℕ
+abbrev pub refusal_on : Target → Deed → ℕ × Endpoint → Option ℕ
 refusal_on lines deed one = if is_for lines one.0 then refusal_by deed one.1 else None
 
 -- the code of the least line that refuses it
@@ -56,15 +56,15 @@ lines_meant endpoints lines = filter (is_for lines) (map (λ one. one.0) (number
 -- what it does where none refuses it
 
 -- a notified entity that is given is the line's from now on (RFC 3435, 2.3.3)
-abbrev pub with_entity : Option Entity → Station → Station
-with_entity entity station =
-    record station { post = record station.post { entity = unwrap_or entity station.post.entity } }
+abbrev pub with_entity : Option Entity → Endpoint → Endpoint
+with_entity entity endpoint =
+    record endpoint { post = record endpoint.post { entity = unwrap_or entity endpoint.post.entity } }
 
 -- and so is an encoding; then come the connections
-abbrev pub with_connections : Deed → Station → Station
-with_connections deed station = record station {
-  encoding = encoding_with deed station;
-  connections = left_by station.connections (connected_on deed station);
+abbrev pub with_connections : Deed → Endpoint → Endpoint
+with_connections deed endpoint = record endpoint {
+  encoding = encoding_with deed endpoint;
+  connections = left_by endpoint.connections (connected_on deed endpoint);
 }
 
 -- what the line does that is asked; where nothing is requested it stays, and has nothing to tell
@@ -72,11 +72,11 @@ abbrev pub asked_if : Option Request → LineState → ℕ → LineDone
 asked_if None line moment = record { line = line; notice = None }
 asked_if (Some request) line moment = asked line request moment
 
--- the deed on a station at this moment: entity and encoding, then connections, then the request; what its line has to tell
+-- the deed on an endpoint at this moment: entity and encoding, then connections, then the request; what its line has to tell
 -- goes to the entity that it now has
-unfoldable pub deed_on : Setup → Deed → ℕ → ℕ → Station → Effect Station
-deed_on setup deed moment line station =
-    noted setup line moment (with_connections deed (with_entity deed.entity station)) (asked_if deed.request station.line moment)
+unfoldable pub deed_on : Setup → Deed → ℕ → ℕ → Endpoint → Effect Endpoint
+deed_on setup deed moment line endpoint =
+    noted setup line moment (with_connections deed (with_entity deed.entity endpoint)) (asked_if deed.request endpoint.line moment)
 
 -- on each line that it is for, in the order of their numbers
 abbrev pub deed_on_all : Setup → Endpoints → Target → Deed → ℕ → Effect Endpoints
@@ -88,13 +88,13 @@ abbrev pub shown_by : Result (Left Shown) ℕ → Shown
 shown_by (Ok done) = done.answer
 shown_by (Err code) = nothing_shown
 
-abbrev pub shown_on : Option Station → Deed → Shown
+abbrev pub shown_on : Option Endpoint → Deed → Shown
 shown_on None deed = nothing_shown
-shown_on (Some station) deed = shown_by (connected_on deed station)
+shown_on (Some endpoint) deed = shown_by (connected_on deed endpoint)
 
 -- of one line what is to be told of its connections; of all lines, of which no connection is named, nothing
 unfoldable pub shown_of : Endpoints → Target → Deed → Shown
-shown_of endpoints (One line) deed = shown_on (station_at endpoints line) deed
+shown_of endpoints (One line) deed = shown_on (endpoint_at endpoints line) deed
 shown_of endpoints All deed = nothing_shown
 shown_of endpoints Any deed = nothing_shown
 
@@ -118,7 +118,7 @@ deed_done setup endpoints lines more deed moment =
 -- Any one line is the least that has a place for one more connection (this gateway's profile); none is 410, and no other
 -- is asked where that one refuses
 
-abbrev pub has_place : ℕ × Station → Bool
+abbrev pub has_place : ℕ × Endpoint → Bool
 has_place one = list_any is_free one.1.connections.places
 
 unfoldable pub line_with_place : Endpoints → Option ℕ

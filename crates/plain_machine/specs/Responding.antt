@@ -15,7 +15,7 @@ use Rattle.restart.specs.declared.heard.Heard.{Heard}
 use Rattle.restart.specs.declared.heard.Heard.TheVariants.{Nothing, PutOff, Redirected, Answered}
 use Rattle.plain_machine.specs.declared.response.Response.{Response}
 use Rattle.plain_machine.specs.declared.setup.Setup.{Setup}
-use Rattle.plain_machine.specs.declared.station.Station.{Station}
+use Rattle.plain_machine.specs.declared.endpoint.Endpoint.{Endpoint}
 use Rattle.plain_machine.specs.Effect.{Effect, silently, behind, afterwards}
 use Rattle.plain_machine.specs.Message.{of_none, acknowledgement, Sent}
 use Rattle.plain_machine.specs.Posting.{line_of_id}
@@ -45,35 +45,35 @@ response_with setup id code params = record { id = id; code = code; entity = ent
 -- What it does on a line
 
 -- the answer lets the line go on, after its post: it notifies whom the answer names
-abbrev pub goes_on_with : Effect Station → Setup → ℕ → ℕ → Effect Station
+abbrev pub goes_on_with : Effect Endpoint → Setup → ℕ → ℕ → Effect Endpoint
 goes_on_with first setup line moment = noted setup line moment first.value (answered first.value.line moment)
 
-abbrev pub responded_as : Heard → Setup → ℕ → ℕ → Response → Station → Effect Station
-responded_as Nothing setup line moment response station = silently station
-responded_as PutOff setup line moment response station =
-    posted station (replied PutOff setup line moment response station.post)
-responded_as (Redirected agent) setup line moment response station =
-    posted station (replied (Redirected agent) setup line moment response station.post)
-responded_as (Answered agent) setup line moment response station =
-    goes_on_with (posted station (replied (Answered agent) setup line moment response station.post)) setup line moment
+abbrev pub responded_as : Heard → Setup → ℕ → ℕ → Response → Endpoint → Effect Endpoint
+responded_as Nothing setup line moment response endpoint = silently endpoint
+responded_as PutOff setup line moment response endpoint =
+    posted endpoint (replied PutOff setup line moment response endpoint.post)
+responded_as (Redirected agent) setup line moment response endpoint =
+    posted endpoint (replied (Redirected agent) setup line moment response endpoint.post)
+responded_as (Answered agent) setup line moment response endpoint =
+    goes_on_with (posted endpoint (replied (Answered agent) setup line moment response endpoint.post)) setup line moment
 
-unfoldable pub responded_on : Setup → ℕ → ℕ → Response → Station → Effect Station
-responded_on setup line moment response station =
-    responded_as (heard_on station.post response) setup line moment response station
+unfoldable pub responded_on : Setup → ℕ → ℕ → Response → Endpoint → Effect Endpoint
+responded_on setup line moment response endpoint =
+    responded_as (heard_on endpoint.post response) setup line moment response endpoint
 
 -- What it does to the gateway itself, and then to all lines
 
 -- the lines too have another notified entity
-unfoldable pub redirected_on : Entity → ℕ → Station → Effect Station
-redirected_on agent line station = silently (with_entity (Some agent) station)
+unfoldable pub redirected_on : Entity → ℕ → Endpoint → Effect Endpoint
+redirected_on agent line endpoint = silently (with_entity (Some agent) endpoint)
 
 -- the gateway serves from now on: a line notifies whom the answer names, and its quarantined events occur (RFC 3435, 4.4.1)
-unfoldable pub opened_on : Option Entity → Setup → ℕ → ℕ → Station → Effect Station
-opened_on agent setup moment line station =
-    noted setup line moment (with_entity agent station) (opened station.line moment)
+unfoldable pub opened_on : Option Entity → Setup → ℕ → ℕ → Endpoint → Effect Endpoint
+opened_on agent setup moment line endpoint =
+    noted setup line moment (with_entity agent endpoint) (opened endpoint.line moment)
 
 -- on each line, in the order of their numbers
-abbrev pub on_all : Endpoints → (ℕ → Station → Effect Station) → Effect Endpoints
+abbrev pub on_all : Endpoints → (ℕ → Endpoint → Effect Endpoint) → Effect Endpoints
 on_all endpoints turn = on_lines (lines_meant endpoints All) endpoints turn
 
 abbrev pub lines_told : Heard → Setup → ℕ → Endpoints → Effect Endpoints

@@ -9,9 +9,9 @@
 use crate::keeping::Thing;
 use crate::texts::number_text;
 use mg_packages::SIGNALS;
+use scenario_files::{Row, unread};
 use std::alloc::Global;
 use std::io;
-use tales::{Row, unread};
 use timers::{Due, DueItem, DueKind, LineDue, comes_before};
 
 // How many lines the table has beside the gateway itself.
@@ -92,11 +92,11 @@ fn fallen(due: &mut Due, most: u32) -> u32 {
 
 /// A table.
 #[derive(Drop)]
-pub struct DueTale {
+pub struct DueScenario {
     due: Due,
 }
 
-impl DueTale {
+impl DueScenario {
     // `0-32 signal 8 600`.
     fn set(&mut self, row: &mut Row<'_>) -> io::Result<()> {
         let places = places_of(row).ok_or(unread())?;
@@ -122,15 +122,15 @@ impl DueTale {
     }
 }
 
-impl Thing for DueTale {
-    fn begin(alloc: Global) -> io::Result<DueTale> {
+impl Thing for DueScenario {
+    fn begin(alloc: Global) -> io::Result<DueScenario> {
         let due = Due::new(alloc, LINES)?;
-        Ok(DueTale { due })
+        Ok(DueScenario { due })
     }
 
-    fn copy(&self, _alloc: Global) -> io::Result<DueTale> {
+    fn copy(&self, _alloc: Global) -> io::Result<DueScenario> {
         let due = self.due.try_copy()?;
-        Ok(DueTale { due })
+        Ok(DueScenario { due })
     }
 
     fn turn(&mut self, alloc: Global, row: &mut Row<'_>) -> io::Result<String> {

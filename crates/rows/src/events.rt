@@ -1,9 +1,9 @@
 //! Events as rows spell them.
 use crate::texts::words_of;
 use event_syntax::{Observed, read_observed, write_observed};
+use scenario_files::{or_unread, unread};
 use std::alloc::Global;
 use std::io;
-use tales::{or_unread, unread};
 
 /// An event as O spells it: `L/hd`, or `L/oc(L/dl)` at the end of a signal.
 pub fn observed_of(alloc: Global, text: &str) -> io::Result<Observed> {

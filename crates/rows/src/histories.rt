@@ -11,9 +11,9 @@
 use crate::texts::number_text;
 use history::{History, IdSpan, Look};
 use mg_bytes::{Sequence, Text, decimal};
+use scenario_files::{Row, Scenario, again, range_in, unless_left, unread};
 use std::alloc::Global;
 use std::io;
-use tales::{Row, Tale, again, range_in, unless_left, unread};
 
 // `7` or `1-4096`.
 fn ids_of(text: &str) -> io::Result<IdSpan> {
@@ -78,11 +78,11 @@ fn told(history: &History, id: u32, now: u64) -> &'static str {
 
 /// A history.
 #[derive(Drop)]
-pub struct HistoryTale {
+pub struct HistoryScenario {
     history: History,
 }
 
-impl HistoryTale {
+impl HistoryScenario {
     // Keeps a command with its answer, the bytes of its id.
     fn keep(&mut self, alloc: Global, id: u32, moment: u64) -> io::Result<()> {
         let answer = Text::of(id.to_be_bytes().to_vec(alloc)?);
@@ -174,10 +174,10 @@ impl HistoryTale {
     }
 }
 
-impl Tale for HistoryTale {
-    fn begin(alloc: Global) -> io::Result<HistoryTale> {
+impl Scenario for HistoryScenario {
+    fn begin(alloc: Global) -> io::Result<HistoryScenario> {
         let history = History::new(alloc);
-        Ok(HistoryTale { history })
+        Ok(HistoryScenario { history })
     }
 
     fn unlike(&mut self, alloc: Global, row: &str) -> io::Result<Option<String>> {

@@ -1,7 +1,7 @@
 //! Things that rows go on with, and that can be kept as they are, and come back: `keep` and `back` of each such kind.
+use scenario_files::{Row, Scenario, unless_left};
 use std::alloc::Global;
 use std::io;
-use tales::{Row, Tale, unless_left};
 
 /// A thing that rows go on with.
 pub trait Thing {
@@ -22,7 +22,7 @@ pub struct Keeping<T> {
     kept: T,
 }
 
-impl<T: Thing + Drop> Tale for Keeping<T> {
+impl<T: Thing + Drop> Scenario for Keeping<T> {
     fn begin(alloc: Global) -> io::Result<Keeping<T>> {
         let now = T::begin(alloc)?;
         let kept = now.copy(alloc)?;

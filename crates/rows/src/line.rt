@@ -22,21 +22,21 @@ use acts::{act_of, due_of};
 use mg_bytes::CodeFault;
 use mg_line::{Line, Notice};
 use parameters::request_of;
+use scenario_files::{Row, code_text};
 use shown::{state_of, told};
 use std::alloc::Global;
 use std::io;
-use tales::{Row, code_text};
 
 // The code of a row that can't be played.
 const NO_TURN: CodeFault = CodeFault::Code(0);
 
 /// A line.
 #[derive(Drop)]
-pub struct LineTale {
+pub struct LineScenario {
     line: Line,
 }
 
-impl LineTale {
+impl LineScenario {
     // A request with these parameters; a code where the line refuses it.
     fn asked(
         &mut self,
@@ -118,16 +118,16 @@ impl LineTale {
     }
 }
 
-impl Thing for LineTale {
-    fn begin(alloc: Global) -> io::Result<LineTale> {
+impl Thing for LineScenario {
+    fn begin(alloc: Global) -> io::Result<LineScenario> {
         let mut line = Line::new(alloc)?;
         line.opened(0)?;
-        Ok(LineTale { line })
+        Ok(LineScenario { line })
     }
 
-    fn copy(&self, _alloc: Global) -> io::Result<LineTale> {
+    fn copy(&self, _alloc: Global) -> io::Result<LineScenario> {
         let line = self.line.try_copy()?;
-        Ok(LineTale { line })
+        Ok(LineScenario { line })
     }
 
     fn turn(&mut self, alloc: Global, row: &mut Row<'_>) -> io::Result<String> {

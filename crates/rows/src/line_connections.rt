@@ -18,11 +18,11 @@ use crate::texts::{unless_fields, words_of};
 use asked::{change_of, creation_of, deletion_of, identifier_in};
 use connections::{Audited, Connections, Created, Encoding, mode_text, read_encoding};
 use mg_bytes::CodeFault;
+use scenario_files::{Row, code_text, unread};
 use sdp_subset::write_sdp;
 use std::alloc::Global;
 use std::io;
 use std::net::Ipv4Addr;
-use tales::{Row, code_text, unread};
 
 // Lines as fields.
 fn fields_of(alloc: Global, lines: &str) -> Result<String, CodeFault> {
@@ -56,13 +56,13 @@ fn created_text(alloc: Global, created: &Created) -> Result<String, CodeFault> {
 
 /// The connections of a line, its encoding, and the last answer.
 #[derive(Drop)]
-pub struct ConnectionsTale {
+pub struct ConnectionsScenario {
     line: Connections,
     encoding: Encoding,
     answer: String,
 }
 
-impl ConnectionsTale {
+impl ConnectionsScenario {
     fn create(&mut self, alloc: Global, fields: &str) -> Result<String, CodeFault> {
         let creation = creation_of(alloc, fields)?;
         match self.line.create(self.encoding, creation) {
@@ -129,17 +129,17 @@ impl ConnectionsTale {
     }
 }
 
-impl Thing for ConnectionsTale {
-    fn begin(alloc: Global) -> io::Result<ConnectionsTale> {
-        Ok(ConnectionsTale {
+impl Thing for ConnectionsScenario {
+    fn begin(alloc: Global) -> io::Result<ConnectionsScenario> {
+        Ok(ConnectionsScenario {
             line: Connections::new(Ipv4Addr::LOCALHOST, 3000),
             encoding: Encoding::Mu,
             answer: String::new(alloc),
         })
     }
 
-    fn copy(&self, alloc: Global) -> io::Result<ConnectionsTale> {
-        Ok(ConnectionsTale {
+    fn copy(&self, alloc: Global) -> io::Result<ConnectionsScenario> {
+        Ok(ConnectionsScenario {
             line: self.line.try_copy()?,
             encoding: self.encoding,
             answer: self.answer.as_str().to_string(alloc)?,

@@ -15,10 +15,10 @@ use crate::texts::number_text;
 use mgcp_text::TransactionId;
 use outbound::{Pending, Repeat, Reply};
 use routes::Route;
+use scenario_files::{Row, said, unread, value_of};
 use std::alloc::Global;
 use std::io;
 use std::net::{Ipv4Addr, SocketAddrV4};
-use tales::{Row, said, unread, value_of};
 
 fn id_in(row: &mut Row<'_>) -> io::Result<TransactionId> {
     let number = row.number()?;
@@ -53,12 +53,12 @@ fn route_to(hosts: u32) -> Route<SocketAddrV4> {
 
 /// A message, and how many addresses the next one has.
 #[derive(Drop)]
-pub struct MessageTale {
+pub struct MessageScenario {
     message: Pending,
     hosts: u32,
 }
 
-impl MessageTale {
+impl MessageScenario {
     // `10000000 at 1000  TEXT`.
     fn begins(&mut self, alloc: Global, row: &mut Row<'_>) -> io::Result<()> {
         let (id, moment) = (id_in(row)?, u64::from(moment_in(row)?));
@@ -93,15 +93,15 @@ impl MessageTale {
     }
 }
 
-impl Thing for MessageTale {
-    fn begin(alloc: Global) -> io::Result<MessageTale> {
+impl Thing for MessageScenario {
+    fn begin(alloc: Global) -> io::Result<MessageScenario> {
         let message = Pending::begin(alloc, TransactionId::of(1), route_to(1), b"", 0)?;
-        Ok(MessageTale { message, hosts: 1 })
+        Ok(MessageScenario { message, hosts: 1 })
     }
 
-    fn copy(&self, _alloc: Global) -> io::Result<MessageTale> {
+    fn copy(&self, _alloc: Global) -> io::Result<MessageScenario> {
         let message = self.message.try_copy()?;
-        Ok(MessageTale {
+        Ok(MessageScenario {
             message,
             hosts: self.hosts,
         })

@@ -11,25 +11,25 @@ use crate::texts::number_text;
 use event_values::Observed;
 use mg_line::MOST_QUARANTINED;
 use quarantine::Buffer;
+use scenario_files::{Row, unread};
 use std::alloc::Global;
 use std::io;
-use tales::{Row, unread};
 
 /// A quarantine.
 #[derive(Drop)]
-pub struct QuarantineTale {
+pub struct QuarantineScenario {
     buffer: Buffer,
 }
 
-impl Thing for QuarantineTale {
-    fn begin(alloc: Global) -> io::Result<QuarantineTale> {
+impl Thing for QuarantineScenario {
+    fn begin(alloc: Global) -> io::Result<QuarantineScenario> {
         let buffer = Buffer::new(alloc, MOST_QUARANTINED)?;
-        Ok(QuarantineTale { buffer })
+        Ok(QuarantineScenario { buffer })
     }
 
-    fn copy(&self, _alloc: Global) -> io::Result<QuarantineTale> {
+    fn copy(&self, _alloc: Global) -> io::Result<QuarantineScenario> {
         let buffer = self.buffer.try_copy()?;
-        Ok(QuarantineTale { buffer })
+        Ok(QuarantineScenario { buffer })
     }
 
     fn turn(&mut self, alloc: Global, row: &mut Row<'_>) -> io::Result<String> {

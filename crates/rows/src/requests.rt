@@ -12,9 +12,9 @@ use crate::texts::{judged, words_of};
 use event_requests::{Decision, Doing, EventRequest, decide};
 use event_syntax::{Action, Embedding, Observed, write_signals};
 use mg_packages::event_of;
+use scenario_files::{Row, Scenario, or_unread, unless_left, unread};
 use std::alloc::Global;
 use std::io;
-use tales::{Row, Tale, or_unread, unless_left, unread};
 
 // What is done, as a row says it.
 fn decision_text(alloc: Global, decision: Decision<'_>) -> io::Result<String> {
@@ -74,11 +74,11 @@ fn embedding_text(alloc: Global, embedding: &Embedding) -> io::Result<String> {
 
 /// What is asked for.
 #[derive(Drop)]
-pub struct RequestTale {
+pub struct RequestScenario {
     request: EventRequest,
 }
 
-impl RequestTale {
+impl RequestScenario {
     // The request that is embedded at this event takes effect: its S and its D.
     fn take_effect(&mut self, alloc: Global, event: &str) -> io::Result<String> {
         let decision = decide(&self.request, observed_of(alloc, event)?);
@@ -114,10 +114,10 @@ impl RequestTale {
     }
 }
 
-impl Tale for RequestTale {
-    fn begin(_alloc: Global) -> io::Result<RequestTale> {
+impl Scenario for RequestScenario {
+    fn begin(_alloc: Global) -> io::Result<RequestScenario> {
         let request = EventRequest::nothing();
-        Ok(RequestTale { request })
+        Ok(RequestScenario { request })
     }
 
     fn unlike(&mut self, alloc: Global, row: &str) -> io::Result<Option<String>> {

@@ -8,10 +8,10 @@
 use crate::texts::{number_text, words_of};
 use event_syntax::read_signals;
 use mg_packages::{Hook, signal_name, signal_of};
+use scenario_files::{Row, Scenario, or_unread, unless_left, unread};
 use signals::{SignalSet, refused};
 use std::alloc::Global;
 use std::io;
-use tales::{Row, Tale, or_unread, unless_left, unread};
 
 fn hook_of(word: &str) -> io::Result<Hook> {
     match word {
@@ -54,11 +54,11 @@ fn refusal_text(alloc: Global, row: &mut Row<'_>) -> io::Result<String> {
 
 /// The signals of a line.
 #[derive(Drop)]
-pub struct SignalTale {
+pub struct SignalScenario {
     set: SignalSet,
 }
 
-impl SignalTale {
+impl SignalScenario {
     // `on  S: L/rg` takes effect at this moment.
     fn apply(&mut self, moment: u32, row: &mut Row<'_>) -> io::Result<()> {
         let hook = hook_of(row.before("  "))?;
@@ -87,10 +87,10 @@ impl SignalTale {
     }
 }
 
-impl Tale for SignalTale {
-    fn begin(_alloc: Global) -> io::Result<SignalTale> {
+impl Scenario for SignalScenario {
+    fn begin(_alloc: Global) -> io::Result<SignalScenario> {
         let set = SignalSet::new();
-        Ok(SignalTale { set })
+        Ok(SignalScenario { set })
     }
 
     fn unlike(&mut self, alloc: Global, row: &str) -> io::Result<Option<String>> {

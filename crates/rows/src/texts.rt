@@ -1,7 +1,7 @@
 //! Bytes and numbers as rows say them.
+use scenario_files::{Row, yes_or_no};
 use std::alloc::Global;
 use std::io;
-use tales::{Row, yes_or_no};
 
 /// Bytes of ASCII as words, as they stand in a text that is formed.
 pub fn words_of(bytes: &[u8]) -> &str {

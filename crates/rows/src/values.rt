@@ -12,9 +12,9 @@ mod names;
 mod packing;
 mod spelled;
 
+use scenario_files::{Row, Scenario, bytes_of, unless_left, unread};
 use std::alloc::Global;
 use std::io;
-use tales::{Row, Tale, bytes_of, unless_left, unread};
 
 /// Rows that stand alone.
 #[derive(Drop)]
@@ -77,7 +77,7 @@ fn given(alloc: Global, call: &str, values: &str, wanted: &str) -> io::Result<St
     Ok(wanted.to_string(alloc)?)
 }
 
-impl Tale for Values {
+impl Scenario for Values {
     fn begin(_alloc: Global) -> io::Result<Values> {
         Ok(Values)
     }

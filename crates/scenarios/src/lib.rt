@@ -1,24 +1,24 @@
-//! Tales of the program, of the kinds that the files' first lines say.
+//! Scenarios of the program, of the kinds that the files' first lines say.
 //!
-//! - `stories`: scripts of the program, with what is printed beside what causes it.
+//! - `scripts`: scripts of the program, with what is printed beside what causes it.
 //! - `program`: a row a call of the program: its name, its values, and what it answers.
 //! - `streams`: an input whose streams give and take little at a time, and fail.
 //!
-//! What is told otherwise than it happens is printed under its title. `docs/TALES.md` says how tales are written.
+//! What is told otherwise than it happens is printed under its title. `docs/SCENARIOS.md` says how scenarios are written.
 #![tactic(auto)]
 
 mod played;
-mod stories;
+mod scripts;
 mod streams;
 mod values;
 
-use crate::streams::StreamTale;
+use crate::streams::StreamScenario;
 use crate::values::Values;
+use scenario_files::{Count, Kinds};
 use std::io;
 use std::net::Net;
-use tales::{Count, Kinds};
 
-/// The kinds of tales of the program.
+/// The kinds of scenarios of the program.
 pub struct Scenarios;
 
 impl Kinds for Scenarios {
@@ -28,9 +28,9 @@ impl Kinds for Scenarios {
         text: &str,
     ) -> io::Result<Option<Count>> {
         Ok(Some(match kind {
-            "stories" => stories::told(rt, text)?,
-            "program" => tales::told::<Values, R>(rt, text)?,
-            "streams" => tales::told::<StreamTale, R>(rt, text)?,
+            "scripts" => scripts::told(rt, text)?,
+            "program" => scenario_files::told::<Values, R>(rt, text)?,
+            "streams" => scenario_files::told::<StreamScenario, R>(rt, text)?,
             _ => return Ok(None),
         }))
     }

@@ -1,10 +1,10 @@
-//! A story as it is played.
+//! A scenario as it is played.
 use mg_bytes::split_once;
 use rgw_cli::{Ending, asked, perform, simulate};
+use scenario_files::{WrittenScenario, input_of};
 use std::alloc::Global;
 use std::io::{self, Write};
 use std::net::Net;
-use tales::{Story, input_of};
 
 /// The words of a command line with the program's name before them.
 pub fn words_of(alloc: Global, line: &str) -> io::Result<Vec<String>> {
@@ -46,37 +46,41 @@ fn since_ready(printed: &[u8]) -> &[u8] {
     behind_announcement(printed).unwrap_or(printed)
 }
 
-// What is printed of a story, without the announcement up to Ready, and with what the program says of an input that can't be
+// What is printed of a scenario, without the announcement up to Ready, and with what the program says of an input that can't be
 // played.
 fn told_of(
     alloc: Global,
-    story: &Story,
+    scenario: &WrittenScenario,
     mut printed: Vec<u8>,
     ending: Ending,
 ) -> io::Result<Vec<u8>> {
     put_ending(&mut printed, ending)?;
-    if story.is_at_opening {
+    if scenario.is_at_opening {
         return Ok(printed);
     }
     Ok(Vec::from_slice(alloc, since_ready(&printed))?)
 }
 
-/// What `simulate` prints of a story.
-pub fn simulated(alloc: Global, story: &Story) -> io::Result<Vec<u8>> {
-    let input = input_of(alloc, story)?;
+/// What `simulate` prints of a scenario.
+pub fn simulated(alloc: Global, scenario: &WrittenScenario) -> io::Result<Vec<u8>> {
+    let input = input_of(alloc, scenario)?;
     let mut reader = input.as_bytes();
     let mut printed = Vec::new(alloc);
     let ending = simulate(alloc, &mut reader, &mut printed);
-    told_of(alloc, story, printed, ending)
+    told_of(alloc, scenario, printed, ending)
 }
 
-/// What the program with these words prints of a story.
-pub fn printed_by<R: AllocGlobal + Net>(rt: &R, story: &Story, words: &str) -> io::Result<Vec<u8>> {
+/// What the program with these words prints of a scenario.
+pub fn printed_by<R: AllocGlobal + Net>(
+    rt: &R,
+    scenario: &WrittenScenario,
+    words: &str,
+) -> io::Result<Vec<u8>> {
     let alloc = rt.alloc();
     let task = asked(alloc, Ok(words_of(alloc, words)?));
-    let input = input_of(alloc, story)?;
+    let input = input_of(alloc, scenario)?;
     let mut reader = input.as_bytes();
     let mut printed = Vec::new(alloc);
     let ending = perform(rt, task, &mut reader, &mut printed);
-    told_of(alloc, story, printed, ending)
+    told_of(alloc, scenario, printed, ending)
 }

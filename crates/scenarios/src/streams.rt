@@ -8,9 +8,9 @@
 //! - `write 2  write fault  line 1\s` this call of the writer fails, and all behind it.
 use rgw_cli::Ending;
 use rgw_play::{PlayFault, Played, play};
+use scenario_files::{SETTINGS, Scenario, bytes_of, no_such_row, range_in, refused, unless_told};
 use std::alloc::Global;
 use std::io::{self, Read, Write};
-use tales::{SETTINGS, Tale, bytes_of, no_such_row, range_in, refused, unless_told};
 
 // What is wrong with the streams.
 #[derive(Clone, Copy)]
@@ -99,11 +99,11 @@ fn ending_text(alloc: Global, outcome: Result<Played, PlayFault>) -> io::Result<
 
 /// What there is to read.
 #[derive(Drop)]
-pub struct StreamTale {
+pub struct StreamScenario {
     input: Vec<u8>,
 }
 
-impl StreamTale {
+impl StreamScenario {
     fn put_input(&mut self, alloc: Global, before: &str, field: &str) -> io::Result<()> {
         let mut input = Vec::from_slice(alloc, before.as_bytes())?;
         input.extend_from_slice(&bytes_of(alloc, field)?)?;
@@ -153,9 +153,9 @@ impl StreamTale {
     }
 }
 
-impl Tale for StreamTale {
-    fn begin(alloc: Global) -> io::Result<StreamTale> {
-        Ok(StreamTale {
+impl Scenario for StreamScenario {
+    fn begin(alloc: Global) -> io::Result<StreamScenario> {
+        Ok(StreamScenario {
             input: Vec::new(alloc),
         })
     }

@@ -11,9 +11,11 @@
 use crate::played::{simulated, words_of};
 use mg_bytes::Sequence;
 use rgw_cli::{Task, WordFault, asked};
+use scenario_files::{
+    Scenario, WrittenScenario, number_in, read_scenario, refused, said, value_of,
+};
 use std::alloc::Global;
 use std::io;
-use tales::{Story, Tale, number_in, read_story, refused, said, value_of};
 
 const REQUEST: &str = "RQNT 1 aaln/1@rgw.example.net MGCP 1.0\nX: 1\n";
 
@@ -47,31 +49,31 @@ fn length_of(alloc: Global, fields: &str) -> io::Result<String> {
     Ok(format!(in alloc; "{length}")?)
 }
 
-// A story of one datagram from the agent.
-fn put_heard(story: &mut Story, front: &str, lines: &str) -> io::Result<()> {
-    writeln!(story.script, "from 127.0.0.1:2727\n{front}{lines}\n--")?;
+// A scenario of one datagram from the agent.
+fn put_heard(scenario: &mut WrittenScenario, front: &str, lines: &str) -> io::Result<()> {
+    writeln!(scenario.script, "from 127.0.0.1:2727\n{front}{lines}\n--")?;
     Ok(())
 }
 
-// The story that a call is, if there is such a call.
-fn story_of(alloc: Global, call: &str, fields: &str) -> io::Result<Option<Story>> {
+// The scenario that a call is, if there is such a call.
+fn story_of(alloc: Global, call: &str, fields: &str) -> io::Result<Option<WrittenScenario>> {
     let lines = fields.replace(alloc, "  ", "\n")?;
     let text = value_of(alloc, lines.as_str())?;
-    let mut story = read_story(alloc, "", false)?;
+    let mut scenario = read_scenario(alloc, "", false)?;
     match call {
         "settings" => {
-            story.is_at_opening = true;
-            story.changes = lines;
+            scenario.is_at_opening = true;
+            scenario.changes = lines;
         }
         "script" => {
-            story.is_at_opening = true;
-            story.script = text;
+            scenario.is_at_opening = true;
+            scenario.script = text;
         }
-        "command" => put_heard(&mut story, "", text.as_str())?,
-        "request" => put_heard(&mut story, REQUEST, text.as_str())?,
+        "command" => put_heard(&mut scenario, "", text.as_str())?,
+        "request" => put_heard(&mut scenario, REQUEST, text.as_str())?,
         _ => return Ok(None),
     }
-    Ok(Some(story))
+    Ok(Some(scenario))
 }
 
 // What is printed, as rows say it: one answer to the agent without what stands round it, and a fault without its status.
@@ -98,10 +100,10 @@ fn answer(alloc: Global, call: &str, fields: &str) -> io::Result<Option<String>>
         "sequence" => return Ok(Some(length_of(alloc, fields)?)),
         _ => {}
     }
-    let Some(story) = story_of(alloc, call, fields)? else {
+    let Some(scenario) = story_of(alloc, call, fields)? else {
         return Ok(None);
     };
-    let printed = simulated(alloc, &story)?;
+    let printed = simulated(alloc, &scenario)?;
     let text = String::from_utf8_lossy(alloc, &printed)?;
     Ok(Some(said(alloc, answer_in(text.as_str()).as_bytes())?))
 }
@@ -110,7 +112,7 @@ fn answer(alloc: Global, call: &str, fields: &str) -> io::Result<Option<String>>
 #[derive(Drop)]
 pub struct Values;
 
-impl Tale for Values {
+impl Scenario for Values {
     fn begin(_alloc: Global) -> io::Result<Values> {
         Ok(Values)
     }

@@ -1,9 +1,9 @@
-//! Tales of the program's gateway, of the kinds that the files' first lines say.
+//! Scenarios of the program's gateway, of the kinds that the files' first lines say.
 //!
 //! - `refused`: scripts at a gateway beside a twin, for a run in which memory is refused.
 //! - `sockets`: a gateway that is served over a UDP socket, with the call agent's in the same process.
 //!
-//! What is told otherwise than it happens is printed under its title. `docs/TALES.md` says how tales are written.
+//! What is told otherwise than it happens is printed under its title. `docs/SCENARIOS.md` says how scenarios are written.
 #![tactic(auto)]
 
 mod refused;
@@ -11,11 +11,11 @@ mod runs;
 mod sockets;
 mod twins;
 
+use scenario_files::{Count, Kinds};
 use std::io;
 use std::net::Net;
-use tales::{Count, Kinds};
 
-/// The kinds of tales of a gateway as a script has it.
+/// The kinds of scenarios of a gateway as a script has it.
 pub struct Gateways;
 
 impl Kinds for Gateways {

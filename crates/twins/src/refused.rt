@@ -1,6 +1,6 @@
 //! Scripts at a gateway that is refused memory, beside a twin.
 //!
-//! Under a title stand the lines of a story, without what is printed; each is an event. The gateway takes them one by
+//! Under a title stand the lines of a scenario, without what is printed; each is an event. The gateway takes them one by
 //! one, and the twin each of them behind it. So they do twice: where the gateway is refused memory it takes the same
 //! event again, and the second time both first take the events of the block `otherwise`, after which there are new
 //! twins. The third time the gateway takes all events in one run.
@@ -11,9 +11,9 @@ use crate::runs::runs_alike;
 use crate::twins::{Played, Twins, are_events, event_of, scene_again, scene_of};
 use gateway_core::Refusal;
 use rgw_play::Step;
+use scenario_files::{Count, Pieces, again, input_of, read_scenario};
 use std::alloc::Global;
 use std::io;
-use tales::{Count, Pieces, again, input_of, read_story};
 
 // What is said of an input that has no gateway and no steps.
 const UNPLAYED: &str = "it can't be played";
@@ -27,18 +27,18 @@ enum Next<'s> {
 
 // The input that lines are; nothing where they say what is printed.
 fn input_under(alloc: Global, lines: &str) -> io::Result<Option<String>> {
-    let story = read_story(alloc, lines, false)?;
-    if !story.printed.is_empty() {
+    let scenario = read_scenario(alloc, lines, false)?;
+    if !scenario.printed.is_empty() {
         return Ok(None);
     }
-    Ok(Some(input_of(alloc, &story)?))
+    Ok(Some(input_of(alloc, &scenario)?))
 }
 
 // The steps of `otherwise`; nothing where they can't be read.
 fn steps_of(alloc: Global, lines: &str) -> io::Result<Option<Vec<Step>>> {
-    let mut story = read_story(alloc, lines, false)?;
-    story.is_at_opening = true;
-    let input = input_of(alloc, &story)?;
+    let mut scenario = read_scenario(alloc, lines, false)?;
+    scenario.is_at_opening = true;
+    let input = input_of(alloc, &scenario)?;
     let Some(Played { steps, .. }) = scene_of(alloc, input.as_bytes())? else {
         return Ok(None);
     };

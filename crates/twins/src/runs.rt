@@ -2,9 +2,9 @@
 use crate::twins::{are_same, event_of, is_same_datagram, scene_again, stepped};
 use gateway_core::{Event, Gateway, Outputs, Refusal};
 use rgw_play::Step;
+use scenario_files::{again, item_at};
 use std::alloc::Global;
 use std::io;
-use tales::{again, item_at};
 
 // The events of steps, and what a gateway gives to each.
 #[derive(Drop)]

@@ -9,11 +9,11 @@
 use crate::twins::scene_of;
 use gateway_core::{DATAGRAM_ROOM, Gateway};
 use rgw_play::UdpWire;
+use scenario_files::{Count, SETTINGS, bytes_of, in_full, said};
 use std::alloc::Global;
 use std::io;
 use std::net::{Ipv4Addr, Net, SocketAddrV4, UdpSocket};
 use std::time::Duration;
-use tales::{Count, SETTINGS, bytes_of, in_full, said};
 
 // For how long each socket waits for a datagram, in ms. What was sent on the loopback is there at once.
 const LONGEST_WAIT: u64 = 200;

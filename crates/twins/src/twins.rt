@@ -5,9 +5,9 @@
 use connections::Connection;
 use gateway_core::{Event, Gateway, OutDatagram, Outputs, Refusal};
 use rgw_play::{PlayFault, Scene, Step, judge};
+use scenario_files::{again, refused};
 use std::alloc::Global;
 use std::io;
-use tales::{again, refused};
 
 /// What an input has to play. The gateway stands in a box, since a check pays for all that a value holds inline at each
 /// step of a function that has one.

@@ -21,16 +21,16 @@ use agent_core::{Agent, IssueFault, Issued};
 use gateway_core::{Event, Outputs, Refusal};
 use mg_bytes::{Sequence, Text};
 use routes::Route;
-use std::alloc::Global;
-use std::io;
-use tales::{
-    Tale, bytes_of, item_at, no_such_row, range_in, refused, unless_number, unless_said,
+use scenario_files::{
+    Scenario, bytes_of, item_at, no_such_row, range_in, refused, unless_number, unless_said,
     unless_told,
 };
+use std::alloc::Global;
+use std::io;
 
 /// An agent, and what it sent.
 #[derive(Drop)]
-pub struct AgentTale {
+pub struct AgentScenario {
     agent: Box<Agent>,
     // The moment that it is there.
     now: u64,
@@ -64,7 +64,7 @@ fn name_of(fault: IssueFault) -> &'static str {
     }
 }
 
-impl AgentTale {
+impl AgentScenario {
     // `999999999`
     fn open(&mut self, alloc: Global, first: &str) -> io::Result<Option<String>> {
         let Ok(first) = first.parse::<u32>() else {
@@ -208,9 +208,9 @@ impl AgentTale {
     }
 }
 
-impl Tale for AgentTale {
-    fn begin(alloc: Global) -> io::Result<AgentTale> {
-        Ok(AgentTale {
+impl Scenario for AgentScenario {
+    fn begin(alloc: Global) -> io::Result<AgentScenario> {
+        Ok(AgentScenario {
             agent: agent_from(alloc, 1)?,
             now: 0,
             issued: 0,

@@ -4,10 +4,10 @@ use event_values::write_observed;
 use mg_bytes::Text;
 use mg_line::Act;
 use rgw_scripts::{ScriptLine, Step, line_in};
+use scenario_files::{bytes_of, no_such_row, unless_said, unless_told};
 use std::alloc::Global;
 use std::io;
 use std::net::SocketAddrV4;
-use tales::{bytes_of, no_such_row, unless_said, unless_told};
 
 /// A command that is issued: its verb, its endpoint's name, and the bytes behind its line.
 #[derive(Drop)]

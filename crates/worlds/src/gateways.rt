@@ -1,14 +1,14 @@
-//! The gateway that tales are about, its configuration, the addresses of both ends, and what rows ask of a gateway.
+//! The gateway that scenarios are about, its configuration, the addresses of both ends, and what rows ask of a gateway.
 use gateway_core::{Config, Gateway, NamedRoute};
 use mg_bytes::{OutOfMemory, Sequence, Text};
 use mg_line::Hook;
 use routes::Route;
+use scenario_files::{no_such_row, refused, unless_said};
 use std::alloc::Global;
 use std::io;
 use std::net::{Ipv4Addr, SocketAddrV4};
-use tales::{no_such_row, refused, unless_said};
 
-/// The entity that a gateway reports to where a tale says no other.
+/// The entity that a gateway reports to where a scenario says no other.
 pub const ENTITY: &str = "ca@ca.example.net";
 
 /// How many lines it has there.

@@ -1,4 +1,4 @@
-//! Tales of a gateway over a wire in memory, of a call agent, and of both, of the kinds that the files' first lines
+//! Scenarios of a gateway over a wire in memory, of a call agent, and of both, of the kinds that the files' first lines
 //! say. No program is in them.
 //!
 //! - `memory`: a gateway that takes events in one run, or over a wire in memory, which plays a plan and fails where that says
@@ -6,7 +6,7 @@
 //! - `agents`: a call agent alone.
 //! - `worlds`: a gateway and a call agent, and a bad network between both.
 //!
-//! What is told otherwise than it happens is printed under its title. `docs/TALES.md` says how tales are written.
+//! What is told otherwise than it happens is printed under its title. `docs/SCENARIOS.md` says how scenarios are written.
 #![tactic(auto)]
 
 mod agents;
@@ -18,14 +18,14 @@ mod outputs;
 mod planned;
 mod worlds;
 
-use crate::agents::AgentTale;
-use crate::memory::MemoryTale;
-use crate::worlds::WorldTale;
+use crate::agents::AgentScenario;
+use crate::memory::MemoryScenario;
+use crate::worlds::WorldScenario;
+use scenario_files::{Count, Kinds, told};
 use std::io;
 use std::net::Net;
-use tales::{Count, Kinds, told};
 
-/// The kinds of tales of one end in memory, or of both.
+/// The kinds of scenarios of one end in memory, or of both.
 pub struct Ends;
 
 impl Kinds for Ends {
@@ -35,9 +35,9 @@ impl Kinds for Ends {
         text: &str,
     ) -> io::Result<Option<Count>> {
         Ok(Some(match kind {
-            "memory" => told::<MemoryTale, R>(rt, text)?,
-            "agents" => told::<AgentTale, R>(rt, text)?,
-            "worlds" => told::<WorldTale, R>(rt, text)?,
+            "memory" => told::<MemoryScenario, R>(rt, text)?,
+            "agents" => told::<AgentScenario, R>(rt, text)?,
+            "worlds" => told::<WorldScenario, R>(rt, text)?,
             _ => return Ok(None),
         }))
     }

@@ -17,15 +17,15 @@ use crate::outputs::is_just_200;
 use crate::planned::{event_of, planned_in};
 use gateway_core::{Event, Gateway, Outputs, Served, Wire};
 use memory_wire::{MemoryWire, Planned};
+use scenario_files::{
+    Scenario, no_such_row, number_in, range_in, refused, unless_number, unless_said, unless_told,
+};
 use std::alloc::Global;
 use std::{io, mem};
-use tales::{
-    Tale, no_such_row, number_in, range_in, refused, unless_number, unless_said, unless_told,
-};
 
 /// A gateway, and the wire over which it is served.
 #[derive(Drop)]
-pub struct MemoryTale {
+pub struct MemoryScenario {
     gateway: Box<Gateway>,
     // For the next wire.
     plan: Vec<Planned>,
@@ -72,7 +72,7 @@ fn run_of(alloc: Global, gateway: &mut Gateway, plan: &[Planned]) -> io::Result<
     }
 }
 
-impl MemoryTale {
+impl MemoryScenario {
     fn gives(&mut self, alloc: Global, words: &str) -> io::Result<Option<String>> {
         let Some(planned) = planned_in(alloc, words)? else {
             return no_such_row(alloc);
@@ -158,9 +158,9 @@ impl MemoryTale {
     }
 }
 
-impl Tale for MemoryTale {
-    fn begin(alloc: Global) -> io::Result<MemoryTale> {
-        Ok(MemoryTale {
+impl Scenario for MemoryScenario {
+    fn begin(alloc: Global) -> io::Result<MemoryScenario> {
+        Ok(MemoryScenario {
             gateway: usual_gateway(alloc)?,
             plan: Vec::new(alloc),
             wire: MemoryWire::new(alloc, Vec::new(alloc), 0),

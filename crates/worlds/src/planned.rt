@@ -4,9 +4,9 @@ use crate::gateways::agent_address;
 use gateway_core::Event;
 use memory_wire::Planned;
 use mg_bytes::Text;
+use scenario_files::bytes_of;
 use std::alloc::Global;
 use std::io;
-use tales::bytes_of;
 
 /// What these words say that a wire is to give: `datagram 200 1 OK¶` from the agent, `phone 1 off`, `at 1000` the moment,
 /// `end`, or `fault`; nothing where they are other words.

@@ -16,13 +16,15 @@ use crate::given::{Given, given_in, world_of};
 use agent_core::{Step, StepRefusal, World, WorldStopped, world_run};
 use gateway_core::ConfigFault;
 use mg_bytes::Text;
+use scenario_files::{
+    Scenario, again, bytes_of, no_such_row, refused, unless_number, unless_said, unless_told,
+};
 use std::alloc::Global;
 use std::io;
-use tales::{Tale, again, bytes_of, no_such_row, refused, unless_number, unless_said, unless_told};
 
 /// A world, and what it was given.
 #[derive(Drop)]
-pub struct WorldTale {
+pub struct WorldScenario {
     lines: u32,
     entity: Text,
     // The steps that it took, for another that becomes what this one was.
@@ -42,7 +44,7 @@ fn is_at_once(outcome: Result<(), WorldStopped>) -> bool {
     }
 }
 
-impl WorldTale {
+impl WorldScenario {
     // Another world becomes what this one was before memory was refused. It was one, so nothing but memory can fail.
     fn renew(&mut self, alloc: Global) -> io::Result<()> {
         let mut steps = Vec::with_capacity(alloc, self.given.len())?;
@@ -128,13 +130,13 @@ impl WorldTale {
     }
 }
 
-impl Tale for WorldTale {
-    fn begin(alloc: Global) -> io::Result<WorldTale> {
+impl Scenario for WorldScenario {
+    fn begin(alloc: Global) -> io::Result<WorldScenario> {
         let entity = Text::of(bytes_of(alloc, ENTITY)?);
         let Ok(world) = world_of(alloc, LINES, entity.as_bytes()) else {
             return Err(refused());
         };
-        Ok(WorldTale {
+        Ok(WorldScenario {
             lines: LINES,
             entity,
             given: Vec::new(alloc),

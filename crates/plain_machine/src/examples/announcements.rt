@@ -9,7 +9,7 @@ ghost use Rattle.restart.specs.declared.restart.Restart.TheVariants.{Waiting, An
 ghost use Rattle.plain_machine.specs.Event.{phone, tick};
 ghost use Rattle.plain_machine.specs.Message.{command};
 ghost use Rattle.plain_machine.specs.Announcing.{announcement};
-ghost use Rattle.plain_machine.specs.Machine.{opening, opening_endpoints, opening_station, serves};
+ghost use Rattle.plain_machine.specs.Machine.{opening, opening_endpoints, opening_endpoint, serves};
 ghost use Rattle.plain_machine.specs.Falling.{due_at};
 ghost use Rattle.plain_machine.specs.Refusing.{takes_none};
 ghost use Rattle.plain_machine.specs.Lists.{machine_after, outputs_from, outputs_of, sent_of};
@@ -23,7 +23,7 @@ pub fn the_gateway_opens_waiting()
     ensures due { due_at (opening_endpoints example) 0 ≡ Some (announcement_due 1 0) }
     ensures other_wait { due_at (opening_endpoints (record example { restart_wait = 600000 })) 0
         ≡ Some (announcement_due 600000 0) }
-    ensures lines { (opening_station example 16).post
+    ensures lines { (opening_endpoint example 16).post
         ≡ record { entity = example.agent; number = 0; pending = None; restart = Serving } }
     ensures nothing_of_lines { due_at (opening_endpoints example) 16 ≡ None }
     ensures serves { serves (opening_endpoints example) ≡ false }

@@ -8,10 +8,10 @@ ghost use Rattle.mg_packages.specs.declared.signal.Signal.TheVariants as signal;
 ghost use Rattle.plain_machine.specs.Event.{phone};
 ghost use Rattle.connections.specs.Standing.{no_connections};
 ghost use Rattle.plain_machine.specs.Connecting.{id_param};
-ghost use Rattle.plain_machine.specs.Machine.{opening, opening_endpoints, opening_station, port_of};
+ghost use Rattle.plain_machine.specs.Machine.{opening, opening_endpoints, opening_endpoint, port_of};
 ghost use Rattle.plain_machine.specs.Calls.{connection_at, port_at, standing_at, NumbersGoOn, IsOnLine};
 ghost use Rattle.plain_machine.specs.Lists.{machine_after, outputs_from, connections_of, signals_of};
-ghost use Rattle.plain_machine.specs.Example.{example, one_line, two_lines, other_host, elsewhere, to_agent_at, response, rqnt, ready_station};
+ghost use Rattle.plain_machine.specs.Example.{example, one_line, two_lines, other_host, elsewhere, to_agent_at, response, rqnt, ready_endpoint};
 ghost use Rattle.plain_machine.specs.Example.{ntfy, lifted, lifted_on_2, crcx, mdcx, dlcx, epcf, ready_machine, one_sends};
 ghost use Rattle.plain_machine.specs.Example.{numbers_then, local_text, created_text, says, first_connection};
 ghost use Rattle.plain_machine.specs.Example.{numbered_to, second_called, both_send, both_then, frees_all, deletes_again, on_and_on};
@@ -37,7 +37,7 @@ pub fn streams_are_received_where_it_is_configured()
     ensures lowest { port_of (record example { media_base = 1024 }) 1 ≡ 1024 }
     ensures last_line { port_of example 16 ≡ 3120 }
     ensures highest { port_of elsewhere 96 ≡ 64760 }
-    ensures station { (ready_station elsewhere 16).connections ≡ no_connections other_host 64120 }
+    ensures endpoint { (ready_endpoint elsewhere 16).connections ≡ no_connections other_host 64120 }
     ensures answer { outputs_from elsewhere (ready_machine elsewhere) (crcx 1 (codes "aaln/16") [] ∷ [])
         ≡ to_agent_at 1000
         (codes "200 1 OK\r\nI: 1\r\n\r\nv=0\r\no=- 1 1 IN IP4 127.0.0.2\r\ns=-\r\nc=IN IP4 127.0.0.2\r\n"

@@ -5,10 +5,10 @@
 ghost use Rattle.std.specs.Prelude.{◌≡◌, codes, [], ◌∷◌, ◌++◌, option_map, replicate, None, Some};
 ghost use Rattle.connections.specs.declared.codec.Encoding.TheVariants.{Mu, A};
 ghost use Rattle.mg_packages.specs.declared.signal.Signal.TheVariants as signal;
-ghost use Rattle.plain_machine.specs.Machine.{opening, opening_station, station_at};
+ghost use Rattle.plain_machine.specs.Machine.{opening, opening_endpoint, endpoint_at};
 ghost use Rattle.plain_machine.specs.Requesting.{line_with_place};
 ghost use Rattle.plain_machine.specs.Lists.{machine_after, outputs_from, connections_of, signals_of};
-ghost use Rattle.plain_machine.specs.Example.{example, one_line, two_lines, other_entity, rqnt, until, stations, to_agent_at, ready_station};
+ghost use Rattle.plain_machine.specs.Example.{example, one_line, two_lines, other_entity, rqnt, until, first_endpoints, to_agent_at, ready_endpoint};
 ghost use Rattle.plain_machine.specs.Example.{crcx, mdcx, dlcx, epcf, ready_machine, two_send, one_sends, numbers_then};
 ghost use Rattle.plain_machine.specs.Example.{local_text, created_text, says, offering_8, holding, first_connection, full_lines};
 
@@ -39,10 +39,10 @@ pub fn connections_are_created()
 
 /// Any one line is the least that has a place; no other is asked where that one refuses.
 pub fn any_one_line_is_the_least_with_a_place()
-    ensures first { line_with_place (stations (ready_station example 1 ∷ ready_station example 2 ∷ [])) ≡ Some 1 }
-    ensures last_place { line_with_place (stations (holding (replicate 3 (Some first_connection) ++ None ∷ []) ∷ [])) ≡ Some 1 }
-    ensures second { line_with_place (stations (holding (replicate 4 (Some first_connection)) ∷ ready_station example 2 ∷ [])) ≡ Some 2 }
-    ensures none { line_with_place (stations (holding (replicate 4 (Some first_connection)) ∷ [])) ≡ None }
+    ensures first { line_with_place (first_endpoints (ready_endpoint example 1 ∷ ready_endpoint example 2 ∷ [])) ≡ Some 1 }
+    ensures last_place { line_with_place (first_endpoints (holding (replicate 3 (Some first_connection) ++ None ∷ []) ∷ [])) ≡ Some 1 }
+    ensures second { line_with_place (first_endpoints (holding (replicate 4 (Some first_connection)) ∷ ready_endpoint example 2 ∷ [])) ≡ Some 2 }
+    ensures none { line_with_place (first_endpoints (holding (replicate 4 (Some first_connection)) ∷ [])) ≡ None }
     ensures refuses { two_send (rqnt 1 (codes "aaln/1") (codes "X: 1\r\n") ∷ crcx 2 (codes "$") (codes "X: 1\r\nS: L/dl\r\n") ∷ [])
         ≡ says (codes "200 1 OK") ∷ says (codes "402 2") ∷ [] }
     ensures not_there { numbers_then two_lines (crcx 2 (codes "$") (codes "X: 1\r\nS: L/dl\r\n") ∷ []) 1 ≡ Some [] }
@@ -112,8 +112,8 @@ pub fn an_encoding_is_given()
     ensures connection { connections_of (machine_after one_line (ready_machine one_line)
         (crcx 1 (codes "aaln/1") [] ∷ epcf 2 (codes "aaln/1") (codes "B: e:A\r\n") ∷ [])) 1
         ≡ Some (Some first_connection ∷ replicate 3 None) }
-    ensures opening { option_map (λ station. station.encoding) (station_at (ready_machine one_line).endpoints 1) ≡ Some Mu }
-    ensures then { option_map (λ station. station.encoding) (station_at (machine_after one_line (ready_machine one_line)
+    ensures opening { option_map (λ endpoint. endpoint.encoding) (endpoint_at (ready_machine one_line).endpoints 1) ≡ Some Mu }
+    ensures then { option_map (λ endpoint. endpoint.encoding) (endpoint_at (machine_after one_line (ready_machine one_line)
         (rqnt 1 (codes "aaln/1") (codes "X: 1\r\nB: e:a\r\n") ∷ [])).endpoints 1)
         ≡ Some A }
 {}
@@ -128,11 +128,11 @@ pub fn a_request_comes_with_connections()
     ensures undone { connections_of (machine_after one_line (ready_machine one_line)
         (crcx 1 (codes "aaln/1") (codes "B: e:A\r\nX: 1\r\nR: D/5(D)\r\n") ∷ [])) 1
         ≡ Some (replicate 4 None) }
-    ensures encoding { option_map (λ station. station.encoding) (station_at (machine_after one_line (ready_machine one_line)
+    ensures encoding { option_map (λ endpoint. endpoint.encoding) (endpoint_at (machine_after one_line (ready_machine one_line)
         (crcx 1 (codes "aaln/1") (codes "B: e:A\r\nX: 1\r\nR: D/5(D)\r\n") ∷ [])).endpoints 1) ≡ Some Mu }
     ensures first { one_sends (mdcx 1 (codes "C: 2\r\nI: 1\r\nX: 1\r\nS: L/dl\r\n") ∷ []) ≡ says (codes "516 1") ∷ [] }
     ensures deletion { one_sends (dlcx 1 (codes "aaln/1") (codes "X: 1\r\nS: L/dl\r\n") ∷ []) ≡ says (codes "402 1") ∷ [] }
-    ensures entity { option_map (λ station. station.post.entity) (station_at (machine_after one_line (ready_machine one_line)
+    ensures entity { option_map (λ endpoint. endpoint.post.entity) (endpoint_at (machine_after one_line (ready_machine one_line)
         (crcx 1 (codes "aaln/1") (codes "N: ca2@[127.0.0.2]:2728\r\n") ∷ [])).endpoints 1) ≡ Some other_entity }
 {}
 

@@ -27,7 +27,7 @@ ghost use Rattle.plain_machine.specs.Falling.{due_by, pass};
 ghost use Rattle.transmission.specs.Acknowledging.{asks_for_acknowledgement};
 ghost use Rattle.plain_machine.specs.Answering.{transaction, transacted_by};
 ghost use Rattle.plain_machine.specs.Lists.{outputs_of};
-ghost use Rattle.plain_machine.specs.Example.{example, agent, audit, from_agent, one_answer, to_agent_at, rqnt, sends, ntfy, lifted_on_2, response, stations, busiest, wide, ready_endpoints, machine_at, busiest_own};
+ghost use Rattle.plain_machine.specs.Example.{example, agent, audit, from_agent, one_answer, to_agent_at, rqnt, sends, ntfy, lifted_on_2, response, first_endpoints, busiest, wide, ready_endpoints, machine_at, busiest_own};
 ghost use Rattle.plain_machine.specs.Example.{requesting_nothing, holding, first_connection, other_host, to_agent, to_other_at, own_at, lifted};
 
 /// The answer to a line's command lets that line go on, under its own ids, whichever it is.
@@ -73,10 +73,10 @@ pub fn each_item_of_k_confirms()
 
 /// At one moment 12 things may be due on each line, and two of the gateway itself: all of them happen.
 pub fn all_that_is_due_at_one_moment_happens()
-    ensures one_line { due_by (pass example (with_own (stations (busiest ∷ [])) busiest_own) 0).value 0
+    ensures one_line { due_by (pass example (with_own (first_endpoints (busiest ∷ [])) busiest_own) 0).value 0
         ≡ None }
     ensures two_lines { due_by
-        (pass example (with_own (stations (busiest ∷ busiest ∷ [])) busiest_own) 0).value 0 ≡ None }
+        (pass example (with_own (first_endpoints (busiest ∷ busiest ∷ [])) busiest_own) 0).value 0 ≡ None }
 {}
 
 /// Of all lines that refuse a request the least gives the code, be it the first of them or not.
@@ -123,17 +123,17 @@ pub fn what_is_read_of_k_confirms()
 pub fn some_deeds_tell_of_no_connection()
     ensures one { let deleting = deeds.Delete (deletions.One (codes "1a") (codes "1")) in
         let line = holding (Some first_connection ∷ replicate 3 None) in
-        shown_of (stations (line ∷ [])) (One 1) (record (requesting_nothing None) { connections = deleting })
+        shown_of (first_endpoints (line ∷ [])) (One 1) (record (requesting_nothing None) { connections = deleting })
         ≡ record { params = counts_param ∷ []; body = [] } }
     ensures all { let deleting = deeds.Delete (deletions.One (codes "1a") (codes "1")) in
         let line = holding (Some first_connection ∷ replicate 3 None) in
-        shown_of (stations (line ∷ [])) All (record (requesting_nothing None) { connections = deleting }) ≡ nothing_shown }
+        shown_of (first_endpoints (line ∷ [])) All (record (requesting_nothing None) { connections = deleting }) ≡ nothing_shown }
     ensures any { let deleting = deeds.Delete (deletions.One (codes "1a") (codes "1")) in
         let line = holding (Some first_connection ∷ replicate 3 None) in
-        shown_of (stations (line ∷ [])) Any (record (requesting_nothing None) { connections = deleting }) ≡ nothing_shown }
+        shown_of (first_endpoints (line ∷ [])) Any (record (requesting_nothing None) { connections = deleting }) ≡ nothing_shown }
     ensures no_line { let deleting = deeds.Delete (deletions.One (codes "1a") (codes "1")) in
         let line = holding (Some first_connection ∷ replicate 3 None) in
-        shown_of (stations (line ∷ [])) (One 2) (record (requesting_nothing None) { connections = deleting }) ≡ nothing_shown }
+        shown_of (first_endpoints (line ∷ [])) (One 2) (record (requesting_nothing None) { connections = deleting }) ≡ nothing_shown }
 {}
 
 /// Successive messages share a datagram of 4,000 bytes at most, in their order, where both their address and their moment

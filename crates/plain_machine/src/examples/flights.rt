@@ -9,16 +9,16 @@ ghost use Rattle.restart.specs.declared.restart.Restart.TheVariants.{Waiting, An
 ghost use Rattle.plain_machine.specs.Effect.{silently};
 ghost use Rattle.plain_machine.specs.Message.{resent};
 ghost use Rattle.plain_machine.specs.Flights.{Waits, HasOwnId, InOrderBy, IsInOrder, OwnInOrderBy, OwnIsInOrder, IsClosed, InOrderWhile, AreInOrder, BeginsNothing, IsSame, Carries};
-ghost use Rattle.plain_machine.specs.Machine.{opening_station, opening_own, with_own};
-ghost use Rattle.plain_machine.specs.Example.{example, agent, other_agent, agent_route, other_route, announced, announced_under, announcing, lifted, own_at, flying, ending, waiting, ready_own, ready_post, ready_station, lost_station, stations, stations_announcing, disconnected};
+ghost use Rattle.plain_machine.specs.Machine.{opening_endpoint, opening_own, with_own};
+ghost use Rattle.plain_machine.specs.Example.{example, agent, other_agent, agent_route, other_route, announced, announced_under, announcing, lifted, own_at, flying, ending, waiting, ready_own, ready_post, ready_endpoint, lost_endpoint, first_endpoints, endpoints_announcing, disconnected};
 
 /// While a command of a line is in flight, under an id of that line, the line waits for the answer.
 pub fn a_line_waits_while_its_command_flies()
-    ensures flies { Waits 1 (record (lost_station 6000) { post = flying 1 10000000 lifted (Some 1500) }) }
-    ensures greatest { Waits 1 (record (lost_station 6000) { post = flying 0 19999999 lifted (Some 1500) }) }
+    ensures flies { Waits 1 (record (lost_endpoint 6000) { post = flying 1 10000000 lifted (Some 1500) }) }
+    ensures greatest { Waits 1 (record (lost_endpoint 6000) { post = flying 0 19999999 lifted (Some 1500) }) }
     ensures normal { Waits 1 (ending None [] (Some 1500)) → ⊥ }
-    ensures of_another { Waits 2 (record (lost_station 6000) { post = flying 1 10000000 lifted (Some 1500) }) → ⊥ }
-    ensures nothing { Waits 1 (ready_station example 1) }
+    ensures of_another { Waits 2 (record (lost_endpoint 6000) { post = flying 1 10000000 lifted (Some 1500) }) → ⊥ }
+    ensures nothing { Waits 1 (ready_endpoint example 1) }
 {}
 
 /// What the gateway itself has in flight is under an id of its own.
@@ -43,9 +43,9 @@ pub fn what_is_in_flight_of_a_line_agrees_with_its_announcement()
     ensures serves_normal { InOrderBy Serving 1 None Normal }
     ensures serves_in_lockstep { InOrderBy Serving 1 (Some (sent_first 10000000 agent_route lifted 1000)) Lockstep → ⊥ }
     ensures serves_another { InOrderBy Serving 2 (Some (sent_first 10000000 agent_route lifted 1000)) Notification → ⊥ }
-    ensures station { IsInOrder 1 (lost_station 6000) }
-    ensures station_with { IsInOrder 1 (waiting 6000 (record (lost_station 6000) { post = flying 1 10000000 lifted (Some 1500) })) → ⊥ }
-    ensures station_normal { IsInOrder 1 (waiting 6000 (ready_station example 1)) → ⊥ }
+    ensures endpoint { IsInOrder 1 (lost_endpoint 6000) }
+    ensures endpoint_with { IsInOrder 1 (waiting 6000 (record (lost_endpoint 6000) { post = flying 1 10000000 lifted (Some 1500) })) → ⊥ }
+    ensures endpoint_normal { IsInOrder 1 (waiting 6000 (ready_endpoint example 1)) → ⊥ }
 {}
 
 /// The gateway itself sends nothing but announcements.
@@ -64,30 +64,30 @@ pub fn what_is_in_flight_of_the_gateway_is_its_announcement()
 
 /// Until the gateway serves its lines are closed, and from then on in order.
 pub fn lines_are_closed_until_the_gateway_serves()
-    ensures opening { IsClosed (opening_station example 1) }
-    ensures waits { IsClosed (waiting 6000 (opening_station example 1)) → ⊥ }
-    ensures flies { IsClosed (record (opening_station example 1) { post = flying 1 10000000 lifted (Some 1500) }) → ⊥ }
-    ensures open { IsClosed (ready_station example 1) → ⊥ }
-    ensures lost { InOrderWhile true 1 (lost_station 6000) }
-    ensures ready { InOrderWhile true 1 (ready_station example 1) }
+    ensures opening { IsClosed (opening_endpoint example 1) }
+    ensures waits { IsClosed (waiting 6000 (opening_endpoint example 1)) → ⊥ }
+    ensures flies { IsClosed (record (opening_endpoint example 1) { post = flying 1 10000000 lifted (Some 1500) }) → ⊥ }
+    ensures open { IsClosed (ready_endpoint example 1) → ⊥ }
+    ensures lost { InOrderWhile true 1 (lost_endpoint 6000) }
+    ensures ready { InOrderWhile true 1 (ready_endpoint example 1) }
     ensures flies_normal { InOrderWhile true 1 (ending None [] (Some 1500)) → ⊥ }
-    ensures closed { InOrderWhile false 1 (opening_station example 1) }
-    ensures not_closed { InOrderWhile false 1 (ready_station example 1) → ⊥ }
-    ensures not_lost { InOrderWhile false 1 (lost_station 6000) → ⊥ }
+    ensures closed { InOrderWhile false 1 (opening_endpoint example 1) }
+    ensures not_closed { InOrderWhile false 1 (ready_endpoint example 1) → ⊥ }
+    ensures not_lost { InOrderWhile false 1 (lost_endpoint 6000) → ⊥ }
 {}
 
 /// Endpoints are in order where the gateway itself is, and each of its lines.
 pub fn each_line_has_its_order()
-    ensures own { AreInOrder (with_own (stations []) (flying 2 1 announced (Some 1500))) → ⊥ }
-    ensures line { AreInOrder (stations (ready_station example 1 ∷ ending None [] (Some 1500) ∷ [])) → ⊥ }
-    ensures open { AreInOrder (stations_announcing (ready_station example 1 ∷ [])) → ⊥ }
+    ensures own { AreInOrder (with_own (first_endpoints []) (flying 2 1 announced (Some 1500))) → ⊥ }
+    ensures line { AreInOrder (first_endpoints (ready_endpoint example 1 ∷ ending None [] (Some 1500) ∷ [])) → ⊥ }
+    ensures open { AreInOrder (endpoints_announcing (ready_endpoint example 1 ∷ [])) → ⊥ }
 {}
 
 /// A line begins nothing where its command in flight, if there is one, stays, and nothing is sent.
 pub fn a_line_may_begin_nothing()
     ensures stays { BeginsNothing (ending None [] (Some 1500)) (silently (ending (Some 5000) [] (Some 1500))) }
-    ensures answered { BeginsNothing (ending None [] (Some 1500)) (silently (ready_station example 1)) → ⊥ }
-    ensures begins { BeginsNothing (ready_station example 1) (silently (ending None [] (Some 1500))) → ⊥ }
+    ensures answered { BeginsNothing (ending None [] (Some 1500)) (silently (ready_endpoint example 1)) → ⊥ }
+    ensures begins { BeginsNothing (ready_endpoint example 1) (silently (ending None [] (Some 1500))) → ⊥ }
     ensures sends { BeginsNothing (ending None [] (Some 1500))
         (record { value = ending None [] (Some 1500); sent = own_at 1 1500 (resent lifted) ∷ [] }) → ⊥ }
 {}

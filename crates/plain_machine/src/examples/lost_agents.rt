@@ -12,15 +12,15 @@ ghost use Rattle.plain_machine.specs.Event.{phone, tick};
 ghost use Rattle.plain_machine.specs.Message.{command};
 ghost use Rattle.plain_machine.specs.Posting.{given_up};
 ghost use Rattle.plain_machine.specs.Announcing.{announcement};
-ghost use Rattle.plain_machine.specs.Machine.{serves, station_at};
+ghost use Rattle.plain_machine.specs.Machine.{serves, endpoint_at};
 ghost use Rattle.plain_machine.specs.Refusing.{takes_none};
 ghost use Rattle.plain_machine.specs.Lists.{machine_after, outputs_from, sent_from};
-ghost use Rattle.plain_machine.specs.Example.{agent_route, other_route, other_entity, example, from_agent, to_agent_at, to_other_at, ready_post, ready_station, rqnt, sends, ntfy, lifted, response, station_then, own_at, naming_other, entities_of, lost_station, losing, lost_machine, lost_sends, lost_then, lost_line_then, looping, disconnected, asking_nothing, says};
+ghost use Rattle.plain_machine.specs.Example.{agent_route, other_route, other_entity, example, from_agent, to_agent_at, to_other_at, ready_post, ready_endpoint, rqnt, sends, ntfy, lifted, response, endpoint_then, own_at, naming_other, entities_of, lost_endpoint, losing, lost_machine, lost_sends, lost_then, lost_line_then, looping, disconnected, asking_nothing, says};
 
 /// Where a line gives its notification up nothing is in flight, and it waits before it announces itself; all else stays.
 pub fn a_line_waits_after_giving_up()
-    ensures given_up { station_then (phone 1 OffHook ∷ tick 24500 ∷ []) 1 ≡ Some (lost_station 29500) }
-    ensures others { station_then (phone 1 OffHook ∷ tick 24500 ∷ []) 2 ≡ Some (ready_station example 2) }
+    ensures given_up { endpoint_then (phone 1 OffHook ∷ tick 24500 ∷ []) 1 ≡ Some (lost_endpoint 29500) }
+    ensures others { endpoint_then (phone 1 OffHook ∷ tick 24500 ∷ []) 2 ≡ Some (ready_endpoint example 2) }
     ensures other_wait { (given_up (record example { disconnected_wait = 600000 }) 1 24500 (ready_post example 1)).restart
         ≡ Waiting 624500 }
     ensures of_the_gateway { (given_up (record example { restart_wait = 7 }) 0 24500 (ready_post example 1)).restart
@@ -47,7 +47,7 @@ pub fn a_line_announces_itself()
     ensures last_line { announcement example 16 160000001
         ≡ messages.Command verbs.Rsip 160000001 (codes "aaln/16@rgw.example.net")
         ((record { code = codes "RM"; value = codes "disconnected" }) ∷ []) [] }
-    ensures station { lost_line_then (tick 6000 ∷ []) ≡ Some (record (lost_station 6000) {
+    ensures endpoint { lost_line_then (tick 6000 ∷ []) ≡ Some (record (lost_endpoint 6000) {
       post = record {
         entity = example.agent;
         number = 2;
@@ -70,14 +70,14 @@ pub fn a_line_announces_itself_again()
         ∷ to_agent_at 34500 (disconnected 10000002) ∷ [] }
     ensures put_off { lost_sends (tick 6000 ∷ response 100 10000001 ∷ tick 11000 ∷ [])
         ≡ to_agent_at 6000 (disconnected 10000001) ∷ to_agent_at 11000 (disconnected 10000001) ∷ [] }
-    ensures still_waits { option_map (λ station. station.line) (lost_line_then (tick 6000 ∷ response 100 10000001 ∷ []))
-        ≡ Some (lost_station 6000).line }
+    ensures still_waits { option_map (λ endpoint. endpoint.line) (lost_line_then (tick 6000 ∷ response 100 10000001 ∷ []))
+        ≡ Some (lost_endpoint 6000).line }
 {}
 
 /// At the answer the line waits for a request, where none came since its notification began; what is quarantined stays.
 pub fn an_answered_line_waits_for_a_request()
-    ensures station { lost_line_then (tick 6000 ∷ response 200 10000001 ∷ []) ≡ Some (record (lost_station 6000) {
-      line = record (lost_station 6000).line { state = states.Lockstep };
+    ensures endpoint { lost_line_then (tick 6000 ∷ response 200 10000001 ∷ []) ≡ Some (record (lost_endpoint 6000) {
+      line = record (lost_endpoint 6000).line { state = states.Lockstep };
       post = ready_post example 2;
     }) }
     ensures other_id { lost_line_then (tick 6000 ∷ response 200 10000000 ∷ []) ≡ lost_line_then (tick 6000 ∷ []) }
@@ -90,7 +90,7 @@ pub fn an_answered_line_waits_for_a_request()
 /// answer.
 pub fn a_request_waits_for_the_answer()
     ensures waits { lost_sends (phone 1 OnHook ∷ asking_nothing ∷ []) ≡ says (codes "200 7 OK") ∷ [] }
-    ensures state { option_map (λ station. station.line.state) (lost_line_then (asking_nothing ∷ []))
+    ensures state { option_map (λ endpoint. endpoint.line.state) (lost_line_then (asking_nothing ∷ []))
         ≡ Some states.Notification }
     ensures renewed { lost_sends (phone 1 OnHook ∷ asking_nothing ∷ tick 6000 ∷ response 200 10000001 ∷ [])
         ≡ says (codes "200 7 OK") ∷ to_agent_at 6000 (disconnected 10000001)
@@ -104,13 +104,13 @@ pub fn a_request_waits_for_the_answer()
         ∷ to_agent_at 4500 lifted ∷ to_agent_at 8500 lifted ∷ to_agent_at 12500 lifted
         ∷ to_agent_at 26000 (disconnected 10000001)
         ∷ to_agent_at 26000 (ntfy 10000002 1 (codes "A5") (codes "L/hu")) ∷ [] }
-    ensures nothing_quarantined { option_map (λ station. station.line.state)
+    ensures nothing_quarantined { option_map (λ endpoint. endpoint.line.state)
         (lost_line_then (asking_nothing ∷ tick 6000 ∷ response 200 10000001 ∷ [])) ≡ Some states.Normal }
 {}
 
 /// A line in loop goes on at the answer, without a request.
 pub fn a_loop_goes_on_at_the_answer()
-    ensures state { option_map (λ station. station.line.state) (station_at
+    ensures state { option_map (λ endpoint. endpoint.line.state) (endpoint_at
         (machine_after example looping (tick 6000 ∷ response 200 10000001 ∷ [])).endpoints 1) ≡ Some states.Normal }
     ensures quarantined { outputs_from example looping (phone 1 OnHook ∷ tick 6000 ∷ response 200 10000001 ∷ [])
         ≡ to_agent_at 6000 (disconnected 10000001)
@@ -123,7 +123,7 @@ pub fn a_line_is_redirected()
     ensures sent { lost_sends (tick 6000 ∷ naming_other 521 10000001 ∷ [])
         ≡ to_agent_at 6000 (disconnected 10000001) ∷ to_other_at 6000 (disconnected 10000002) ∷ [] }
     ensures endpoints { (lost_then (tick 6000 ∷ naming_other 521 10000001 ∷ [])).endpoints
-        ≡ (losing (record (lost_station 6000) {
+        ≡ (losing (record (lost_endpoint 6000) {
           post = record {
             entity = other_entity;
             number = 3;
@@ -141,8 +141,8 @@ pub fn a_line_is_redirected()
     ensures acknowledged { lost_sends (tick 6000 ∷ from_agent (codes "521 10000001\r\nK:\r\nN: ca2@[127.0.0.2]:2728\r\n") ∷ [])
         ≡ to_agent_at 6000 (disconnected 10000001) ∷ to_agent_at 6000 (codes "000 10000001\r\n")
         ∷ to_other_at 6000 (disconnected 10000002) ∷ [] }
-    ensures to_nobody { lost_line_then (tick 6000 ∷ response 521 10000001 ∷ []) ≡ Some (record (lost_station 6000) {
-      line = record (lost_station 6000).line { state = states.Lockstep };
+    ensures to_nobody { lost_line_then (tick 6000 ∷ response 521 10000001 ∷ []) ≡ Some (record (lost_endpoint 6000) {
+      line = record (lost_endpoint 6000).line { state = states.Lockstep };
       post = ready_post example 2;
     }) }
 {}
@@ -151,8 +151,8 @@ pub fn a_line_is_redirected()
 /// nor does one that can't be read, nor the answer to a notification.
 pub fn an_answer_names_whom_a_line_notifies()
     ensures endpoints { (lost_then (tick 6000 ∷ naming_other 500 10000001 ∷ [])).endpoints
-        ≡ (losing (record (lost_station 6000) {
-          line = record (lost_station 6000).line { state = states.Lockstep };
+        ≡ (losing (record (lost_endpoint 6000) {
+          line = record (lost_endpoint 6000).line { state = states.Lockstep };
           post = record (ready_post example 2) { entity = other_entity };
         })).endpoints }
     ensures told { lost_sends (phone 1 OnHook ∷ asking_nothing ∷ tick 6000 ∷ naming_other 200 10000001 ∷ [])

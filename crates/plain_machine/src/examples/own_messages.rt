@@ -11,7 +11,7 @@ ghost use Rattle.plain_machine.specs.Machine.{opening_endpoints};
 ghost use Rattle.plain_machine.specs.Falling.{due_at, first_due, due_by, happened, pass};
 ghost use Rattle.plain_machine.specs.Refusing.{takes_none};
 ghost use Rattle.plain_machine.specs.Lists.{sent_from};
-ghost use Rattle.plain_machine.specs.Example.{example, agent_route, from_agent, from_other, to_agent_at, to_other_at, lifted, response, machine_at, machine_then, own_at, line_end, command_due, ending, announced, announcing, stations_announcing, announcing_machine, announcing_sends, announcing_then, own_then, ready_endpoints};
+ghost use Rattle.plain_machine.specs.Example.{example, agent_route, from_agent, from_other, to_agent_at, to_other_at, lifted, response, machine_at, machine_then, own_at, line_end, command_due, ending, announced, announcing, endpoints_announcing, announcing_machine, announcing_sends, announcing_then, own_then, ready_endpoints};
 
 /// It is repeated at its moments, and given up, as a line's command is; the lines stay. It waits anew then, and goes out
 /// under the next id.
@@ -29,7 +29,7 @@ pub fn an_own_message_is_repeated_and_given_up()
       pending = Some (record { id = 1; route = agent_route; text = announced; first = 1000; repeats = 1; due = 2500 });
       restart = Announced;
     } }
-    ensures lines { (announcing_then (tick 1500 ∷ [])).endpoints.stations ≡ (opening_endpoints example).stations }
+    ensures lines { (announcing_then (tick 1500 ∷ [])).endpoints.list ≡ (opening_endpoints example).list }
     ensures still_in_flight { option_map (λ message. message.due) (own_then (tick 24499 ∷ [])).pending
         ≡ Some 24500 }
     ensures given_up { own_then (tick 24500 ∷ [])
@@ -39,7 +39,7 @@ pub fn an_own_message_is_repeated_and_given_up()
         ∷ to_agent_at 8500 announced ∷ to_agent_at 12500 announced ∷ to_agent_at 16500 announced
         ∷ to_agent_at 20500 announced
         ∷ to_agent_at 24501 (codes "RSIP 2 *@rgw.example.net MGCP 1.0\r\nRM: restart\r\n") ∷ [] }
-    ensures without_lines { (pass example (stations_announcing []) 5000).sent ≡ own_at 0 5000 (resent announced) ∷ [] }
+    ensures without_lines { (pass example (endpoints_announcing []) 5000).sent ≡ own_at 0 5000 (resent announced) ∷ [] }
     ensures memory { takes_none announcing_machine (tick 1500) ≡ false }
     ensures no_memory { takes_none announcing_machine (tick 1499) ≡ true }
 {}
@@ -47,23 +47,23 @@ pub fn an_own_message_is_repeated_and_given_up()
 /// At one moment it comes before all that falls due on lines; what is earlier comes before it. Of a line's own kinds
 /// nothing falls due of the gateway itself.
 pub fn an_own_message_goes_before_lines()
-    ensures timer { first_due (stations_announcing (ending (Some 5000) [] None ∷ [])) ≡ Some (command_due 5000 0) }
-    ensures commands { first_due (stations_announcing (ending None [] (Some 5000) ∷ ending None [] (Some 5000) ∷ []))
+    ensures timer { first_due (endpoints_announcing (ending (Some 5000) [] None ∷ [])) ≡ Some (command_due 5000 0) }
+    ensures commands { first_due (endpoints_announcing (ending None [] (Some 5000) ∷ ending None [] (Some 5000) ∷ []))
         ≡ Some (command_due 5000 0) }
-    ensures later { first_due (stations_announcing (ending None [] (Some 5001) ∷ [])) ≡ Some (command_due 5000 0) }
-    ensures earlier { first_due (stations_announcing (ending (Some 5000) [] None ∷ ending (Some 4999) [] None ∷ []))
+    ensures later { first_due (endpoints_announcing (ending None [] (Some 5001) ∷ [])) ≡ Some (command_due 5000 0) }
+    ensures earlier { first_due (endpoints_announcing (ending (Some 5000) [] None ∷ ending (Some 4999) [] None ∷ []))
         ≡ Some (line_end 4999 2 ends.DigitTimer) }
-    ensures alone { first_due (stations_announcing []) ≡ Some (command_due 5000 0) }
-    ensures by { due_by (stations_announcing []) 5000 ≡ Some (command_due 5000 0) }
-    ensures not_yet { due_by (stations_announcing []) 4999 ≡ None }
-    ensures on_line_0 { due_at (stations_announcing (ending None [] (Some 4000) ∷ [])) 0 ≡ Some (command_due 5000 0) }
-    ensures on_line_1 { due_at (stations_announcing (ending None [] (Some 4000) ∷ [])) 1 ≡ Some (command_due 4000 1) }
-    ensures goes_first { (pass example (stations_announcing (ending None [] (Some 5000) ∷ [])) 5000).sent
+    ensures alone { first_due (endpoints_announcing []) ≡ Some (command_due 5000 0) }
+    ensures by { due_by (endpoints_announcing []) 5000 ≡ Some (command_due 5000 0) }
+    ensures not_yet { due_by (endpoints_announcing []) 4999 ≡ None }
+    ensures on_line_0 { due_at (endpoints_announcing (ending None [] (Some 4000) ∷ [])) 0 ≡ Some (command_due 5000 0) }
+    ensures on_line_1 { due_at (endpoints_announcing (ending None [] (Some 4000) ∷ [])) 1 ≡ Some (command_due 4000 1) }
+    ensures goes_first { (pass example (endpoints_announcing (ending None [] (Some 5000) ∷ [])) 5000).sent
         ≡ own_at 0 5000 (resent announced) ∷ own_at 1 5000 (resent lifted) ∷ [] }
-    ensures in_its_place { (pass example (stations_announcing (ending None [] (Some 4900) ∷ [])) 5000).sent
+    ensures in_its_place { (pass example (endpoints_announcing (ending None [] (Some 4900) ∷ [])) 5000).sent
         ≡ own_at 1 4900 (resent lifted) ∷ own_at 0 5000 (resent announced) ∷ [] }
-    ensures no_timer { happened example (stations_announcing []) (line_end 5000 0 ends.DigitTimer)
-        ≡ silently (stations_announcing []) }
+    ensures no_timer { happened example (endpoints_announcing []) (line_end 5000 0 ends.DigitTimer)
+        ≡ silently (endpoints_announcing []) }
     ensures idle { happened example (ready_endpoints example) (command_due 5000 0)
         ≡ silently (ready_endpoints example) }
 {}
@@ -94,6 +94,6 @@ pub fn an_own_message_is_put_off()
     ensures repeats { announcing_sends (tick 1200 ∷ response 100 1 ∷ tick 6199 ∷ tick 7200 ∷ [])
         ≡ to_agent_at 6200 announced ∷ to_agent_at 7200 announced ∷ [] }
     ensures then_answered { announcing_sends (response 100 1 ∷ response 200 1 ∷ tick 60000 ∷ []) ≡ [] }
-    ensures lines { (announcing_then (tick 1200 ∷ response 100 1 ∷ [])).endpoints.stations
-        ≡ (opening_endpoints example).stations }
+    ensures lines { (announcing_then (tick 1200 ∷ response 100 1 ∷ [])).endpoints.list
+        ≡ (opening_endpoints example).list }
 {}

@@ -4,9 +4,9 @@ use mg_bytes::{
     Text, decimal, has_dot_line, hex_text, ipv4_address, lines, list_items, port_number,
     put_decimal, same_no_case, split_once, trimmed, words,
 };
+use scenario_files::{or_none, put_piece, said};
 use std::alloc::Global;
 use std::io;
-use tales::{or_none, put_piece, said};
 
 fn lines_in(alloc: Global, value: &[u8]) -> io::Result<String> {
     let mut out = Vec::new(alloc);

@@ -9,10 +9,10 @@ use event_requests::Request;
 use event_syntax::{write_handling, write_signals};
 use mg_bytes::{Identifier, OutOfMemory, Text};
 use mgcp_text::{Message, TextFault, read_k, read_message};
+use scenario_files::{code_text, refused, said};
 use sdp_subset::Session;
 use std::alloc::Global;
 use std::io;
-use tales::{code_text, refused, said};
 
 fn put_line(out: &mut String, code: &str, value: &[u8]) -> io::Result<()> {
     Ok(write!(out, "{code}{}\r\n", words_of(value))?)

@@ -1,8 +1,8 @@
 //! Calls about session descriptions.
+use scenario_files::said;
 use sdp_subset::{Origin, Session, read_sdp, write_sdp};
 use std::alloc::Global;
 use std::io;
-use tales::said;
 
 // Where a stream is received, and its payload types.
 fn offered(alloc: Global, session: &Session) -> io::Result<String> {

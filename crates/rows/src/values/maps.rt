@@ -15,9 +15,9 @@ use digit_map::{
 };
 use digit_map_bits::{Compiled, Dialling};
 use mg_bytes::{CodeFault, Letter, OutOfMemory, letter_of};
+use scenario_files::{bytes_of, code_text, refused, yes_or_no};
 use std::alloc::Global;
 use std::io;
-use tales::{bytes_of, code_text, refused, yes_or_no};
 
 // What is dialled; nothing where that has another sign, or more than 64.
 fn letters_of(alloc: Global, dialled: &[u8]) -> Result<Option<Vec<Letter>>, OutOfMemory> {

@@ -5,9 +5,9 @@ use mgcp_text::{
     Answer, KValue, Message, TextFault, TransactionId, is_writable, param_at, read_k, read_message,
     write_message,
 };
+use scenario_files::{refused, said};
 use std::alloc::Global;
 use std::io;
-use tales::{refused, said};
 
 fn fault_text(alloc: Global, fault: &TextFault) -> io::Result<String> {
     let number = fault.number();

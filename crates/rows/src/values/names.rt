@@ -5,11 +5,11 @@ use endpoint_names::{
     NameFault, Pattern, Table, TableFault, is_domain, matches, read_entity, read_name, write_name,
 };
 use routes::Route;
+use scenario_files::{said, unread};
 use std::alloc::Global;
 use std::fmt::Display;
 use std::io;
 use std::net::Ipv4Addr;
-use tales::{said, unread};
 
 /// The domain of the endpoints.
 pub const DOMAIN: &[u8] = b"rgw.example.net";

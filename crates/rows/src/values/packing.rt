@@ -7,9 +7,9 @@ use crate::texts::judged;
 use crate::values::numbered;
 use mg_bytes::{Text, put_decimal};
 use piggyback::{is_joinable, join, parts};
+use scenario_files::{put_piece, said};
 use std::alloc::Global;
 use std::io;
-use tales::{put_piece, said};
 
 // Each part of a datagram, with a `|` behind it.
 fn parts_in(alloc: Global, datagram: &[u8]) -> io::Result<String> {

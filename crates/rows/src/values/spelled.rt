@@ -9,9 +9,9 @@ use event_syntax::{
     write_events, write_handling, write_observed, write_signals,
 };
 use mg_bytes::{CodeFault, Text};
+use scenario_files::{code_text, said};
 use std::alloc::Global;
 use std::io;
-use tales::{code_text, said};
 
 // A value of R, T, S, Q, O or D, as it is written again; D without its blanks.
 fn events_text(alloc: Global, call: &str, value: &[u8]) -> Result<Text, CodeFault> {

@@ -3,8 +3,8 @@ use Rattle.dialled_end_to_end.proofs.laws.what_is_dialled_reaches_the_agent_once
 
 pub returns-clause-whole : goal.returns-clause-whole
 returns-clause-whole c =
-    λ setup steps line before after station set_up taken few took at asked none. dialled_through setup steps line set_up taken few before after station took at asked none
+    λ setup steps line before after endpoint set_up taken few took at asked none. dialled_through setup steps line set_up taken few before after endpoint took at asked none
 
 pub returns-clause-beginning : goal.returns-clause-beginning
 returns-clause-beginning c =
-    λ setup steps line before after station set_up taken few took at asked none. (_, dialled_through setup steps line set_up taken few before after station took at asked none)
+    λ setup steps line before after endpoint set_up taken few took at asked none. (_, dialled_through setup steps line set_up taken few before after endpoint took at asked none)

@@ -1,5 +1,5 @@
 use Rattle.std.proofs.Common.{None, Some, [], refl}
-use Rattle.plain_machine.specs.Example.{example, ready_station, ending}
+use Rattle.plain_machine.specs.Example.{example, ready_endpoint, ending}
 use Rattle.plain_machine.proofs.Computing.{on_examples}
 use Rattle.plain_machine.proofs.examples.flights.each_line_has_its_order.Goals as goal
 
@@ -18,5 +18,5 @@ returns-clause-line c order =
 pub returns-clause-open : goal.returns-clause-open
 unfolding on_examples
 returns-clause-open c order =
-    let state = (order.lines 1 (ready_station example 1) refl).state in
+    let state = (order.lines 1 (ready_endpoint example 1) refl).state in
     cc

@@ -1,9 +1,0 @@
-use Rattle.std.proofs.Common.{◌≡◌, vec_len}
-use Rattle.call_agent.specs.Flights.{flights_in, restored}
-use Rattle.call_agent.proofs.flights.Flights.undo.Given as goal
-
-abbrev pub invariant-loop-saved : goal.invariant-loop-saved
-invariant-loop-saved l = flights_in (restored l.self-inside.saved.items l.self-inside.places.items) ≡ l.fn.self.found
-
-abbrev pub decreases-loop-saved : goal.decreases-loop-saved
-decreases-loop-saved l = vec_len l.self-inside.saved

@@ -1,0 +1,6 @@
+pub mod StoreLemmas
+pub mod SetupLemmas
+pub mod DueLemmas
+pub mod SavingLemmas
+pub mod ChangeLemmas
+pub mod OneLemmas

@@ -1,0 +1,18 @@
+use Rattle.std.proofs.Common.{◌≡◌, List}
+use Rattle.transmission.specs.declared.output.OutDatagram.{OutDatagram}
+use Rattle.plain_machine.specs.Falling.{pass}
+use Rattle.plain_machine.proofs.FallingLaws.{left}
+use Rattle.endpoints.specs.StoreState.{StoreState}
+use Rattle.endpoints.specs.Tells.{Goes}
+use Rattle.endpoints.proofs.falling.pass.Given as goal
+
+-- what completes the rest completes the whole
+abbrev pub invariant-loop-item : goal.invariant-loop-item
+invariant-loop-item l = record {
+  completes : (is : StoreState) (are : List OutDatagram) → Goes (pass l.context.setup.now l.store.endpoints l.moment) l.store is l.out.items are
+      → Goes (pass l.context.setup.now l.fn.store.endpoints l.moment) l.fn.store is l.fn.out.items are;
+  found : l.store.found ≡ l.fn.store.found;
+}
+
+abbrev pub decreases-loop-item : goal.decreases-loop-item
+decreases-loop-item l = left l.store.endpoints l.moment

@@ -1,0 +1,5 @@
+pub mod StoreState
+pub mod DueTable
+pub mod Saving
+pub mod Changing
+pub mod Tells

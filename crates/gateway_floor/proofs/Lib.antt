@@ -1,6 +1,0 @@
-pub mod FloorLemmas
-pub mod SetupLemmas
-pub mod DueLemmas
-pub mod SavingLemmas
-pub mod ChangeLemmas
-pub mod OneLemmas

@@ -1,6 +1,0 @@
-use Rattle.gateway_floor.proofs.FloorLemmas.{goes_unheard}
-use Rattle.gateway_floor.proofs.responding.respond_on_line.Goals as goal
-
-pub returns-in-Nothing : goal.returns-in-Nothing
-returns-in-Nothing c =
-    goes_unheard c.args.context.setup.now c.args.occasion.line c.args.occasion.moment c.args.response.now _ c.args.floor.now c.args.out.now.items c.in-Some.ensures.value c.in-Nothing.ensures

@@ -1,5 +1,0 @@
-pub mod FloorState
-pub mod DueTable
-pub mod Saving
-pub mod Changing
-pub mod Tells

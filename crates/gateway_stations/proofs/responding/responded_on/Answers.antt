@@ -1,8 +1,0 @@
-use Rattle.gateway_stations.proofs.ResponseLemmas.{is_answered, on_ok}
-use Rattle.gateway_stations.proofs.responding.responded_on.Goals as goal
-
-pub returns-in_ok-replied-in-Answered : goal.returns-in_ok-replied-in-Answered
-returns-in_ok-replied-in-Answered c = on_ok c.answered_on.result
-    (λ goes. is_answered c.args.context.setup.now c.args.occasion.line c.args.occasion.moment c.args.response.now c.args.station.now _ _ c.replied-in-Answered.new.post _ _ _
-    c.in-Answered.ensures (rw c.in-Answered.is at c.in_ok-replied-in-Answered.ensures.turn) goes)
-    c.answered_on.ensures

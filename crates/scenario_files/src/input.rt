@@ -1,0 +1,81 @@
+//! The input of the program that a scenario stands for.
+use crate::settings::SETTINGS;
+use crate::texts::value_of;
+use crate::written::WrittenScenario;
+use std::alloc::Global;
+use std::io;
+
+// The first word of a line of the settings.
+fn key_of(line: &str) -> &str {
+    let word = line.split(' ').next().unwrap_or("");
+    word.split('\\').next().unwrap_or("")
+}
+
+// What stands in the place of a usual line: the change of its key, or nothing where `no KEY` takes it out.
+fn changed<'a>(usual: &'a str, changes: &'a str) -> &'a str {
+    let key = key_of(usual);
+    for change in changes.lines() {
+        match change.strip_prefix("no ") {
+            Some(name) if name == key => return "",
+            _ if key_of(change) == key => return change,
+            _ => {}
+        }
+    }
+    usual
+}
+
+// Whether a change is a further line, of a key that the usual settings don't have.
+fn is_further(change: &str) -> bool {
+    let key = key_of(change);
+    for usual in SETTINGS.lines() {
+        if key_of(usual) == key {
+            return false;
+        }
+    }
+    key != "no"
+}
+
+fn put_setting(alloc: Global, out: &mut String, line: &str) -> io::Result<()> {
+    let line = value_of(alloc, line)?;
+    Ok(writeln!(out, "{line}")?)
+}
+
+// The usual settings with a scenario's changes.
+fn put_settings(alloc: Global, out: &mut String, changes: &str) -> io::Result<()> {
+    for usual in SETTINGS.lines() {
+        put_setting(alloc, out, changed(usual, changes))?;
+    }
+    Ok(())
+}
+
+// Further lines, which stand at the end of the settings, among the names.
+fn put_further(alloc: Global, out: &mut String, changes: &str) -> io::Result<()> {
+    for change in changes.lines() {
+        if is_further(change) {
+            put_setting(alloc, out, change)?;
+        }
+    }
+    Ok(())
+}
+
+// What stands before a script.
+const SCRIPT: &str = "%%\n";
+
+// The same up to Ready: the gateway's announcement is answered, and the clock is at 1,000 ms.
+const READY: &str = "%%\ntick 1\nfrom 127.0.0.1:2727\n200 1 OK\n--\nat 1000\n";
+
+/// The program's input: the settings, and the script behind what comes before it; without a script the settings alone.
+pub fn input_of(alloc: Global, scenario: &WrittenScenario) -> io::Result<String> {
+    let mut input = String::new(alloc);
+    put_settings(alloc, &mut input, scenario.changes.as_str())?;
+    put_further(alloc, &mut input, scenario.changes.as_str())?;
+    let before = if !scenario.is_at_opening {
+        READY
+    } else if scenario.script.is_empty() {
+        ""
+    } else {
+        SCRIPT
+    };
+    write!(input, "{before}{}", scenario.script)?;
+    Ok(input)
+}

@@ -1,0 +1,37 @@
+//! What all scenarios have in common: the files that their program is called with, short forms, rows under titles, and scripts
+//! as they are written, with what they print.
+//!
+//! What is refused memory is done again, and must then give what it gives with ample memory: the program is refused each
+//! request for memory in turn (`./refusals`). So a kind of row changes its state last. `docs/SCENARIOS.md` says how
+//! scenarios are written.
+#![tactic(auto)]
+
+mod again;
+mod count;
+mod files;
+mod input;
+mod lists;
+mod numbers;
+mod row;
+mod rows;
+mod settings;
+mod texts;
+mod titles;
+mod turns;
+mod written;
+
+pub use crate::again::refused;
+pub use crate::count::Count;
+pub use crate::files::{Kinds, play};
+pub use crate::input::input_of;
+pub use crate::lists::item_at;
+pub use crate::numbers::{number_in, range_in};
+pub use crate::row::{Row, unread};
+pub use crate::rows::{Scenario, told};
+pub use crate::settings::SETTINGS;
+pub use crate::texts::{bytes_of, in_full, or_none, put_piece, said, value_of, yes_or_no};
+pub use crate::titles::Pieces;
+pub use crate::turns::{
+    code_text, no_such_row, or_unread, unless_left, unless_number, unless_said, unless_told,
+};
+pub use crate::written::{WrittenScenario, read_scenario};
