@@ -1,6 +1,5 @@
 //! Reads a configuration from TOML.
 ghost use Rattle.std.specs.Prelude.{◌≡◌, IfOk, MatchOption, Some, None, is_some, option_and_then, option_map, string_bytes};
-ghost use Rattle.mg_bytes.specs.Option.{◌>>=◌};
 ghost use Rattle.toml.specs.View.{items_view, table_view, view};
 ghost use Rattle.toml.specs.Data.{get_member, as_str};
 ghost use Rattle.routes.specs.Route.{route_of};
@@ -76,7 +75,7 @@ fn address_at(table: &Table, key: &str) -> Option<Ipv4Addr>
 // The addresses of a host that a list gives: 1 to 4 texts.
 #[tactic(auto, using(crate::proofs::HostLemmas::other_numbers), unfolding(crate::specs::Configuration::addresses_in))]
 fn route_of(values: &[Value]) -> Option<Route<Ipv4Addr>>
-    ensures { result ≡ (addresses_in (items_view values.now) >>= route_of) }
+    ensures { result ≡ option_and_then route_of (addresses_in (items_view values.now)) }
 {
     match values {
         [a] => Some(Route::One(address_in(a)?)),
