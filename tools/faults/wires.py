@@ -1,4 +1,4 @@
-"""Tales of a gateway that is served for twenty turns over a wire that fails once: at each turn, and at each datagram that is
+"""Scenarios of a gateway that is served for twenty turns over a wire that fails once: at each turn, and at each datagram that is
 handed to it (RFC 3435, 3.5). What is sent was worked out from docs/PROTOCOL.md."""
 
 HEAD = """memory
