@@ -1,0 +1,63 @@
+-- How long after its first send a message is sent again, and when it is given up.
+use Rattle.std.proofs.Common.{◌≡◌, ℕ, zero, suc, ◌+◌, ◌-◌, ◌<◌, ◌≤◌, Bool, true, false, ◌&&◌, if◌then◌else◌, inl, inr, refl, ap, arith}
+use Rattle.std.specs.Prelude.{◌⊎◌, nat_le, nat_lt}
+use Rattle.std.proofs.lemmas.Bool.{and_parts, leb-true, leb-false, ltb-true, ltb-false}
+use Rattle.outbound.specs.declared.repeat.Repeat.{Repeat}
+use Rattle.outbound.specs.declared.repeat.Repeat.TheVariants.{Sent as SentAgain, GivenUp}
+use Rattle.outbound.specs.Sends.{wait_after, may_repeat}
+use Rattle.outbound.specs.Flight.{InFlight, repeat_of, again_as, repeated}
+
+-- so long after the first send the send with this number is due, where nothing comes
+unfoldable pub offset : ℕ → ℕ
+offset zero = 0
+offset (suc n) = offset n + wait_after n
+
+pub offset_next : (n : ℕ) → offset (n + 1) ≡ offset n + wait_after n
+unfolding offset
+offset_next n = ap offset (let next : n + 1 ≡ suc n = omega arith in next)
+
+pub offset_none : offset 0 ≡ 0
+unfolding offset
+offset_none = refl
+
+pub offset_first : offset 1 ≡ 500
+unfolding offset
+offset_first = refl
+
+pub offset_last : offset 8 ≡ 23500
+unfolding offset
+offset_last = refl
+
+-- they come one behind the other
+pub offset_rises : (n m : ℕ) → n ≤ m → offset n ≤ offset m
+unfolding offset
+offset_rises n zero less = let none : n ≡ 0 = omega (arith, less) in let same : offset n ≡ 0 = ap offset none in omega (arith, same)
+offset_rises n (suc m) less = by_test (nat_le n m) refl (λ low. offset_rises n m low) where
+  by_test : (b : Bool) → nat_le n m ≡ b → (n ≤ m → offset n ≤ offset m) → offset n ≤ offset m + wait_after m
+  by_test true low on = let more : offset n ≤ offset m = on (leb-true n m low) in omega (arith, more)
+  by_test false high on =
+      let above : m < n = leb-false n m high in
+      let same : n ≡ suc m = omega (arith, above, less) in
+      let at : offset n ≡ offset m + wait_after m = ap offset same in
+      omega (arith, at)
+
+-- a message that is sent again has one repeat more, and had fewer than seven
+pub again_is : (flight : InFlight) (moment : ℕ) → repeat_of flight moment ≡ SentAgain
+    → repeated flight moment ≡ record flight { repeats = flight.repeats + 1; due = moment + wait_after (flight.repeats + 1) }
+unfolding repeated
+again_is flight moment is = ap (λ (r : Repeat). again_as r flight moment) is
+
+pub again_few : (flight : InFlight) (moment : ℕ) → repeat_of flight moment ≡ SentAgain → flight.repeats < 7
+again_few flight moment is = by_test (may_repeat flight.first flight.repeats moment) refl is where
+  by_test : (b : Bool) → may_repeat flight.first flight.repeats moment ≡ b → (if b then SentAgain else GivenUp) ≡ SentAgain → flight.repeats < 7
+  by_test true may e = ltb-true flight.repeats 7 (and_parts (nat_lt flight.repeats 7) (nat_lt (moment - flight.first) 20000) may).0
+  by_test false may e = absurd cc
+
+-- one that is given up was repeated seven times, or is 20,000 ms old
+pub given_up : (flight : InFlight) (moment : ℕ) → repeat_of flight moment ≡ GivenUp → (7 ≤ flight.repeats) ⊎ (20000 ≤ moment - flight.first)
+given_up flight moment is = by_few (nat_lt flight.repeats 7) (nat_lt (moment - flight.first) 20000) refl refl is where
+  by_few : (a b : Bool) → nat_lt flight.repeats 7 ≡ a → nat_lt (moment - flight.first) 20000 ≡ b → (if (a && b) then SentAgain else GivenUp) ≡ GivenUp
+      → (7 ≤ flight.repeats) ⊎ (20000 ≤ moment - flight.first)
+  by_few true true few soon e = absurd cc
+  by_few true false few late e = inr (ltb-false (moment - flight.first) 20000 late)
+  by_few false b many soon e = inl (ltb-false flight.repeats 7 many)

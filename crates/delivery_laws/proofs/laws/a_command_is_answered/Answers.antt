@@ -1,0 +1,5 @@
+use Rattle.delivery_laws.proofs.ServedLaws.{served}
+use Rattle.delivery_laws.proofs.laws.a_command_is_answered.Goals as goal
+
+pub returns : goal.returns
+returns c = served

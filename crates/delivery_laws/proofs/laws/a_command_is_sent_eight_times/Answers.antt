@@ -1,0 +1,5 @@
+use Rattle.delivery_laws.proofs.ChanceLaws.{sent_eight_times}
+use Rattle.delivery_laws.proofs.laws.a_command_is_sent_eight_times.Goals as goal
+
+pub returns : goal.returns
+returns c = sent_eight_times

@@ -1,0 +1,5 @@
+use Rattle.delivery_laws.proofs.TakeLaws.{taken_at_once}
+use Rattle.delivery_laws.proofs.laws.a_delivered_notification_is_taken_at_once.Goals as goal
+
+pub returns : goal.returns
+returns c = taken_at_once

@@ -1,0 +1,8 @@
+use Rattle.delivery_laws.proofs.LineLaws.{line_goes_on, gateway_goes_on}
+use Rattle.delivery_laws.proofs.laws.an_answer_lets_its_line_go_on.Goals as goal
+
+pub returns-clause-line : goal.returns-clause-line
+returns-clause-line c = line_goes_on
+
+pub returns-clause-own : goal.returns-clause-own
+returns-clause-own c = gateway_goes_on

@@ -1,0 +1,62 @@
+-- The worlds of the worked examples: the agent audits line 1 of rgw.example.net.
+use Rattle.std.specs.Prelude.{ℕ, ◌+◌, ◌*◌, codes, List, [], ◌∷◌, ◌++◌, map, Option, option_and_then, option_map}
+use Rattle.std.specs.List.{range_with_len}
+use Rattle.mg_line.specs.declared.state.State.{State}
+use Rattle.plain_machine.specs.Example.{two_lines}
+use Rattle.plain_machine.specs.Machine.{endpoint_at}
+use Rattle.machine_laws.specs.Saying.{Begun}
+use Rattle.mg_line.specs.declared.phone.Act.TheVariants.{OffHook}
+use Rattle.agent_core.specs.World.{WorldStep, gateway_in, delivering, dialling, issuing, ticking}
+use Rattle.world_laws.specs.Example.{world, announced, audits}
+use Rattle.delivery_laws.specs.Copies.{gateway_firsts}
+
+-- the audit as it is issued, in packet 2
+abbrev pub audit : Begun
+audit = record { id = 1; moment = 1; text = codes "AUEP 1 aaln/1@rgw.example.net MGCP 1.0\r\n" }
+
+abbrev pub asked : List WorldStep
+asked = announced ++ audits ∷ []
+
+-- an audit with these lines behind it
+abbrev pub audits_with : List ℕ → WorldStep
+audits_with rest = issuing (codes "AUEP") (codes "aaln/1@rgw.example.net") rest
+
+-- the ids of the firsts at the gateway, each with its answer
+abbrev pub stored_in : List WorldStep → List (ℕ × List ℕ)
+stored_in steps = map (λ first. (first.id, first.answer)) (gateway_firsts two_lines (world steps))
+
+-- line 1 is lifted, and its notification is packet 2
+abbrev pub notified : List WorldStep
+notified = announced ++ dialling 1 OffHook ∷ []
+
+-- its text
+abbrev pub notification : List ℕ
+notification = codes "NTFY 10000000 aaln/1@rgw.example.net MGCP 1.0\r\nX: 0\r\nO: L/hd\r\n"
+
+-- the id of the command of line 1 that is in flight, if there is one
+abbrev pub flying_after : List WorldStep → Option ℕ
+flying_after steps =
+    option_map (λ flight. flight.id)
+    (option_and_then (λ endpoint. endpoint.post.pending) (endpoint_at (gateway_in two_lines (world steps)).endpoints 1))
+
+-- the state of line 1
+abbrev pub state_after : List WorldStep → Option State
+state_after steps = option_map (λ endpoint. endpoint.line.state) (endpoint_at (gateway_in two_lines (world steps)).endpoints 1)
+
+-- line 1 reports to an address that isn't the agent's, and its notification is packet 4
+abbrev pub redirected : List WorldStep
+redirected =
+    announced ++ issuing (codes "RQNT") (codes "aaln/1@rgw.example.net") (codes "X: A0\r\nN: ca@[127.0.0.9]:2727\r\n")
+    ∷ delivering 2 ∷ delivering 3 ∷ dialling 1 OffHook ∷ []
+
+-- the first audit is answered, and another, packet 4, is executed, whose K confirms it
+abbrev pub confirmed : List WorldStep
+confirmed = asked ++ delivering 2 ∷ audits_with (codes "K: 1\r\n") ∷ delivering 4 ∷ []
+
+-- the clock goes on second by second up to this one, from 1,001 ms on
+abbrev pub up_to : ℕ → List WorldStep
+up_to last = map (λ second. ticking (second * 1000 + 1)) (range_with_len 1 last)
+
+-- of the eight copies, packets 2 to 9, the last comes alone, at 20,001; its answer is packet 10
+abbrev pub last_copy : List WorldStep
+last_copy = asked ++ up_to 20 ++ delivering 9 ∷ ticking 21001 ∷ ticking 22001 ∷ ticking 23001 ∷ []

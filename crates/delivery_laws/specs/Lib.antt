@@ -1,0 +1,6 @@
+pub mod Copies
+pub mod Chances
+pub mod Taking
+pub mod GoingOn
+pub mod Asking
+pub mod Example

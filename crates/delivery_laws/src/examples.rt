@@ -1,0 +1,100 @@
+//! Worked examples, as theorems: worlds in which each premise of a law holds, and worlds in which it fails without one; and each
+//! sentence of a definition has one that a slip in it breaks.
+#![tactic(auto, unfolding(crate::proofs::Computing::on_examples))]
+
+ghost use Rattle.std.specs.Prelude.{◌≡◌, ◌++◌, codes, [], ◌∷◌, length, map, true, false, None, Some};
+ghost use Rattle.history.specs.declared.entry.Entry.TheVariants.{Confirmation};
+ghost use Rattle.history.specs.Firsts.{young_of};
+ghost use Rattle.history.specs.Kept.{first_entry, young_firsts};
+ghost use Rattle.restart.specs.declared.restart.Restart.TheVariants.{Waiting, Announced, Serving};
+ghost use Rattle.mg_line.specs.declared.state.State.TheVariants.{Notification, Lockstep};
+ghost use Rattle.plain_machine.specs.Machine.{serves};
+ghost use Rattle.plain_machine.specs.Example.{two_lines, other_agent, agent};
+ghost use Rattle.agent_core.specs.declared.packet.End.TheVariants.{GatewayEnd, AgentEnd};
+ghost use Rattle.agent_core.specs.World.{delivering, gateway_address, gateway_in, steps_are_taken, ticking, world_opening};
+ghost use Rattle.world_laws.specs.Reached.{issued_in, key_reached, taken_in};
+ghost use Rattle.world_laws.specs.Example.{world, texts_in, moments_in, code_in, announced, audits, seconds};
+ghost use Rattle.delivery_laws.specs.Copies.{arrives, IsCopy, IsConfirmedAmong, gateway_firsts};
+ghost use Rattle.delivery_laws.specs.Chances.{IsSentAfter, IsCarried};
+ghost use Rattle.delivery_laws.specs.Taking.{IsConfirmedIn, agent_history};
+ghost use Rattle.delivery_laws.specs.Asking.{AsksBy};
+ghost use Rattle.delivery_laws.specs.Example.{audit, asked, audits_with, stored_in, confirmed, up_to, last_copy};
+ghost use Rattle.delivery_laws.specs.Example.{notified, notification, redirected, flying_after, state_after};
+
+/// An audit is handed over once, and so is its answer: it has its answer. Without the one or the other it has none.
+pub fn an_audit_is_served()
+    ensures taken { steps_are_taken two_lines world_opening (asked ++ delivering 2 ∷ delivering 3 ∷ []) ≡ true }
+    ensures issued { issued_in two_lines (world asked) ≡ audit ∷ [] }
+    ensures copy { IsCopy two_lines (world asked) AgentEnd audit.text 2 }
+    ensures young { length (young_of 1 (gateway_firsts two_lines (world (asked ++ delivering 2 ∷ [])))) ≡ 1 }
+    ensures stored { stored_in (asked ++ delivering 2 ∷ []) ≡ (1, codes "200 1 OK\r\n") ∷ [] }
+    ensures answered { IsCopy two_lines (world (asked ++ delivering 2 ∷ [])) GatewayEnd (codes "200 1 OK\r\n") 3 }
+    ensures had { code_in 1 (asked ++ delivering 2 ∷ delivering 3 ∷ []) ≡ Some 200 }
+    ensures sent { IsSentAfter two_lines (world asked) audit 0 }
+    ensures carried { IsCarried two_lines (asked ++ delivering 2 ∷ delivering 3 ∷ []) audit 2 }
+    ensures no_copy { code_in 1 (asked ++ delivering 1 ∷ []) ≡ None }
+    ensures nothing_back { code_in 1 (asked ++ delivering 2 ∷ []) ≡ None }
+{}
+
+/// A copy is that of its number, its sender and its text, and it goes to the other end.
+pub fn what_a_copy_is()
+    ensures number { ¬ IsCopy two_lines (world asked) AgentEnd audit.text 1 }
+    ensures behind { ¬ IsCopy two_lines (world asked) AgentEnd audit.text 3 }
+    ensures sender { ¬ IsCopy two_lines (world asked) GatewayEnd audit.text 2 }
+    ensures text { ¬ IsCopy two_lines (world asked) AgentEnd (codes "AUEP 2 aaln/1@rgw.example.net MGCP 1.0\r\n") 2 }
+    ensures there { arrives AgentEnd two_lines (record { moment = 1; sender = agent; to = gateway_address two_lines; bytes = [] }) ≡ true }
+    ensures elsewhere { arrives AgentEnd two_lines (record { moment = 1; sender = agent; to = other_agent; bytes = [] }) ≡ false }
+    ensures back { arrives GatewayEnd two_lines (record { moment = 1; sender = agent; to = agent; bytes = [] }) ≡ true }
+    ensures not_back { arrives GatewayEnd two_lines (record { moment = 1; sender = agent; to = other_agent; bytes = [] }) ≡ false }
+{}
+
+/// Once a K of a later audit confirms it, a copy gets silence; a K of an earlier one confirms nothing.
+pub fn what_is_confirmed_gets_silence()
+    ensures confirmed { IsConfirmedAmong 1 (gateway_firsts two_lines (world confirmed)) }
+    ensures silence { texts_in (confirmed ++ delivering 2 ∷ []) ≡ texts_in confirmed }
+    ensures earlier { texts_in (announced ++ audits_with (codes "K: 2\r\n") ∷ delivering 2 ∷ audits ∷ delivering 4 ∷ delivering 4 ∷ [])
+        ≡ texts_in (announced ++ audits_with (codes "K: 2\r\n") ∷ delivering 2 ∷ audits ∷ delivering 4 ∷ []) ++ codes "200 2 OK\r\n" ∷ [] }
+{}
+
+/// A command goes out eight times. The last copy and its answer are enough, where that comes less than 23,500 ms after the command
+/// was issued at 1; at 23,500 ms it is given up.
+pub fn the_last_copy_is_enough()
+    ensures moments { moments_in (asked ++ up_to 20) ≡ 1 ∷ 1 ∷ 1 ∷ 501 ∷ 1501 ∷ 3501 ∷ 7501 ∷ 11501 ∷ 15501 ∷ 19501 ∷ [] }
+    ensures taken { steps_are_taken two_lines world_opening (last_copy ++ ticking 23500 ∷ delivering 10 ∷ []) ≡ true }
+    ensures soon { code_in 1 (last_copy ++ ticking 23500 ∷ delivering 10 ∷ []) ≡ Some 200 }
+    ensures too_late { code_in 1 (last_copy ++ ticking 23501 ∷ delivering 10 ∷ []) ≡ None }
+    ensures all_lost { code_in 1 (last_copy ++ ticking 23500 ∷ []) ≡ None }
+{}
+
+/// A notification that is handed over is taken, and its answer is packet 3. One that goes to another address is lost.
+pub fn a_notification_is_taken()
+    ensures copy { IsCopy two_lines (world notified) GatewayEnd notification 2 }
+    ensures young { length (young_firsts 1 (agent_history two_lines (world (notified ++ delivering 2 ∷ [])))) ≡ 2 }
+    ensures not_yet { map key_reached (taken_in (world notified)) ≡ (1, 1) ∷ [] }
+    ensures took { map key_reached (taken_in (world (notified ++ delivering 2 ∷ []))) ≡ (1, 1) ∷ (10000000, 1) ∷ [] }
+    ensures back { IsCopy two_lines (world (notified ++ delivering 2 ∷ [])) AgentEnd (codes "200 10000000 OK\r\n") 3 }
+    ensures elsewhere { map key_reached (taken_in (world (redirected ++ delivering 4 ∷ []))) ≡ (1, 1) ∷ [] }
+    ensures confirmed { IsConfirmedIn 7 (first_entry 7 0 [] ∷ Confirmation ((record { first = 5; last = 9 }) ∷ []) ∷ []) }
+{}
+
+/// Its answer lets the line go on: it waits for a request, and nothing of it is in flight any more. The gateway serves once its
+/// announcement is answered.
+pub fn an_answer_lets_line_1_go_on()
+    ensures flies { flying_after (notified ++ delivering 2 ∷ []) ≡ Some 10000000 }
+    ensures waits { state_after (notified ++ delivering 2 ∷ []) ≡ Some Notification }
+    ensures none_flies { flying_after (notified ++ delivering 2 ∷ delivering 3 ∷ []) ≡ None }
+    ensures goes_on { state_after (notified ++ delivering 2 ∷ delivering 3 ∷ []) ≡ Some Lockstep }
+    ensures serves { serves (gateway_in two_lines (world announced)).endpoints ≡ true }
+    ensures serves_not { serves (gateway_in two_lines (world (ticking 1 ∷ delivering 0 ∷ []))).endpoints ≡ false }
+{}
+
+/// A gateway that nobody answers gives its announcement up after 23,500 ms, and begins anew 1 ms later; a line does so after 5,000.
+pub fn who_is_unanswered_asks_again()
+    ensures gateway { moments_in (seconds 25) ≡ 1 ∷ 501 ∷ 1501 ∷ 3501 ∷ 7501 ∷ 11501 ∷ 15501 ∷ 19501 ∷ 23502 ∷ [] }
+    ensures line { moments_in (notified ++ up_to 29)
+        ≡ 1 ∷ 1 ∷ 1 ∷ 501 ∷ 1501 ∷ 3501 ∷ 7501 ∷ 11501 ∷ 15501 ∷ 19501 ∷ 28501 ∷ 29001 ∷ [] }
+    ensures waits { AsksBy (Waiting 12) 10 2 None }
+    ensures too_long { ¬ AsksBy (Waiting 13) 10 2 None }
+    ensures nothing_flies { ¬ AsksBy Announced 10 2 None }
+    ensures serves { AsksBy Serving 10 2 None }
+{}

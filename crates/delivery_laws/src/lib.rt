@@ -1,0 +1,10 @@
+//! What is delivered is served (RFC 3435, 3.5): a copy of a command that the network brings to the gateway is answered there
+//! and then, an answer that it brings back in time is had, and a command goes out eight times while nothing comes back. So
+//! where the network carries enough, what was asked is done.
+//!
+//! Nothing here runs: each law is a function without a body, whose clauses are proved for every setup and every list of steps
+//! of the plain world. `specs/` says what a copy is, what is stored, and when a command has its chances.
+#![tactic(auto)]
+
+pub mod examples;
+pub mod laws;
