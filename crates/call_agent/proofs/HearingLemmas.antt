@@ -1,26 +1,78 @@
 -- The texts of a datagram, one after the other.
-use Rattle.std.proofs.Common.{◌≡◌, ℕ, ◌<◌, ◌≤◌, true, false, List, [], ◌∷◌, ◌++◌, length, refl, sym, ◌∙◌, ap, append_assoc, append-nil, arith}
-use Rattle.std.specs.Prelude.{nat_lt, find, Option, Some, None}
-use Rattle.std.proofs.lemmas.Bool.Decides.{nat_tests}
+use Rattle.std.proofs.Common.{◌≡◌, ℕ, List, [], ◌∷◌, ◌++◌, refl, sym, ◌∙◌, ap, subst, append_assoc, append-nil}
+use Rattle.std.specs.Prelude.{find, Option, Some, None}
 use Rattle.std.specs.declared.net.socket_addr.SocketAddrV4.{SocketAddrV4}
 use Rattle.mgcp_text.specs.Reading.{Outcome, read_text, message, no_header, bad_version, bad_body}
+use Rattle.mgcp_text.specs.declared.message.Message.{Message}
 use Rattle.mgcp_text.specs.declared.message.Message.TheVariants as messages
+use Rattle.history.specs.Kept.{HistoryState}
 use Rattle.history.specs.Memory.{most_firsts}
 use Rattle.history.specs.Looking.{Looked, new, repeat, confirmed, full, look_of}
 use Rattle.outbound.specs.declared.reply.Reply.{Reply}
 use Rattle.outbound.specs.declared.reply.Reply.TheVariants.{Answered, Provisional, Stranger}
 use Rattle.outbound.specs.Flight.{InFlight, reply_of, heard}
-use Rattle.piggyback.specs.Parts.{parts_of}
 use Rattle.transmission.specs.declared.output.OutDatagram.{OutDatagram}
-use Rattle.transmission.specs.Texts.{texts_of, largest_datagram}
+use Rattle.transmission.specs.Acknowledging.{acknowledgements}
+use Rattle.transmission.specs.Transacting.{message_to, transacted_as}
+use Rattle.transmission.specs.Hearing.{Hearing, hearing, heard_at}
+use Rattle.call_agent.specs.AgentAlike.{with_history}
 use Rattle.call_agent.specs.declared.setup.AgentSetup.{AgentSetup}
 use Rattle.call_agent.specs.declared.state.State.{State}
 use Rattle.call_agent.specs.Agent.{AgentMachine, AgentEffect}
 use Rattle.call_agent.specs.Flying.{has_id}
-use Rattle.call_agent.specs.Hearing.{handled, handled_as, took_all}
+use Rattle.call_agent.specs.Hearing.{after, handled, handled_as, left_done, took_all}
 use Rattle.call_agent.specs.Responding.{replied, responded, responded_to}
-use Rattle.call_agent.specs.Taking.{GatewayCommand, command_of, transacted_by}
-use Rattle.call_agent.specs.State.{kept_in, Went, Happened}
+use Rattle.call_agent.specs.Taking.{GatewayCommand, command_of, executed, transacted_by}
+use Rattle.call_agent.specs.State.{kept_in, found_in, Went}
+
+-- what is done at a text is what hearing it comes to, and then what is left
+abbrev after_hearing : AgentSetup → State → SocketAddrV4 → List ℕ → Hearing → AgentEffect
+after_hearing setup was source text heard =
+    after (record { machine = with_history (kept_in was) heard.history.kept; sent = heard.sent }) (λ (next : AgentMachine). left_done setup heard.left next source text)
+
+looked_done : (looked : Looked) (setup : AgentSetup) (was : State) (source : SocketAddrV4) (text : List ℕ) (command : GatewayCommand) (first : Hearing)
+    → executed (kept_in was) source command ≡ after_hearing setup was source text first
+    → transacted_by looked (kept_in was) source command
+    ≡ after_hearing setup was source text (transacted_as looked first (λ stored. hearing was.history (message_to source was.clock stored ∷ []) None) (hearing was.history [] None))
+looked_done new setup was source text command first same = same
+looked_done (repeat stored) setup was source text command first same = refl
+looked_done confirmed setup was source text command first same = refl
+looked_done full setup was source text command first same = refl
+
+heard_done : (setup : AgentSetup) (was : State) (source : SocketAddrV4) (text : List ℕ) (outcome : Outcome)
+    → handled_as (command_of setup outcome) outcome (kept_in was) source text ≡ after_hearing setup was source text (heard_at was.history source was.clock outcome)
+unfolding responded
+heard_done setup was source text no_header = refl
+heard_done setup was source text (bad_version id) = looked_done (look_of most_firsts was.history.kept id was.clock) setup was source text _ _ refl
+heard_done setup was source text (bad_body id) = looked_done (look_of most_firsts was.history.kept id was.clock) setup was source text _ _ refl
+heard_done setup was source text (message (messages.Command verb id name params body)) = looked_done (look_of most_firsts was.history.kept id was.clock) setup was source text _ _ refl
+heard_done setup was source text (message (messages.Response code id params body)) =
+    ap (λ (sent : List OutDatagram). let e : AgentEffect = record { machine = responded_to (find (has_id id) was.flights.is) (kept_in was) code id text; sent = sent } in e)
+    (sym (append-nil (acknowledgements was.clock source code id params)))
+
+abbrev with_heard : State → HistoryState → State
+with_heard was history = record was { history = history }
+
+pub went_heard : (setup : AgentSetup) (source : SocketAddrV4) (text : List ℕ) (was is : State) (history : HistoryState) (were out are : List OutDatagram) (outcome : Outcome) (left : Option Message)
+    → outcome ≡ read_text text → (heard_at was.history source was.clock outcome).left ≡ left
+    → history ≡ (heard_at was.history source was.clock outcome).history → history.settled ≡ was.history.settled
+    → out ≡ were ++ (heard_at was.history source was.clock outcome).sent
+    → Went (left_done setup left (kept_in (with_heard was history)) source text) (with_heard was history) is out are → Went (handled setup (kept_in was) source text) was is were are
+unfolding handled
+went_heard setup source text was is history were out are outcome left read left_is kept committed sent went =
+    let heard : Hearing = heard_at was.history source was.clock outcome in
+    let done = heard_done setup was source text outcome in
+    let next : AgentEffect = left_done setup heard.left (with_history (kept_in was) heard.history.kept) source text in
+    let found : found_in (with_heard was history) ≡ found_in was = rw committed refl in
+    let last : Went next (with_heard was history) is out are =
+    subst (λ (h : HistoryState). Went (left_done setup heard.left (kept_in (with_heard was h)) source text) (with_heard was history) is out are) kept
+    (subst (λ (some : Option Message). Went (left_done setup some (kept_in (with_heard was history)) source text) (with_heard was history) is out are) (sym left_is) went) in
+    subst (λ (x : Outcome). Went (handled_as (command_of setup x) x (kept_in was) source text) was is were are) read (record {
+      machine = last.machine ∙ sym (ap (λ (e : AgentEffect). e.machine) done);
+      found = last.found ∙ found;
+      sent = last.sent ∙ ap (λ (x : List OutDatagram). x ++ next.sent) sent ∙ append_assoc were heard.sent next.sent
+          ∙ ap (λ (x : List OutDatagram). were ++ x) (sym (ap (λ (e : AgentEffect). e.sent) done));
+    })
 
 -- the first of these, and then the others
 pub went_next : (setup : AgentSetup) (source : SocketAddrV4) (all texts : List (List ℕ)) (text : List ℕ) (was between is : State) (were mid are : List OutDatagram) → all ≡ text ∷ texts
@@ -87,32 +139,3 @@ texts_stay setup m source (text ∷ texts) =
 
 pub went_on : (setup : AgentSetup) (source : SocketAddrV4) (text : List ℕ) (was is : State) (were are : List OutDatagram) → Went (handled setup (kept_in was) source text) was is were are → is.clock ≡ was.clock
 went_on setup source text was is were are went = ap (λ (m : AgentMachine). m.now) went.machine ∙ (handled_stays setup (kept_in was) source text).now
-
--- a datagram
-
-is_long : (bytes : List ℕ) → largest_datagram < length bytes → nat_lt largest_datagram (length bytes) ≡ true
-is_long bytes long = grind (arith, nat_tests)
-
-is_short : (bytes : List ℕ) → length bytes ≤ largest_datagram → nat_lt largest_datagram (length bytes) ≡ false
-is_short bytes short = grind (arith, nat_tests)
-
-texts_of_long : (bytes : List ℕ) → largest_datagram < length bytes → texts_of bytes ≡ []
-unfolding texts_of
-texts_of_long bytes long = rw (is_long bytes long) refl
-
-texts_of_short : (bytes : List ℕ) → length bytes ≤ largest_datagram → texts_of bytes ≡ parts_of bytes
-unfolding texts_of
-texts_of_short bytes short = rw (is_short bytes short) refl
-
-pub took_none : (setup : AgentSetup) (was : State) (source : SocketAddrV4) (bytes : List ℕ) (sent : List OutDatagram) → sent ≡ [] → largest_datagram < length bytes
-    → Happened (took_all setup (kept_in was) source (texts_of bytes)) was was sent
-unfolding took_all
-took_none setup was source bytes sent none long = rw (texts_of_long bytes long, none) (record { machine = refl; found = refl; sent = refl })
-
-pub took_texts : (setup : AgentSetup) (was is : State) (source : SocketAddrV4) (bytes : List ℕ) (none sent : List OutDatagram) → none ≡ [] → length bytes ≤ largest_datagram
-    → Went (took_all setup (kept_in was) source (parts_of bytes)) was is none sent → Happened (took_all setup (kept_in was) source (texts_of bytes)) was is sent
-took_texts setup was is source bytes none sent empty short went = rw (texts_of_short bytes short) (record {
-  machine = went.machine;
-  found = went.found;
-  sent = went.sent ∙ ap (λ (x : List OutDatagram). x ++ (took_all setup (kept_in was) source (parts_of bytes)).sent) empty;
-})

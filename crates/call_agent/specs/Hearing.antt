@@ -1,6 +1,7 @@
 -- What comes to an agent: it issues a command, or something happens as to a gateway: a datagram comes, or the clock goes on.
-use Rattle.std.specs.Prelude.{ℕ, List, [], ◌∷◌, ◌++◌, Option, Some, None}
+use Rattle.std.specs.Prelude.{ℕ, List, [], ◌∷◌, ◌++◌, find, Option, Some, None}
 use Rattle.std.specs.declared.net.socket_addr.SocketAddrV4.{SocketAddrV4}
+use Rattle.mgcp_text.specs.declared.message.Message.{Message}
 use Rattle.mgcp_text.specs.declared.message.Message.TheVariants as messages
 use Rattle.mgcp_text.specs.Reading.{Outcome, message, no_header, bad_version, bad_body, read_text}
 use Rattle.plain_machine.specs.declared.refusal.Refusal.{Refusal}
@@ -12,9 +13,9 @@ use Rattle.machine_laws.specs.Saying.{Begun}
 use Rattle.call_agent.specs.declared.setup.AgentSetup.{AgentSetup}
 use Rattle.call_agent.specs.Agent.{AgentMachine, AgentEffect, agent_opening, idle}
 use Rattle.call_agent.specs.Issuing.{command_text, issued, IssueRefusal, issue_refusal}
-use Rattle.call_agent.specs.Flying.{pass, ticked}
-use Rattle.call_agent.specs.Responding.{responded}
-use Rattle.call_agent.specs.Taking.{GatewayCommand, command_of, transacted}
+use Rattle.call_agent.specs.Flying.{has_id, pass, ticked}
+use Rattle.call_agent.specs.Responding.{responded_to, responded}
+use Rattle.call_agent.specs.Taking.{GatewayCommand, read_command, command_of, executed, transacted}
 
 -- Texts that arrive
 
@@ -40,6 +41,14 @@ after first next = record { machine = (next first.machine).machine; sent = first
 unfoldable pub took_all : AgentSetup → AgentMachine → SocketAddrV4 → List (List ℕ) → AgentEffect
 took_all setup m source [] = idle m
 took_all setup m source (text ∷ texts) = after (handled setup m source text) (λ next. took_all setup next source texts)
+
+-- what is left to the agent at a text that is heard: it executes a new command, and a command in flight hears a response
+abbrev pub left_done : AgentSetup → Option Message → AgentMachine → SocketAddrV4 → List ℕ → AgentEffect
+left_done setup None m source text = idle m
+left_done setup (Some (messages.Command verb id name params body)) m source text =
+    executed m source (read_command setup verb id name params)
+left_done setup (Some (messages.Response code id params body)) m source text =
+    record { machine = responded_to (find (has_id id) m.flights) m code id text; sent = [] }
 
 -- Events
 

@@ -1,5 +1,5 @@
 -- What changes in an agent, and what a piece of work does to it.
-use Rattle.std.specs.Prelude.{◌≡◌, ◌==◌, ℕ, List, ◌++◌, map, find, option_map, Option, Result, Ok, Err}
+use Rattle.std.specs.Prelude.{◌≡◌, ◌==◌, ℕ, List, [], ◌++◌, map, find, option_map, Option, Result, Ok, Err}
 use Rattle.std.specs.Global.{Vec}
 use Rattle.std.specs.declared.alloc.AllocError.{AllocError}
 use Rattle.event_values.specs.declared.observed.Observed.{Observed}
@@ -74,14 +74,9 @@ abbrev pub Does : {A : Type 0} → Result A AllocError → AgentEffect → State
 Does (Ok x) effect was is were are = Went effect was is were are
 Does (Err fault) effect was is were are = found_in is ≡ found_in was
 
--- an event happened so; or it is refused, and what it found can still be had
-pub record Happened (effect : AgentEffect) (was is : State) (out : List OutDatagram) : Type 0 where
-  pub machine : kept_in is ≡ effect.machine
-  pub found : found_in is ≡ found_in was
-  pub sent : out ≡ effect.sent
-
+-- an event happened so, and this is what is sent; or it is refused, and what it found can still be had
 abbrev pub Happens : {E : Type 0} → Result (Vec OutDatagram) E → AgentEffect → State → State → Type 0
-Happens (Ok out) effect was is = Happened effect was is out.items
+Happens (Ok out) effect was is = Went effect was is [] out.items
 Happens (Err fault) effect was is = found_in is ≡ found_in was
 
 -- the agent without what can't matter any more

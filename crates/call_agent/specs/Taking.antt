@@ -66,13 +66,17 @@ taken_of setup Other name params = []
 abbrev pub with_taken : List (List Observed) → Taken → List (List Observed)
 with_taken lines told = told_at lines (told.line - 1) told.observed
 
+-- one that can be read
+abbrev pub read_command : AgentSetup → Verb → ℕ → List ℕ → List Param → GatewayCommand
+read_command setup verb id name params =
+    record { id = id; confirms = spans_of (k_of params); code = code_for verb; taken = taken_of setup verb name params }
+
 -- the command that an outcome is: another version and a body that can't be read are answered, what has no header is not
 abbrev pub command_of : AgentSetup → Outcome → Option GatewayCommand
 command_of setup no_header = None
 command_of setup (bad_version id) = Some (record { id = id; confirms = []; code = 528; taken = [] })
 command_of setup (bad_body id) = Some (record { id = id; confirms = []; code = 510; taken = [] })
-command_of setup (message (messages.Command verb id name params body)) =
-    Some (record { id = id; confirms = spans_of (k_of params); code = code_for verb; taken = taken_of setup verb name params })
+command_of setup (message (messages.Command verb id name params body)) = Some (read_command setup verb id name params)
 command_of setup (message (messages.Response code id params body)) = None
 
 abbrev pub answer_to : GatewayCommand → List ℕ

@@ -1,50 +1,50 @@
 //! What is done at a text that came in a datagram.
-ghost use Rattle.std.specs.Prelude.{◌≡◌, ◌<◌, ◌^◌, nat_lt, length};
-ghost use Rattle.mgcp_text.specs.Reading.{message, read_text};
-ghost use Rattle.piggyback.specs.Parts.{parts_of};
+ghost use Rattle.std.specs.Prelude.{◌≡◌, ◌<◌, ◌^◌};
+ghost use Rattle.std.specs.Result.{result_ok};
+ghost use Rattle.mgcp_text.specs.Reading.{read_text};
 ghost use Rattle.transmission.specs.Texts.{texts_of};
-ghost use Rattle.call_agent.specs.Hearing.{handled_as, handled, took_all};
-ghost use Rattle.call_agent.specs.Taking.{command_of};
+ghost use Rattle.call_agent.specs.Hearing.{handled, left_done, took_all};
 ghost use Rattle.call_agent.specs.State.{kept_in, Does, Happens};
 
 use crate::responding::respond;
 use crate::state::{Context, State};
-use crate::taking::{refuse, take_command};
-use mg_bytes::{OutOfMemory, ReturnCode};
+use crate::taking::execute;
+use mg_bytes::OutOfMemory;
 use mgcp_text::{Message, TextFault, read_message};
-use piggyback::parts;
-use plain_machine::{OutDatagram, Refusal};
-use std::alloc::AllocError;
+use plain_machine::OutDatagram;
 use std::net::SocketAddrV4;
-use transmission::{LARGEST_DATAGRAM, Origin};
+use transmission::{Origin, hear, texts};
 
-// A message that was read.
-fn handle_message(
+// What is left to the agent at a text that it heard.
+fn handle(
     context: Context<'_>,
     state: &mut State,
     source: SocketAddrV4,
-    said: &Message<'_>,
+    read: &Result<Message<'_>, TextFault>,
     text: &[u8],
     out: &mut Vec<OutDatagram>,
 ) -> Result<(), OutOfMemory>
     requires { state.old.clock < 2 ^ 62 }
-    ensures { Does result (handled_as (command_of context.entry.setup.now (message said.now)) (message said.now)
-        (kept_in state.old) source text.now) state.old state.new out.old.items out.new.items }
+    ensures { Does result (left_done context.entry.setup.now (result_ok read.now) (kept_in state.old) source text.now)
+        state.old state.new out.old.items out.new.items }
 {
+    let Ok(said) = read else {
+        return Ok(());
+    };
     match said {
         Message::Command { verb, id, name, .. } => {
             let origin = Origin { source, id: *id };
-            take_command(context, state, origin, *verb, name.as_slice(), said, out)
+            execute(context, state, origin, *verb, name.as_slice(), said, out)
         }
         Message::Response { code, id, .. } => {
-            let origin = Origin { source, id: *id };
-            respond(context, state, origin, *code, said, text, out)
+            respond(context, state, *id, *code, text)?;
+            Ok(())
         }
     }
 }
 
 // A text.
-#[tactic(auto, unfolding(crate::specs::Hearing::handled))]
+#[tactic(auto, unfolding(crate::specs::Hearing::handled, crate::specs::Responding::responded))]
 fn take(
     context: Context<'_>,
     state: &mut State,
@@ -56,53 +56,22 @@ fn take(
     ensures { Does result (handled context.entry.setup.now (kept_in state.old) source text.now)
         state.old state.new out.old.items out.new.items }
 {
-    match &read_message(context.alloc, text) {
-        Err(TextFault::OutOfMemory) => Err(AllocError),
-        Err(TextFault::NoHeader) => Ok(()),
-        Err(TextFault::BadVersion { id }) => {
-            let origin = Origin { source, id: *id };
-            refuse(
-                context,
-                state,
-                origin,
-                ReturnCode::IncompatibleVersion.number(),
-                out,
-            )
-        }
-        Err(TextFault::BadBody { id }) => {
-            let origin = Origin { source, id: *id };
-            refuse(
-                context,
-                state,
-                origin,
-                ReturnCode::ProtocolError.number(),
-                out,
-            )
-        }
-        Ok(said) => handle_message(context, state, source, said, text, out),
+    let read = read_message(context.alloc, text);
+    if !hear(
+        context.alloc,
+        &mut state.history,
+        source,
+        state.clock,
+        &read,
+        out,
+    )? {
+        return Ok(());
     }
-}
-
-// The texts of a datagram in their order, each completely.
-fn take_all(
-    context: Context<'_>,
-    state: &mut State,
-    source: SocketAddrV4,
-    bytes: &[u8],
-    out: &mut Vec<OutDatagram>,
-) -> Result<(), OutOfMemory>
-    requires { state.old.clock < 2 ^ 62 }
-    ensures { Does result (took_all context.entry.setup.now (kept_in state.old) source (parts_of bytes.now))
-        state.old state.new out.old.items out.new.items }
-{
-    let mut texts = parts(bytes);
-    while let Some(text) = texts.next() {
-        take(context, state, source, text, out)?;
-    }
+    handle(context, state, source, &read, text, out)?;
     Ok(())
 }
 
-/// A datagram: what is sent. One that is too long does nothing.
+/// A datagram: what is sent. Its texts are taken in their order, each completely; one that is too long does nothing.
 pub(crate) fn take_datagram(
     context: Context<'_>,
     state: &mut State,
@@ -114,9 +83,11 @@ pub(crate) fn take_datagram(
         state.old state.new }
 {
     let mut out = Vec::new(context.alloc);
-    if bytes.len() > LARGEST_DATAGRAM {
+    let Some(mut rest) = texts(bytes) else {
         return Ok(out);
+    };
+    while let Some(text) = rest.next() {
+        take(context, state, source, text, &mut out)?;
     }
-    take_all(context, state, source, bytes, &mut out)?;
     Ok(out)
 }

@@ -1,18 +1,15 @@
 //! What a response does to a command of the agent's in flight (RFC 3435, 3.5 and 3.5.6).
 ghost use Rattle.std.specs.Prelude.{◌≡◌, ◌<◌, ◌^◌, find, OnOk};
-ghost use Rattle.mgcp_text.specs.Message.{params_in};
 ghost use Rattle.outbound.specs.declared.reply.Reply.TheVariants as replies;
 ghost use Rattle.outbound.specs.Flight.{InFlight};
 ghost use Rattle.call_agent.specs.Flying.{has_id};
-ghost use Rattle.call_agent.specs.Responding.{replied, responded_to, responded};
-ghost use Rattle.call_agent.specs.State.{kept_in, found_in, Does};
+ghost use Rattle.call_agent.specs.Responding.{replied, responded_to};
+ghost use Rattle.call_agent.specs.State.{kept_in, found_in};
 
 use crate::state::{Answer, Answered, Context, State};
 use mg_bytes::{OutOfMemory, Text};
-use mgcp_text::{Message, TransactionId};
+use mgcp_text::TransactionId;
 use outbound::Reply;
-use plain_machine::OutDatagram;
-use transmission::{Origin, acknowledge};
 
 // A final response lands the command with this id: it is its answer.
 fn land(
@@ -35,8 +32,8 @@ fn land(
     Ok(())
 }
 
-// What a response is to the command in flight with its id, if there is one.
-fn respond_to(
+/// What a response with this text is to the command in flight with its id, if there is one.
+pub(crate) fn respond(
     context: Context<'_>,
     state: &mut State,
     id: TransactionId,
@@ -57,25 +54,4 @@ fn respond_to(
         Reply::Provisional => state.flights.put(heard),
         Reply::Stranger => Ok(()),
     }
-}
-
-/// A response with this text: its acknowledgement goes out, and a command in flight with its id hears it.
-#[tactic(auto, unfolding(crate::specs::Responding::responded))]
-pub(crate) fn respond(
-    context: Context<'_>,
-    state: &mut State,
-    origin: Origin,
-    code: u16,
-    said: &Message<'_>,
-    text: &[u8],
-    out: &mut Vec<OutDatagram>,
-) -> Result<(), OutOfMemory>
-    requires { state.old.clock < 2 ^ 62 }
-    ensures { Does result (responded (kept_in state.old) origin.source code origin.id (params_in said.now) text.now)
-        state.old state.new out.old.items out.new.items }
-{
-    let id = origin.id;
-    acknowledge(context.alloc, origin, state.clock, code, said, out)?;
-    respond_to(context, state, id, code, text)?;
-    Ok(())
 }

@@ -7,19 +7,18 @@ ghost use Rattle.endpoint_names.specs.Name.{name_of};
 ghost use Rattle.transmission.specs.Confirming.{spans_of};
 ghost use Rattle.plain_machine.specs.Answering.{line_meant};
 ghost use Rattle.machine_laws.specs.Notified.{observed_with};
-ghost use Rattle.call_agent.specs.Taking.{code_for, taken_on, taken_of, with_taken, executed, transacted};
+ghost use Rattle.call_agent.specs.Taking.{code_for, taken_on, taken_of, with_taken, executed};
 ghost use Rattle.call_agent.specs.State.{kept_in, Does};
 
 use crate::state::{Context, State};
 use crate::told::Told;
 use endpoint_names::{Pattern, read_name};
 use event_values::{Observed, read_observed};
-use history::IdSpan;
 use mg_bytes::{CodeFault, OutOfMemory, ReturnCode, Sequence};
 use mgcp_text::{Answer, Message, Param, Verb, param_at, read_k};
 use plain_machine::OutDatagram;
 use std::alloc::{AllocError, Global};
-use transmission::{Origin, answer, is_new, spans_of};
+use transmission::{Origin, answer, spans_of};
 
 /// What a notification of a line tells.
 #[derive(Drop)]
@@ -114,24 +113,28 @@ fn tell(told: &mut Told, taken: Option<Taken>) -> Result<(), OutOfMemory>
     Ok(())
 }
 
-// A first is taken and answered: what it tells is taken, what it confirms and its answer are kept, and its answer goes to where
-// it came from.
-fn execute(
+/// A new command is taken and answered: what it tells is taken, what it confirms and its answer are kept, and its answer goes to
+/// where it came from.
+pub(crate) fn execute(
     context: Context<'_>,
     state: &mut State,
     origin: Origin,
-    confirms: Sequence<IdSpan>,
-    code: u16,
-    taken: Option<Taken>,
+    verb: Verb,
+    name: &[u8],
+    said: &Message<'_>,
     out: &mut Vec<OutDatagram>,
 ) -> Result<(), OutOfMemory>
-    requires { code ≤ 999 }
-    ensures { Does result (executed (kept_in state.old) origin.source
-        (record { id = origin.id; confirms = confirms; code = code; taken = cons_option taken [] }))
-        state.old state.new out.old.items out.new.items }
+    ensures { Does result (executed (kept_in state.old) origin.source (record {
+      id = origin.id;
+      confirms = spans_of (k_of (params_in said.now));
+      code = code_for verb;
+      taken = taken_of context.entry.setup.now verb name.now (params_in said.now);
+    })) state.old state.new out.old.items out.new.items }
 {
+    let confirms = spans_of(context.alloc, &read_k(context.alloc, said)?)?;
+    let taken = taken_of(context, verb, name, said.params())?;
     tell(&mut state.told, taken)?;
-    let given = Answer::plain(context.alloc, code);
+    let given = Answer::plain(context.alloc, code_for(verb));
     answer(
         context.alloc,
         &mut state.history,
@@ -142,48 +145,4 @@ fn execute(
         out,
     )?;
     Ok(())
-}
-
-/// A command that can't be read past its id is answered by this code.
-pub(crate) fn refuse(
-    context: Context<'_>,
-    state: &mut State,
-    origin: Origin,
-    code: u16,
-    out: &mut Vec<OutDatagram>,
-) -> Result<(), OutOfMemory>
-    requires { code ≤ 999 }
-    ensures { Does result (transacted (kept_in state.old) origin.source
-        (record { id = origin.id; confirms = []; code = code; taken = [] })) state.old state.new out.old.items out.new.items }
-{
-    if !is_new(context.alloc, &state.history, origin, state.clock, out)? {
-        return Ok(());
-    }
-    let confirms = Sequence::new(context.alloc);
-    execute(context, state, origin, confirms, code, None, out)
-}
-
-/// A command of the gateway's: what can be read is taken the first time that it comes, and a repeat gets the stored answer.
-pub(crate) fn take_command(
-    context: Context<'_>,
-    state: &mut State,
-    origin: Origin,
-    verb: Verb,
-    name: &[u8],
-    said: &Message<'_>,
-    out: &mut Vec<OutDatagram>,
-) -> Result<(), OutOfMemory>
-    ensures { Does result (transacted (kept_in state.old) origin.source (record {
-      id = origin.id;
-      confirms = spans_of (k_of (params_in said.now));
-      code = code_for verb;
-      taken = taken_of context.entry.setup.now verb name.now (params_in said.now);
-    })) state.old state.new out.old.items out.new.items }
-{
-    if !is_new(context.alloc, &state.history, origin, state.clock, out)? {
-        return Ok(());
-    }
-    let confirms = spans_of(context.alloc, &read_k(context.alloc, said)?)?;
-    let taken = taken_of(context, verb, name, said.params())?;
-    execute(context, state, origin, confirms, code_for(verb), taken, out)
 }

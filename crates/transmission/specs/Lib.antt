@@ -3,3 +3,4 @@ pub mod Packing
 pub mod Confirming
 pub mod Transacting
 pub mod Acknowledging
+pub mod Hearing

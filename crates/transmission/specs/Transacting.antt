@@ -11,19 +11,21 @@ use Rattle.transmission.specs.declared.output.OutDatagram.{OutDatagram}
 abbrev pub message_to : SocketAddrV4 → ℕ → List ℕ → OutDatagram
 message_to to moment text = record { to = to; moment = moment; bytes = text }
 
+-- a command, by what is told of its id: a first is executed, a repeat gets the stored answer once more, what is confirmed gets
+-- silence, and what finds no room is lost
+abbrev pub transacted_as : {E : Type 0} → Looked → E → (List ℕ → E) → E → E
+transacted_as new executed again nothing = executed
+transacted_as (repeat text) executed again nothing = again text
+transacted_as confirmed executed again nothing = nothing
+transacted_as full executed again nothing = nothing
+
 -- it is to be executed
 abbrev pub is_new : Looked → Bool
-is_new new = true
-is_new (repeat answer) = false
-is_new confirmed = false
-is_new full = false
+is_new looked = transacted_as looked true (λ text. false) false
 
--- a repeat gets the stored answer once more, to where it came from; what is confirmed, or finds no room, gets silence
+-- the stored answer goes to where the repeat came from
 abbrev pub answered_again : Looked → SocketAddrV4 → ℕ → List OutDatagram
-answered_again new source moment = []
-answered_again (repeat answer) source moment = message_to source moment answer ∷ []
-answered_again confirmed source moment = []
-answered_again full source moment = []
+answered_again looked source moment = transacted_as looked [] (λ text. message_to source moment text ∷ []) []
 
 -- the history after a first: behind what that confirms stands the first itself, with its answer
 abbrev pub with_first : HistoryState → ℕ → ℕ → List IdSpan → List ℕ → HistoryState

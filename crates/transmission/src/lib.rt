@@ -1,11 +1,13 @@
-//! What both ends do with messages and datagrams (RFC 3435, 3.5: transmission over UDP): the texts of a datagram, messages
-//! that are packed into datagrams, what a K confirms, and acknowledgements.
+//! What both ends do with messages and datagrams (RFC 3435, 3.5: transmission over UDP): the texts of a datagram, what is
+//! heard in each, messages that are packed into datagrams, what a K confirms, and acknowledgements.
 //!
 //! Nothing here knows what a command does, or whether it is a gateway's or a call agent's.
 #![tactic(auto)]
 
 mod acknowledging;
 mod confirming;
+pub mod examples;
+mod hearing;
 mod output;
 mod packing;
 mod sending;
@@ -13,6 +15,7 @@ mod transacting;
 
 pub use crate::acknowledging::acknowledge;
 pub use crate::confirming::spans_of;
+pub use crate::hearing::{hear, texts};
 pub use crate::output::{OutDatagram, Outputs};
 pub use crate::packing::{packed, same_address};
 pub use crate::sending::send;

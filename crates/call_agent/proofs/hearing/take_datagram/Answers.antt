@@ -1,9 +1,13 @@
-use Rattle.std.proofs.Common.{arith}
-use Rattle.call_agent.proofs.HearingLemmas.{took_none, took_texts}
+use Rattle.std.proofs.Common.{◌∙◌}
+use Rattle.call_agent.proofs.HearingLemmas.{went_next, went_end, went_on}
 use Rattle.call_agent.proofs.hearing.take_datagram.Goals as goal
 
-pub returns-then-bytes-gt-LARGEST_DATAGRAM : goal.returns-then-bytes-gt-LARGEST_DATAGRAM
-returns-then-bytes-gt-LARGEST_DATAGRAM c = took_none _ _ _ c.args.bytes.now _ c.new-out.ensures.items (omega arith)
+pub loop-text-preserved : goal.loop-text-preserved
+loop-text-preserved c = record {
+  completes = λ is are rest. c.loop-text.invariant.completes is are (went_next _ _ _ _ _ _ _ is _ _ are c.in-Some.ensures.steps c.in_ok-take.ensures rest);
+  found = c.in_ok-take.ensures.found ∙ c.loop-text.invariant.found;
+  clock = went_on _ _ _ _ _ _ _ c.in_ok-take.ensures ∙ c.loop-text.invariant.clock;
+}
 
 pub returns : goal.returns
-returns c = took_texts _ _ _ _ c.args.bytes.now _ _ c.new-out.ensures.items (omega arith) c.in_ok-take_all.ensures
+returns c = c.loop-text.invariant.completes c.loop-text.state _ (went_end _ _ _ _ _ c.in_default.ensures.steps.0)

@@ -4,6 +4,7 @@ use Rattle.gateway_core.proofs.TextLemmas.{executed_then}
 use Rattle.gateway_core.proofs.answering.execute.Goals as goal
 
 pub returns : goal.returns
-returns c = λ line. executed_then c.args.state.now _ _ _ _ line _ _ _ _ _ _ _ _
-    (c.in_ok-spans.ensures ∙ ap spans_of c.in_ok-confirms.ensures) (rw c.in_ok-confirms.ensures at c.in_ok-given.ensures.answer) refl refl
-    (rw (c.new-sent.ensures.items, c.in_ok-confirms.ensures) at c.in_ok-given.ensures.told) (c.in_ok-answer.ensures line) c.in_ok-send_all.ensures
+returns c = λ line. executed_then c.args.state.now _ _ _ line _ _ _ _ _ _ _ _
+    (c.in_ok-spans.ensures ∙ ap spans_of c.in_ok-confirms.ensures) (rw c.in_ok-confirms.ensures at c.in_ok-given.ensures.answer)
+    (rw (c.new-sent.ensures.items, c.in_ok-confirms.ensures) at c.in_ok-given.ensures.told) refl
+    c.in_ok-answer.ensures.kept c.in_ok-answer.ensures.sent c.in_ok-send_all.ensures

@@ -1,10 +1,14 @@
-use Rattle.std.proofs.Common.{arith}
-use Rattle.gateway_core.proofs.TextLemmas.{took_none, texts_of_short}
+use Rattle.std.proofs.Common.{refl, ◌∙◌}
+use Rattle.gateway_core.proofs.TextLemmas.{went_next, went_end, went_on}
 use Rattle.gateway_core.proofs.WorkLemmas.{happened_went}
 use Rattle.gateway_core.proofs.answering.take_datagram.Goals as goal
 
-pub returns-then-bytes-gt-LARGEST_DATAGRAM-clause-happens : goal.returns-then-bytes-gt-LARGEST_DATAGRAM-clause-happens
-returns-then-bytes-gt-LARGEST_DATAGRAM-clause-happens c = took_none _ _ _ c.args.bytes.now _ c.new-out.ensures.items (omega arith)
+pub loop-text-preserved : goal.loop-text-preserved
+loop-text-preserved c = record {
+  completes = λ is are rest. c.loop-text.invariant.completes is are (went_next _ _ _ _ _ _ _ is _ _ are c.in-Some.ensures.steps c.in_ok-take.ensures rest);
+  found = c.in_ok-take.ensures.found ∙ c.loop-text.invariant.found;
+  clock = went_on _ _ _ _ _ _ _ c.in_ok-take.ensures ∙ c.loop-text.invariant.clock;
+}
 
 pub returns-clause-happens : goal.returns-clause-happens
-returns-clause-happens c = rw (texts_of_short c.args.bytes.now (omega arith)) (happened_went _ _ _ _ _ c.new-out.ensures.items c.in_ok-take_all.ensures)
+returns-clause-happens c = happened_went _ _ _ [] _ refl (c.loop-text.invariant.completes c.loop-text.state _ (went_end _ _ _ _ _ c.in_default.ensures.steps.0))
