@@ -140,7 +140,10 @@ took_unless BadCommand spent took other left = left
 took_unless NoSuchPacket spent took other left = left
 took_unless PacketTooOld spent took other left = left
 
+pub stop_took : (w w' : WorldState) (steps : List Step) (stopped : WorldStopped) → WorldStoppedAt w steps w' stopped → stopped.refusal ≢ OutOfMemory
+    → WorldTook w (steps_before steps stopped.place) w'
+stop_took w w' steps stopped stops other = took_unless stopped.refusal (w'.spent ≡ true) (WorldTook w (steps_before steps stopped.place) w') other stops.leaves
+
 pub stop_stands : (w w' : WorldState) (before : List WorldStep) (steps : List Step) (stopped : WorldStopped) → WorldStoppedAt w steps w' stopped → stopped.refusal ≢ OutOfMemory
     → WorldStands w before → WorldStands w' (before ++ steps_before steps stopped.place)
-stop_stands w w' before steps stopped stops other s =
-    (took_unless stopped.refusal (w'.spent ≡ true) (WorldTook w (steps_before steps stopped.place) w') other stops.leaves).stands before s
+stop_stands w w' before steps stopped stops other s = (stop_took w w' steps stopped stops other).stands before s

@@ -13,9 +13,9 @@ use twins::Gateways;
 use worlds::Ends;
 
 // All kinds of scenarios.
-struct All;
+struct Tales;
 
-impl Kinds for All {
+impl Kinds for Tales {
     fn told<R: AllocGlobal + Net + Print>(
         rt: &R,
         kind: &str,
@@ -35,5 +35,5 @@ impl Kinds for All {
 }
 
 fn main(rt: HostRuntime) -> io::Result<ExitCode> {
-    play::<All, HostRuntime>(&rt)
+    play::<Tales, HostRuntime>(&rt)
 }

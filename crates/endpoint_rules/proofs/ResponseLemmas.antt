@@ -1,6 +1,6 @@
 -- What the answer to its command in flight does to an endpoint.
 use Rattle.std.proofs.Common.{◌≡◌, ℕ, List, Option, Result, Ok, Err, ◌∙◌, subst, append-nil}
-use Rattle.std.specs.Prelude.{OnOk}
+use Rattle.std.specs.Prelude.{OnOk, OnErr}
 use Rattle.endpoint_names.specs.declared.entity.Entity.{Entity}
 use Rattle.mg_line.specs.Answering.{answered}
 use Rattle.restart.specs.declared.heard.Heard.{Heard}
@@ -42,3 +42,11 @@ is_answered setup line moment response endpoint becomes agent post were mid are 
 pub on_ok : {A E : Type 0} {P Q : Type 0} (result : Result A E) → (P → Q) → OnOk result P → OnOk result Q
 on_ok (Ok value) then has = then has
 on_ok (Err fault) then has = has
+
+-- where what comes behind it fails, nothing went out
+pub nothing_sent : {A E : Type 0} (result : Result A E) (agent : Option Entity) (post : Post) (setup : Setup) (line moment : ℕ) (response : Response) (endpoint : Endpoint)
+    (were mid are : List OutDatagram) → HasEffect (replied (Answered agent) setup line moment response endpoint.post) post were mid
+    → OnErr result (are ≡ mid) → OnErr result (are ≡ were)
+nothing_sent (Ok value) agent post setup line moment response endpoint were mid are has same = same
+nothing_sent (Err fault) agent post setup line moment response endpoint were mid are has same =
+    same ∙ answer_silent agent setup line moment response endpoint post were mid has

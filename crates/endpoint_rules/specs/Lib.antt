@@ -1,3 +1,4 @@
 pub mod Telling
 pub mod Effects
 pub mod News
+pub mod Undoing

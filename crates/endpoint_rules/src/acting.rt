@@ -1,9 +1,10 @@
 //! What an act at the telephone of an endpoint does.
-ghost use Rattle.std.specs.Prelude.{IsTrue, OnOk};
+ghost use Rattle.std.specs.Prelude.{IsTrue, OnOk, OnErr};
 ghost use Rattle.mg_line.specs.Acting.{is_possible};
 ghost use Rattle.plain_machine.specs.Acting.{acted_on};
 ghost use Rattle.endpoint_rules.specs.Telling.{MayTell, IsLine};
 ghost use Rattle.endpoint_rules.specs.Effects.{HasEffect};
+ghost use Rattle.endpoint_rules.specs.Undoing.{IsUndoneByItsOwner};
 
 use crate::context::Context;
 use crate::notifying::tell;
@@ -24,8 +25,9 @@ pub fn acted_on(
     requires possible { IsTrue (is_possible endpoint.old.line.hook act) }
     requires line { IsLine occasion.line }
     requires may { MayTell context.setup.now occasion.moment }
-    ensures { OnOk result (HasEffect (acted_on context.entry.setup.now occasion.line occasion.moment act endpoint.old)
+    ensures turn { OnOk result (HasEffect (acted_on context.entry.setup.now occasion.line occasion.moment act endpoint.old)
         endpoint.new out.old.items out.new.items) }
+    ensures err { OnErr result (IsUndoneByItsOwner out.old.items out.new.items) }
 {
     let notice = endpoint.line.phone(act, occasion.moment)?;
     tell(context, occasion, endpoint, notice, out)

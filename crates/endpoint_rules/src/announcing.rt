@@ -1,6 +1,6 @@
 //! A line, or the gateway itself, announces that it is in service again; and what a response is to what is in flight
 //! (RFC 3435, 2.3.12, 3.5, 4.4.6 and 4.4.7).
-ghost use Rattle.std.specs.Prelude.{◌≡◌, ◌∷◌, [], ◌<◌, ◌^◌, true, codes, None, IsTrue, IfOk, OnOk};
+ghost use Rattle.std.specs.Prelude.{◌≡◌, ◌∷◌, [], ◌<◌, ◌^◌, true, codes, None, IsTrue, IfOk, OnOk, OnErr};
 ghost use Rattle.std.specs.Option.{unwrap_or};
 ghost use Rattle.std.specs.List.{list_all};
 ghost use Rattle.mgcp_text.specs.Writing.{is_writable_param, is_writable};
@@ -10,6 +10,7 @@ ghost use Rattle.plain_machine.specs.Announcing.{heard_on, put_off, replied, rep
 ghost use Rattle.restart.specs.declared.restart.Restart.TheVariants.{Serving};
 ghost use Rattle.endpoint_rules.specs.Telling.{MayTell, HasId};
 ghost use Rattle.endpoint_rules.specs.Effects.{HasEffect};
+ghost use Rattle.endpoint_rules.specs.Undoing.{IsUndoneByItsOwner};
 
 use crate::context::Context;
 use crate::posting::{Occasion, begin, redirect};
@@ -92,6 +93,7 @@ fn announced(
     ensures turn { OnOk result (HasEffect (announced context.entry.setup.now occasion.line occasion.moment post.old)
         post.new out.old.items out.new.items) }
     ensures id { HasId occasion.line post.new.number }
+    ensures err { OnErr result (IsUndoneByItsOwner out.old.items out.new.items) }
 {
     let id = post.number.id_on(occasion.line);
     let said = announcement(context, occasion.line, id)?;
@@ -113,6 +115,7 @@ pub(crate) fn announced_on(
         (announced_on context.entry.setup.now occasion.line occasion.moment post.old)
         post.new out.old.items out.new.items) }
     ensures id { HasId occasion.line post.new.number }
+    ensures err { OnErr result (IsUndoneByItsOwner out.old.items out.new.items) }
 {
     match post.restart {
         Restart::Waiting(_) => announced(context, occasion, post, out),
@@ -169,6 +172,7 @@ pub(crate) fn replied(
         (replied heard context.entry.setup.now occasion.line occasion.moment response.now post.old)
         post.new out.old.items out.new.items) }
     ensures id { HasId occasion.line post.new.number }
+    ensures err { OnErr result (IsUndoneByItsOwner out.old.items out.new.items) }
 {
     match heard {
         Heard::Nothing => {}
@@ -197,6 +201,7 @@ pub fn replied_on(
         (replied_on context.entry.setup.now occasion.line occasion.moment response.now post.old)
         post.new out.old.items out.new.items) }
     ensures id { HasId occasion.line post.new.number }
+    ensures err { OnErr result (IsUndoneByItsOwner out.old.items out.new.items) }
 {
     let heard = heard_on(post, response);
     replied(context, occasion, post, response, heard, out)

@@ -1,7 +1,7 @@
 //! Equal endpoints.
-ghost use Rattle.std.specs.Prelude.{◌≡◌, IfOk, OnOk};
+ghost use Rattle.std.specs.Prelude.{◌≡◌, IfOk, OnOk, OnErr};
 
-use crate::posting::{copy_post, same_post};
+use crate::posting::{copy_post, pending_of, same_post};
 use mg_bytes::OutOfMemory;
 use plain_machine::Endpoint;
 
@@ -17,13 +17,15 @@ pub fn same_endpoint(endpoint: &Endpoint) -> Result<Endpoint, OutOfMemory>
     })
 }
 
-/// An endpoint becomes equal to another; the room of its quarantine stays. An error is for want of memory only, and then what
-/// it is isn't said.
+/// An endpoint becomes equal to another; the room of its quarantine stays. An error is for want of memory only, and then it is
+/// as it was.
 pub fn copy_endpoint(from: &Endpoint, into: &mut Endpoint) -> Result<(), OutOfMemory>
-    ensures { OnOk result (into.new ≡ from.now) }
+    ensures ok { OnOk result (into.new ≡ from.now) }
+    ensures err { OnErr result (into.new ≡ into.old) }
 {
+    let pending = pending_of(&from.post.pending)?;
     into.line.try_copy_from(&from.line)?;
-    copy_post(&from.post, &mut into.post)?;
+    copy_post(&from.post, pending, &mut into.post);
     into.encoding = from.encoding;
     into.connections = from.connections.copy();
     Ok(())

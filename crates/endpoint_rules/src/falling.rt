@@ -1,13 +1,14 @@
 //! What falls due on an endpoint, and under a post: of a line the end of timer T and the ends of signals; and of a post the
 //! repeats of the command in flight, and the announcement, each at its own moment (RFC 3435, 2.1.5, 2.1.7, 3.5.3 and
 //! 4.4.6).
-ghost use Rattle.std.specs.Prelude.{◌≡◌, option_map, OnOk};
+ghost use Rattle.std.specs.Prelude.{◌≡◌, option_map, OnOk, OnErr};
 ghost use Rattle.mg_line.specs.Falling.{due_of};
 ghost use Rattle.restart.specs.Restarting.{announced_at};
 ghost use Rattle.plain_machine.specs.Falling.{line_item, command_item, announcement_item, post_due, due_on};
 ghost use Rattle.plain_machine.specs.Falling.{happened_on, happened_under};
 ghost use Rattle.endpoint_rules.specs.Telling.{MayTell, IsLine, HasId};
 ghost use Rattle.endpoint_rules.specs.Effects.{HasEffect};
+ghost use Rattle.endpoint_rules.specs.Undoing.{IsUndoneByItsOwner};
 
 use crate::announcing::announced_on;
 use crate::context::Context;
@@ -82,9 +83,10 @@ pub fn happened_on(
 ) -> Result<(), OutOfMemory>
     requires line { IsLine occasion.line }
     requires may { MayTell context.setup.now occasion.moment }
-    ensures { OnOk result (HasEffect
+    ensures turn { OnOk result (HasEffect
         (happened_on kind context.entry.setup.now occasion.line occasion.moment endpoint.old)
         endpoint.new out.old.items out.new.items) }
+    ensures err { OnErr result (IsUndoneByItsOwner out.old.items out.new.items) }
 {
     match kind {
         DueKind::OfLine(due) => {
@@ -111,6 +113,7 @@ pub fn happened_under(
         (happened_under kind context.entry.setup.now occasion.line occasion.moment post.old)
         post.new out.old.items out.new.items) }
     ensures id { HasId occasion.line post.new.number }
+    ensures err { OnErr result (IsUndoneByItsOwner out.old.items out.new.items) }
 {
     match kind {
         DueKind::OfLine(_) => Ok(()),

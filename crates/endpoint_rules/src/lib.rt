@@ -1,8 +1,8 @@
 //! What is done on one endpoint of a gateway: a line with its post, its encoding and its connections.
 //!
 //! Each call changes an endpoint in place; what it sends goes behind the messages that there are (RFC 3435, 2.3, 3.5 and
-//! 4.4). Where memory is refused half way, what the endpoint is isn't said: its owner, the store, puts it back. What is done
-//! under a post is done so under that of the gateway itself too.
+//! 4.4). Where memory is refused half way nothing goes out, and what the endpoint is isn't said: its owner, the store, puts it
+//! back (`IsUndoneByItsOwner`). What is done under a post is done so under that of the gateway itself too.
 #![tactic(auto)]
 
 mod acting;

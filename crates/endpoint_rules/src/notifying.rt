@@ -1,5 +1,5 @@
 //! A line tells what it has to tell: a notification goes out, and is in flight from then on (RFC 3435, 2.3.4 and 3.5).
-ghost use Rattle.std.specs.Prelude.{◌≡◌, ◌∷◌, [], true, false, codes, IsTrue, IfOk, OnOk};
+ghost use Rattle.std.specs.Prelude.{◌≡◌, ◌∷◌, [], true, false, codes, IsTrue, IfOk, OnOk, OnErr};
 ghost use Rattle.std.specs.List.{list_all, list_any};
 ghost use Rattle.mg_bytes.specs.Blanks.{is_blank};
 ghost use Rattle.mg_bytes.specs.Lines.{is_line_feed};
@@ -11,6 +11,7 @@ ghost use Rattle.plain_machine.specs.Posting.{id_on, with_command};
 ghost use Rattle.plain_machine.specs.Notifying.{notification, with_notice};
 ghost use Rattle.endpoint_rules.specs.Telling.{MayTell, IsLine};
 ghost use Rattle.endpoint_rules.specs.Effects.{HasEffect};
+ghost use Rattle.endpoint_rules.specs.Undoing.{IsUndoneByItsOwner};
 
 use crate::context::Context;
 use crate::posting::{Occasion, begin};
@@ -81,9 +82,10 @@ fn notified(
 ) -> Result<(), OutOfMemory>
     requires line { IsLine occasion.line }
     requires may { MayTell context.setup.now occasion.moment }
-    ensures { OnOk result (HasEffect (with_command occasion.line occasion.moment post.old
+    ensures turn { OnOk result (HasEffect (with_command occasion.line occasion.moment post.old
         (notification context.entry.setup.now occasion.line (id_on occasion.line post.old.number) notice.now))
         post.new out.old.items out.new.items) }
+    ensures err { OnErr result (IsUndoneByItsOwner out.old.items out.new.items) }
 {
     let id = post.number.id_on(occasion.line);
     let said = notification(context, occasion.line, id, notice)?;
@@ -100,8 +102,9 @@ pub(crate) fn tell(
 ) -> Result<(), OutOfMemory>
     requires line { IsLine occasion.line }
     requires may { MayTell context.setup.now occasion.moment }
-    ensures { OnOk result (HasEffect (with_notice context.entry.setup.now occasion.line occasion.moment endpoint.old notice)
+    ensures turn { OnOk result (HasEffect (with_notice context.entry.setup.now occasion.line occasion.moment endpoint.old notice)
         endpoint.new out.old.items out.new.items) }
+    ensures err { OnErr result (IsUndoneByItsOwner out.old.items out.new.items) }
 {
     match notice {
         None => Ok(()),

@@ -1,11 +1,12 @@
 //! What is done under a post, be it a line's or that of the gateway itself: a command begins, and is sent again or given
 //! up (RFC 3435, 3.5 and 4.3).
-ghost use Rattle.std.specs.Prelude.{◌≡◌, ◌<◌, ◌^◌, IsTrue, IfOk, OnOk};
+ghost use Rattle.std.specs.Prelude.{◌≡◌, ◌<◌, ◌^◌, IsTrue, IfOk, OnOk, OnErr};
 ghost use Rattle.std.specs.Option.{unwrap_or};
 ghost use Rattle.mgcp_text.specs.Writing.{is_writable};
 ghost use Rattle.plain_machine.specs.Posting.{wait_of, given_up, with_command, resent_on};
 ghost use Rattle.endpoint_rules.specs.Telling.{HasId};
 ghost use Rattle.endpoint_rules.specs.Effects.{HasEffect};
+ghost use Rattle.endpoint_rules.specs.Undoing.{IsUndoneByItsOwner};
 
 use crate::context::Context;
 use endpoint_names::Entity;
@@ -23,8 +24,8 @@ pub struct Occasion {
     pub moment: u64,
 }
 
-// An equal command in flight, if there is one.
-fn pending_of(pending: &Option<Pending>) -> Result<Option<Pending>, OutOfMemory>
+/// An equal command in flight, if there is one. An error is for want of memory only.
+pub(crate) fn pending_of(pending: &Option<Pending>) -> Result<Option<Pending>, OutOfMemory>
     ensures { IfOk result (λ copy. copy ≡ pending.now) }
 {
     match pending {
@@ -45,15 +46,15 @@ pub fn same_post(post: &Post) -> Result<Post, OutOfMemory>
     })
 }
 
-/// A post becomes equal to another. An error is for want of memory only.
-pub(crate) fn copy_post(from: &Post, into: &mut Post) -> Result<(), OutOfMemory>
-    ensures { OnOk result (into.new ≡ from.now) }
+/// A post becomes equal to another, of whose command in flight there is a copy.
+pub(crate) fn copy_post(from: &Post, pending: Option<Pending>, into: &mut Post)
+    requires { pending ≡ from.now.pending }
+    ensures { into.new ≡ from.now }
 {
-    into.pending = pending_of(&from.pending)?;
     into.entity = from.entity;
     into.number = from.number;
+    into.pending = pending;
     into.restart = from.restart;
-    Ok(())
 }
 
 /// What is sent under a post goes to this entity from now on, where one is given.
@@ -80,6 +81,7 @@ pub(crate) fn begin(
     ensures turn { OnOk result (HasEffect (with_command occasion.line occasion.moment post.old said.now)
         post.new out.old.items out.new.items) }
     ensures id { HasId occasion.line post.new.number }
+    ensures err { OnErr result (IsUndoneByItsOwner out.old.items out.new.items) }
 {
     let id = post.number.id_on(occasion.line);
     let route = post.entity.route;
@@ -121,6 +123,7 @@ pub(crate) fn resent_on(
     ensures turn { OnOk result (HasEffect (resent_on context.entry.setup.now occasion.line occasion.moment post.old)
         post.new out.old.items out.new.items) }
     ensures number { post.new.number ≡ post.old.number }
+    ensures err { OnErr result (IsUndoneByItsOwner out.old.items out.new.items) }
 {
     let Some(message) = &mut post.pending else {
         return Ok(());

@@ -1,11 +1,12 @@
 //! A deed on an endpoint (RFC 3435, 2.3.2 to 2.3.9).
-ghost use Rattle.std.specs.Prelude.{◌≡◌, IfOk, OnOk};
+ghost use Rattle.std.specs.Prelude.{◌≡◌, IfOk, OnOk, OnErr};
 ghost use Rattle.std.specs.List.{list_any};
 ghost use Rattle.plain_machine.specs.Requesting.{refusal_by, connected_on, deed_on, shown_by};
 ghost use Rattle.connections.specs.Places.{is_free};
 ghost use Rattle.endpoint_rules.specs.News.{shown_as};
 ghost use Rattle.endpoint_rules.specs.Telling.{MayTell, IsLine};
 ghost use Rattle.endpoint_rules.specs.Effects.{HasEffect};
+ghost use Rattle.endpoint_rules.specs.Undoing.{IsUndoneByItsOwner};
 
 use crate::connecting::{News, connect, connections_refuse};
 use crate::context::Context;
@@ -44,6 +45,7 @@ pub fn deed_on(
     ensures turn { OnOk result (HasEffect (deed_on context.entry.setup.now deed.now occasion.moment occasion.line
         endpoint.old) endpoint.new sent.old.items sent.new.items) }
     ensures news { IfOk result (λ news. shown_as news ≡ shown_by (connected_on deed.now endpoint.old)) }
+    ensures err { OnErr result (IsUndoneByItsOwner sent.old.items sent.new.items) }
 {
     let notice = match &deed.request {
         Some(request) => endpoint.line.request(request, occasion.moment)?,

@@ -1,11 +1,12 @@
 //! What a response does to an endpoint (RFC 3435, 3.5, 4.4.1, 4.4.6 and 4.4.7).
-ghost use Rattle.std.specs.Prelude.{◌≡◌, ℕ, OnOk};
+ghost use Rattle.std.specs.Prelude.{◌≡◌, ℕ, OnOk, OnErr};
 ghost use Rattle.mg_line.specs.Answering.{answered};
 ghost use Rattle.plain_machine.specs.Effect.{silently};
 ghost use Rattle.plain_machine.specs.Notifying.{noted};
 ghost use Rattle.plain_machine.specs.Responding.{responded_on, redirected_on, opened_on};
 ghost use Rattle.endpoint_rules.specs.Telling.{MayTell, IsLine};
 ghost use Rattle.endpoint_rules.specs.Effects.{HasEffect};
+ghost use Rattle.endpoint_rules.specs.Undoing.{IsUndoneByItsOwner};
 
 use crate::announcing::{heard_on, replied};
 use crate::context::Context;
@@ -27,9 +28,10 @@ pub fn responded_on(
 ) -> Result<(), OutOfMemory>
     requires line { IsLine occasion.line }
     requires may { MayTell context.setup.now occasion.moment }
-    ensures { OnOk result (HasEffect
+    ensures turn { OnOk result (HasEffect
         (responded_on context.entry.setup.now occasion.line occasion.moment response.now endpoint.old)
         endpoint.new out.old.items out.new.items) }
+    ensures err { OnErr result (IsUndoneByItsOwner out.old.items out.new.items) }
 {
     let heard = heard_on(&endpoint.post, response);
     match heard {
@@ -55,9 +57,10 @@ fn answered_on(
 ) -> Result<(), OutOfMemory>
     requires line { IsLine occasion.line }
     requires may { MayTell context.setup.now occasion.moment }
-    ensures { OnOk result (HasEffect (noted context.entry.setup.now occasion.line occasion.moment
+    ensures turn { OnOk result (HasEffect (noted context.entry.setup.now occasion.line occasion.moment
         endpoint.old (answered endpoint.old.line occasion.moment))
         endpoint.new out.old.items out.new.items) }
+    ensures err { OnErr result (IsUndoneByItsOwner out.old.items out.new.items) }
 {
     let notice = endpoint.line.answered(occasion.moment)?;
     tell(context, occasion, endpoint, notice, out)
@@ -83,9 +86,10 @@ pub fn opened_on(
 ) -> Result<(), OutOfMemory>
     requires line { IsLine occasion.line }
     requires may { MayTell context.setup.now occasion.moment }
-    ensures { OnOk result (HasEffect
+    ensures turn { OnOk result (HasEffect
         (opened_on entity context.entry.setup.now occasion.moment occasion.line endpoint.old)
         endpoint.new out.old.items out.new.items) }
+    ensures err { OnErr result (IsUndoneByItsOwner out.old.items out.new.items) }
 {
     let notice = endpoint.line.opened(occasion.moment)?;
     redirect(&mut endpoint.post, entity);

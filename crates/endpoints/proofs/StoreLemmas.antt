@@ -50,6 +50,14 @@ goes_then first next was between is were mid are one rest = record {
       ∙ ap (λ (x : List OutDatagram). were ++ x) (sym (map-append datagram_of first.sent (next first.value).sent));
 }
 
+-- what goes out by itself goes out behind what there is
+pub goes_behind : (change : Effect Endpoints) (was is : StoreState) (alone were are : List OutDatagram) → Goes change was is [] alone → are ≡ were ++ alone → Goes change was is were are
+goes_behind change was is alone were are goes more = record {
+  endpoints = goes.endpoints;
+  found = goes.found;
+  sent = more ∙ ap (λ (x : List OutDatagram). were ++ x) goes.sent;
+}
+
 -- the same under another name
 pub goes_so : (change other : Effect Endpoints) (was is : StoreState) (were are : List OutDatagram) → other ≡ change → Goes change was is were are → Goes other was is were are
 goes_so change other was is were are same goes = rw same goes

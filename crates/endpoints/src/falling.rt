@@ -1,8 +1,9 @@
 //! What falls due happens, the first first, each thing at its own moment (RFC 3435, 2.1.5, 2.1.7, 3.5.3 and 4.4.6).
-ghost use Rattle.std.specs.Prelude.{◌≡◌};
+ghost use Rattle.std.specs.Prelude.{◌≡◌, OnErr};
 ghost use Rattle.plain_machine.specs.Machine.{on_line, on_own};
 ghost use Rattle.plain_machine.specs.Falling.{due_by, is_due, happened_on, happened_under, happened, pass};
 ghost use Rattle.endpoint_rules.specs.Telling.{MayTell};
+ghost use Rattle.endpoint_rules.specs.Undoing.{IsUndoneByItsOwner};
 ghost use Rattle.endpoints.specs.Tells.{Tells};
 
 use crate::store::Store;
@@ -99,9 +100,8 @@ fn happen(
     Ok(())
 }
 
-/// What is due up to a moment (in ms) happens, the first first, each thing at its own moment. After an error, which is for
-/// want of memory, what the event found can still be had.
-pub fn pass(
+// What is due up to a moment happens, the first first.
+fn happen_all(
     context: Context<'_>,
     store: &mut Store,
     moment: u64,
@@ -114,5 +114,24 @@ pub fn pass(
     while let Some(item) = due_by(store, moment) {
         happen(context, store, item, out)?;
     }
+    Ok(())
+}
+
+/// What is due up to a moment (in ms) happens, the first first, each thing at its own moment. After an error, which is for
+/// want of memory, nothing goes out, and what the event found can still be had.
+pub fn pass(
+    context: Context<'_>,
+    store: &mut Store,
+    moment: u64,
+    out: &mut Vec<OutDatagram>,
+) -> Result<(), OutOfMemory>
+    requires { MayTell context.setup.now moment }
+    ensures told { Tells result (pass context.entry.setup.now store.old.endpoints moment)
+        store.old store.new out.old.items out.new.items }
+    ensures err { OnErr result (IsUndoneByItsOwner out.old.items out.new.items) }
+{
+    let mut sent = Vec::new(context.alloc);
+    happen_all(context, store, moment, &mut sent)?;
+    out.append(&mut sent)?;
     Ok(())
 }

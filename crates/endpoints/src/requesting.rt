@@ -1,10 +1,11 @@
 //! A deed on the lines that a command is for: on all of them, or on none (RFC 3435, 2.3.2 to 2.3.9 and 3.2.1.3).
-ghost use Rattle.std.specs.Prelude.{◌≡◌, IfOk};
+ghost use Rattle.std.specs.Prelude.{◌≡◌, IfOk, OnErr};
 ghost use Rattle.plain_machine.specs.Machine.{endpoint_at, on_line};
 ghost use Rattle.plain_machine.specs.Requesting.{refusal_on, refused_by, deed_on};
 ghost use Rattle.plain_machine.specs.Requesting.{deed_on_all, shown_on, shown_of, line_with_place};
 ghost use Rattle.endpoint_rules.specs.News.{shown_as};
 ghost use Rattle.endpoint_rules.specs.Telling.{MayTell};
+ghost use Rattle.endpoint_rules.specs.Undoing.{IsUndoneByItsOwner};
 ghost use Rattle.endpoints.specs.Tells.{Tells};
 
 use crate::store::Store;
@@ -63,6 +64,7 @@ fn deed_on_line(
     ensures told { Tells result (on_line store.old.endpoints occasion.line (deed_on context.entry.setup.now deed.now
         occasion.moment occasion.line)) store.old store.new sent.old.items sent.new.items }
     ensures news { IfOk result (λ news. shown_as news ≡ shown_on (endpoint_at store.old.endpoints occasion.line) deed.now) }
+    ensures err { OnErr result (IsUndoneByItsOwner sent.old.items sent.new.items) }
 {
     let Some(_) = store.endpoint(occasion.line) else {
         return Ok(News::Nothing);
@@ -95,9 +97,29 @@ fn deed_on_each(
     Ok(())
 }
 
+// The same, where all of it goes out, or, after an error, nothing.
+fn deed_on_several(
+    context: Context<'_>,
+    store: &mut Store,
+    moment: u64,
+    lines: Target,
+    deed: &Deed,
+    sent: &mut Vec<OutDatagram>,
+) -> Result<(), OutOfMemory>
+    requires { MayTell context.setup.now moment }
+    ensures told { Tells result (deed_on_all context.entry.setup.now store.old.endpoints lines deed.now moment)
+        store.old store.new sent.old.items sent.new.items }
+    ensures err { OnErr result (IsUndoneByItsOwner sent.old.items sent.new.items) }
+{
+    let mut all = Vec::new(context.alloc);
+    deed_on_each(context, store, moment, lines, deed, &mut all)?;
+    sent.append(&mut all)?;
+    Ok(())
+}
+
 /// A deed on each line that it is for, in the order of their numbers, which none of them refuses: what there is to be told
 /// of connections, of one line that of its connections, of all lines nothing. After an error, which is for want of memory,
-/// what the event found can still be had.
+/// nothing goes out, and what the event found can still be had.
 #[tactic(auto, unfolding(plain_machine::specs::Requesting::shown_of))]
 pub fn deed_on_all(
     context: Context<'_>,
@@ -111,11 +133,12 @@ pub fn deed_on_all(
     ensures told { Tells result (deed_on_all context.entry.setup.now store.old.endpoints lines deed.now moment)
         store.old store.new sent.old.items sent.new.items }
     ensures news { IfOk result (λ news. shown_as news ≡ shown_of store.old.endpoints lines deed.now) }
+    ensures err { OnErr result (IsUndoneByItsOwner sent.old.items sent.new.items) }
 {
     match lines {
         Target::One(line) => deed_on_line(context, store, Occasion { line, moment }, deed, sent),
         Target::All | Target::Any => {
-            deed_on_each(context, store, moment, lines, deed, sent)?;
+            deed_on_several(context, store, moment, lines, deed, sent)?;
             Ok(News::Nothing)
         }
     }

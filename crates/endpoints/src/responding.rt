@@ -1,11 +1,12 @@
 //! What a response does to the line of its id, or to the gateway itself and then to all lines (RFC 3435, 3.5, 4.4.1, 4.4.6
 //! and 4.4.7).
-ghost use Rattle.std.specs.Prelude.{[]};
+ghost use Rattle.std.specs.Prelude.{[], OnErr};
 ghost use Rattle.plain_machine.specs.Machine.{on_line, on_own};
 ghost use Rattle.plain_machine.specs.Responding.{responded_on, redirected_on, opened_on};
 ghost use Rattle.plain_machine.specs.Announcing.{replied_on};
 ghost use Rattle.plain_machine.specs.Responding.{on_all, lines_told, own_heard, responded};
 ghost use Rattle.endpoint_rules.specs.Telling.{MayTell};
+ghost use Rattle.endpoint_rules.specs.Undoing.{IsUndoneByItsOwner};
 ghost use Rattle.endpoints.specs.Tells.{Tells};
 
 use crate::store::Store;
@@ -27,9 +28,10 @@ fn respond_on_line(
     out: &mut Vec<OutDatagram>,
 ) -> Result<(), OutOfMemory>
     requires { MayTell context.setup.now occasion.moment }
-    ensures { Tells result (on_line store.old.endpoints occasion.line
+    ensures told { Tells result (on_line store.old.endpoints occasion.line
         (responded_on context.entry.setup.now occasion.line occasion.moment response.now))
         store.old store.new out.old.items out.new.items }
+    ensures err { OnErr result (IsUndoneByItsOwner out.old.items out.new.items) }
 {
     let Some(endpoint) = store.endpoint(occasion.line) else {
         return Ok(());
@@ -170,8 +172,27 @@ fn respond_itself(
     Ok(())
 }
 
+// The same, where all of it goes out, or, after an error, nothing.
+fn respond_whole(
+    context: Context<'_>,
+    store: &mut Store,
+    moment: u64,
+    response: &Response,
+    out: &mut Vec<OutDatagram>,
+) -> Result<(), OutOfMemory>
+    requires { MayTell context.setup.now moment }
+    ensures told { Tells result (own_heard context.entry.setup.now store.old.endpoints moment response.now)
+        store.old store.new out.old.items out.new.items }
+    ensures err { OnErr result (IsUndoneByItsOwner out.old.items out.new.items) }
+{
+    let mut sent = Vec::new(context.alloc);
+    respond_itself(context, store, moment, response, &mut sent)?;
+    out.append(&mut sent)?;
+    Ok(())
+}
+
 /// What a response does at this moment (in ms) to the line of its id, or to the gateway itself and then to all lines.
-/// After an error, which is for want of memory, what the event found can still be had.
+/// After an error, which is for want of memory, nothing goes out, and what the event found can still be had.
 pub fn respond_to_its_id(
     context: Context<'_>,
     store: &mut Store,
@@ -180,11 +201,12 @@ pub fn respond_to_its_id(
     out: &mut Vec<OutDatagram>,
 ) -> Result<(), OutOfMemory>
     requires { MayTell context.setup.now moment }
-    ensures { Tells result (responded context.entry.setup.now store.old.endpoints moment response.now)
+    ensures told { Tells result (responded context.entry.setup.now store.old.endpoints moment response.now)
         store.old store.new out.old.items out.new.items }
+    ensures err { OnErr result (IsUndoneByItsOwner out.old.items out.new.items) }
 {
     match owner_of(line_of_id(response.id)) {
-        PostOwner::Gateway => respond_itself(context, store, moment, response, out)?,
+        PostOwner::Gateway => respond_whole(context, store, moment, response, out)?,
         PostOwner::Line(line) => {
             respond_on_line(context, store, Occasion { line, moment }, response, out)?
         }

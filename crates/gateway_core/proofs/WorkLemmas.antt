@@ -171,7 +171,7 @@ puts_settled effect mid is were are clock history store p = record { machine = r
 -- an event failed: the machine is as it was, but for a purge
 pub as_found : (was : State) (store : StoreState) (history : HistoryState) (between : State)
     → found_in between ≡ record { endpoints = was.store.endpoints; history = from_young was.clock was.history.kept }
-    → store ≡ committed between.store.found → history ≡ history_at between.history.settled
+    → store ≡ committed between.store.found → history ≡ history_at between.history.purged between.history.settled
     → ◌≡◌ {A = Machine} (record { now = was.clock; endpoints = store.endpoints; history = history.kept }) (purged_in (machine_in was))
 as_found was store history between found store_back history_back =
     rw (store_back, history_back) (ap (λ (f : Found). let m : Machine = record { now = was.clock; endpoints = f.endpoints; history = f.history } in m) found)

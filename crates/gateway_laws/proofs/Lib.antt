@@ -18,3 +18,4 @@ pub mod FlightLaws
 pub mod AnnouncementLaws
 pub mod QuietLemmas
 pub mod AnswerLaws
+pub mod ClockLaws

@@ -10,7 +10,7 @@ use Rattle.history.specs.declared.entry.KeptFirst.{KeptFirst}
 use Rattle.history.specs.declared.entry.Entry.{Entry}
 use Rattle.history.specs.declared.entry.Entry.TheVariants.{First, Confirmation}
 use Rattle.history.specs.Memory.{memory_time, is_young}
-use Rattle.history.specs.Kept.{is_young_first, young_firsts, from_young, firsts_in, AreInOrder}
+use Rattle.history.specs.Kept.{HistoryState, settled_at, is_young_first, young_firsts, from_young, firsts_in, AreInOrder}
 use Rattle.history.specs.Spots.{is_first, RiseTo}
 use Rattle.history.proofs.RecallLaws.{young_purged}
 use Rattle.history.proofs.PurgeLaws.{in_order, pairs_tail, pairs_head, purge_leaves_young}
@@ -61,6 +61,13 @@ pub young_counted : (now : ℕ) (es : List Entry) → AreInOrder (firsts_in es) 
 young_counted now es order =
     sym (all_young_count now (from_young now es) (purge_leaves_young now es order))
     ∙ ap length (young_purged es now now (omega arith))
+
+-- in whatever order the firsts came, those that are young at a purge are counted after it
+pub purge_counted : (history : HistoryState) (now : ℕ) (before : List Entry) → history ≡ settled_at now (from_young now before)
+    → length (young_firsts history.purged history.kept) ≡ length (young_firsts now before)
+purge_counted history now before is =
+    ap (λ (h : HistoryState). length (young_firsts h.purged h.kept)) is
+    ∙ ap length (young_purged before now now (omega arith))
 
 -- a young one in front has young ones behind it
 pub young_behind_young : (now : ℕ) (entry : Entry) (es : List Entry) → AreInOrder (firsts_in (entry ∷ es)) → is_young_first now entry ≡ true

@@ -40,8 +40,8 @@ pub front_counted : (slice es : List Entry) (n old count : ℕ) → slice ≡ es
 front_counted slice es n old count is counts =
     counts ∙ firsts_counted (take old (take (length slice - n) (drop n slice))) ∙ ap (λ (l : List Entry). length (firsts_in (take old l))) (rest_of slice es n is)
 
-abbrev state : List Entry → List Entry → HistoryState
-state kept settled = record { kept = kept; settled = settled }
+abbrev state : List Entry → List Entry → ℕ → HistoryState
+state kept settled purged = record { kept = kept; settled = settled; purged = purged }
 
 module _ {S : Type 0} where
   -- nothing yet
@@ -182,8 +182,19 @@ module _ {S : Type 0} where
       rising = λ moment at. rise_drop moment gone es (fits.rising moment at);
     }
 
-    pub cut_view : (rest : List Entry) → rest ≡ drop gone es
-        → state rest (take (settled - gone) rest) ≡ state (drop gone es) (drop gone (take settled es))
-    cut_view rest is =
-        ap (λ (l : List Entry). state l (take (settled - gone) l)) is
-        ∙ ap (λ (l : List Entry). state (drop gone es) l) settled_cut
+    pub cut_view : (rest : List Entry) (purged : ℕ) → rest ≡ drop gone es
+        → state rest (take (settled - gone) rest) purged ≡ state (drop gone es) (drop gone (take settled es)) purged
+    cut_view rest purged is =
+        ap (λ (l : List Entry). state l (take (settled - gone) l) purged) is
+        ∙ ap (λ (l : List Entry). state (drop gone es) l purged) settled_cut
+
+  -- both a confirmation and a first
+  pub one_of_both : (es : List Entry) (gone settled : ℕ) (spots : IndexMap ℕ Spot S) (firsts : ℕ) (reached : Option ℕ) → IsIndexed es gone settled spots firsts reached
+      → (entry : Entry) (first : KeptFirst) (more : IndexMap ℕ Spot S) (latest : Option ℕ) → is_first entry ≡ false → more.entries ≡ spots.entries → length es - settled + 2 ≤ spare more
+      → ((now : ℕ) → latest ≡ Some now → (now ≡ first.moment) × (before : ℕ) × (reached ≡ Some before) × (before ≤ first.moment))
+      → IsIndexed ((es ++ entry ∷ []) ++ First first ∷ []) gone settled more (firsts + 1) latest
+  one_of_both es gone settled spots firsts reached fits entry first more latest is same room later =
+      let longer : length (es ++ entry ∷ []) ≡ length es + 1 = length-append es (entry ∷ []) in
+      one_first (es ++ entry ∷ []) gone settled more firsts reached
+      (one_confirmation es gone settled spots firsts reached fits entry more is same (omega (arith, room)))
+      first more latest refl (omega (arith, room, longer, fits.inside)) later

@@ -47,3 +47,7 @@ purged_tells kept before now is = λ id later le.
 pub still_settled : (more : List Entry) (history : HistoryState) → (fold kept_with history more).settled ≡ history.settled
 still_settled [] history = refl
 still_settled (entry ∷ more) history = still_settled more (kept_with history entry)
+
+pub still_purged : (more : List Entry) (history : HistoryState) → (fold kept_with history more).purged ≡ history.purged
+still_purged [] history = refl
+still_purged (entry ∷ more) history = still_purged more (kept_with history entry)

@@ -113,6 +113,13 @@ recalls_later kept all since t r le = record {
   same_count = λ now lt. r.same_count now (omega arith);
 }
 
+-- what recalls a list is recalled by it
+pub recalls_back : (kept all : List Entry) (since : ℕ) → Recalls kept all since → Recalls all kept since
+recalls_back kept all since r = record {
+  same_answers = λ id now le. sym (r.same_answers id now le);
+  same_count = λ now le. sym (r.same_count now le);
+}
+
 pub recalls_through : (kept between all : List Entry) (since : ℕ) → Recalls kept between since → Recalls between all since → Recalls kept all since
 recalls_through kept between all since r r' = record {
   same_answers = λ id now le. r.same_answers id now le ∙ r'.same_answers id now le;

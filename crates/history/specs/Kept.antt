@@ -6,13 +6,15 @@ use Rattle.history.specs.declared.entry.Entry.TheVariants.{First, Confirmation}
 use Rattle.history.specs.Memory.{is_young}
 use Rattle.history.specs.Arrival.{Arrival}
 
--- what is kept, and what of it was there after the last purge
+-- what is kept, what of it was there after the last purge, and the moment of that (in ms); 0 where there was none
 pub record HistoryState : Type 0 where
   pub kept : List Entry
   pub settled : List Entry
+  pub purged : ℕ
 
-abbrev pub settled_at : List Entry → HistoryState
-settled_at entries = record { kept = entries; settled = entries }
+-- nothing came since the last purge, which was at this moment
+abbrev pub settled_at : ℕ → List Entry → HistoryState
+settled_at moment entries = record { kept = entries; settled = entries; purged = moment }
 
 -- one more is kept, which `undo` takes back
 abbrev pub kept_with : HistoryState → Entry → HistoryState

@@ -7,7 +7,7 @@ ghost use Rattle.history.specs.Memory.{memory_time, most_firsts};
 ghost use Rattle.history.specs.Arrival.{unanswered};
 ghost use Rattle.history.specs.Firsts.{a_first, a_repeat, lost, firsts_of};
 ghost use Rattle.history.specs.Answers.{answers_of};
-ghost use Rattle.history.specs.Kept.{settled_at, kept_with, from_young, entries_of, firsts_in};
+ghost use Rattle.history.specs.Kept.{settled_at, kept_with, young_firsts, from_young, entries_of, firsts_in};
 ghost use Rattle.history.specs.Looking.{new, repeat, confirmed, full, look_of};
 ghost use Rattle.history.specs.Example.{to, comes, comes_with, gets, silence, answers, kind_after};
 ghost use Rattle.history.specs.Example.{kept, confirmed_ids, told};
@@ -149,14 +149,18 @@ pub fn what_a_purge_leaves_is_counted()
     ensures all { length (firsts_in (from_young 29999 (kept 7 0 1 ∷ confirmed_ids 7 7 ∷ kept 8 1 2 ∷ kept 9 1 3 ∷ []))) ≡ 3 }
     ensures young { length (firsts_in (from_young 30000 (kept 7 0 1 ∷ confirmed_ids 7 7 ∷ kept 8 1 2 ∷ kept 9 1 3 ∷ []))) ≡ 2 }
     ensures none { length (firsts_in (from_young 30001 (kept 7 0 1 ∷ confirmed_ids 7 7 ∷ kept 8 1 2 ∷ kept 9 1 3 ∷ []))) ≡ 0 }
+    // Where the clock went back, old ones may stand behind young ones, and aren't counted.
+    ensures behind { length (young_firsts 34000 (from_young 34000 (kept 7 5000 1 ∷ kept 7 1000 2 ∷ kept 8 2000 3 ∷ []))) ≡ 1 }
+    // A purge at a moment before the last one counts what that left.
+    ensures before { length (young_firsts 31999 (from_young 31999 (from_young 34000 (kept 7 3000 1 ∷ kept 8 5000 2 ∷ [])))) ≡ 1 }
     ensures order { firsts_in (kept 8 1 2 ∷ confirmed_ids 8 8 ∷ kept 7 0 1 ∷ [])
         ≡ record { id = 8; moment = 1; answer = 2 ∷ [] } ∷ record { id = 7; moment = 0; answer = 1 ∷ [] } ∷ [] }
 {}
 
 /// What is kept after a purge isn't settled, so that `undo` takes it back.
 pub fn what_is_kept_since_a_purge_is_not_settled()
-    ensures { kept_with (settled_at (kept 7 0 1 ∷ [])) (kept 8 1 2)
-        ≡ record { kept = kept 7 0 1 ∷ kept 8 1 2 ∷ []; settled = kept 7 0 1 ∷ [] } }
+    ensures { kept_with (settled_at 5 (kept 7 0 1 ∷ [])) (kept 8 1 2)
+        ≡ record { kept = kept 7 0 1 ∷ kept 8 1 2 ∷ []; settled = kept 7 0 1 ∷ []; purged = 5 } }
 {}
 
 /// A first is kept behind what it confirms.

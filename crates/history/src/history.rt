@@ -1,9 +1,9 @@
 //! The transactions that an end remembers.
-ghost use Rattle.std.specs.Prelude.{◌≡◌, ◌≤◌, ℕ, nat_lt, List, [], length, drop, position, Some, option_map, OnOk, OnErr};
+ghost use Rattle.std.specs.Prelude.{◌≡◌, ◌+◌, ◌≤◌, ℕ, nat_lt, List, [], length, drop, position, Some, option_map, OnOk, OnErr};
 ghost use Rattle.history.specs.declared.entry.Entry.{Entry as KeptEntry};
 ghost use Rattle.history.specs.declared.entry.Entry.TheVariants.{Confirmation};
 ghost use Rattle.history.specs.Memory.{most_firsts};
-ghost use Rattle.history.specs.Kept.{settled_at, first_entry, kept_with, firsts_in, AreInOrder};
+ghost use Rattle.history.specs.Kept.{settled_at, first_entry, kept_with};
 ghost use Rattle.history.specs.Kept.{is_young_first, young_firsts, from_young};
 ghost use Rattle.history.specs.Looking.{looked_in, recalled, look_of};
 ghost use Rattle.history.specs.Spots.{recalled_in};
@@ -11,7 +11,7 @@ ghost use Rattle.history.specs.Recalling.{TellsArrival, TellsAlike};
 
 use crate::entry::{Entry, KeptFirst, count_firsts, is_young_first};
 use crate::look::Look;
-use crate::recall::{Recollection, has_room, recall_kept};
+use crate::recall::{Recollection, count_young_of, has_room, recall_kept};
 use crate::span::IdSpan;
 use crate::spots::{Spots, cut, settle};
 use indexmap::IndexMap;
@@ -22,8 +22,8 @@ use std::marker::Model;
 /// The transactions that an end remembers (RFC 3435, 3.5.1). A contract sees the firsts and confirmations that are kept,
 /// in the order in which they came, and those of them that `undo` leaves.
 ///
-/// For each command that arrives the end asks `look`. Where that is new, it calls `confirm` with what a readable K names,
-/// executes the command, and calls `first` with its answer. Nothing else is kept.
+/// For each command that arrives the end asks `look`. Where that is new, it executes the command, and calls `keep` with what
+/// a readable K names and with its answer, or `confirm` and then `first`. Nothing else is kept.
 #[derive(Drop)]
 pub struct History {
     // What is kept, behind what is gone and not cut off yet.
@@ -36,6 +36,8 @@ pub struct History {
     firsts: usize,
     // The latest moment so far, unless the clock went back.
     reached: Option<u64>,
+    // The moment of the last purge.
+    purged: u64,
 }
 
 impl Model for History {
@@ -48,6 +50,7 @@ impl Model for History {
     ghost view = { λ h. record {
       kept = drop h.gone h.entries.items;
       settled = drop h.gone (take h.settled h.entries.items);
+      purged = h.purged;
     } };
 
     ghost use Rattle.history.specs.Spots.{IsIndexed};
@@ -58,7 +61,7 @@ impl Model for History {
 impl History {
     /// No transactions (RFC 3435, 3.5.1). This takes no memory yet.
     pub fn new(alloc: Global) -> Self
-        ensures { result ≡ settled_at [] }
+        ensures { result ≡ settled_at 0 [] }
     {
         History {
             entries: Vec::new(alloc),
@@ -67,17 +70,26 @@ impl History {
             spots: IndexMap::new(alloc),
             firsts: 0,
             reached: Some(0),
+            purged: 0,
         }
     }
 
-    /// How many firsts are kept (RFC 3435, 3.5.1).
+    /// How many firsts are kept that are young at the moment of the last purge (RFC 3435, 3.5.1). This takes no memory.
     pub fn len(&self) -> usize
-        ensures firsts { result ≡ length (firsts_in self.now.kept) }
-        // After a purge these are the young ones, where the firsts came in the order of their moments.
-        ensures young { (now : ℕ) (before : List KeptEntry) → AreInOrder (firsts_in before) →
-            self.now.kept ≡ from_young now before → result ≡ length (young_firsts now before) }
+        ensures young { result ≡ length (young_firsts self.now.purged self.now.kept) }
+        // After a purge these are all that were kept before it and are young at its moment, in whatever order they came.
+        ensures purged { (now : ℕ) (before : List KeptEntry) →
+            self.now ≡ settled_at now (from_young now before) → result ≡ length (young_firsts now before) }
     {
-        self.firsts
+        self.count()
+    }
+
+    fn count(&self) -> usize
+        ensures { result ≡ length (young_firsts self.now.purged self.now.kept) }
+    {
+        let in_order = self.reached.is_some();
+        let kept = &self.entries[self.gone..];
+        count_young_of(kept, self.firsts, in_order, self.purged)
     }
 
     /// What a command is that arrives now with this id: a copy is sought first, so a repeat is never lost (RFC 3435,
@@ -125,8 +137,7 @@ impl History {
         self.spots.reserve(self.entries.len() - self.settled + 1)?;
         self.entries
             .push(Entry::First(KeptFirst { id, moment, answer }))?;
-        self.firsts += 1;
-        self.reached = later(self.reached, moment);
+        count_first(&mut self.firsts, &mut self.reached, moment);
         Ok(())
     }
 
@@ -141,10 +152,32 @@ impl History {
         Ok(())
     }
 
+    /// Keeps a transaction that was executed, behind what its K confirms (RFC 3435, 3.2.2.1 and 3.5.1): `confirm` and `first`
+    /// in one, or, after an error, neither.
+    pub fn keep(
+        &mut self,
+        id: u32,
+        moment: u64,
+        confirms: Sequence<IdSpan>,
+        answer: Text,
+    ) -> Result<(), OutOfMemory>
+        ensures ok { OnOk result (self.new
+            ≡ kept_with (kept_with self.old (Confirmation confirms)) (first_entry id moment answer)) }
+        ensures err { OnErr result (self.new ≡ self.old) }
+    {
+        self.spots.reserve(self.entries.len() - self.settled + 2)?;
+        self.entries.reserve(2)?;
+        self.entries.push_reserved(Entry::Confirmation(confirms));
+        let first = KeptFirst { id, moment, answer };
+        self.entries.push_reserved(Entry::First(first));
+        count_first(&mut self.firsts, &mut self.reached, moment);
+        Ok(())
+    }
+
     /// Drops what came before the first young first, and settles the rest: `undo` comes back here (RFC 3435, 3.5.1). What
     /// is told from now on stays the same. This takes no memory.
     pub fn purge(&mut self, now: u64)
-        ensures kept { self.new ≡ settled_at (from_young now self.old.kept) }
+        ensures kept { self.new ≡ settled_at now (from_young now self.old.kept) }
         // From now on the same is told of every command.
         ensures told { TellsAlike self.new.kept self.old.kept now }
     {
@@ -155,21 +188,22 @@ impl History {
 
     // Takes into the index what isn't in it yet. There is room for that.
     fn settle(&mut self)
-        ensures { self.new ≡ settled_at self.old.kept }
+        ensures { self.new ≡ settled_at self.old.purged self.old.kept }
     {
         settle(&mut self.spots, &self.entries, self.settled);
         self.settled = self.entries.len();
     }
 
-    // Passes what came before the first young one, where all is settled.
+    // Passes what came before the first young one, where all is settled: that is the purge at this moment.
     fn pass_old(&mut self, now: u64)
         requires { self.old.settled ≡ self.old.kept }
-        ensures { self.new ≡ settled_at (from_young now self.old.kept) }
+        ensures { self.new ≡ settled_at now (from_young now self.old.kept) }
     {
         let kept = &self.entries[self.gone..];
         let old = count_old(kept, now);
         self.firsts -= count_firsts(&kept[..old]);
         self.gone += old;
+        self.purged = now;
     }
 
     // Cuts off what is gone, once it is more than the rest: so each entry is moved less than once for one that came.
@@ -188,7 +222,7 @@ impl History {
     /// Takes back each `first` and `confirm` since the last purge, or since `new` where there was none, so that they never
     /// were (RFC 3435, 3.5.1). This takes no memory.
     pub fn undo(&mut self)
-        ensures { self.new ≡ settled_at self.old.settled }
+        ensures { self.new ≡ settled_at self.old.purged self.old.settled }
     {
         self.firsts -= count_firsts(&self.entries[self.settled..]);
         self.entries.truncate(self.settled);
@@ -204,6 +238,17 @@ fn later(reached: Option<u64>, moment: u64) -> Option<u64>
         Some(latest) if latest <= moment => Some(moment),
         _ => None,
     }
+}
+
+// One more first came, at this moment.
+fn count_first(firsts: &mut usize, reached: &mut Option<u64>, moment: u64)
+    requires { firsts.old + 1 ≤ usize.MAX }
+    ensures firsts { firsts.new ≡ firsts.old + 1 }
+    ensures reached { (now : ℕ) → reached.new ≡ Some now →
+        (now ≡ moment) × (latest : ℕ) × (reached.old ≡ Some latest) × (latest ≤ moment) }
+{
+    *firsts += 1;
+    *reached = later(*reached, moment);
 }
 
 // The place of the first young one.

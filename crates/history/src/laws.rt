@@ -9,7 +9,7 @@ ghost use Rattle.history.specs.Arrival.{Arrival, unanswered};
 ghost use Rattle.history.specs.Firsts.{Copied, a_first, a_repeat, lost, young_of, kind_of, firsts_of};
 ghost use Rattle.history.specs.Firsts.{IsNoCopy, IsLatestCopy};
 ghost use Rattle.history.specs.Answers.{IsConfirmed, IsRepeat, IsSilenced, answer_to, answers_from, answers_of};
-ghost use Rattle.history.specs.Kept.{first_entry, settled_at, kept_with, from_young, firsts_in, AreInOrder};
+ghost use Rattle.history.specs.Kept.{first_entry, settled_at, kept_with, young_firsts, from_young, firsts_in, AreInOrder};
 ghost use Rattle.history.specs.Looking.{repeat, look_of, told_as};
 ghost use Rattle.history.specs.Recalling.{Recalls, Remembers};
 
@@ -139,7 +139,16 @@ pub fn a_purge_leaves_young_firsts()
         All (λ (first : KeptFirst). now - first.moment < memory_time) (firsts_in (from_young now entries)) }
 {}
 
-/// Whatever is kept after a purge, `undo` goes back to what the purge left.
+/// What a purge drops is young at no moment from then on, in whatever order the firsts came.
+pub fn a_purge_drops_nothing_young()
+    ensures { (purged now : ℕ) (entries : List Entry) → purged ≤ now →
+        young_firsts now (from_young purged entries) ≡ young_firsts now entries }
+{}
+
+/// Whatever is kept after a purge, `undo` goes back to what the purge left, and the last purge stays the last.
 pub fn undo_goes_back_to_the_purge()
-    ensures { (purged more : List Entry) → (fold kept_with (settled_at purged) more).settled ≡ purged }
+    ensures settled { (moment : ℕ) (purged more : List Entry) →
+        (fold kept_with (settled_at moment purged) more).settled ≡ purged }
+    ensures moment { (moment : ℕ) (purged more : List Entry) →
+        (fold kept_with (settled_at moment purged) more).purged ≡ moment }
 {}

@@ -115,8 +115,20 @@ pub(crate) fn recall_kept<'a>(
     Some(also_confirmed(earlier, since, id))
 }
 
-/// Whether fewer firsts are young than there may be. Where they came in the order of their moments, this is told without a
-/// walk after a purge.
+/// How many of so many firsts are young. Where they came in the order of their moments, this is told without a walk after a
+/// purge at the same moment.
+pub(crate) fn count_young_of(entries: &[Entry], firsts: usize, in_order: bool, now: u64) -> usize
+    requires counted { firsts ≡ length (firsts_in entries.now) }
+    requires order { IsTrue in_order → AreInOrder (firsts_in entries.now) }
+    ensures { result ≡ length (young_firsts now entries.now) }
+{
+    match entries {
+        [first, ..] if in_order && is_young_first(first, now) => firsts,
+        _ => count_young(entries, now),
+    }
+}
+
+/// Whether fewer firsts are young than there may be.
 pub(crate) fn has_room(entries: &[Entry], firsts: usize, in_order: bool, now: u64) -> bool
     requires counted { firsts ≡ length (firsts_in entries.now) }
     requires order { IsTrue in_order → AreInOrder (firsts_in entries.now) }
@@ -125,8 +137,5 @@ pub(crate) fn has_room(entries: &[Entry], firsts: usize, in_order: bool, now: u6
     if firsts < MOST_FIRSTS {
         return true;
     }
-    match entries {
-        [first, ..] if in_order && is_young_first(first, now) => false,
-        _ => count_young(entries, now) < MOST_FIRSTS,
-    }
+    count_young_of(entries, firsts, in_order, now) < MOST_FIRSTS
 }

@@ -4,7 +4,7 @@ ghost use Rattle.restart.specs.Restarting.{begun, announced_at, is_serving, hear
 
 use crate::heard::Heard;
 use endpoint_names::Entity;
-use mg_bytes::ReturnCode;
+use mg_bytes::{OutOfMemory, ReturnCode};
 use outbound::Reply;
 
 /// Where the announcement of the gateway or of a line is (RFC 3435, 2.3.12): a RestartInProgress says that it is here
@@ -30,6 +30,13 @@ impl Restart {
         ensures { result ≡ begun moment wait }
     {
         Restart::Waiting(moment + u64::from(wait))
+    }
+
+    /// An equal one, for who asks where a copy can be refused: this one never is.
+    pub fn try_copy(&self) -> Result<Restart, OutOfMemory>
+        ensures { result ≡ Ok self.now }
+    {
+        Ok(*self)
     }
 
     /// The moment, in ms, at which the announcement is sent; `None` where none waits.

@@ -1,5 +1,5 @@
 //! A wire over one UDP socket of this host.
-ghost use Rattle.std.specs.Prelude.{None};
+ghost use Rattle.std.specs.Prelude.{◌≡◌, None, IfOk};
 
 use gateway_core::{Input, Wire, WireFault};
 use std::io;
@@ -16,12 +16,15 @@ pub struct UdpWire {
 
 impl UdpWire {
     /// Binds a socket to this address, with any free port where its port is 0. A turn at which nothing comes for longer than
-    /// `longest_wait` is a fault.
+    /// `longest_wait` is a fault; there was none yet.
     pub fn bind<R: Net>(
         rt: &R,
         address: SocketAddrV4,
         longest_wait: Duration,
-    ) -> io::Result<UdpWire> {
+    ) -> io::Result<UdpWire>
+        ensures receive_faults { IfOk result (λ wire. wire.receive_faults ≡ 0) }
+        ensures send_faults { IfOk result (λ wire. wire.send_faults ≡ 0) }
+    {
         let socket = UdpSocket::bind(rt, address)?;
         socket.set_read_timeout(Some(longest_wait))?;
         Ok(UdpWire {
@@ -31,18 +34,22 @@ impl UdpWire {
         })
     }
 
-    /// The address that its socket has.
+    /// The address that its socket has: what the host says, of which no clause can speak.
     pub fn address(&self) -> io::Result<SocketAddr> {
         self.socket.local_addr()
     }
 
-    /// How often it failed to give a datagram.
-    pub fn receive_faults(&self) -> u64 {
+    /// How often it failed to give a datagram, up to 18,446,744,073,709,551,615.
+    pub fn receive_faults(&self) -> u64
+        ensures { result ≡ self.now.receive_faults }
+    {
         self.receive_faults
     }
 
-    /// How often it failed to send one.
-    pub fn send_faults(&self) -> u64 {
+    /// How often it failed to send one, up to 18,446,744,073,709,551,615.
+    pub fn send_faults(&self) -> u64
+        ensures { result ≡ self.now.send_faults }
+    {
         self.send_faults
     }
 }

@@ -1,7 +1,7 @@
 //! Worked examples of the input, the script and what is printed, as theorems.
 #![tactic(auto, unfolding(crate::proofs::Computing::on_examples))]
 
-ghost use Rattle.std.specs.Prelude.{◌≡◌, codes, pos, negsuc, true, false, [], ◌∷◌, Some, None, Ok, Err, replicate};
+ghost use Rattle.std.specs.Prelude.{◌≡◌, ℕ, codes, pos, negsuc, true, false, [], ◌∷◌, Some, None, Ok, Err, replicate};
 ghost use Rattle.toml.specs.Data.{string, integer, boolean, array, table, no_items, item, no_members, member};
 ghost use Rattle.routes.specs.declared.route.Route.TheVariants.{Two, Three, Four};
 ghost use Rattle.mg_line.specs.declared.phone.Act.TheVariants as acts;
@@ -16,7 +16,9 @@ ghost use Rattle.rgw_scripts.specs.Input.{config_text, script_lines};
 ghost use Rattle.plain_machine.specs.declared.config.ConfigKey.TheVariants as keys_of_configurations;
 ghost use Rattle.rgw_scripts.specs.Configuration.{config_of, unread_key};
 ghost use Rattle.rgw_scripts.specs.Script.{act_of};
-ghost use Rattle.rgw_scripts.specs.Fault.{name_of_config_fault};
+ghost use Rattle.rgw_scripts.specs.declared.played.LinkFault.TheVariants as link_faults;
+ghost use Rattle.rgw_scripts.specs.declared.played.PlayFault.TheVariants as play_faults;
+ghost use Rattle.rgw_scripts.specs.Fault.{play_fault_number, link_fault_number, name_of_config_fault};
 ghost use Rattle.mg_packages.specs.declared.signal.Signal.TheVariants as signals;
 ghost use Rattle.connections.specs.declared.mode.Mode.TheVariants as modes;
 ghost use Rattle.rgw_scripts.specs.Printing.{connections_shown};
@@ -212,6 +214,17 @@ pub fn keys_that_cannot_be_read_are_told()
     ensures first { unread_key (settings_with (codes "lines") (integer (negsuc 0)) local (host_at (array no_items)))
         ≡ Some keys_of_configurations.Lines }
     ensures ninth { unread_key (member (codes "Lines") (integer (pos 1)) (with_lines (integer (pos 16)))) ≡ None }
+{}
+
+/// Each fault of a play has its number, and the network's comes behind the others.
+pub fn faults_have_their_numbers()
+    ensures memory { play_fault_number play_faults.OutOfMemory ≡ 1 }
+    ensures read { play_fault_number play_faults.Read ≡ 2 }
+    ensures write { play_fault_number play_faults.Write ≡ 3 }
+    ensures config { play_fault_number (play_faults.Config 7) ≡ 4 }
+    ensures script { play_fault_number (play_faults.Script 1) ≡ 5 }
+    ensures wire { link_fault_number {F = ℕ} (link_faults.Link 0) ≡ 6 }
+    ensures without_a_wire { link_fault_number {F = ℕ} (link_faults.Play play_faults.Write) ≡ 3 }
 {}
 
 /// The faults of a configuration have their names.

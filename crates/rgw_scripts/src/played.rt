@@ -20,6 +20,23 @@ pub enum PlayFault {
     Script { line: u64 },
 }
 
+impl PlayFault {
+    ghost use Rattle.rgw_scripts.specs.Fault.{play_fault_number};
+
+    /// Its number among the faults, from 1 in the order in which they are declared. It isn't that of a configuration's fault.
+    pub fn number(self) -> u8
+        ensures { result ≡ play_fault_number self }
+    {
+        match self {
+            Self::OutOfMemory => 1,
+            Self::Read => 2,
+            Self::Write => 3,
+            Self::Config { .. } => 4,
+            Self::Script { .. } => 5,
+        }
+    }
+}
+
 /// Why a step was not played to its end: the network may fail too.
 #[derive(Clone, Copy, Debug, PartialEq, Eq)]
 pub enum StepFault<F> {
@@ -42,6 +59,20 @@ pub enum LinkFault<F> {
     Play(PlayFault),
     /// The network failed so.
     Link(F),
+}
+
+impl<F> LinkFault<F> {
+    ghost use Rattle.rgw_scripts.specs.Fault.{link_fault_number};
+
+    /// Its number among the faults: 1 to 5 as without a network, and 6 where that failed.
+    pub fn number(&self) -> u8
+        ensures { result ≡ link_fault_number self.now }
+    {
+        match self {
+            LinkFault::Play(fault) => fault.number(),
+            LinkFault::Link(_) => 6,
+        }
+    }
 }
 
 /// What was played.

@@ -1,5 +1,5 @@
 //! The printed form of datagrams, refusals and lines.
-ghost use Rattle.std.specs.Prelude.{◌≡◌, ◌≤◌, ◌++◌, length, codes, IfOk, OnOk, string_bytes};
+ghost use Rattle.std.specs.Prelude.{◌≡◌, ◌≤◌, ◌++◌, length, codes, IfOk, OnOk, OnErr, string_bytes};
 ghost use Rattle.std.specs.List.{flat_map};
 ghost use Rattle.mg_bytes.specs.Lines.{lines_of};
 ghost use Rattle.rgw_scripts.specs.Printing.{printed_line, datagram_line, printed_datagram, refusal_line};
@@ -56,8 +56,8 @@ fn put_datagram(
     Ok(())
 }
 
-/// Carries datagrams to the call agent in their order, and prints each as it arrives there.
-pub fn put_datagrams<L: Link>(
+// Carries datagrams to the call agent in their order, and prints each as it arrives there.
+fn carry_datagrams<L: Link>(
     alloc: Global,
     link: &mut L,
     out: &mut Vec<u8>,
@@ -76,6 +76,25 @@ pub fn put_datagrams<L: Link>(
     Ok(())
 }
 
+/// Carries datagrams to the call agent in their order, and prints each as it arrives there. After an error what was printed is
+/// as it was.
+pub fn put_datagrams<L: Link>(
+    alloc: Global,
+    link: &mut L,
+    out: &mut Vec<u8>,
+    datagrams: &[OutDatagram],
+) -> Result<(), StepFault<L::Fault>>
+    ensures ok { OnOk result (out.new.items ≡ out.old.items
+        ++ flat_map printed_datagram datagrams.now) }
+    ensures grows { length out.old.items ≤ length out.new.items }
+    ensures err { OnErr result (out.new.items ≡ out.old.items) }
+{
+    let mut text = Vec::new(alloc);
+    carry_datagrams(alloc, link, &mut text, datagrams)?;
+    out.extend_from_slice(&text)?;
+    Ok(())
+}
+
 fn refusal_line(alloc: Global, refusal: Refusal) -> Result<String, OutOfMemory>
     ensures { IfOk result (λ line. string_bytes line ≡ printed_line (refusal_line refusal)) }
 {
@@ -84,10 +103,11 @@ fn refusal_line(alloc: Global, refusal: Refusal) -> Result<String, OutOfMemory>
     Ok(line)
 }
 
-/// Prints why a step is refused.
+/// Prints why a step is refused. After an error what was printed is as it was.
 pub fn put_refusal(alloc: Global, out: &mut Vec<u8>, refusal: Refusal) -> Result<(), OutOfMemory>
     ensures ok { OnOk result (out.new.items ≡ out.old.items ++ printed_line (refusal_line refusal)) }
     ensures grows { length out.old.items ≤ length out.new.items }
+    ensures err { OnErr result (out.new.items ≡ out.old.items) }
 {
     let line = refusal_line(alloc, refusal)?;
     out.extend_from_slice(line.as_bytes())?;
@@ -252,7 +272,20 @@ fn put_lost(alloc: Global, out: &mut Vec<u8>, lost: u64) -> Result<(), OutOfMemo
     put_decimal(alloc, out, lost)
 }
 
-/// Prints what a line is.
+// What is printed of a line.
+fn line_text(alloc: Global, status: &LineStatus<'_>) -> Result<Vec<u8>, OutOfMemory>
+    ensures { IfOk result (λ text. text.items ≡ printed_line (shown_line status.now)) }
+{
+    let mut text = Vec::new(alloc);
+    put_head(alloc, &mut text, status.line, status.hook)?;
+    put_signals(alloc, &mut text, status.signals.as_slice())?;
+    put_connections(alloc, &mut text, status.connections)?;
+    put_lost(alloc, &mut text, status.lost)?;
+    text.push(b'\n')?;
+    Ok(text)
+}
+
+/// Prints what a line is. After an error what was printed is as it was.
 pub fn put_line(
     alloc: Global,
     out: &mut Vec<u8>,
@@ -260,11 +293,9 @@ pub fn put_line(
 ) -> Result<(), OutOfMemory>
     ensures ok { OnOk result (out.new.items ≡ out.old.items ++ printed_line (shown_line status.now)) }
     ensures grows { length out.old.items ≤ length out.new.items }
+    ensures err { OnErr result (out.new.items ≡ out.old.items) }
 {
-    put_head(alloc, out, status.line, status.hook)?;
-    put_signals(alloc, out, status.signals.as_slice())?;
-    put_connections(alloc, out, status.connections)?;
-    put_lost(alloc, out, status.lost)?;
-    out.push(b'\n')?;
+    let text = line_text(alloc, status)?;
+    out.extend_from_slice(&text)?;
     Ok(())
 }

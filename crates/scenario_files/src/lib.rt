@@ -1,5 +1,5 @@
-//! What all scenarios have in common: the files that their program is called with, short forms, rows under titles, and scripts
-//! as they are written, with what they print.
+//! What all scenarios have in common: the files that their program is called with, short forms, rows under titles, and scenarios as
+//! they are written.
 //!
 //! What is refused memory is done again, and must then give what it gives with ample memory: the program is refused each
 //! request for memory in turn (`./refusals`). So a kind of row changes its state last. `docs/SCENARIOS.md` says how

@@ -1,5 +1,5 @@
 //! The acknowledgement of a response.
-ghost use Rattle.std.specs.Prelude.{◌≡◌, ◌++◌, IfOk, OnOk, MatchOption, true, false};
+ghost use Rattle.std.specs.Prelude.{◌≡◌, ◌++◌, IfOk, OnOk, OnErr, MatchOption, true, false};
 ghost use Rattle.mgcp_text.specs.Message.{params_in};
 ghost use Rattle.transmission.specs.Acknowledging.{is_empty_k, asks_for_acknowledgement, acknowledgement_text, acknowledgements};
 
@@ -50,7 +50,7 @@ fn acknowledgement(
 }
 
 /// A response with this return code that arrives now (in ms) is acknowledged to where it came from, where it asks for that:
-/// it is final, and its first K is empty (RFC 3435, 3.2.2.1 and 3.5.6).
+/// it is final, and its first K is empty (RFC 3435, 3.2.2.1 and 3.5.6). After an error the messages are as they were.
 pub fn acknowledge(
     alloc: Global,
     origin: Origin,
@@ -59,8 +59,9 @@ pub fn acknowledge(
     said: &Message<'_>,
     out: &mut Vec<OutDatagram>,
 ) -> Result<(), OutOfMemory>
-    ensures { OnOk result (out.new.items ≡ out.old.items
+    ensures ok { OnOk result (out.new.items ≡ out.old.items
         ++ acknowledgements now origin.source code origin.id (params_in said.now)) }
+    ensures err { OnErr result (out.new.items ≡ out.old.items) }
 {
     match acknowledgement(alloc, code, origin.id, said)? {
         Some(text) => send(out, origin.source, now, text),

@@ -28,7 +28,7 @@ fn copy_of(alloc: Global, text: &[u8]) -> Result<Text, OutOfMemory>
 }
 
 /// Whether a command that arrives now (in ms) is new; a repeat gets its stored answer again, and what is confirmed or finds
-/// no room gets none (RFC 3435, 3.5.1).
+/// no room gets none (RFC 3435, 3.5.1). After an error the messages are as they were.
 pub fn is_new(
     alloc: Global,
     history: &History,
@@ -39,6 +39,7 @@ pub fn is_new(
     ensures told { IfOk result (λ told. told ≡ is_new (look_of most_firsts history.now.kept origin.id now)) }
     ensures sent { OnOk result (out.new.items ≡ out.old.items
         ++ answered_again (look_of most_firsts history.now.kept origin.id now) origin.source now) }
+    ensures err { OnErr result (out.new.items ≡ out.old.items) }
 {
     let stored = match history.look(origin.id.number(), now) {
         Look::New => return Ok(true),
@@ -50,7 +51,7 @@ pub fn is_new(
 }
 
 /// A new command is answered now (in ms): what its K names is confirmed, its answer is kept, and goes to where it came from
-/// (RFC 3435, 3.2.2.1 and 3.5.1). After an error `undo` still leads to what the history was after the last purge.
+/// (RFC 3435, 3.2.2.1 and 3.5.1). After an error the history and the messages are as they were.
 pub fn answer(
     alloc: Global,
     history: &mut History,
@@ -64,12 +65,18 @@ pub fn answer(
         ≡ with_first history.old origin.id now confirms (written (response_of origin.id answer.now))) }
     ensures sent { OnOk result (out.new.items ≡ out.old.items
         ++ message_to origin.source now (written (response_of origin.id answer.now)) ∷ []) }
-    ensures err { OnErr result (history.new.settled ≡ history.old.settled) }
+    ensures err { OnErr result (history.new ≡ history.old) }
+    ensures unsent { OnErr result (out.new.items ≡ out.old.items) }
 {
     let text = answer.text(alloc, origin.id)?;
     let kept = copy_of(alloc, text.as_bytes())?;
-    history.confirm(confirms)?;
-    history.first(origin.id.number(), now, kept)?;
-    send(out, origin.source, now, text)?;
+    // What can fail comes first: there is room for the answer before it is kept.
+    out.reserve(1)?;
+    history.keep(origin.id.number(), now, confirms, kept)?;
+    out.push_reserved(OutDatagram {
+        to: origin.source,
+        moment: now,
+        bytes: text,
+    });
     Ok(())
 }

@@ -10,3 +10,4 @@ pub mod LandingLaws
 pub mod ToldLaws
 pub mod PassLaws
 pub mod Computing
+pub mod StandingLaws

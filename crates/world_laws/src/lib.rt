@@ -9,3 +9,4 @@
 
 pub mod examples;
 pub mod laws;
+pub mod standing_laws;

@@ -6,4 +6,4 @@ pub returns-in_ok-send-in-Sent-clause-turn : goal.returns-in_ok-send-in-Sent-cla
 returns-in_ok-send-in-Sent-clause-turn c =
     let flying : c.args.post.now.pending ≡ Some c.in-Some.message = search rules in
     sent_again c.args.context.setup.now _ _ c.args.post.now _ c.in-Some.message c.repeat.new.self _ _ _ _ flying c.in-Sent.ensures.done c.repeat.ensures.kept c.to.ensures.kept
-    (search rules) c.in_ok-send-in-Sent.ensures refl
+    (search rules) c.in_ok-send-in-Sent.ensures.ok refl

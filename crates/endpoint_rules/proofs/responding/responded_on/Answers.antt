@@ -1,8 +1,12 @@
-use Rattle.endpoint_rules.proofs.ResponseLemmas.{is_answered, on_ok}
+use Rattle.endpoint_rules.proofs.ResponseLemmas.{is_answered, nothing_sent, on_ok}
 use Rattle.endpoint_rules.proofs.responding.responded_on.Goals as goal
 
-pub returns-in_ok-replied-in-Answered : goal.returns-in_ok-replied-in-Answered
-returns-in_ok-replied-in-Answered c = on_ok c.answered_on.result
+pub returns-in_ok-replied-in-Answered-clause-turn : goal.returns-in_ok-replied-in-Answered-clause-turn
+returns-in_ok-replied-in-Answered-clause-turn c = on_ok c.answered_on.result
     (λ goes. is_answered c.args.context.setup.now c.args.occasion.line c.args.occasion.moment c.args.response.now c.args.endpoint.now _ _ c.replied-in-Answered.new.post _ _ _
     c.in-Answered.ensures (rw c.in-Answered.is at c.in_ok-replied-in-Answered.ensures.turn) goes)
-    c.answered_on.ensures
+    c.answered_on.ensures.turn
+
+pub returns-in_ok-replied-in-Answered-clause-err : goal.returns-in_ok-replied-in-Answered-clause-err
+returns-in_ok-replied-in-Answered-clause-err c = nothing_sent c.answered_on.result _ _ c.args.context.setup.now c.args.occasion.line c.args.occasion.moment
+    c.args.response.now c.args.endpoint.now _ _ _ (rw c.in-Answered.is at c.in_ok-replied-in-Answered.ensures.turn) c.answered_on.ensures.err

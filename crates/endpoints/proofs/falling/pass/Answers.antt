@@ -1,18 +1,5 @@
-use Rattle.std.proofs.Common.{sym, ◌∙◌}
-use Rattle.endpoints.proofs.StoreLemmas.{pass_next, pass_end, left_less, due_early}
+use Rattle.endpoints.proofs.StoreLemmas.{goes_behind}
 use Rattle.endpoints.proofs.falling.pass.Goals as goal
 
-pub happen-requires : goal.happen-requires
-happen-requires c = due_early _ _ _ _ (sym c.in-Some.ensures) c.requires
-
-pub loop-item-smaller : goal.loop-item-smaller
-loop-item-smaller c = left_less _ _ _ _ _ _ _ (sym c.in-Some.ensures) c.in_ok-happen.ensures
-
-pub loop-item-preserved : goal.loop-item-preserved
-loop-item-preserved c = record {
-  completes = λ is are rest. c.loop-item.invariant.completes is are (pass_next _ _ _ _ _ is _ _ are (sym c.in-Some.ensures) c.in_ok-happen.ensures rest);
-  found = c.in_ok-happen.ensures.found ∙ c.loop-item.invariant.found;
-}
-
-pub returns : goal.returns
-returns c = c.loop-item.invariant.completes _ _ (pass_end _ _ _ _ (sym c.in_default.ensures))
+pub returns-clause-told : goal.returns-clause-told
+returns-clause-told c = goes_behind _ _ _ _ _ _ (rw c.new-sent.ensures.items at c.in_ok-happen_all.ensures) c.in_ok-append.ensures.items

@@ -6,4 +6,4 @@ pub returns-then-not-is_due-clause-happens : goal.returns-then-not-is_due-clause
 returns-then-not-is_due-clause-happens c = happened_idly _ _ _ _ _ c.new-out.ensures.items (sym c.is_due.ensures ∙ c.if-not-is_due.true) refl
 
 pub returns-clause-happens : goal.returns-clause-happens
-returns-clause-happens c = happened_tick _ _ _ _ _ _ c.new-out.ensures.items c.in_ok-pass.ensures refl refl
+returns-clause-happens c = happened_tick _ _ _ _ _ _ c.new-out.ensures.items c.in_ok-pass.ensures.told refl refl

@@ -9,4 +9,4 @@ pub invariant_of-self : goal.invariant_of-self
 invariant_of-self c = rw c.drop_front.ensures (gone_cut _ _ _ _ _ _ c.self.invariant c.cut.new.spots c.cut.ensures.index c.cut.ensures.room)
 
 pub returns : goal.returns
-returns c = cut_view _ _ _ _ _ _ c.self.invariant c.drop_front.new.entries.items c.drop_front.ensures ∙ c.self.view_is
+returns c = cut_view _ _ _ _ _ _ c.self.invariant c.drop_front.new.entries.items c.self.inside.purged c.drop_front.ensures ∙ c.self.view_is

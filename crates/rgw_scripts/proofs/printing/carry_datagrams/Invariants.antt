@@ -1,7 +1,7 @@
 use Rattle.std.proofs.Common.{◌≡◌, ◌≤◌, ◌++◌, length, drop}
 use Rattle.std.specs.List.{flat_map}
 use Rattle.rgw_scripts.specs.Printing.{printed_datagram}
-use Rattle.rgw_scripts.proofs.printing.put_datagrams.Given as goal
+use Rattle.rgw_scripts.proofs.printing.carry_datagrams.Given as goal
 
 abbrev pub invariant-loop-datagram : goal.invariant-loop-datagram
 invariant-loop-datagram g l = record {

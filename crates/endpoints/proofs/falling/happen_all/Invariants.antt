@@ -4,7 +4,7 @@ use Rattle.plain_machine.specs.Falling.{pass}
 use Rattle.plain_machine.proofs.FallingLaws.{left}
 use Rattle.endpoints.specs.StoreState.{StoreState}
 use Rattle.endpoints.specs.Tells.{Goes}
-use Rattle.endpoints.proofs.falling.pass.Given as goal
+use Rattle.endpoints.proofs.falling.happen_all.Given as goal
 
 -- what completes the rest completes the whole
 abbrev pub invariant-loop-item : goal.invariant-loop-item

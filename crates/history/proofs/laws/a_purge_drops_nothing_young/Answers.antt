@@ -1,0 +1,5 @@
+use Rattle.history.proofs.RecallLaws.{young_purged}
+use Rattle.history.proofs.laws.a_purge_drops_nothing_young.Goals as goal
+
+pub returns : goal.returns
+returns c = λ purged now entries le. young_purged entries purged now le
