@@ -13,9 +13,9 @@ use twins::Gateways;
 use worlds::Ends;
 
 // All kinds of scenarios.
-struct Tales;
+struct All;
 
-impl Kinds for Tales {
+impl Kinds for All {
     fn told<R: AllocGlobal + Net + Print>(
         rt: &R,
         kind: &str,
@@ -35,5 +35,5 @@ impl Kinds for Tales {
 }
 
 fn main(rt: HostRuntime) -> io::Result<ExitCode> {
-    play::<Tales, HostRuntime>(&rt)
+    play::<All, HostRuntime>(&rt)
 }
