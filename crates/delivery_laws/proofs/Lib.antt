@@ -16,6 +16,7 @@ pub mod QuietLemmas
 pub mod ChanceLaws
 pub mod ServedLaws
 pub mod CarryLaws
+pub mod FairLaws
 pub mod LookLemmas
 pub mod TakeLemmas
 pub mod TakeLaws

@@ -182,7 +182,7 @@ datagram_takes : (setup : AgentSetup) (m : AgentMachine) (source : SocketAddrV4)
 unfolding agent_effect
 datagram_takes setup m source bytes = refl
 
-had_in : (setup : Setup) (steps : List WorldStep) (number : ℕ) (b : Begun) (text : List ℕ) (code : ℕ) (params : List Param) (body : List ℕ)
+pub had_in : (setup : Setup) (steps : List WorldStep) (number : ℕ) (b : Begun) (text : List ℕ) (code : ℕ) (params : List Param) (body : List ℕ)
     → IsSetUp setup → steps_are_taken setup world_opening (steps ++ delivering number ∷ []) ≡ true → let w = plain_world setup steps in IsIssued setup w b
     → now_in setup w < b.moment + 23500 → IsCopy setup w gateway_end text number → read_text text ≡ message (messages.Response code b.id params body) → is_final code ≡ true
     → HasIn b.id setup (plain_world setup (steps ++ delivering number ∷ []))
@@ -211,7 +211,7 @@ kept_stored id text (first ∷ firsts) (inl is) = inl is
 kept_stored id text (first ∷ firsts) (inr one) = inr (kept_stored id text firsts one)
 
 -- the stored answer to a command is a response to it
-stored_is : (setup : Setup) (steps : List WorldStep) (id : ℕ) (text : List ℕ) → IsSetUp setup → steps_are_taken setup world_opening steps ≡ true
+pub stored_is : (setup : Setup) (steps : List WorldStep) (id : ℕ) (text : List ℕ) → IsSetUp setup → steps_are_taken setup world_opening steps ≡ true
     → IsStored id text (gateway_firsts setup (plain_world setup steps)) → IsAnswerTo id text
 stored_is setup steps id text set_up taken stored =
     let w = plain_world setup steps in
@@ -224,7 +224,7 @@ stored_is setup steps id text set_up taken stored =
     (one_of_each (λ (first : KeptFirst). IsAnswerTo first.id first.answer) (IsAnsweredBy id text) firsts (world_linked setup steps set_up taken).links.gateway.answers kept)
 
 -- and a final one
-stored_final : (setup : Setup) (steps : List WorldStep) (id : ℕ) (text : List ℕ) → IsSetUp setup → IsStored id text (gateway_firsts setup (plain_world setup steps)) → IsFinal text
+pub stored_final : (setup : Setup) (steps : List WorldStep) (id : ℕ) (text : List ℕ) → IsSetUp setup → IsStored id text (gateway_firsts setup (plain_world setup steps)) → IsFinal text
 stored_final setup steps id text set_up stored =
     let firsts = gateway_firsts setup (plain_world setup steps) in
     one_to (λ (first : Arrival). HasFinal first × IsStoredAs id text first) (IsFinal text) (λ first both. subst IsFinal both.1.1 both.0) firsts

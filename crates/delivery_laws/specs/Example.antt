@@ -25,6 +25,10 @@ audits_with rest = issuing (codes "AUEP") (codes "aaln/1@rgw.example.net") rest
 abbrev pub stored_in : List WorldStep → List (ℕ × List ℕ)
 stored_in steps = map (λ first. (first.id, first.answer)) (gateway_firsts two_lines (world steps))
 
+-- the audit and its answer are handed over at once
+abbrev pub answered : List WorldStep
+answered = asked ++ delivering 2 ∷ delivering 3 ∷ []
+
 -- line 1 is lifted, and its notification is packet 2
 abbrev pub notified : List WorldStep
 notified = announced ++ dialling 1 OffHook ∷ []

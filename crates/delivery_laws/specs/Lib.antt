@@ -3,4 +3,5 @@ pub mod Chances
 pub mod Taking
 pub mod GoingOn
 pub mod Asking
+pub mod Fairness
 pub mod Example

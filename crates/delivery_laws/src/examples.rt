@@ -16,9 +16,10 @@ ghost use Rattle.world_laws.specs.Reached.{issued_in, key_reached, taken_in};
 ghost use Rattle.world_laws.specs.Example.{world, texts_in, moments_in, code_in, announced, audits, seconds};
 ghost use Rattle.delivery_laws.specs.Copies.{arrives, IsCopy, IsConfirmedAmong, gateway_firsts};
 ghost use Rattle.delivery_laws.specs.Chances.{IsSentAfter, IsCarried};
+ghost use Rattle.delivery_laws.specs.Fairness.{IsFair};
 ghost use Rattle.delivery_laws.specs.Taking.{IsConfirmedIn, agent_history};
 ghost use Rattle.delivery_laws.specs.Asking.{AsksBy};
-ghost use Rattle.delivery_laws.specs.Example.{audit, asked, audits_with, stored_in, confirmed, up_to, last_copy};
+ghost use Rattle.delivery_laws.specs.Example.{audit, asked, audits_with, stored_in, answered, confirmed, up_to, last_copy};
 ghost use Rattle.delivery_laws.specs.Example.{notified, notification, redirected, flying_after, state_after};
 
 /// An audit is handed over once, and so is its answer: it has its answer. Without the one or the other it has none.
@@ -46,6 +47,12 @@ pub fn what_a_copy_is()
     ensures elsewhere { arrives AgentEnd two_lines (record { moment = 1; sender = agent; to = other_agent; bytes = [] }) ≡ false }
     ensures back { arrives GatewayEnd two_lines (record { moment = 1; sender = agent; to = agent; bytes = [] }) ≡ true }
     ensures not_back { arrives GatewayEnd two_lines (record { moment = 1; sender = agent; to = other_agent; bytes = [] }) ≡ false }
+{}
+
+/// Where each packet is handed over at the moment at which it was sent the network is fair within 0 ms; where one isn't it is not.
+pub fn what_a_fair_network_is()
+    ensures fair { IsFair two_lines answered 0 }
+    ensures lost { ¬ IsFair two_lines (asked ++ delivering 2 ∷ []) 0 }
 {}
 
 /// Once a K of a later audit confirms it, a copy gets silence; a K of an earlier one confirms nothing.

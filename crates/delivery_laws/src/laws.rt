@@ -1,5 +1,5 @@
 //! Laws of delivery, in a world of two ends over a bad network.
-ghost use Rattle.std.specs.Prelude.{◌≡◌, ◌≢◌, ◌⊎◌, ◌≤◌, ◌<◌, ◌+◌, ℕ, List, ◌++◌, ◌∷◌, [], All, Any, Some, length, true};
+ghost use Rattle.std.specs.Prelude.{◌≡◌, ◌≢◌, ◌⊎◌, ◌≤◌, ◌<◌, ◌+◌, ◌*◌, ℕ, List, ◌++◌, ◌∷◌, [], All, Any, Some, length, true};
 ghost use Rattle.mgcp_text.specs.declared.message.Message.TheVariants as messages;
 ghost use Rattle.mgcp_text.specs.declared.message.Param.{Param};
 ghost use Rattle.mgcp_text.specs.Reading.{message, read_text};
@@ -21,6 +21,7 @@ ghost use Rattle.world_laws.specs.Landing.{is_final};
 ghost use Rattle.delivery_laws.specs.Copies.{IsCopy, IsIssued, gateway_firsts, IsConfirmedAmong, HasRoom, IsAnswered, IsFinal, HasAnswer, IsServed};
 ghost use Rattle.delivery_laws.specs.Taking.{AgentHasRoom, IsConfirmedIn, IsOwn, IsTaken, agent_history};
 ghost use Rattle.delivery_laws.specs.Asking.{KeepsAsking};
+ghost use Rattle.delivery_laws.specs.Fairness.{IsFair, AlwaysHasRoom, IsNeverConfirmed};
 ghost use Rattle.delivery_laws.specs.GoingOn.{GoesOn};
 ghost use Rattle.delivery_laws.specs.Chances.{chances, IsSentAfter, IsCarried};
 
@@ -76,6 +77,15 @@ pub fn one_copy_of_eight_is_enough()
         steps_are_taken setup world_opening steps ≡ true → let w = plain_world setup steps in IsIssued setup w b →
         b.moment + 19500 ≤ now_in setup w → length lost ≤ 7 → ((number : ℕ) → IsCopy setup w AgentEnd b.text number →
         ¬ Any (λ (n : ℕ). n ≡ number) lost → IsCarried setup steps b number) → HasAnswer b.id (agent_in setup w) }
+{}
+
+/// So a network that hands each packet over at most so many ms after it was sent answers each command in twice the time, where no
+/// K confirms it and where room is never wanting.
+pub fn a_fair_network_answers_each_command()
+    ensures { (setup : Setup) (steps : List WorldStep) (within : ℕ) (b : Begun) → IsSetUp setup →
+        steps_are_taken setup world_opening steps ≡ true → within ≤ 10000 → IsFair setup steps within → AlwaysHasRoom setup steps →
+        IsNeverConfirmed setup steps b.id → let w = plain_world setup steps in IsIssued setup w b →
+        b.moment + 2 * within ≤ now_in setup w → HasAnswer b.id (agent_in setup w) }
 {}
 
 /// A copy of a notification or an announcement that is handed to the agent is taken at once, if it wasn't before, and a packet with

@@ -1,0 +1,309 @@
+-- A network that hands each packet over in time answers each command in twice the time.
+use Rattle.std.proofs.Common.{◌≡◌, ◌≢◌, ℕ, zero, suc, ◌+◌, ◌*◌, ◌<◌, ◌≤◌, true, ◌==◌, List, [], ◌∷◌, ◌++◌, length, Option, Some, inl, inr, refl, sym, ap, ◌∙◌, subst, arith, append_assoc}
+use Rattle.std.specs.Prelude.{◌⊎◌, All, AllPairs, IfSome, slice_get}
+use Rattle.std.specs.Str.{bytes_eq}
+use Rattle.std.proofs.lemmas.Bool.{and_parts}
+use Rattle.std.proofs.lemmas.Bool.Decides.{Decides-eqb}
+use Rattle.std.proofs.lemmas.Option.{none-some}
+use Rattle.mgcp_text.specs.declared.message.Message.TheVariants as messages
+use Rattle.mgcp_text.specs.Reading.{Outcome, message, no_header, bad_version, bad_body, read_text}
+use Rattle.history.specs.declared.entry.KeptFirst.{KeptFirst}
+use Rattle.history.specs.Kept.{firsts_in}
+use Rattle.transmission.specs.Texts.{texts_of}
+use Rattle.plain_machine.specs.declared.setup.Setup.{Setup}
+use Rattle.plain_machine.specs.Event.{datagram}
+use Rattle.plain_machine.specs.Setup.{IsSetUp}
+use Rattle.machine_laws.specs.Saying.{Begun, Carries, IsAnswerTo, OneOf, Tells, is_command_as}
+use Rattle.machine_laws.proofs.EachLemmas.{Each, any_from_one, each_at, each_from_all, one_from_any, one_of_each, one_to, one_weaker}
+use Rattle.call_agent.specs.Agent.{AgentMachine}
+use Rattle.agent_core.specs.declared.packet.Posted.{Posted}
+use Rattle.agent_core.specs.declared.packet.End.{End}
+use Rattle.agent_core.specs.declared.packet.End.TheVariants.{AgentEnd as agent_end, GatewayEnd as gateway_end}
+use Rattle.agent_core.specs.World.{World, WorldStep, agent_in, delivering, now_in, plain_world, steps_are_taken, world_opening}
+use Rattle.world_laws.specs.Reached.{issued_in}
+use Rattle.world_laws.proofs.AgentLaws.{WasIssued}
+use Rattle.world_laws.proofs.WorldLaws.{Posts, Sends, Sound, agent_answers, gateway_clock, world_sound}
+use Rattle.delivery_laws.specs.Copies.{IsCopy, IsIssued, IsAnswered, IsConfirmedAmong, HasAnswer, gateway_firsts}
+use Rattle.delivery_laws.specs.Chances.{IsSentAfter, chances}
+use Rattle.delivery_laws.specs.Fairness.{IsHandedOver, IsFair, AlwaysHasRoom, IsNeverConfirmed}
+use Rattle.delivery_laws.proofs.StepLemmas.{HasIn, handed_to_gateway, has_answer, plain_grows, step_more, taken_front}
+use Rattle.delivery_laws.proofs.PlaceLemmas.{found_before}
+use Rattle.delivery_laws.proofs.ChanceLaws.{sent_eight_times}
+use Rattle.delivery_laws.proofs.ServedLaws.{answered_at_once, had_in, stored_final, stored_is}
+
+-- Two beginnings of one list
+
+abbrev IsBefore : List WorldStep → List WorldStep → Type 0
+IsBefore a b = (more : List WorldStep) × (b ≡ a ++ more)
+
+head_same : (s t : WorldStep) (a b : List WorldStep) → s ∷ a ≡ t ∷ b → s ≡ t
+head_same s t a b same = cc
+
+tail_same : (s t : WorldStep) (a b : List WorldStep) → s ∷ a ≡ t ∷ b → a ≡ b
+tail_same s t a b same = cc
+
+one_first : (a b x y : List WorldStep) → a ++ x ≡ b ++ y → IsBefore a b ⊎ IsBefore b a
+one_first [] b x y same = inl (b, refl)
+one_first (s ∷ a) [] x y same = inr (s ∷ a, refl)
+one_first (s ∷ a) (t ∷ b) x y same = by_rest (one_first a b x y (tail_same s t (a ++ x) (b ++ y) same)) where
+  first : s ≡ t
+  first = head_same s t (a ++ x) (b ++ y) same
+
+  by_rest : IsBefore a b ⊎ IsBefore b a → IsBefore (s ∷ a) (t ∷ b) ⊎ IsBefore (t ∷ b) (s ∷ a)
+  by_rest (inl before) = inl (before.0, ap (λ (x : List WorldStep). t ∷ x) before.1 ∙ ap (λ (z : WorldStep). z ∷ (a ++ before.0)) (sym first))
+  by_rest (inr before) = inr (before.0, ap (λ (x : List WorldStep). s ∷ x) before.1 ∙ ap (λ (z : WorldStep). z ∷ (b ++ before.0)) first)
+
+-- Who is told of was issued
+
+length_more : (xs ys : List Posted) → length xs ≤ length (xs ++ ys)
+length_more [] ys = omega arith
+length_more (x ∷ xs) ys = let less = length_more xs ys in omega (arith, less)
+
+found_within : (xs : List Posted) (place : ℕ) (post : Posted) → slice_get xs place ≡ Some post → place < length xs
+found_within [] place post at = absurd (none-some post at)
+found_within (x ∷ xs) zero post at = omega arith
+found_within (x ∷ xs) (suc place) post at = let less = found_within xs place post at in omega (arith, less)
+
+-- each has an id of its own
+abbrev AreApart : List Begun → Type 0
+AreApart [] = Unit {0}
+AreApart (b ∷ all) = Each (λ (c : Begun). b.id ≢ c.id) all × AreApart all
+
+apart_from : (all : List Begun) → AllPairs (λ (a b : Begun). a.id ≢ b.id) all → AreApart all
+apart_from [] pairs = tt
+apart_from (b ∷ all) pairs = (
+  each_from_all (λ (c : Begun). b.id ≢ c.id) all (λ k d within. pairs zero (suc k) d (omega arith) (omega (arith, within))),
+  apart_from all (λ i j d less within. pairs (suc i) (suc j) d (omega (arith, less)) (omega (arith, within))),
+)
+
+same_one : (all : List Begun) → AreApart all → (b c : Begun) → OneOf (λ (one : Begun). one ≡ b) all → OneOf (λ (one : Begun). one ≡ c) all → b.id ≡ c.id → c ≡ b
+same_one [] apart b c one other same = absurd one
+same_one (x ∷ all) apart b c (inl is) (inl at) same = sym at ∙ is
+same_one (x ∷ all) apart b c (inl is) (inr other) same =
+    absurd (one_to (λ (y : Begun). (x.id ≢ y.id) × (y ≡ c)) ⊥ (λ y both. both.0 (ap (λ (z : Begun). z.id) is ∙ same ∙ sym (ap (λ (z : Begun). z.id) both.1))) all
+    (one_of_each (λ (y : Begun). x.id ≢ y.id) (λ (y : Begun). y ≡ c) all apart.0 other))
+same_one (x ∷ all) apart b c (inr one) (inl at) same =
+    absurd (one_to (λ (y : Begun). (x.id ≢ y.id) × (y ≡ b)) ⊥ (λ y both. both.0 (ap (λ (z : Begun). z.id) at ∙ sym same ∙ sym (ap (λ (z : Begun). z.id) both.1))) all
+    (one_of_each (λ (y : Begun). x.id ≢ y.id) (λ (y : Begun). y ≡ b) all apart.0 one))
+same_one (x ∷ all) apart b c (inr one) (inr other) same = same_one all apart.1 b c one other same
+
+-- one of those that were issued first with its id is the command itself
+found_one : (some whole : List Begun) (b : Begun) → AreApart whole → OneOf (λ (one : Begun). one ≡ b) whole
+    → ((c : Begun) → OneOf (λ (one : Begun). one ≡ c) some → OneOf (λ (one : Begun). one ≡ c) whole) → OneOf (λ (c : Begun). c.id ≡ b.id) some → OneOf (λ (one : Begun). one ≡ b) some
+found_one [] whole b apart mine stays one = absurd one
+found_one (x ∷ some) whole b apart mine stays (inl is) = inl (same_one whole apart b x mine (stays x (inl refl)) (sym is))
+found_one (x ∷ some) whole b apart mine stays (inr one) = inr (found_one some whole b apart mine (λ c is. stays c (inr is)) one)
+
+-- a command's id is that under which it is read
+one_id : (id other : ℕ) (name next : List ℕ) (outcome : Outcome) → is_command_as id name outcome ≡ true → is_command_as other next outcome ≡ true → id ≡ other
+one_id id other name next no_header is as' = absurd cc
+one_id id other name next (bad_version x) is as' = absurd cc
+one_id id other name next (bad_body x) is as' = absurd cc
+one_id id other name next (message (messages.Response code x params body)) is as' = absurd cc
+one_id id other name next (message (messages.Command verb x of params body)) is as' =
+    sym ((Decides-eqb x id).0 (and_parts (x == id) (bytes_eq of name) is).0) ∙ (Decides-eqb x other).0 (and_parts (x == other) (bytes_eq of next) as').0
+
+-- a command that the agent sent is one that it issued
+told_issued : (all : List Begun) (firsts : List KeptFirst) (now next : ℕ) (b : Begun) (name : List ℕ) (moment : ℕ) → Each (WasIssued now next) all
+    → Each (λ (first : KeptFirst). IsAnswerTo first.id first.answer) firsts → is_command_as b.id name (read_text b.text) ≡ true → Tells all firsts b.text moment
+    → OneOf (λ (c : Begun). c.id ≡ b.id) all
+told_issued all firsts now next b name moment issued answers reads (inl carried) =
+    one_weaker (λ (c : Begun). WasIssued now next c × Carries b.text moment c) (λ (c : Begun). c.id ≡ b.id)
+    (λ c both. one_id c.id b.id both.0.name name (read_text b.text) (ap (λ (t : List ℕ). is_command_as c.id both.0.name (read_text t)) both.1.text ∙ both.0.reads) reads) all
+    (one_of_each (WasIssued now next) (Carries b.text moment) all issued carried)
+told_issued all firsts now next b name moment issued answers reads (inr (inl answered)) =
+    absurd (one_to (λ (first : KeptFirst). IsAnswerTo first.id first.answer × (first.answer ≡ b.text)) ⊥
+    (λ first both. let e : is_command_as b.id name (message (messages.Response both.0.code first.id both.0.params both.0.body)) ≡ true =
+    ap (is_command_as b.id name) (sym both.0.reads ∙ ap read_text both.1) ∙ reads in absurd cc) firsts
+    (one_of_each (λ (first : KeptFirst). IsAnswerTo first.id first.answer) (λ (first : KeptFirst). first.answer ≡ b.text) firsts answers answered))
+told_issued all firsts now next b name moment issued answers reads (inr (inr is)) =
+    absurd (let e : is_command_as b.id name (message (messages.Response 0 is.id [] [])) ≡ true = ap (is_command_as b.id name) (sym is.reads) ∙ reads in cc)
+
+-- so where a copy of it was sent, it was issued
+pub sent_issued : (setup : Setup) (steps more : List WorldStep) (b : Begun) (number : ℕ) → steps_are_taken setup world_opening (steps ++ more) ≡ true
+    → IsIssued setup (plain_world setup (steps ++ more)) b → IsCopy setup (plain_world setup steps) agent_end b.text number → IsIssued setup (plain_world setup steps) b
+sent_issued setup steps more b number taken issued copy =
+    any_from_one (λ (one : Begun). one ≡ b) all
+    (found_one all (issued_in setup whole) b (apart_from (issued_in setup whole) last.agrees.agent.apart) (one_from_any (λ (one : Begun). one ≡ b) (issued_in setup whole) issued)
+    (λ c is. (plain_grows setup b.id steps more).issued c is)
+    (told_issued all firsts m.now m.next b was.name copy.post.packet.moment s.agrees.agent.issued (agent_answers all m s.agrees.agent) was.reads told)) where
+      w : World
+      w = plain_world setup steps
+
+      whole : World
+      whole = plain_world setup (steps ++ more)
+
+      m : AgentMachine
+      m = agent_in setup w
+
+      all : List Begun
+      all = issued_in setup w
+
+      firsts : List KeptFirst
+      firsts = firsts_in m.history
+
+      s : Sound setup w
+      s = world_sound setup steps (taken_front setup world_opening steps more taken)
+
+      last : Sound setup whole
+      last = world_sound setup (steps ++ more) taken
+
+      was : WasIssued (agent_in setup whole).now (agent_in setup whole).next b
+      was =
+          one_to (λ (one : Begun). WasIssued (agent_in setup whole).now (agent_in setup whole).next one × (one ≡ b)) (WasIssued (agent_in setup whole).now (agent_in setup whole).next b)
+          (λ one both. subst (WasIssued (agent_in setup whole).now (agent_in setup whole).next) both.1 both.0) (issued_in setup whole)
+          (one_of_each (WasIssued (agent_in setup whole).now (agent_in setup whole).next) (λ (one : Begun). one ≡ b) (issued_in setup whole) last.agrees.agent.issued
+          (one_from_any (λ (one : Begun). one ≡ b) (issued_in setup whole) issued))
+
+      told : Tells all firsts b.text copy.post.packet.moment
+      told =
+          let sends : Sends all firsts m.now copy.post =
+          subst (λ (o : Option Posted). IfSome o (Sends all firsts m.now)) copy.found (each_at (Sends all firsts m.now) w.posted number s.agrees.posted) in
+          let posts : Posts all firsts m.now agent_end copy.post.packet = subst (λ (end : End). Posts all firsts m.now end copy.post.packet) copy.sender sends in
+          one_to (λ (text : List ℕ). (Tells all firsts text copy.post.packet.moment × (copy.post.packet.moment ≤ m.now)) × (text ≡ b.text)) (Tells all firsts b.text copy.post.packet.moment)
+          (λ text both. subst (λ (t : List ℕ). Tells all firsts t copy.post.packet.moment) both.1 both.0.0) (texts_of copy.post.packet.bytes)
+          (one_of_each (λ (text : List ℕ). Tells all firsts text copy.post.packet.moment × (copy.post.packet.moment ≤ m.now)) (λ (text : List ℕ). text ≡ b.text)
+          (texts_of copy.post.packet.bytes) posts (one_from_any (λ (one : List ℕ). one ≡ b.text) (texts_of copy.post.packet.bytes) copy.inside))
+
+-- An answer in twice the time
+
+-- a packet that is sent later is handed over later
+later_before : (setup : Setup) (id : ℕ) (a b x y : List WorldStep) (number : ℕ) (post : Posted) → a ++ x ≡ b ++ y → length (plain_world setup a).posted ≤ number
+    → slice_get (plain_world setup b).posted number ≡ Some post → IsBefore a b
+later_before setup id a b x y number post same since sent = by_first (one_first a b x y same) where
+  by_first : IsBefore a b ⊎ IsBefore b a → IsBefore a b
+  by_first (inl before) = before
+  by_first (inr before) =
+      absurd (
+      let grows = plain_grows setup id b before.0 in
+      let less : length (plain_world setup b).posted ≤ length (plain_world setup a).posted =
+      subst (λ (s : List WorldStep). length (plain_world setup b).posted ≤ length (plain_world setup s).posted) (sym before.1)
+      (subst (λ (p : List Posted). length (plain_world setup b).posted ≤ length p) (sym grows.posted) (length_more (plain_world setup b).posted grows.more)) in
+      let within = found_within (plain_world setup b).posted number post sent in
+      omega (arith, since, less, within))
+
+-- a packet that is handed over leaves the clock
+handed_now : (setup : Setup) (steps : List WorldStep) (text : List ℕ) (number : ℕ) → IsCopy setup (plain_world setup steps) agent_end text number
+    → now_in setup (plain_world setup (steps ++ delivering number ∷ [])) ≡ now_in setup (plain_world setup steps)
+handed_now setup steps text number copy =
+    ap (now_in setup) (step_more setup steps (delivering number) ∙ handed_to_gateway setup (plain_world setup steps) text number copy)
+    ∙ gateway_clock setup (plain_world setup steps) (datagram copy.post.packet.sender copy.post.packet.bytes)
+
+-- the moments
+
+there_late : (issued within sent now : ℕ) → sent ≡ issued + 0 → issued + 2 * within ≤ now → sent + within ≤ now
+there_late issued within sent now is late = omega (arith, is, late)
+
+there_soon : (issued within sent now back : ℕ) → sent ≡ issued + 0 → now ≤ sent + within → back ≡ now → back ≤ issued + within
+there_soon issued within sent now back is soon at = omega (arith, is, soon, at)
+
+back_late : (issued within sent now : ℕ) → sent ≤ issued + within → issued + 2 * within ≤ now → sent + within ≤ now
+back_late issued within sent now soon late = omega (arith, soon, late)
+
+back_soon : (issued within sent now : ℕ) → within ≤ 10000 → sent ≤ issued + within → now ≤ sent + within → now < issued + 23500
+back_soon issued within sent now short soon back = omega (arith, short, soon, back)
+
+-- what is found is found later too
+stays_found : (setup : Setup) (id : ℕ) (steps more : List WorldStep) (number : ℕ) (post : Posted) → slice_get (plain_world setup steps).posted number ≡ Some post
+    → slice_get (plain_world setup (steps ++ more)).posted number ≡ Some post
+stays_found setup id steps more number post found =
+    let grows = plain_grows setup id steps more in
+    subst (λ (posted : List Posted). slice_get posted number ≡ Some post) (sym grows.posted) (found_before (plain_world setup steps).posted grows.more number post found)
+
+module _ (setup : Setup) (steps : List WorldStep) (within : ℕ) (b : Begun) (set_up : IsSetUp setup) (taken : steps_are_taken setup world_opening steps ≡ true) (short : within ≤ 10000)
+    (fair : IsFair setup steps within) (roomy : AlwaysHasRoom setup steps) (unconfirmed : IsNeverConfirmed setup steps b.id) (issued : IsIssued setup (plain_world setup steps) b)
+    (late : b.moment + 2 * within ≤ now_in setup (plain_world setup steps)) where
+  taken_to : (front more : List WorldStep) → steps ≡ front ++ more → steps_are_taken setup world_opening front ≡ true
+  taken_to front more is = taken_front setup world_opening front more (subst (λ (x : List WorldStep). steps_are_taken setup world_opening x ≡ true) is taken)
+
+  -- the way back: the answer is handed over in its time
+  came_back : (before later : List WorldStep) (number : ℕ) → let first = before ++ delivering number ∷ [] in steps ≡ first ++ later
+      → (answer : IsAnswered setup (plain_world setup before) (plain_world setup first) b.id) → IsIssued setup (plain_world setup before) b
+      → answer.copy.post.packet.moment ≤ b.moment + within → HasAnswer b.id (agent_in setup (plain_world setup steps))
+  came_back before later number is answer told soon = has_answer b.id setup (plain_world setup steps) had where
+    first : List WorldStep
+    first = before ++ delivering number ∷ []
+
+    post : Posted
+    post = answer.copy.post
+
+    there : slice_get (plain_world setup steps).posted answer.number ≡ Some post
+    there =
+        subst (λ (s : List WorldStep). slice_get (plain_world setup s).posted answer.number ≡ Some post) (sym is)
+        (stays_found setup b.id first later answer.number post answer.copy.found)
+
+    back : IsHandedOver setup steps within answer.number post
+    back = fair answer.number post there (back_late b.moment within post.packet.moment (now_in setup (plain_world setup steps)) soon late)
+
+    whole : List WorldStep
+    whole = back.before ++ delivering answer.number ∷ []
+
+    after : IsBefore before back.before
+    after =
+        later_before setup b.id before back.before (delivering number ∷ later) (delivering answer.number ∷ back.later) answer.number post
+        (sym (append_assoc before (delivering number ∷ []) later) ∙ sym is ∙ back.order ∙ append_assoc back.before (delivering answer.number ∷ []) back.later) answer.since back.sent
+
+    still : IsIssued setup (plain_world setup back.before) b
+    still =
+        subst (λ (s : List WorldStep). IsIssued setup (plain_world setup s) b) (sym after.1)
+        (any_from_one (λ (one : Begun). one ≡ b) (issued_in setup (plain_world setup (before ++ after.0)))
+        ((plain_grows setup b.id before after.0).issued b (one_from_any (λ (one : Begun). one ≡ b) (issued_in setup (plain_world setup before)) told)))
+
+    copy : IsCopy setup (plain_world setup back.before) gateway_end answer.text answer.number
+    copy = record { post = post; found = back.sent; sender = answer.copy.sender; goes = answer.copy.goes; inside = answer.copy.inside }
+
+    reads : IsAnswerTo b.id answer.text
+    reads = stored_is setup first b.id answer.text set_up (taken_to first later is) answer.stored
+
+    had : HasIn b.id setup (plain_world setup steps)
+    had =
+        subst (λ (s : List WorldStep). HasIn b.id setup (plain_world setup s)) (sym back.order)
+        ((plain_grows setup b.id whole back.later).has
+        (had_in setup back.before answer.number b answer.text reads.code reads.params reads.body set_up (taken_to whole back.later back.order) still
+        (back_soon b.moment within post.packet.moment (now_in setup (plain_world setup back.before)) short soon back.soon) copy reads.reads
+        (stored_final setup first b.id answer.text set_up answer.stored reads.code b.id reads.params reads.body reads.reads)))
+
+  -- the way there: the first copy is handed over in its time
+  came : IsSentAfter setup (plain_world setup steps) b 0 → HasAnswer b.id (agent_in setup (plain_world setup steps))
+  came sent = by_answer (answered_at_once setup there.before sent.number b set_up (taken_to first there.later there.order) told copy (roomy first there.later there.order)) where
+    there : IsHandedOver setup steps within sent.number sent.copy.post
+    there =
+        fair sent.number sent.copy.post sent.copy.found (there_late b.moment within sent.copy.post.packet.moment (now_in setup (plain_world setup steps)) sent.moment late)
+
+    first : List WorldStep
+    first = there.before ++ delivering sent.number ∷ []
+
+    more : List WorldStep
+    more = delivering sent.number ∷ there.later
+
+    order : steps ≡ there.before ++ more
+    order = there.order ∙ append_assoc there.before (delivering sent.number ∷ []) there.later
+
+    copy : IsCopy setup (plain_world setup there.before) agent_end b.text sent.number
+    copy = record { post = sent.copy.post; found = there.sent; sender = sent.copy.sender; goes = sent.copy.goes; inside = sent.copy.inside }
+
+    told : IsIssued setup (plain_world setup there.before) b
+    told =
+        sent_issued setup there.before more b sent.number (subst (λ (s : List WorldStep). steps_are_taken setup world_opening s ≡ true) order taken)
+        (subst (λ (s : List WorldStep). IsIssued setup (plain_world setup s) b) order issued) copy
+
+    by_answer : IsConfirmedAmong b.id (gateway_firsts setup (plain_world setup first)) ⊎ IsAnswered setup (plain_world setup there.before) (plain_world setup first) b.id
+        → HasAnswer b.id (agent_in setup (plain_world setup steps))
+    by_answer (inl confirmed) = absurd (unconfirmed first there.later there.order confirmed)
+    by_answer (inr answer) =
+        came_back there.before there.later sent.number there.order answer told
+        (there_soon b.moment within sent.copy.post.packet.moment (now_in setup (plain_world setup there.before)) answer.copy.post.packet.moment sent.moment there.soon
+        (answer.moment ∙ handed_now setup there.before b.text sent.number copy))
+
+pub answered_in_time : (setup : Setup) (steps : List WorldStep) (within : ℕ) (b : Begun) → IsSetUp setup → steps_are_taken setup world_opening steps ≡ true → within ≤ 10000
+    → IsFair setup steps within → AlwaysHasRoom setup steps → IsNeverConfirmed setup steps b.id → let w = plain_world setup steps in IsIssued setup w b
+    → b.moment + 2 * within ≤ now_in setup w → HasAnswer b.id (agent_in setup w)
+answered_in_time setup steps within b set_up taken short fair roomy unconfirmed issued late = by_case (sent_eight_times setup steps b set_up taken issued) where
+  w : World
+  w = plain_world setup steps
+
+  by_case : HasAnswer b.id (agent_in setup w) ⊎ All (λ (wait : ℕ). b.moment + wait ≤ now_in setup w → IsSentAfter setup w b wait) chances → HasAnswer b.id (agent_in setup w)
+  by_case (inl has) = has
+  by_case (inr sent) =
+      let first : b.moment + 0 ≤ now_in setup w → IsSentAfter setup w b 0 = (each_from_all (λ (wait : ℕ). b.moment + wait ≤ now_in setup w → IsSentAfter setup w b wait) chances sent).0 in
+      came setup steps within b set_up taken short fair roomy unconfirmed issued late (first (omega (arith, late)))

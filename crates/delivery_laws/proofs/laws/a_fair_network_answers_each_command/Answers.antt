@@ -1,0 +1,5 @@
+use Rattle.delivery_laws.proofs.FairLaws.{answered_in_time}
+use Rattle.delivery_laws.proofs.laws.a_fair_network_answers_each_command.Goals as goal
+
+pub returns : goal.returns
+returns c = answered_in_time
