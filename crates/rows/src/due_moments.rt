@@ -6,12 +6,12 @@
 //! - `least 500 1 T` what is due first; `least -` nothing is;
 //! - `falls 36` so many are due, each behind the one before, and are cleared;
 //! - `keep` and `back`: the table as it was once.
-use crate::keeping::Thing;
-use crate::texts::number_text;
+use crate::keeping::{Kept, Thing};
 use mg_packages::SIGNALS;
 use scenario_files::{Row, unread};
 use std::alloc::Global;
 use std::io;
+use std::io::Write;
 use timers::{Due, DueItem, DueKind, LineDue, comes_before};
 
 // How many lines the table has beside the gateway itself.
@@ -52,20 +52,17 @@ fn places_of(row: &mut Row<'_>) -> Option<Places> {
 }
 
 // What is due first.
-fn least_text(alloc: Global, due: &Due) -> io::Result<String> {
+fn put_least(out: &mut Vec<u8>, due: &Due) -> io::Result<()> {
     let Some(item) = due.least() else {
-        return Ok("-".to_string(alloc)?);
+        return out.write_all(b"-");
     };
-    let (moment, line) = (item.moment, item.line);
-    Ok(match item.kind {
-        DueKind::OfLine(LineDue::DigitTimer) => format!(in alloc; "{moment} {line} T")?,
-        DueKind::OfLine(LineDue::SignalEnd(signal)) => {
-            let place = signal as u8;
-            format!(in alloc; "{moment} {line} signal {place}")?
-        }
-        DueKind::Resend => format!(in alloc; "{moment} {line} message")?,
-        DueKind::Announce => format!(in alloc; "{moment} {line} announcement")?,
-    })
+    write!(out, "{} {} ", item.moment, item.line)?;
+    match item.kind {
+        DueKind::OfLine(LineDue::DigitTimer) => out.write_all(b"T"),
+        DueKind::OfLine(LineDue::SignalEnd(signal)) => write!(out, "signal {}", signal as u8),
+        DueKind::Resend => out.write_all(b"message"),
+        DueKind::Announce => out.write_all(b"announcement"),
+    }
 }
 
 // Whether it falls due behind the last one, if there was one.
@@ -90,60 +87,45 @@ fn fallen(due: &mut Due, most: u32) -> u32 {
     most
 }
 
-/// A table.
-#[derive(Drop)]
-pub struct DueScenario {
-    due: Due,
+// A moment for each of these places, as `0-32 signal 8 600`; without a moment they are cleared.
+fn set_all(due: &mut Due, places: Places, moment: Option<u32>) -> io::Result<()> {
+    for line in places.first..=places.last {
+        if !due.has_place(line) {
+            return Err(unread());
+        }
+        match moment {
+            Some(moment) => due.set(line, places.kind, u64::from(moment)),
+            None => due.clear(line, places.kind),
+        }
+    }
+    Ok(())
 }
 
-impl DueScenario {
-    // `0-32 signal 8 600`.
-    fn set(&mut self, row: &mut Row<'_>) -> io::Result<()> {
-        let places = places_of(row).ok_or(unread())?;
-        let moment = u64::from(row.number()?);
-        for line in places.first..=places.last {
-            if !self.due.has_place(line) {
-                return Err(unread());
-            }
-            self.due.set(line, places.kind, moment);
-        }
-        Ok(())
+impl Thing for Due {
+    fn begin(alloc: Global) -> io::Result<Due> {
+        Ok(Due::new(alloc, LINES)?)
     }
 
-    fn clear(&mut self, row: &mut Row<'_>) -> io::Result<()> {
-        let places = places_of(row).ok_or(unread())?;
-        for line in places.first..=places.last {
-            if !self.due.has_place(line) {
-                return Err(unread());
-            }
-            self.due.clear(line, places.kind);
-        }
-        Ok(())
-    }
-}
-
-impl Thing for DueScenario {
-    fn begin(alloc: Global) -> io::Result<DueScenario> {
-        let due = Due::new(alloc, LINES)?;
-        Ok(DueScenario { due })
-    }
-
-    fn copy(&self, _alloc: Global) -> io::Result<DueScenario> {
-        let due = self.due.try_copy()?;
-        Ok(DueScenario { due })
-    }
-
-    fn turn(&mut self, alloc: Global, row: &mut Row<'_>) -> io::Result<String> {
+    fn turn(&mut self, _alloc: Global, out: &mut Vec<u8>, row: &mut Row<'_>) -> io::Result<()> {
         match row.before(" ") {
-            "set" => self.set(row)?,
-            "clear" => self.clear(row)?,
-            "least" => return least_text(alloc, &self.due),
+            "set" => {
+                let places = places_of(row).ok_or(unread())?;
+                let moment = row.number()?;
+                set_all(self, places, Some(moment))
+            }
+            "clear" => set_all(self, places_of(row).ok_or(unread())?, None),
+            "least" => put_least(out, self),
             "falls" => {
                 let most = row.left().parse::<u32>().unwrap_or(0);
-                return number_text(alloc, u64::from(fallen(&mut self.due, most)));
+                write!(out, "{}", fallen(self, most))
             }
-            _ => return Err(unread()),
+            _ => Err(unread()),
         }
-        Ok(String::new(alloc))
+    }
+}
+
+impl Kept for Due {
+    fn copy(&self, _alloc: Global) -> io::Result<Due> {
+        Ok(self.try_copy()?)
     }
 }

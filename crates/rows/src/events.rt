@@ -1,9 +1,9 @@
 //! Events as rows spell them.
-use crate::texts::words_of;
 use event_syntax::{Observed, read_observed, write_observed};
 use scenario_files::{or_unread, unread};
 use std::alloc::Global;
 use std::io;
+use std::io::Write;
 
 /// An event as O spells it: `L/hd`, or `L/oc(L/dl)` at the end of a signal.
 pub fn observed_of(alloc: Global, text: &str) -> io::Result<Observed> {
@@ -11,8 +11,7 @@ pub fn observed_of(alloc: Global, text: &str) -> io::Result<Observed> {
     list.as_slice().first().copied().ok_or(unread())
 }
 
-/// Events as O spells them.
-pub fn spelled(alloc: Global, events: &[Observed]) -> io::Result<String> {
-    let text = write_observed(alloc, events)?;
-    Ok(words_of(text.as_bytes()).to_string(alloc)?)
+/// Puts events as O spells them.
+pub fn put_events(alloc: Global, out: &mut Vec<u8>, events: &[Observed]) -> io::Result<()> {
+    out.write_all(write_observed(alloc, events)?.as_bytes())
 }

@@ -8,12 +8,13 @@
 //! - `run 1-20000 every 10 holding 3000` commands that come one by one, at their ids times 10 ms: each is new, and after a
 //!   purge no more firsts are ever kept; `run 1-4999 every 100 confirming holding 300` the same, each with a K that names all
 //!   so far.
-use crate::texts::number_text;
+use crate::keeping::Thing;
 use history::{History, IdSpan, Look};
 use mg_bytes::{Sequence, Text, decimal};
-use scenario_files::{Row, Scenario, again, range_in, unless_left, unread};
+use scenario_files::{Row, again, range_in, unread};
 use std::alloc::Global;
 use std::io;
+use std::io::Write;
 
 // `7` or `1-4096`.
 fn ids_of(text: &str) -> io::Result<IdSpan> {
@@ -76,113 +77,113 @@ fn told(history: &History, id: u32, now: u64) -> &'static str {
     }
 }
 
-/// A history.
-#[derive(Drop)]
-pub struct HistoryScenario {
-    history: History,
+// Keeps a command with its answer, the bytes of its id.
+fn keep(history: &mut History, alloc: Global, id: u32, moment: u64) -> io::Result<()> {
+    let answer = Text::of(id.to_be_bytes().to_vec(alloc)?);
+    Ok(history.first(id, moment, answer)?)
 }
 
-impl HistoryScenario {
-    // Keeps a command with its answer, the bytes of its id.
-    fn keep(&mut self, alloc: Global, id: u32, moment: u64) -> io::Result<()> {
-        let answer = Text::of(id.to_be_bytes().to_vec(alloc)?);
-        Ok(self.history.first(id, moment, answer)?)
+// Of several commands each is kept again where memory was refused.
+fn keep_all(history: &mut History, alloc: Global, row: &mut Row<'_>) -> io::Result<()> {
+    let (ids, moment) = (ids_of(row.before(" "))?, behind("at", row)?);
+    for id in ids.first..=ids.last {
+        again!(keep(history, alloc, id, moment))?;
+    }
+    Ok(())
+}
+
+// A K names all ids from this one to that.
+fn confirm_all(history: &mut History, alloc: Global, first: u32, last: u32) -> io::Result<()> {
+    let mut spans = Sequence::new(alloc);
+    spans.push(IdSpan { first, last })?;
+    Ok(history.confirm(spans)?)
+}
+
+// Puts what commands with these ids are, where one is something else than the row says, and says whether one is.
+fn put_unlike(
+    history: &History,
+    out: &mut Vec<u8>,
+    ids: IdSpan,
+    now: u64,
+    wanted: &str,
+) -> io::Result<bool> {
+    for id in ids.first..=ids.last {
+        let given = told(history, id, now);
+        if given != wanted {
+            write!(out, "{given} for {id}")?;
+            return Ok(true);
+        }
+    }
+    Ok(false)
+}
+
+// One command of a run: it is new, and is kept. Says whether it is otherwise, and puts that.
+fn put_come(
+    history: &mut History,
+    alloc: Global,
+    out: &mut Vec<u8>,
+    run: &Run,
+    id: u32,
+) -> io::Result<bool> {
+    let now = u64::from(id).saturating_mul(run.wait);
+    history.purge(now);
+    let held = history.len();
+    if held > run.most {
+        write!(out, "{held} at {now}")?;
+        return Ok(true);
+    }
+    let alone = IdSpan {
+        first: id,
+        last: id,
+    };
+    if put_unlike(history, out, alone, now, "new")? {
+        return Ok(true);
+    }
+    if run.confirming {
+        again!(confirm_all(history, alloc, run.ids.first, id))?;
+    }
+    again!(keep(history, alloc, id, now))?;
+    Ok(false)
+}
+
+// `run 1-20000 every 10 holding 3000`.
+fn put_run(
+    history: &mut History,
+    alloc: Global,
+    out: &mut Vec<u8>,
+    row: &mut Row<'_>,
+) -> io::Result<()> {
+    let run = run_of(row)?;
+    for id in run.ids.first..=run.ids.last {
+        if put_come(history, alloc, out, &run, id)? {
+            return Ok(());
+        }
+    }
+    Ok(())
+}
+
+// `7 at 30999 again`: what commands with these ids are.
+fn put_look(history: &History, out: &mut Vec<u8>, ids: &str, row: &mut Row<'_>) -> io::Result<()> {
+    let (ids, now) = (ids_of(ids)?, behind("at", row)?);
+    put_unlike(history, out, ids, now, row.rest())?;
+    Ok(())
+}
+
+impl Thing for History {
+    fn begin(alloc: Global) -> io::Result<History> {
+        Ok(History::new(alloc))
     }
 
-    // Of several commands each is kept again where memory was refused.
-    fn first(&mut self, alloc: Global, row: &mut Row<'_>) -> io::Result<()> {
-        let (ids, moment) = (ids_of(row.before(" "))?, behind("at", row)?);
-        for id in ids.first..=ids.last {
-            again!(self.keep(alloc, id, moment))?;
+    fn turn(&mut self, alloc: Global, out: &mut Vec<u8>, row: &mut Row<'_>) -> io::Result<()> {
+        match row.before(" ") {
+            "first" => keep_all(self, alloc, row)?,
+            "confirm" => self.confirm(spans_of(alloc, row.rest())?)?,
+            "purge" => self.purge(u64::from(row.number()?)),
+            "undo" => self.undo(),
+            "run" => put_run(self, alloc, out, row)?,
+            "holds" => write!(out, "{}", self.len())?,
+            ids => put_look(self, out, ids, row)?,
         }
         Ok(())
-    }
-
-    // A K names all ids from this one to that.
-    fn confirm_all(&mut self, alloc: Global, first: u32, last: u32) -> io::Result<()> {
-        let mut spans = Sequence::new(alloc);
-        spans.push(IdSpan { first, last })?;
-        Ok(self.history.confirm(spans)?)
-    }
-
-    // What a command is that a row doesn't say.
-    fn unlike_told(
-        &self,
-        alloc: Global,
-        id: u32,
-        now: u64,
-        wanted: &str,
-    ) -> io::Result<Option<String>> {
-        let given = told(&self.history, id, now);
-        if given == wanted {
-            return Ok(None);
-        }
-        Ok(Some(format!(in alloc; "{given} for {id}")?))
-    }
-
-    // One command of a run: it is new, and is kept. What is otherwise.
-    fn come(&mut self, alloc: Global, run: &Run, id: u32) -> io::Result<Option<String>> {
-        let now = u64::from(id).saturating_mul(run.wait);
-        self.history.purge(now);
-        let held = self.history.len();
-        if held > run.most {
-            return Ok(Some(format!(in alloc; "{held} at {now}")?));
-        }
-        if let Some(unlike) = self.unlike_told(alloc, id, now, "new")? {
-            return Ok(Some(unlike));
-        }
-        if run.confirming {
-            again!(self.confirm_all(alloc, run.ids.first, id))?;
-        }
-        again!(self.keep(alloc, id, now))?;
-        Ok(None)
-    }
-
-    fn run(&mut self, alloc: Global, row: &mut Row<'_>) -> io::Result<String> {
-        let run = run_of(row)?;
-        for id in run.ids.first..=run.ids.last {
-            if let Some(unlike) = self.come(alloc, &run, id)? {
-                return Ok(unlike);
-            }
-        }
-        Ok(String::new(alloc))
-    }
-
-    // `at 30999 again`: what commands with these ids are.
-    fn look(&self, alloc: Global, ids: IdSpan, row: &mut Row<'_>) -> io::Result<String> {
-        let now = behind("at", row)?;
-        let wanted = row.rest();
-        for id in ids.first..=ids.last {
-            if let Some(unlike) = self.unlike_told(alloc, id, now, wanted)? {
-                return Ok(unlike);
-            }
-        }
-        Ok(String::new(alloc))
-    }
-
-    fn turn(&mut self, alloc: Global, row: &mut Row<'_>) -> io::Result<String> {
-        match row.before(" ") {
-            "first" => self.first(alloc, row)?,
-            "confirm" => self.history.confirm(spans_of(alloc, row.rest())?)?,
-            "purge" => self.history.purge(u64::from(row.number()?)),
-            "undo" => self.history.undo(),
-            "run" => return self.run(alloc, row),
-            "holds" => return number_text(alloc, self.history.len() as u64),
-            ids => return self.look(alloc, ids_of(ids)?, row),
-        }
-        Ok(String::new(alloc))
-    }
-}
-
-impl Scenario for HistoryScenario {
-    fn begin(alloc: Global) -> io::Result<HistoryScenario> {
-        let history = History::new(alloc);
-        Ok(HistoryScenario { history })
-    }
-
-    fn unlike(&mut self, alloc: Global, row: &str) -> io::Result<Option<String>> {
-        let mut left = Row::of(row);
-        let given = self.turn(alloc, &mut left);
-        unless_left(alloc, given, &left)
     }
 }

@@ -1,5 +1,6 @@
-//! Things that rows go on with, and that can be kept as they are, and come back: `keep` and `back` of each such kind.
-use scenario_files::{Row, Scenario, unless_left};
+//! Things that rows go on with. Some can be kept as they are, and come back: `keep` and `back` of each such kind.
+use crate::texts::unless_said;
+use scenario_files::{Row, Scenario};
 use std::alloc::Global;
 use std::io;
 
@@ -8,11 +9,40 @@ pub trait Thing {
     /// What it is under a new title.
     fn begin(alloc: Global) -> io::Result<Self>;
 
+    /// Puts what a row gives, which it must say with what is left of it.
+    fn turn(&mut self, alloc: Global, out: &mut Vec<u8>, row: &mut Row<'_>) -> io::Result<()>;
+}
+
+/// A thing that can be kept. After an error in a turn it isn't used any more.
+pub trait Kept: Thing {
     /// The same once more.
     fn copy(&self, alloc: Global) -> io::Result<Self>;
+}
 
-    /// What a row gives, which it must say with what is left of it. After an error the thing isn't used any more.
-    fn turn(&mut self, alloc: Global, row: &mut Row<'_>) -> io::Result<String>;
+// What a row gives that it doesn't say, played at a thing.
+fn unlike<T: Thing>(thing: &mut T, alloc: Global, row: &str) -> io::Result<Option<String>> {
+    let mut out = Vec::new(alloc);
+    let mut left = Row::of(row);
+    let done = thing.turn(alloc, &mut out, &mut left);
+    unless_said(alloc, done, &out, left.left())
+}
+
+/// A thing that can't be kept. A turn changes it last, so after an error it is as it was.
+#[derive(Drop)]
+pub struct Going<T> {
+    thing: T,
+}
+
+impl<T: Thing + Drop> Scenario for Going<T> {
+    fn begin(alloc: Global) -> io::Result<Going<T>> {
+        Ok(Going {
+            thing: T::begin(alloc)?,
+        })
+    }
+
+    fn unlike(&mut self, alloc: Global, row: &str) -> io::Result<Option<String>> {
+        unlike(&mut self.thing, alloc, row)
+    }
 }
 
 /// A thing, and as it was kept; under a new title that is as it begins.
@@ -22,7 +52,7 @@ pub struct Keeping<T> {
     kept: T,
 }
 
-impl<T: Thing + Drop> Scenario for Keeping<T> {
+impl<T: Kept + Drop> Scenario for Keeping<T> {
     fn begin(alloc: Global) -> io::Result<Keeping<T>> {
         let now = T::begin(alloc)?;
         let kept = now.copy(alloc)?;
@@ -36,11 +66,9 @@ impl<T: Thing + Drop> Scenario for Keeping<T> {
             "back" => self.now = self.kept.copy(alloc)?,
             _ => {
                 let mut next = self.now.copy(alloc)?;
-                let mut left = Row::of(row);
-                let given = next.turn(alloc, &mut left);
-                let unlike = unless_left(alloc, given, &left)?;
+                let given = unlike(&mut next, alloc, row)?;
                 self.now = next;
-                return Ok(unlike);
+                return Ok(given);
             }
         }
         Ok(None)

@@ -19,19 +19,19 @@ mod signal_sets;
 mod texts;
 mod values;
 
-use crate::due_moments::DueScenario;
-use crate::histories::HistoryScenario;
-use crate::keeping::Keeping;
-use crate::line::LineScenario;
+use crate::keeping::{Going, Keeping};
 use crate::line_connections::ConnectionsScenario;
 use crate::messages::MessageScenario;
-use crate::quarantines::QuarantineScenario;
 use crate::requests::RequestScenario;
-use crate::signal_sets::SignalScenario;
 use crate::values::Values;
+use history::History;
+use mg_line::Line;
+use quarantine::Buffer;
 use scenario_files::{Count, Kinds, told};
+use signals::SignalSet;
 use std::io;
 use std::net::Net;
+use timers::Due;
 
 /// The kinds of rows.
 pub struct Rows;
@@ -44,14 +44,14 @@ impl Kinds for Rows {
     ) -> io::Result<Option<Count>> {
         Ok(Some(match kind {
             "values" => told::<Values, R>(rt, text)?,
-            "line" => told::<Keeping<LineScenario>, R>(rt, text)?,
-            "request" => told::<RequestScenario, R>(rt, text)?,
-            "signals" => told::<SignalScenario, R>(rt, text)?,
-            "quarantine" => told::<Keeping<QuarantineScenario>, R>(rt, text)?,
+            "line" => told::<Keeping<Line>, R>(rt, text)?,
+            "request" => told::<Going<RequestScenario>, R>(rt, text)?,
+            "signals" => told::<Going<SignalSet>, R>(rt, text)?,
+            "quarantine" => told::<Keeping<Buffer>, R>(rt, text)?,
             "message" => told::<Keeping<MessageScenario>, R>(rt, text)?,
-            "history" => told::<HistoryScenario, R>(rt, text)?,
+            "history" => told::<Going<History>, R>(rt, text)?,
             "connections" => told::<Keeping<ConnectionsScenario>, R>(rt, text)?,
-            "moments" => told::<Keeping<DueScenario>, R>(rt, text)?,
+            "moments" => told::<Keeping<Due>, R>(rt, text)?,
             _ => return Ok(None),
         }))
     }

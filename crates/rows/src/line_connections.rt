@@ -13,45 +13,43 @@
 //! Behind a row's parameters stand fields that its answer has, or its return code; 0 stands for a value that isn't read.
 mod asked;
 
-use crate::keeping::Thing;
-use crate::texts::{unless_fields, words_of};
+use crate::keeping::{Kept, Thing};
+use crate::texts::{put_code, unless_fields, words_of};
 use asked::{change_of, creation_of, deletion_of, identifier_in};
 use connections::{Audited, Connections, Created, Encoding, mode_text, read_encoding};
 use mg_bytes::CodeFault;
-use scenario_files::{Row, code_text, unread};
-use sdp_subset::write_sdp;
+use scenario_files::{Row, unread};
+use sdp_subset::{Session, write_sdp};
 use std::alloc::Global;
 use std::io;
+use std::io::Write;
 use std::net::Ipv4Addr;
 
-// Lines as fields.
-fn fields_of(alloc: Global, lines: &str) -> Result<String, CodeFault> {
-    Ok(lines.trim_end().replace(alloc, "\r\n", "  ")?)
+// Puts the lines of a description, a field each.
+fn put_description(alloc: Global, out: &mut Vec<u8>, description: &Session) -> io::Result<()> {
+    let text = write_sdp(alloc, description)?;
+    let lines = words_of(text.as_bytes()).trim_end();
+    let fields = lines.replace(alloc, "\r\n", "  ")?;
+    out.write_all(fields.as_bytes())
 }
 
 // What can be read of a connection, and its description.
-fn audited_text(alloc: Global, audited: &Audited) -> Result<String, CodeFault> {
-    let description = write_sdp(alloc, &audited.description)?;
-    let (call, mode) = (
-        audited.connection.call.as_slice(),
-        mode_text(audited.connection.mode),
-    );
-    let known = match &audited.connection.remote {
+fn put_audited(alloc: Global, out: &mut Vec<u8>, audited: &Audited) -> io::Result<()> {
+    let connection = &audited.connection;
+    let call = words_of(connection.call.as_slice());
+    let mode = words_of(mode_text(connection.mode));
+    let known = match &connection.remote {
         Some(_) => "known",
         None => "unknown",
     };
-    let (call, mode) = (words_of(call), words_of(mode));
-    let lines = words_of(description.as_bytes());
-    let text = format!(in alloc; "C {call}\r\nM {mode}\r\nRTP {known}\r\n{lines}")?;
-    fields_of(alloc, text.as_str())
+    write!(out, "C {call}  M {mode}  RTP {known}  ")?;
+    put_description(alloc, out, &audited.description)
 }
 
 // The number of a connection, and its description.
-fn created_text(alloc: Global, created: &Created) -> Result<String, CodeFault> {
-    let description = write_sdp(alloc, &created.description)?;
-    let lines = words_of(description.as_bytes());
-    let text = format!(in alloc; "I {}\r\n{lines}", created.number)?;
-    fields_of(alloc, text.as_str())
+fn put_created(alloc: Global, out: &mut Vec<u8>, created: &Created) -> io::Result<()> {
+    write!(out, "I {}  ", created.number)?;
+    put_description(alloc, out, &created.description)
 }
 
 /// The connections of a line, its encoding, and the last answer.
@@ -59,65 +57,70 @@ fn created_text(alloc: Global, created: &Created) -> Result<String, CodeFault> {
 pub struct ConnectionsScenario {
     line: Connections,
     encoding: Encoding,
-    answer: String,
+    answer: Vec<u8>,
 }
 
 impl ConnectionsScenario {
-    fn create(&mut self, alloc: Global, fields: &str) -> Result<String, CodeFault> {
-        let creation = creation_of(alloc, fields)?;
-        match self.line.create(self.encoding, creation) {
-            Ok(created) => created_text(alloc, &created),
-            Err(fault) => Err(fault),
-        }
+    fn create(&mut self, alloc: Global, fields: &str) -> Result<Created, CodeFault> {
+        self.line.create(self.encoding, creation_of(alloc, fields)?)
     }
 
-    fn modify(&mut self, alloc: Global, fields: &str) -> Result<String, CodeFault> {
+    fn modify(&mut self, alloc: Global, fields: &str) -> Result<Option<Session>, CodeFault> {
         let (call, id) = (identifier_in(fields, "C: ")?, identifier_in(fields, "I: ")?);
         let change = change_of(alloc, fields)?;
-        match self.line.modify(self.encoding, &call, &id, change)? {
-            Some(description) => {
-                fields_of(alloc, words_of(write_sdp(alloc, &description)?.as_bytes()))
-            }
-            None => Ok("-".to_string(alloc)?),
+        self.line.modify(self.encoding, &call, &id, change)
+    }
+
+    fn audit(&self, fields: &str) -> Result<Audited, CodeFault> {
+        self.line.audit(&identifier_in(fields, "I: ")?)
+    }
+
+    fn delete(&mut self, fields: &str) -> Result<(), CodeFault> {
+        self.line.delete(&deletion_of(fields)?)
+    }
+
+    fn put_creation(&mut self, alloc: Global, out: &mut Vec<u8>, fields: &str) -> io::Result<()> {
+        match self.create(alloc, fields) {
+            Ok(created) => put_created(alloc, out, &created),
+            Err(fault) => put_code(out, fault),
         }
     }
 
-    fn audit(&self, alloc: Global, fields: &str) -> Result<String, CodeFault> {
-        match self.line.audit(&identifier_in(fields, "I: ")?) {
-            Ok(audited) => audited_text(alloc, &audited),
-            Err(fault) => Err(fault),
+    fn put_change(&mut self, alloc: Global, out: &mut Vec<u8>, fields: &str) -> io::Result<()> {
+        match self.modify(alloc, fields) {
+            Ok(Some(description)) => put_description(alloc, out, &description),
+            Ok(None) => out.write_all(b"-"),
+            Err(fault) => put_code(out, fault),
         }
     }
 
-    // What a command is answered, as rows say it, or its return code.
-    fn answered(&mut self, alloc: Global, word: &str, fields: &str) -> Result<String, CodeFault> {
-        match word {
-            "create" => self.create(alloc, fields),
-            "modify" => self.modify(alloc, fields),
-            "audit" => self.audit(alloc, fields),
-            _ => {
-                self.line.delete(&deletion_of(fields)?)?;
-                Ok("-".to_string(alloc)?)
-            }
+    fn put_audit(&self, alloc: Global, out: &mut Vec<u8>, fields: &str) -> io::Result<()> {
+        match self.audit(fields) {
+            Ok(audited) => put_audited(alloc, out, &audited),
+            Err(fault) => put_code(out, fault),
+        }
+    }
+
+    fn put_deletion(&mut self, out: &mut Vec<u8>, fields: &str) -> io::Result<()> {
+        match self.delete(fields) {
+            Ok(()) => out.write_all(b"-"),
+            Err(fault) => put_code(out, fault),
         }
     }
 
     // The answer to a command, where a row doesn't say fields of it; a return code is always said.
-    fn command(&mut self, alloc: Global, word: &str, row: &mut Row<'_>) -> io::Result<String> {
-        let fields = row.parameters();
-        self.answer = match self.answered(alloc, word, fields) {
-            Ok(text) => text,
-            Err(fault) => code_text(alloc, fault)?,
-        };
-        let answer = self.answer.as_str();
-        if row.left().is_empty() && answer.parse::<u32>().is_err() {
-            return Ok(String::new(alloc));
+    fn answer(&mut self, out: &mut Vec<u8>, row: &mut Row<'_>) -> io::Result<()> {
+        self.answer.clear();
+        self.answer.extend_from_slice(out)?;
+        if row.left().is_empty() && words_of(out).parse::<u32>().is_err() {
+            out.clear();
+        } else {
+            unless_fields(out, row);
         }
-        unless_fields(alloc, answer, row)
+        Ok(())
     }
 
-    fn places(&self, alloc: Global) -> io::Result<String> {
-        let mut out = String::new(alloc);
+    fn put_places(&self, out: &mut Vec<u8>) -> io::Result<()> {
         for held in self.line.list() {
             let number = match held {
                 Some(connection) => connection.number,
@@ -125,7 +128,7 @@ impl ConnectionsScenario {
             };
             write!(out, " {number}")?;
         }
-        Ok(out)
+        Ok(())
     }
 }
 
@@ -134,29 +137,36 @@ impl Thing for ConnectionsScenario {
         Ok(ConnectionsScenario {
             line: Connections::new(Ipv4Addr::LOCALHOST, 3000),
             encoding: Encoding::Mu,
-            answer: String::new(alloc),
+            answer: Vec::new(alloc),
         })
     }
 
-    fn copy(&self, alloc: Global) -> io::Result<ConnectionsScenario> {
-        Ok(ConnectionsScenario {
-            line: self.line.try_copy()?,
-            encoding: self.encoding,
-            answer: self.answer.as_str().to_string(alloc)?,
-        })
-    }
-
-    fn turn(&mut self, alloc: Global, row: &mut Row<'_>) -> io::Result<String> {
-        let word = row.before(" ");
-        match word {
-            "create" | "modify" | "delete" | "audit" => self.command(alloc, word, row),
-            "answer" => Ok(self.answer.as_str().to_string(alloc)?),
-            "places" => self.places(alloc),
+    fn turn(&mut self, alloc: Global, out: &mut Vec<u8>, row: &mut Row<'_>) -> io::Result<()> {
+        match row.before(" ") {
+            "create" => self.put_creation(alloc, out, row.parameters())?,
+            "modify" => self.put_change(alloc, out, row.parameters())?,
+            "audit" => self.put_audit(alloc, out, row.parameters())?,
+            "delete" => self.put_deletion(out, row.parameters())?,
+            "answer" => return out.write_all(&self.answer),
+            "places" => return self.put_places(out),
             "encoding" => {
                 self.encoding = read_encoding(row.rest().as_bytes()).ok_or(unread())?;
-                Ok(String::new(alloc))
+                return Ok(());
             }
-            _ => Err(unread()),
+            _ => return Err(unread()),
         }
+        self.answer(out, row)
+    }
+}
+
+impl Kept for ConnectionsScenario {
+    fn copy(&self, alloc: Global) -> io::Result<ConnectionsScenario> {
+        let answer = Vec::from_slice(alloc, &self.answer)?;
+        let line = self.line.try_copy()?;
+        Ok(ConnectionsScenario {
+            line,
+            encoding: self.encoding,
+            answer,
+        })
     }
 }

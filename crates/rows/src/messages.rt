@@ -10,14 +10,14 @@
 //! - `keep` and `back`: the message as it was once.
 ghost use Rattle.std.specs.Prelude.{◌<◌, ◌^◌};
 
-use crate::keeping::Thing;
-use crate::texts::number_text;
+use crate::keeping::{Kept, Thing};
 use mgcp_text::TransactionId;
 use outbound::{Pending, Repeat, Reply};
 use routes::Route;
 use scenario_files::{Row, said, unread, value_of};
 use std::alloc::Global;
 use std::io;
+use std::io::Write;
 use std::net::{Ipv4Addr, SocketAddrV4};
 
 fn id_in(row: &mut Row<'_>) -> io::Result<TransactionId> {
@@ -91,6 +91,13 @@ impl MessageScenario {
             Reply::Stranger => "stranger",
         })
     }
+
+    // Its id, where it was sent last, and its text.
+    fn put_state(&self, alloc: Global, out: &mut Vec<u8>) -> io::Result<()> {
+        let text = said(alloc, self.message.text())?;
+        let (id, to) = (self.message.id().number(), self.message.to());
+        write!(out, "{id}  {to}  {text}")
+    }
 }
 
 impl Thing for MessageScenario {
@@ -99,34 +106,29 @@ impl Thing for MessageScenario {
         Ok(MessageScenario { message, hosts: 1 })
     }
 
+    fn turn(&mut self, alloc: Global, out: &mut Vec<u8>, row: &mut Row<'_>) -> io::Result<()> {
+        match row.before(" ") {
+            "hosts" => {
+                self.hosts = row.number()?;
+                Ok(())
+            }
+            "begins" => self.begins(alloc, row),
+            "repeat" => out.write_all(self.repeat(row)?.as_bytes()),
+            "answer" => out.write_all(self.answer(row)?.as_bytes()),
+            "due" => write!(out, "{}", self.message.due()),
+            "to" => write!(out, "{}", self.message.to()),
+            "is" => self.put_state(alloc, out),
+            _ => Err(unread()),
+        }
+    }
+}
+
+impl Kept for MessageScenario {
     fn copy(&self, _alloc: Global) -> io::Result<MessageScenario> {
         let message = self.message.try_copy()?;
         Ok(MessageScenario {
             message,
             hosts: self.hosts,
         })
-    }
-
-    fn turn(&mut self, alloc: Global, row: &mut Row<'_>) -> io::Result<String> {
-        match row.before(" ") {
-            "hosts" => {
-                self.hosts = row.number()?;
-                Ok(String::new(alloc))
-            }
-            "begins" => {
-                self.begins(alloc, row)?;
-                Ok(String::new(alloc))
-            }
-            "repeat" => Ok(self.repeat(row)?.to_string(alloc)?),
-            "answer" => Ok(self.answer(row)?.to_string(alloc)?),
-            "due" => number_text(alloc, self.message.due()),
-            "to" => Ok(self.message.to().to_string(alloc)?),
-            "is" => {
-                let (id, to) = (self.message.id().number(), self.message.to());
-                let text = said(alloc, self.message.text())?;
-                Ok(format!(in alloc; "{id}  {to}  {text}")?)
-            }
-            _ => Err(unread()),
-        }
     }
 }

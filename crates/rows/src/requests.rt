@@ -7,17 +7,19 @@
 //! - `lacks map  yes` some action D has no digit map where none is known; `lacks map with D  no` where one is;
 //! - `after L/hd  S L/dl  D (1|2)` the request that is embedded at this event takes effect: its S, and its D or `-`.
 use crate::events::observed_of;
+use crate::keeping::Thing;
 use crate::line::parameters::events_of;
-use crate::texts::{judged, words_of};
+use crate::texts::{put_judged, words_of};
 use event_requests::{Decision, Doing, EventRequest, decide};
 use event_syntax::{Action, Embedding, Observed, write_signals};
 use mg_packages::event_of;
-use scenario_files::{Row, Scenario, or_unread, unless_left, unread};
+use scenario_files::{Row, or_unread, unread};
 use std::alloc::Global;
 use std::io;
+use std::io::Write;
 
 // What is done, as a row says it.
-fn decision_text(alloc: Global, decision: Decision<'_>) -> io::Result<String> {
+fn put_decision(out: &mut Vec<u8>, decision: Decision<'_>) -> io::Result<()> {
     let done = match decision.doing {
         Doing::Plain(Action::Notify) => "notify",
         Doing::Plain(Action::Accumulate) => "accumulate",
@@ -27,49 +29,64 @@ fn decision_text(alloc: Global, decision: Decision<'_>) -> io::Result<String> {
         Doing::AccumulateAndEmbed(_) => "accumulate,embed",
     };
     let keep = if decision.keep { ",keep" } else { "" };
-    Ok(format!(in alloc; "{done}{keep}")?)
+    write!(out, "{done}{keep}")
 }
 
 // What a request says of an event that occurs: `at` it, or `keeps`.
-fn answer_at(
-    alloc: Global,
+fn put_answer_at(
+    out: &mut Vec<u8>,
     request: &EventRequest,
     word: &str,
     event: Observed,
-) -> io::Result<String> {
+) -> io::Result<()> {
     match word {
-        "at" => decision_text(alloc, decide(request, event)),
-        "keeps" => judged(alloc, request.is_kept(event)),
+        "at" => put_decision(out, decide(request, event)),
+        "keeps" => put_judged(out, request.is_kept(event)),
         _ => Err(unread()),
     }
 }
 
-/// What a request says to a question: `at L/hd`, `requested L/hd`, `keeps L/hd` or `lacks map`.
-pub fn answer(alloc: Global, request: &EventRequest, question: &str) -> io::Result<String> {
-    match question {
-        "lacks map" => return judged(alloc, request.lacks_map(false)),
-        "lacks map with D" => return judged(alloc, request.lacks_map(true)),
-        _ => {}
-    }
-    let (word, event) = question.split_once(' ').unwrap_or((question, ""));
-    if word != "requested" {
-        return answer_at(alloc, request, word, observed_of(alloc, event)?);
-    }
+// `requested L/hd`.
+fn put_requested(out: &mut Vec<u8>, request: &EventRequest, event: &str) -> io::Result<()> {
     match event_of(event.as_bytes()) {
-        Ok(event) => judged(alloc, request.is_requested(event)),
+        Ok(event) => put_judged(out, request.is_requested(event)),
         Err(_) => Err(unread()),
     }
 }
 
+// `lacks map`, or `lacks map with D`.
+fn put_lacking(out: &mut Vec<u8>, request: &EventRequest, what: &str) -> io::Result<()> {
+    match what {
+        "map" => put_judged(out, request.lacks_map(false)),
+        "map with D" => put_judged(out, request.lacks_map(true)),
+        _ => Err(unread()),
+    }
+}
+
+/// Puts what a request says to a question: `at L/hd`, `requested L/hd`, `keeps L/hd` or `lacks map`.
+pub fn put_answer(
+    alloc: Global,
+    out: &mut Vec<u8>,
+    request: &EventRequest,
+    question: &str,
+) -> io::Result<()> {
+    let (word, event) = question.split_once(' ').unwrap_or((question, ""));
+    match word {
+        "lacks" => put_lacking(out, request, event),
+        "requested" => put_requested(out, request, event),
+        _ => put_answer_at(out, request, word, observed_of(alloc, event)?),
+    }
+}
+
 // The S and the D of an embedded request.
-fn embedding_text(alloc: Global, embedding: &Embedding) -> io::Result<String> {
+fn put_embedding(alloc: Global, out: &mut Vec<u8>, embedding: &Embedding) -> io::Result<()> {
     let request = embedding.request();
     let signals = write_signals(alloc, request.signals.as_slice())?;
     let map = match &request.map {
         Some(map) => words_of(map.as_bytes()),
         None => "-",
     };
-    Ok(format!(in alloc; "S {}  D {map}", words_of(signals.as_bytes()))?)
+    write!(out, "S {}  D {map}", words_of(signals.as_bytes()))
 }
 
 /// What is asked for.
@@ -80,49 +97,44 @@ pub struct RequestScenario {
 
 impl RequestScenario {
     // The request that is embedded at this event takes effect: its S and its D.
-    fn take_effect(&mut self, alloc: Global, event: &str) -> io::Result<String> {
+    fn take_effect(&mut self, alloc: Global, out: &mut Vec<u8>, event: &str) -> io::Result<()> {
         let decision = decide(&self.request, observed_of(alloc, event)?);
         let (Doing::Embed(embedding) | Doing::AccumulateAndEmbed(embedding)) = decision.doing else {
-            return Ok("nothing is embedded".to_string(alloc)?);
+            return out.write_all(b"nothing is embedded");
         };
-        let text = embedding_text(alloc, embedding)?;
+        put_embedding(alloc, out, embedding)?;
         self.request = self.request.embedded(embedding)?;
-        Ok(text)
+        Ok(())
     }
 
-    // What the request says to a question, or a copy of it where that says something else.
-    fn answer(&self, alloc: Global, question: &str) -> io::Result<String> {
-        let given = answer(alloc, &self.request, question)?;
+    // What the request says to a question, and a copy of it where that says something else.
+    fn put_answer(&self, alloc: Global, out: &mut Vec<u8>, question: &str) -> io::Result<()> {
+        put_answer(alloc, out, &self.request, question)?;
+        let mut given = Vec::new(alloc);
         let copy = self.request.try_copy()?;
-        let given_by_copy = answer(alloc, &copy, question)?;
-        if given.as_str() == given_by_copy.as_str() {
-            return Ok(given);
+        put_answer(alloc, &mut given, &copy, question)?;
+        if given.as_slice() == out.as_slice() {
+            return Ok(());
         }
-        Ok(format!(in alloc; "{given}, and of a copy {given_by_copy}")?)
-    }
-
-    fn turn(&mut self, alloc: Global, row: &mut Row<'_>) -> io::Result<String> {
-        let question = row.before("  ");
-        if question == "asks" {
-            self.request = or_unread(events_of(alloc, row.rest()))?;
-            return Ok(String::new(alloc));
-        }
-        match question.strip_prefix("after ") {
-            Some(event) => self.take_effect(alloc, event),
-            None => self.answer(alloc, question),
-        }
+        write!(out, ", and of a copy {}", words_of(&given))
     }
 }
 
-impl Scenario for RequestScenario {
+impl Thing for RequestScenario {
     fn begin(_alloc: Global) -> io::Result<RequestScenario> {
         let request = EventRequest::nothing();
         Ok(RequestScenario { request })
     }
 
-    fn unlike(&mut self, alloc: Global, row: &str) -> io::Result<Option<String>> {
-        let mut left = Row::of(row);
-        let given = self.turn(alloc, &mut left);
-        unless_left(alloc, given, &left)
+    fn turn(&mut self, alloc: Global, out: &mut Vec<u8>, row: &mut Row<'_>) -> io::Result<()> {
+        let question = row.before("  ");
+        if question == "asks" {
+            self.request = or_unread(events_of(alloc, row.rest()))?;
+            return Ok(());
+        }
+        match question.strip_prefix("after ") {
+            Some(event) => self.take_effect(alloc, out, event),
+            None => self.put_answer(alloc, out, question),
+        }
     }
 }

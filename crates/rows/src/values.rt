@@ -12,9 +12,11 @@ mod names;
 mod packing;
 mod spelled;
 
-use scenario_files::{Row, Scenario, bytes_of, unless_left, unread};
+use crate::texts::unless_said;
+use scenario_files::{Scenario, bytes_of, said, unread};
 use std::alloc::Global;
 use std::io;
+use std::io::Write;
 
 /// Rows that stand alone.
 #[derive(Drop)]
@@ -30,51 +32,63 @@ pub fn numbered(call: &str) -> (&str, u16) {
     (call, 0)
 }
 
-// What a call gives of a value; each of the modules knows calls of its own.
-fn answer(alloc: Global, call: &str, value: &[u8]) -> io::Result<String> {
-    if let Some(given) = spelled::answer(alloc, call, value) {
-        return given;
+// Puts what a call gives of a value; each of the modules knows calls of its own.
+fn put_answer(alloc: Global, out: &mut Vec<u8>, call: &str, value: &[u8]) -> io::Result<()> {
+    if let Some(done) = spelled::put_answer(alloc, out, call, value) {
+        return done;
     }
-    if let Some(given) = maps::answer(alloc, call, value) {
-        return given;
+    if let Some(done) = maps::put_answer(alloc, out, call, value) {
+        return done;
     }
-    if let Some(given) = commands::answer(alloc, call, value) {
-        return given;
+    if let Some(done) = commands::put_answer(alloc, out, call, value) {
+        return done;
     }
-    if let Some(given) = descriptions::answer(alloc, call, value) {
-        return given;
+    if let Some(done) = descriptions::put_answer(alloc, out, call, value) {
+        return done;
     }
-    if let Some(given) = bytes::answer(alloc, call, value) {
-        return given;
+    if let Some(done) = bytes::put_answer(alloc, out, call, value) {
+        return done;
     }
-    if let Some(given) = names::answer(alloc, call, value) {
-        return given;
+    if let Some(done) = names::put_answer(alloc, out, call, value) {
+        return done;
     }
-    if let Some(given) = packing::answer(alloc, call, value) {
-        return given;
+    if let Some(done) = packing::put_answer(alloc, out, call, value) {
+        return done;
     }
-    messages::answer(alloc, call, value).unwrap_or(Err(unread()))
+    messages::put_answer(alloc, out, call, value).unwrap_or(Err(unread()))
+}
+
+// What a call gives of a value, as a row says it.
+fn given(alloc: Global, call: &str, field: &str) -> io::Result<String> {
+    let value = bytes_of(alloc, field)?;
+    let mut out = Vec::new(alloc);
+    put_answer(alloc, &mut out, call, &value)?;
+    said(alloc, &out)
 }
 
 // Whether a row says this answer.
 fn is_said(answer: &str, wanted: &str) -> bool {
     match wanted {
         "ok" => answer.parse::<u32>().is_err(),
-        "''" => answer.is_empty() || answer == wanted,
         _ => answer == wanted,
     }
 }
 
-// What a call gives of one of the values that the row doesn't say, with its place; else what the row says.
-fn given(alloc: Global, call: &str, values: &str, wanted: &str) -> io::Result<String> {
+// Puts what a call gives of one of the values that the row doesn't say, with its place; else what the row says.
+fn put_given(
+    alloc: Global,
+    out: &mut Vec<u8>,
+    call: &str,
+    values: &str,
+    wanted: &str,
+) -> io::Result<()> {
     for (place, field) in values.split("  ").enumerate() {
-        let value = bytes_of(alloc, field)?;
-        let given = answer(alloc, call, &value)?;
+        let given = given(alloc, call, field)?;
         if !is_said(given.as_str(), wanted) {
-            return Ok(format!(in alloc; "{given} for value {}", place.saturating_add(1))?);
+            return write!(out, "{given} for value {}", place.saturating_add(1));
         }
     }
-    Ok(wanted.to_string(alloc)?)
+    out.write_all(wanted.as_bytes())
 }
 
 impl Scenario for Values {
@@ -85,12 +99,13 @@ impl Scenario for Values {
     fn unlike(&mut self, alloc: Global, row: &str) -> io::Result<Option<String>> {
         let (rest, wanted) = row.rsplit_once("  ").unwrap_or((row, ""));
         let (call, values) = rest.split_once("  ").unwrap_or((rest, ""));
-        let given = match call {
-            "verdict" | "in range" => maps::answer_of_two(alloc, call, values),
+        let mut out = Vec::new(alloc);
+        let done = match call {
+            "verdict" | "in range" => maps::put_answer_of_two(alloc, &mut out, call, values),
             // Without a value the row would say nothing of the call.
             _ if values.is_empty() => Err(unread()),
-            _ => given(alloc, call, values, wanted),
+            _ => put_given(alloc, &mut out, call, values, wanted),
         };
-        unless_left(alloc, given, &Row::of(wanted))
+        unless_said(alloc, done, &out, wanted)
     }
 }

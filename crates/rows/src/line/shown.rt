@@ -1,67 +1,84 @@
 //! What can be read of a line, as rows say it.
+use crate::events::put_events;
 use crate::texts::words_of;
 use event_syntax::{write_handling, write_observed};
+use mg_bytes::{CodeFault, OutOfMemory};
 use mg_line::{Line, Notice};
 use mg_packages::{Hook, signal_name};
 use std::alloc::Global;
 use std::io;
+use std::io::Write;
 use timers::LineDue;
 
-/// A notification, where there is one: its X, a blank and its O.
-pub fn told(alloc: Global, notice: Option<&Notice>) -> io::Result<String> {
-    let Some(notice) = notice else {
-        return Ok(String::new(alloc));
-    };
+// Its X, a blank and its O.
+fn put_told(alloc: Global, out: &mut Vec<u8>, notice: &Notice) -> Result<(), OutOfMemory> {
     let observed = write_observed(alloc, notice.observed())?;
-    let (name, events) = (notice.identifier().as_slice(), observed.as_bytes());
-    Ok(format!(in alloc; "tells {} {}", words_of(name), words_of(events))?)
+    out.extend_from_slice(b"tells ")?;
+    out.extend_from_slice(notice.identifier().as_slice())?;
+    out.push(b' ')?;
+    out.extend_from_slice(observed.as_bytes())
+}
+
+/// Puts the notification that a line gives, where it gives one.
+pub fn put_notice(
+    alloc: Global,
+    out: &mut Vec<u8>,
+    given: Result<Option<Notice>, OutOfMemory>,
+) -> Result<(), CodeFault> {
+    match given {
+        Ok(Some(notice)) => Ok(put_told(alloc, out, &notice)?),
+        Ok(None) => Ok(()),
+        Err(_) => Err(CodeFault::OutOfMemory),
+    }
 }
 
 // The moment at which something falls due, and what it is.
-fn put_due(out: &mut String, line: &Line) -> io::Result<()> {
+fn put_due(out: &mut Vec<u8>, line: &Line) -> io::Result<()> {
     match line.due() {
-        Some((moment, LineDue::DigitTimer)) => write!(out, "due {moment} T")?,
+        Some((moment, LineDue::DigitTimer)) => write!(out, "due {moment} T"),
         Some((moment, LineDue::SignalEnd(signal))) => {
-            write!(out, "due {moment} {}", words_of(signal_name(signal)))?
+            write!(out, "due {moment} {}", words_of(signal_name(signal)))
         }
-        None => out.push_str("due -")?,
+        None => out.write_all(b"due -"),
+    }
+}
+
+// The active signals.
+fn put_signals(out: &mut Vec<u8>, line: &Line) -> io::Result<()> {
+    out.write_all(b"  signals")?;
+    for active in line.signals().as_slice() {
+        write!(out, " {}", words_of(signal_name(active.signal)))?;
     }
     Ok(())
 }
 
-// What is asked for, and what happened.
-fn put_kept(alloc: Global, out: &mut String, line: &Line) -> io::Result<()> {
+// What is asked for.
+fn put_asked(alloc: Global, out: &mut Vec<u8>, line: &Line) -> io::Result<()> {
     let handling = write_handling(alloc, line.handling())?;
-    let observed = write_observed(alloc, line.accumulated())?;
     let map = match line.digit_map() {
         Some(map) => words_of(map.as_bytes()),
         None => "-",
     };
+    let name = words_of(line.identifier().as_slice());
+    let handling = words_of(handling.as_bytes());
+    write!(out, "  X {name}  Q {handling}  D {map}")
+}
+
+// What happened.
+fn put_happened(alloc: Global, out: &mut Vec<u8>, line: &Line) -> io::Result<()> {
     let hook = match line.hook() {
         Hook::OffHook => "off",
         Hook::OnHook => "on",
     };
-    let (name, handling) = (
-        words_of(line.identifier().as_slice()),
-        words_of(handling.as_bytes()),
-    );
-    write!(
-        out,
-        "  X {name}  Q {handling}  D {map}  hook {hook}  lost {}",
-        line.lost()
-    )?;
-    let (count, events) = (line.accumulated().len(), words_of(observed.as_bytes()));
-    Ok(write!(out, "  accumulated {count}  O {events}")?)
+    let (lost, count) = (line.lost(), line.accumulated().len());
+    write!(out, "  hook {hook}  lost {lost}  accumulated {count}  O ")?;
+    put_events(alloc, out, line.accumulated())
 }
 
-/// What a line is, a field each.
-pub fn state_of(alloc: Global, line: &Line) -> io::Result<String> {
-    let mut out = String::new(alloc);
-    put_due(&mut out, line)?;
-    out.push_str("  signals")?;
-    for active in line.signals().as_slice() {
-        write!(out, " {}", words_of(signal_name(active.signal)))?;
-    }
-    put_kept(alloc, &mut out, line)?;
-    Ok(out)
+/// Puts what a line is, a field each.
+pub fn put_state(alloc: Global, out: &mut Vec<u8>, line: &Line) -> io::Result<()> {
+    put_due(out, line)?;
+    put_signals(out, line)?;
+    put_asked(alloc, out, line)?;
+    put_happened(alloc, out, line)
 }

@@ -1,6 +1,6 @@
 //! What is asked of connections, as rows say it: `C: 1A  I: 1  M: sendrecv  L: p:30  RTP: 8 0`.
 use crate::line::parameters::parameter;
-use connections::{Change, Creation, Deletion, Options, read_mode, read_options};
+use connections::{Change, Creation, Deletion, Mode, Options, read_mode, read_options};
 use mg_bytes::{CodeFault, Identifier};
 use sdp_subset::{Session, read_sdp};
 use std::alloc::Global;
@@ -27,39 +27,39 @@ fn remote_in(alloc: Global, fields: &str) -> Result<Option<Session>, CodeFault> 
     }
 }
 
+fn mode_in(fields: &str) -> Result<Option<Mode>, CodeFault> {
+    match parameter(fields, "M: ") {
+        Some(name) => Ok(Some(read_mode(name.as_bytes()).ok_or(UNREAD)?)),
+        None => Ok(None),
+    }
+}
+
+fn options_in(fields: &str) -> Result<Option<Options>, CodeFault> {
+    let Some(value) = parameter(fields, "L: ") else {
+        return Ok(None);
+    };
+    match read_options(value.as_bytes()) {
+        Ok(options) => Ok(Some(options)),
+        Err(code) => Err(CodeFault::Code(code)),
+    }
+}
+
 /// What is to be changed.
 pub fn change_of(alloc: Global, fields: &str) -> Result<Change, CodeFault> {
-    let mode = match parameter(fields, "M: ") {
-        Some(name) => Some(read_mode(name.as_bytes()).ok_or(UNREAD)?),
-        None => None,
-    };
-    let options = match parameter(fields, "L: ") {
-        Some(value) => match read_options(value.as_bytes()) {
-            Ok(options) => Some(options),
-            Err(code) => return Err(CodeFault::Code(code)),
-        },
-        None => None,
-    };
     Ok(Change {
-        mode,
-        options,
+        mode: mode_in(fields)?,
+        options: options_in(fields)?,
         remote: remote_in(alloc, fields)?,
     })
 }
 
 /// What is to be created.
 pub fn creation_of(alloc: Global, fields: &str) -> Result<Creation, CodeFault> {
-    let call = identifier_in(fields, "C: ")?;
-    let Change {
-        mode,
-        options,
-        remote,
-    } = change_of(alloc, fields)?;
     Ok(Creation {
-        call,
-        mode: mode.ok_or(UNREAD)?,
-        options: options.unwrap_or(Options::none()),
-        remote,
+        call: identifier_in(fields, "C: ")?,
+        mode: mode_in(fields)?.ok_or(UNREAD)?,
+        options: options_in(fields)?.unwrap_or(Options::none()),
+        remote: remote_in(alloc, fields)?,
     })
 }
 

@@ -1,64 +1,58 @@
 //! Calls that take texts apart: lines, words, items, numbers and addresses.
-use crate::texts::judged;
+use crate::texts::{put_judged, put_or_none};
 use mg_bytes::{
-    Text, decimal, has_dot_line, hex_text, ipv4_address, lines, list_items, port_number,
-    put_decimal, same_no_case, split_once, trimmed, words,
+    decimal, has_dot_line, hex_text, ipv4_address, lines, list_items, port_number, put_decimal,
+    same_no_case, split_once, trimmed, words,
 };
-use scenario_files::{or_none, put_piece, said};
+use scenario_files::put_piece;
 use std::alloc::Global;
 use std::io;
+use std::io::Write;
 
-fn lines_in(alloc: Global, value: &[u8]) -> io::Result<String> {
-    let mut out = Vec::new(alloc);
+fn put_lines(out: &mut Vec<u8>, value: &[u8]) -> io::Result<()> {
     for line in lines(value) {
-        put_piece(&mut out, line)?;
+        put_piece(out, line)?;
     }
-    said(alloc, &out)
+    Ok(())
 }
 
 // What stands behind each line.
-fn rests_in(alloc: Global, value: &[u8]) -> io::Result<String> {
-    let mut out = Vec::new(alloc);
+fn put_rests(out: &mut Vec<u8>, value: &[u8]) -> io::Result<()> {
     let mut left = lines(value);
     for _ in lines(value) {
         let _line = left.next();
-        put_piece(&mut out, left.rest())?;
+        put_piece(out, left.rest())?;
     }
-    said(alloc, &out)
+    Ok(())
 }
 
-fn words_in(alloc: Global, value: &[u8]) -> io::Result<String> {
-    let mut out = Vec::new(alloc);
+fn put_words(out: &mut Vec<u8>, value: &[u8]) -> io::Result<()> {
     for word in words(value) {
-        put_piece(&mut out, word)?;
+        put_piece(out, word)?;
     }
-    said(alloc, &out)
+    Ok(())
 }
 
-fn items_in(alloc: Global, value: &[u8]) -> io::Result<String> {
-    let mut out = Vec::new(alloc);
+fn put_items(out: &mut Vec<u8>, value: &[u8]) -> io::Result<()> {
     for item in list_items(value) {
-        put_piece(&mut out, item)?;
+        put_piece(out, item)?;
     }
-    said(alloc, &out)
+    Ok(())
 }
 
 // The two sides of the first of these bytes, or none.
-fn sides_of(alloc: Global, value: &[u8], byte: u8) -> io::Result<String> {
-    let mut out = Vec::new(alloc);
-    if let Some((left, right)) = split_once(value, byte) {
-        put_piece(&mut out, left)?;
-        put_piece(&mut out, right)?;
-    }
-    said(alloc, &out)
+fn put_sides(out: &mut Vec<u8>, value: &[u8], byte: u8) -> io::Result<()> {
+    let Some((left, right)) = split_once(value, byte) else {
+        return Ok(());
+    };
+    put_piece(out, left)?;
+    put_piece(out, right)
 }
 
 // The digits that a number is written with.
-fn digits_of(alloc: Global, value: &[u8]) -> io::Result<String> {
-    let mut out = Vec::new(alloc);
+fn put_digits(alloc: Global, out: &mut Vec<u8>, value: &[u8]) -> io::Result<()> {
     let number = str::from_utf8(value).unwrap_or("").parse::<u64>();
-    put_decimal(alloc, &mut out, number.unwrap_or(0))?;
-    said(alloc, Text::of(out).as_bytes())
+    Ok(put_decimal(alloc, out, number.unwrap_or(0))?)
 }
 
 fn is_same(value: &[u8]) -> bool {
@@ -68,22 +62,27 @@ fn is_same(value: &[u8]) -> bool {
     }
 }
 
-/// What a call gives; nothing where there is no such call here.
-pub fn answer(alloc: Global, call: &str, value: &[u8]) -> Option<io::Result<String>> {
+/// Puts what a call gives; nothing where there is no such call here.
+pub fn put_answer(
+    alloc: Global,
+    out: &mut Vec<u8>,
+    call: &str,
+    value: &[u8],
+) -> Option<io::Result<()>> {
     Some(match call {
-        "lines" => lines_in(alloc, value),
-        "rests" => rests_in(alloc, value),
-        "words in" => words_in(alloc, value),
-        "items" => items_in(alloc, value),
-        "colon" => sides_of(alloc, value, b':'),
-        "trimmed" => said(alloc, trimmed(value)),
-        "written number" => digits_of(alloc, value),
-        "number" => or_none(alloc, decimal(value)),
-        "port" => or_none(alloc, port_number(value)),
-        "address" => or_none(alloc, ipv4_address(value)),
-        "hexadecimal" => judged(alloc, hex_text(value)),
-        "same" => judged(alloc, is_same(value)),
-        "dot line" => judged(alloc, has_dot_line(value)),
+        "lines" => put_lines(out, value),
+        "rests" => put_rests(out, value),
+        "words in" => put_words(out, value),
+        "items" => put_items(out, value),
+        "colon" => put_sides(out, value, b':'),
+        "trimmed" => out.write_all(trimmed(value)),
+        "written number" => put_digits(alloc, out, value),
+        "number" => put_or_none(out, decimal(value)),
+        "port" => put_or_none(out, port_number(value)),
+        "address" => put_or_none(out, ipv4_address(value)),
+        "hexadecimal" => put_judged(out, hex_text(value)),
+        "same" => put_judged(out, is_same(value)),
+        "dot line" => put_judged(out, has_dot_line(value)),
         _ => return None,
     })
 }

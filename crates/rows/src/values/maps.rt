@@ -8,16 +8,17 @@
 ghost use Rattle.std.specs.Prelude.{◌≤◌, length};
 ghost use Rattle.digit_map.specs.Verdict.{most_letters};
 
-use crate::texts::judged;
+use crate::texts::{put_code, put_judged};
 use digit_map::{
     MOST_LETTERS, MapChange, MapFault, MapText, Matcher, SlowMap, Verdict, is_in_range, is_range,
     read_change, read_map,
 };
 use digit_map_bits::{Compiled, Dialling};
 use mg_bytes::{CodeFault, Letter, OutOfMemory, letter_of};
-use scenario_files::{bytes_of, code_text, refused, yes_or_no};
+use scenario_files::{bytes_of, refused, yes_or_no};
 use std::alloc::Global;
 use std::io;
+use std::io::Write;
 
 // What is dialled; nothing where that has another sign, or more than 64.
 fn letters_of(alloc: Global, dialled: &[u8]) -> Result<Option<Vec<Letter>>, OutOfMemory> {
@@ -132,44 +133,62 @@ fn in_range(range: &[u8], key: &[u8]) -> &'static str {
     }
 }
 
-/// The answer of a call of two values: of `verdict` or `in range`.
-pub fn answer_of_two(alloc: Global, call: &str, fields: &str) -> io::Result<String> {
+/// Puts the answer of a call of two values: of `verdict` or `in range`.
+pub fn put_answer_of_two(
+    alloc: Global,
+    out: &mut Vec<u8>,
+    call: &str,
+    fields: &str,
+) -> io::Result<()> {
     let (one, other) = fields.split_once("  ").unwrap_or((fields, ""));
     let (one, other) = (bytes_of(alloc, one)?, bytes_of(alloc, other)?);
     let given = match call {
         "verdict" => verdict(alloc, &one, &other)?,
         _ => in_range(&one, &other),
     };
-    Ok(given.to_string(alloc)?)
+    out.write_all(given.as_bytes())
 }
 
-// A map, by a copy of it; of `change` what a D makes of the map that stands.
-fn map_text(alloc: Global, call: &str, value: &[u8]) -> Result<String, CodeFault> {
+// Puts a map, by a copy of it.
+fn put_map(out: &mut Vec<u8>, map: &MapText) -> Result<(), CodeFault> {
+    Ok(out.extend_from_slice(map.try_copy()?.as_bytes())?)
+}
+
+// What a D makes of the map that stands.
+fn put_change(alloc: Global, out: &mut Vec<u8>, value: &[u8]) -> Result<(), CodeFault> {
     let named = if value == b"-".as_slice() {
         None
     } else {
         Some(value)
     };
-    let map = match call {
-        "map" => read_map(alloc, value)?,
-        _ => match read_change(alloc, named)? {
-            MapChange::Keep => return Ok("keep".to_string(alloc)?),
-            MapChange::Remove => return Ok("remove".to_string(alloc)?),
-            MapChange::Replace(map) => map,
-        },
-    };
-    let copy = map.try_copy()?;
-    Ok(String::from_utf8_lossy(alloc, copy.as_bytes())?)
+    match read_change(alloc, named)? {
+        MapChange::Keep => Ok(out.extend_from_slice(b"keep")?),
+        MapChange::Remove => Ok(out.extend_from_slice(b"remove")?),
+        MapChange::Replace(map) => put_map(out, &map),
+    }
 }
 
-/// The answer of a call of one value; nothing where there is no such call here.
-pub fn answer(alloc: Global, call: &str, value: &[u8]) -> Option<io::Result<String>> {
+// The answer of `map` or `change`, or a code.
+fn put_read(alloc: Global, out: &mut Vec<u8>, call: &str, value: &[u8]) -> Result<(), CodeFault> {
     match call {
-        "map" | "change" => Some(match map_text(alloc, call, value) {
-            Ok(text) => Ok(text),
-            Err(fault) => code_text(alloc, fault),
+        "map" => put_map(out, &read_map(alloc, value)?),
+        _ => put_change(alloc, out, value),
+    }
+}
+
+/// Puts the answer of a call of one value; nothing where there is no such call here.
+pub fn put_answer(
+    alloc: Global,
+    out: &mut Vec<u8>,
+    call: &str,
+    value: &[u8],
+) -> Option<io::Result<()>> {
+    match call {
+        "map" | "change" => Some(match put_read(alloc, out, call, value) {
+            Ok(()) => Ok(()),
+            Err(fault) => put_code(out, fault),
         }),
-        "range" => Some(judged(alloc, is_range(value))),
+        "range" => Some(put_judged(out, is_range(value))),
         _ => None,
     }
 }

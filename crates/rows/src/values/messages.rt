@@ -1,111 +1,121 @@
 //! Calls about messages as text.
-use crate::texts::number_text;
 use mg_bytes::{decimal, split_once};
 use mgcp_text::{
     Answer, KValue, Message, TextFault, TransactionId, is_writable, param_at, read_k, read_message,
     write_message,
 };
-use scenario_files::{refused, said};
+use scenario_files::refused;
 use std::alloc::Global;
 use std::io;
+use std::io::Write;
 
-fn fault_text(alloc: Global, fault: &TextFault) -> io::Result<String> {
+fn put_fault(out: &mut Vec<u8>, fault: &TextFault) -> io::Result<()> {
     let number = fault.number();
-    Ok(match fault {
-        TextFault::OutOfMemory => return Err(refused()),
-        TextFault::NoHeader => format!(in alloc; "{number} no header")?,
-        TextFault::BadVersion { id } => format!(in alloc; "{number} bad version {}", id.number())?,
-        TextFault::BadBody { id } => format!(in alloc; "{number} bad body {}", id.number())?,
-    })
+    match fault {
+        TextFault::OutOfMemory => Err(refused()),
+        TextFault::NoHeader => write!(out, "{number} no header"),
+        TextFault::BadVersion { id } => write!(out, "{number} bad version {}", id.number()),
+        TextFault::BadBody { id } => write!(out, "{number} bad body {}", id.number()),
+    }
 }
 
-fn kind_of(alloc: Global, message: &Message<'_>) -> io::Result<String> {
+fn put_kind_of(out: &mut Vec<u8>, message: &Message<'_>) -> io::Result<()> {
     match message {
-        Message::Command { id, .. } => Ok(format!(in alloc; "command {}", id.number())?),
-        Message::Response { .. } => Ok("response".to_string(alloc)?),
+        Message::Command { id, .. } => write!(out, "command {}", id.number()),
+        Message::Response { .. } => out.write_all(b"response"),
     }
 }
 
 // What a text is read as.
-fn kind(alloc: Global, text: &[u8]) -> io::Result<String> {
+fn put_kind(alloc: Global, out: &mut Vec<u8>, text: &[u8]) -> io::Result<()> {
     match read_message(alloc, text) {
-        Ok(message) => kind_of(alloc, &message),
-        Err(fault) => fault_text(alloc, &fault),
+        Ok(message) => put_kind_of(out, &message),
+        Err(fault) => put_fault(out, &fault),
     }
 }
 
 // A message as it is written again.
-fn again(alloc: Global, message: &Message<'_>) -> io::Result<String> {
+fn put_again(alloc: Global, out: &mut Vec<u8>, message: &Message<'_>) -> io::Result<()> {
     if !is_writable(message) {
-        return Ok("not writable".to_string(alloc)?);
+        return out.write_all(b"not writable");
     }
-    said(alloc, write_message(alloc, message)?.as_bytes())
+    out.write_all(write_message(alloc, message)?.as_bytes())
 }
 
 // The first parameter with a code: its code, a colon and its value.
-fn first(alloc: Global, message: &Message<'_>, code: &str) -> io::Result<String> {
+fn put_first(out: &mut Vec<u8>, message: &Message<'_>, code: &str) -> io::Result<()> {
     let Some(param) = param_at(code.as_bytes(), message.params()) else {
-        return said(alloc, b"none");
+        return out.write_all(b"none");
     };
-    let mut out = Vec::new(alloc);
-    out.extend_from_slice(param.code.as_slice())?;
-    out.push(b':')?;
-    out.extend_from_slice(param.value.as_slice())?;
-    said(alloc, &out)
+    out.write_all(param.code.as_slice())?;
+    out.write_all(b":")?;
+    out.write_all(param.value.as_slice())
 }
 
 // The ids that a message confirms.
-fn confirmed(alloc: Global, message: &Message<'_>) -> io::Result<String> {
+fn put_confirmed(alloc: Global, out: &mut Vec<u8>, message: &Message<'_>) -> io::Result<()> {
     let ranges = match read_k(alloc, message)? {
-        KValue::Absent => return said(alloc, b"none"),
-        KValue::Unreadable => return said(alloc, b"unreadable"),
+        KValue::Absent => return out.write_all(b"none"),
+        KValue::Unreadable => return out.write_all(b"unreadable"),
         KValue::Items(ranges) => ranges,
     };
-    let mut out = String::new(alloc);
     for range in ranges.as_slice() {
         write!(out, "{}-{}|", range.first.number(), range.last.number())?;
     }
-    said(alloc, out.as_bytes())
+    Ok(())
 }
 
 // The text of an answer: `510 1` is the return code 510 in transaction 1.
-fn answered(alloc: Global, value: &[u8]) -> io::Result<String> {
+fn put_answered(alloc: Global, out: &mut Vec<u8>, value: &[u8]) -> io::Result<()> {
     let (code, id) = split_once(value, b' ').unwrap_or((value, b""));
     let (code, id) = (decimal(code).unwrap_or(1000), decimal(id).unwrap_or(0));
     if code > 999 || id < 1 || id > 999_999_999 {
-        return said(alloc, b"no answer");
+        return out.write_all(b"no answer");
     }
     let answer = Answer::plain(alloc, code as u16);
-    said(
-        alloc,
-        answer.text(alloc, TransactionId::of(id as u32))?.as_bytes(),
-    )
+    let text = answer.text(alloc, TransactionId::of(id as u32))?;
+    out.write_all(text.as_bytes())
 }
 
-// What a call gives of a message; nothing where there is no such call.
-fn of_message(alloc: Global, call: &str, message: &Message<'_>) -> Option<io::Result<String>> {
+// Puts what a call gives of a message; nothing where there is no such call.
+fn put_of_message(
+    alloc: Global,
+    out: &mut Vec<u8>,
+    call: &str,
+    message: &Message<'_>,
+) -> Option<io::Result<()>> {
     Some(match call {
-        "written message" => again(alloc, message),
-        "parameters" => number_text(alloc, message.params().len() as u64),
-        "confirms" => confirmed(alloc, message),
-        _ => first(alloc, message, call.strip_prefix("first ")?),
+        "written message" => put_again(alloc, out, message),
+        "parameters" => write!(out, "{}", message.params().len()),
+        "confirms" => put_confirmed(alloc, out, message),
+        _ => put_first(out, message, call.strip_prefix("first ")?),
     })
 }
 
 // The same of a text, where that is a message.
-fn of_text(alloc: Global, call: &str, text: &[u8]) -> Option<io::Result<String>> {
+fn put_of_text(
+    alloc: Global,
+    out: &mut Vec<u8>,
+    call: &str,
+    text: &[u8],
+) -> Option<io::Result<()>> {
     match read_message(alloc, text) {
-        Ok(message) => of_message(alloc, call, &message),
+        Ok(message) => put_of_message(alloc, out, call, &message),
         Err(TextFault::OutOfMemory) => Some(Err(refused())),
         Err(_) => None,
     }
 }
 
-/// What a call gives; nothing where there is no such call here, and where it is about a message that can't be read.
-pub fn answer(alloc: Global, call: &str, value: &[u8]) -> Option<io::Result<String>> {
+/// Puts what a call gives; nothing where there is no such call here, and where it is about a message that can't be read.
+pub fn put_answer(
+    alloc: Global,
+    out: &mut Vec<u8>,
+    call: &str,
+    value: &[u8],
+) -> Option<io::Result<()>> {
     match call {
-        "message" => Some(kind(alloc, value)),
-        "answer" => Some(answered(alloc, value)),
-        _ => of_text(alloc, call, value),
+        "message" => Some(put_kind(alloc, out, value)),
+        "answer" => Some(put_answered(alloc, out, value)),
+        _ => put_of_text(alloc, out, call, value),
     }
 }

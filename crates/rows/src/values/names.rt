@@ -1,49 +1,50 @@
 //! Calls about names: of endpoints, of hosts and of call agents.
-use crate::texts::judged;
+use crate::texts::put_judged;
 use crate::values::numbered;
 use endpoint_names::{
     NameFault, Pattern, Table, TableFault, is_domain, matches, read_entity, read_name, write_name,
 };
 use routes::Route;
-use scenario_files::{said, unread};
+use scenario_files::unread;
 use std::alloc::Global;
 use std::fmt::Display;
 use std::io;
+use std::io::Write;
 use std::net::Ipv4Addr;
 
 /// The domain of the endpoints.
 pub const DOMAIN: &[u8] = b"rgw.example.net";
 
-/// The endpoints that a name means, as a row says them.
-pub fn pattern_text(alloc: Global, pattern: Pattern) -> io::Result<String> {
-    Ok(match pattern {
-        Pattern::One(line) => format!(in alloc; "line {line}")?,
-        Pattern::All => "all lines".to_string(alloc)?,
-        Pattern::Any => "any line".to_string(alloc)?,
-    })
+/// Puts the endpoints that a name means.
+pub fn put_pattern(out: &mut Vec<u8>, pattern: Pattern) -> io::Result<()> {
+    match pattern {
+        Pattern::One(line) => write!(out, "line {line}"),
+        Pattern::All => out.write_all(b"all lines"),
+        Pattern::Any => out.write_all(b"any line"),
+    }
 }
 
-fn fault_text(alloc: Global, fault: NameFault) -> io::Result<String> {
+fn put_fault(out: &mut Vec<u8>, fault: NameFault) -> io::Result<()> {
     let text = match fault {
         NameFault::Unknown => "unknown",
         NameFault::TooComplicated => "too complicated",
     };
-    Ok(format!(in alloc; "{} {text}", fault as u8)?)
+    write!(out, "{} {text}", fault as u8)
 }
 
 // What a name means on a gateway with so many lines.
-fn meaning(alloc: Global, name: &[u8], lines: u16) -> io::Result<String> {
+fn put_meaning(out: &mut Vec<u8>, name: &[u8], lines: u16) -> io::Result<()> {
     match read_name(name, DOMAIN, lines) {
-        Ok(pattern) => pattern_text(alloc, pattern),
-        Err(fault) => fault_text(alloc, fault),
+        Ok(pattern) => put_pattern(out, pattern),
+        Err(fault) => put_fault(out, fault),
     }
 }
 
 // The name that is written of what a name means.
-fn written(alloc: Global, name: &[u8]) -> io::Result<String> {
+fn put_written(alloc: Global, out: &mut Vec<u8>, name: &[u8]) -> io::Result<()> {
     match read_name(name, DOMAIN, 65535) {
-        Ok(pattern) => said(alloc, write_name(alloc, pattern, DOMAIN)?.as_bytes()),
-        Err(fault) => fault_text(alloc, fault),
+        Ok(pattern) => out.write_all(write_name(alloc, pattern, DOMAIN)?.as_bytes()),
+        Err(fault) => put_fault(out, fault),
     }
 }
 
@@ -55,14 +56,14 @@ fn means(name: &[u8], line: u16) -> bool {
 }
 
 // The addresses of a route, with commas between them, or `none`.
-fn route_text<A: Display + Copy>(alloc: Global, route: Option<Route<A>>) -> io::Result<String> {
-    Ok(match route {
-        None => "none".to_string(alloc)?,
-        Some(Route::One(a)) => format!(in alloc; "{a}")?,
-        Some(Route::Two(a, b)) => format!(in alloc; "{a},{b}")?,
-        Some(Route::Three(a, b, c)) => format!(in alloc; "{a},{b},{c}")?,
-        Some(Route::Four(a, b, c, d)) => format!(in alloc; "{a},{b},{c},{d}")?,
-    })
+fn put_route<A: Display + Copy>(out: &mut Vec<u8>, route: Option<Route<A>>) -> io::Result<()> {
+    match route {
+        None => out.write_all(b"none"),
+        Some(Route::One(a)) => write!(out, "{a}"),
+        Some(Route::Two(a, b)) => write!(out, "{a},{b}"),
+        Some(Route::Three(a, b, c)) => write!(out, "{a},{b},{c}"),
+        Some(Route::Four(a, b, c, d)) => write!(out, "{a},{b},{c},{d}"),
+    }
 }
 
 // The route to 127.0.0.1 and those after it, so many in all.
@@ -77,66 +78,83 @@ fn route_to(hosts: u16) -> Route<Ipv4Addr> {
     }
 }
 
-// A table of so many hosts: `h00` at 127.0.0.0, `h01` at 127.0.0.1, and so on.
-fn hosts(alloc: Global, count: u16) -> io::Result<Table> {
-    let mut table = Table::new();
+// Puts so many hosts into a table: `h00` at 127.0.0.0, `h01` at 127.0.0.1, and so on.
+fn add_hosts(alloc: Global, table: &mut Table, count: u16) -> io::Result<()> {
     for place in 0..count {
         let name = format!(in alloc; "h{place:02}")?;
         let [_, octet] = place.to_be_bytes();
         let added = table.add(name.as_bytes(), Route::One(Ipv4Addr::new(127, 0, 0, octet)));
         added.ok().ok_or(unread())?;
     }
-    Ok(table)
+    Ok(())
 }
 
 // What becomes of a host that is added to a table.
-fn added(alloc: Global, table: &mut Table, name: &[u8]) -> io::Result<String> {
+fn put_added(out: &mut Vec<u8>, table: &mut Table, name: &[u8]) -> io::Result<()> {
     let Err(fault) = table.add(name, Route::One(Ipv4Addr::LOCALHOST)) else {
-        return said(alloc, b"taken");
+        return out.write_all(b"taken");
     };
     let text = match fault {
         TableFault::NotADomain => "no domain",
         TableFault::Twice => "twice",
         TableFault::Full => "full",
     };
-    Ok(format!(in alloc; "{} {text}", fault as u8)?)
+    write!(out, "{} {text}", fault as u8)
 }
 
 // What a call gives of a host's name and a table of so many hosts.
-fn of_host(alloc: Global, call: &str, name: &[u8], count: u16) -> io::Result<String> {
-    let mut table = hosts(alloc, count)?;
+fn put_of_host(
+    alloc: Global,
+    out: &mut Vec<u8>,
+    call: &str,
+    name: &[u8],
+    count: u16,
+) -> io::Result<()> {
+    let mut table = Table::new();
+    add_hosts(alloc, &mut table, count)?;
     match call {
-        "host added to" => added(alloc, &mut table, name),
-        _ => route_text(alloc, table.route_to(name)),
+        "host added to" => put_added(out, &mut table, name),
+        _ => put_route(out, table.route_to(name)),
     }
 }
 
-// Where the entity is that a text names, where ca.example.net has so many addresses; no host is known where that is 0.
-fn place_of(alloc: Global, text: &[u8], hosts: u16) -> io::Result<String> {
-    let mut table = Table::new();
+// The host ca.example.net with so many addresses; no host where that is 0.
+fn add_agent(table: &mut Table, hosts: u16) -> io::Result<()> {
     if hosts > 0 {
         let added = table.add(b"ca.example.net", route_to(hosts));
         added.ok().ok_or(unread())?;
     }
+    Ok(())
+}
+
+// Where the entity is that a text names, where ca.example.net has so many addresses.
+fn put_place(out: &mut Vec<u8>, text: &[u8], hosts: u16) -> io::Result<()> {
+    let mut table = Table::new();
+    add_agent(&mut table, hosts)?;
     match read_entity(text, &table) {
-        Some(entity) if entity.text.as_bytes() != text => Ok("another text".to_string(alloc)?),
-        Some(entity) => route_text(alloc, Some(entity.route)),
-        None => Ok("none".to_string(alloc)?),
+        Some(entity) if entity.text.as_bytes() != text => out.write_all(b"another text"),
+        Some(entity) => put_route(out, Some(entity.route)),
+        None => out.write_all(b"none"),
     }
 }
 
-/// What a call gives; nothing where there is no such call here.
-pub fn answer(alloc: Global, call: &str, value: &[u8]) -> Option<io::Result<String>> {
+/// Puts what a call gives; nothing where there is no such call here.
+pub fn put_answer(
+    alloc: Global,
+    out: &mut Vec<u8>,
+    call: &str,
+    value: &[u8],
+) -> Option<io::Result<()>> {
     let (call, number) = numbered(call);
     Some(match call {
-        "name of" => meaning(alloc, value, number),
-        "written name" => written(alloc, value),
-        "means line" => judged(alloc, means(value, number)),
-        "domain" => judged(alloc, is_domain(value)),
-        "host added to" | "host among" => of_host(alloc, call, value, number),
-        "entity" => place_of(alloc, value, 1),
-        "entity at" => place_of(alloc, value, number),
-        "entity without hosts" => place_of(alloc, value, 0),
+        "name of" => put_meaning(out, value, number),
+        "written name" => put_written(alloc, out, value),
+        "means line" => put_judged(out, means(value, number)),
+        "domain" => put_judged(out, is_domain(value)),
+        "host added to" | "host among" => put_of_host(alloc, out, call, value, number),
+        "entity" => put_place(out, value, 1),
+        "entity at" => put_place(out, value, number),
+        "entity without hosts" => put_place(out, value, 0),
         _ => return None,
     })
 }

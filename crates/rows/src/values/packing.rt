@@ -3,21 +3,20 @@ ghost use Rattle.std.specs.Prelude.{◌≡◌};
 ghost use Rattle.std.specs.List.{list_all};
 ghost use Rattle.piggyback.specs.Packing.{is_joinable};
 
-use crate::texts::judged;
+use crate::texts::put_judged;
 use crate::values::numbered;
 use mg_bytes::{Text, put_decimal};
 use piggyback::{is_joinable, join, parts};
-use scenario_files::{put_piece, said};
+use scenario_files::put_piece;
 use std::alloc::Global;
 use std::io;
 
 // Each part of a datagram, with a `|` behind it.
-fn parts_in(alloc: Global, datagram: &[u8]) -> io::Result<String> {
-    let mut out = Vec::new(alloc);
+fn put_parts(out: &mut Vec<u8>, datagram: &[u8]) -> io::Result<()> {
     for part in parts(datagram) {
-        put_piece(&mut out, part)?;
+        put_piece(out, part)?;
     }
-    said(alloc, &out)
+    Ok(())
 }
 
 // The texts of a value, each of which has a `|` behind it.
@@ -47,26 +46,37 @@ fn datagrams_of(alloc: Global, value: &[u8], max: usize) -> io::Result<Vec<Text>
 }
 
 // The datagrams, or how long each is.
-fn joined(alloc: Global, call: &str, value: &[u8], max: usize) -> io::Result<String> {
-    let mut out = Vec::new(alloc);
+fn put_joined(
+    alloc: Global,
+    out: &mut Vec<u8>,
+    call: &str,
+    value: &[u8],
+    max: usize,
+) -> io::Result<()> {
     for datagram in &datagrams_of(alloc, value, max)? {
+        let bytes = datagram.as_bytes();
         match call {
-            "lengths in" => put_decimal(alloc, &mut out, datagram.as_bytes().len() as u64)?,
-            _ => out.extend_from_slice(datagram.as_bytes())?,
+            "lengths in" => put_decimal(alloc, out, bytes.len() as u64)?,
+            _ => out.extend_from_slice(bytes)?,
         }
         out.push(b'|')?;
     }
-    said(alloc, &out)
+    Ok(())
 }
 
-/// What a call gives; nothing where there is no such call here.
-pub fn answer(alloc: Global, call: &str, value: &[u8]) -> Option<io::Result<String>> {
+/// Puts what a call gives; nothing where there is no such call here.
+pub fn put_answer(
+    alloc: Global,
+    out: &mut Vec<u8>,
+    call: &str,
+    value: &[u8],
+) -> Option<io::Result<()>> {
     let (call, max) = numbered(call);
     let max = usize::from(max);
     Some(match call {
-        "parts" => parts_in(alloc, value),
-        "joinable in" => judged(alloc, is_joinable(value, max)),
-        "joined in" | "lengths in" => joined(alloc, call, value, max),
+        "parts" => put_parts(out, value),
+        "joinable in" => put_judged(out, is_joinable(value, max)),
+        "joined in" | "lengths in" => put_joined(alloc, out, call, value, max),
         _ => return None,
     })
 }

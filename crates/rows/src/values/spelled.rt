@@ -1,4 +1,5 @@
 //! Calls that read what a parameter spells: what is read, as it is written again, or a code.
+use crate::texts::put_code;
 use connections::{
     CodecChoice, encoding_text, mode_text, read_encoding, read_mode, read_options, write_number,
     write_options,
@@ -9,9 +10,9 @@ use event_syntax::{
     write_events, write_handling, write_observed, write_signals,
 };
 use mg_bytes::{CodeFault, Text};
-use scenario_files::{code_text, said};
 use std::alloc::Global;
 use std::io;
+use std::io::Write;
 
 // A value of R, T, S, Q, O or D, as it is written again; D without its blanks.
 fn events_text(alloc: Global, call: &str, value: &[u8]) -> Result<Text, CodeFault> {
@@ -25,48 +26,55 @@ fn events_text(alloc: Global, call: &str, value: &[u8]) -> Result<Text, CodeFaul
     })
 }
 
+// A value of one of these, or a code.
+fn put_spelled(alloc: Global, out: &mut Vec<u8>, call: &str, value: &[u8]) -> io::Result<()> {
+    match events_text(alloc, call, value) {
+        Ok(text) => out.write_all(text.as_bytes()),
+        Err(fault) => put_code(out, fault),
+    }
+}
+
 // What L asks for, as it is written again where it names codecs.
-fn options_text(alloc: Global, value: &[u8]) -> io::Result<String> {
+fn put_options(alloc: Global, out: &mut Vec<u8>, value: &[u8]) -> io::Result<()> {
     let options = match read_options(value) {
         Ok(options) => options,
-        Err(code) => return code_text(alloc, CodeFault::Code(code)),
+        Err(code) => return write!(out, "{code}"),
     };
     let time = options.packet_time;
-    let codecs = match options.codecs {
+    match options.codecs {
         CodecChoice::These(codecs) => {
-            return said(alloc, write_options(alloc, codecs, time)?.as_bytes());
+            out.write_all(write_options(alloc, codecs, time)?.as_bytes())
         }
-        CodecChoice::ByEncoding => "by encoding",
-        CodecChoice::NoneKnown => "no codec",
-    };
-    Ok(format!(in alloc; "{codecs}, p:{time}")?)
+        CodecChoice::ByEncoding => write!(out, "by encoding, p:{time}"),
+        CodecChoice::NoneKnown => write!(out, "no codec, p:{time}"),
+    }
 }
 
 // The identifier of the connection with a number.
-fn identifier_text(alloc: Global, value: &[u8]) -> io::Result<String> {
+fn put_identifier(alloc: Global, out: &mut Vec<u8>, value: &[u8]) -> io::Result<()> {
     let number = str::from_utf8(value).unwrap_or("").parse::<u32>();
-    let mut out = Vec::new(alloc);
-    write_number(alloc, &mut out, number.unwrap_or(0))?;
-    said(alloc, &out)
+    Ok(write_number(alloc, out, number.unwrap_or(0))?)
 }
 
-/// What a call gives; nothing where there is no such call here.
-pub fn answer(alloc: Global, call: &str, value: &[u8]) -> Option<io::Result<String>> {
+/// Puts what a call gives; nothing where there is no such call here.
+pub fn put_answer(
+    alloc: Global,
+    out: &mut Vec<u8>,
+    call: &str,
+    value: &[u8],
+) -> Option<io::Result<()>> {
     Some(match call {
-        "R" | "T" | "S" | "Q" | "O" | "D" => match events_text(alloc, call, value) {
-            Ok(text) => said(alloc, text.as_bytes()),
-            Err(fault) => code_text(alloc, fault),
-        },
-        "L" => options_text(alloc, value),
+        "R" | "T" | "S" | "Q" | "O" | "D" => put_spelled(alloc, out, call, value),
+        "L" => put_options(alloc, out, value),
         "M" => match read_mode(value) {
-            Some(mode) => said(alloc, mode_text(mode)),
-            None => said(alloc, b"none"),
+            Some(mode) => out.write_all(mode_text(mode)),
+            None => out.write_all(b"none"),
         },
         "B" => match read_encoding(value) {
-            Some(encoding) => said(alloc, encoding_text(encoding)),
-            None => said(alloc, b"none"),
+            Some(encoding) => out.write_all(encoding_text(encoding)),
+            None => out.write_all(b"none"),
         },
-        "I" => identifier_text(alloc, value),
+        "I" => put_identifier(alloc, out, value),
         _ => return None,
     })
 }
