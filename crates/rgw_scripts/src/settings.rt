@@ -1,7 +1,7 @@
 //! Reads a configuration from TOML.
 ghost use Rattle.std.specs.Prelude.{◌≡◌, IfOk, MatchOption, Some, None, is_some, option_and_then, option_map, string_bytes};
 ghost use Rattle.toml.specs.View.{items_view, table_view, view};
-ghost use Rattle.toml.specs.Data.{get_member, as_str};
+ghost use Rattle.toml.specs.Data.{get_member, as_str, item, no_items};
 ghost use Rattle.routes.specs.Route.{route_of};
 ghost use Rattle.rgw_scripts.specs.Configuration.{count_of, text_at, number_in, number_at, address_in, address_at, addresses_in, route_in, names_from, names_at, settings_of, config_of, config_in, unread_key, unread_key_in};
 ghost use Rattle.rgw_scripts.specs.SettingsSeen.{settings_seen};
@@ -72,21 +72,53 @@ fn address_at(table: &Table, key: &str) -> Option<Ipv4Addr>
     }
 }
 
-// The addresses of a host that a list gives: 1 to 4 texts.
-#[tactic(auto, using(crate::proofs::HostLemmas::other_numbers), unfolding(crate::specs::Configuration::addresses_in))]
+// The addresses of a host that has one, two, three or four.
+#[tactic(auto, unfolding(crate::specs::Configuration::addresses_in))]
+fn route_of_one(a: &Value) -> Option<Route<Ipv4Addr>>
+    ensures { result ≡ option_and_then route_of (addresses_in (item (view a.now) no_items)) }
+{
+    Some(Route::One(address_in(a)?))
+}
+
+#[tactic(auto, unfolding(crate::specs::Configuration::addresses_in))]
+fn route_of_two(a: &Value, b: &Value) -> Option<Route<Ipv4Addr>>
+    ensures { result ≡ option_and_then route_of (addresses_in (item (view a.now) (item (view b.now) no_items))) }
+{
+    Some(Route::Two(address_in(a)?, address_in(b)?))
+}
+
+#[tactic(auto, unfolding(crate::specs::Configuration::addresses_in))]
+fn route_of_three(a: &Value, b: &Value, c: &Value) -> Option<Route<Ipv4Addr>>
+    ensures { result ≡ option_and_then route_of
+        (addresses_in (item (view a.now) (item (view b.now) (item (view c.now) no_items)))) }
+{
+    Some(Route::Three(address_in(a)?, address_in(b)?, address_in(c)?))
+}
+
+#[tactic(auto, unfolding(crate::specs::Configuration::addresses_in))]
+fn route_of_four(a: &Value, b: &Value, c: &Value, d: &Value) -> Option<Route<Ipv4Addr>>
+    ensures { result ≡ option_and_then route_of
+        (addresses_in (item (view a.now) (item (view b.now) (item (view c.now) (item (view d.now) no_items))))) }
+{
+    Some(Route::Four(
+        address_in(a)?,
+        address_in(b)?,
+        address_in(c)?,
+        address_in(d)?,
+    ))
+}
+
+// The addresses of a host that a list gives: 1 to 4 texts. Each number has a function of its own, so that no proof carries
+// the steps of the others.
+#[tactic(auto, using(crate::proofs::HostLemmas::other_numbers))]
 fn route_of(values: &[Value]) -> Option<Route<Ipv4Addr>>
     ensures { result ≡ option_and_then route_of (addresses_in (items_view values.now)) }
 {
     match values {
-        [a] => Some(Route::One(address_in(a)?)),
-        [a, b] => Some(Route::Two(address_in(a)?, address_in(b)?)),
-        [a, b, c] => Some(Route::Three(address_in(a)?, address_in(b)?, address_in(c)?)),
-        [a, b, c, d] => Some(Route::Four(
-            address_in(a)?,
-            address_in(b)?,
-            address_in(c)?,
-            address_in(d)?,
-        )),
+        [a] => route_of_one(a),
+        [a, b] => route_of_two(a, b),
+        [a, b, c] => route_of_three(a, b, c),
+        [a, b, c, d] => route_of_four(a, b, c, d),
         _ => None,
     }
 }
