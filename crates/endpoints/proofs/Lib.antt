@@ -4,3 +4,4 @@ pub mod DueLemmas
 pub mod SavingLemmas
 pub mod ChangeLemmas
 pub mod OneLemmas
+pub mod PassingLemmas

@@ -63,6 +63,33 @@ restored_over (t ∷ log) es k x saved = by (t.place == k) refl saved (restored_
       ∙ ap (λ n. set (restored log es) n t.endpoint) (sym (same_of t.place k same))
   by false other saved rest = ap (λ r. set r t.place t.endpoint) (rest saved)
 
+-- what isn't saved is found as it is
+
+or_none : (a b : Bool) → (a || b) ≡ false → (a ≡ false) × (b ≡ false)
+or_none true b none = absurd cc
+or_none false b none = (refl, none)
+
+pub restored_apart : (log : List Saved) (es : List Endpoint) (k : ℕ) (x : Endpoint) → is_saved k log ≡ false → restored log (set es k x) ≡ set (restored log es) k x
+unfolding restored is_saved
+restored_apart [] es k x none = refl
+restored_apart (t ∷ log) es k x none =
+    let apart = or_none (t.place == k) (is_saved k log) none in
+    ap (λ r. set r t.place t.endpoint) (restored_apart log es k x apart.1)
+    ∙ set_comm (restored log es) k t.place x t.endpoint (λ same. other_of t.place k apart.0 (sym same))
+
+pub restored_elsewhere : (log : List Saved) (es : List Endpoint) (k : ℕ) (d : Endpoint) → is_saved k log ≡ false → get_or (restored log es) k d ≡ get_or es k d
+unfolding restored is_saved
+restored_elsewhere [] es k d none = refl
+restored_elsewhere (t ∷ log) es k d none =
+    let apart = or_none (t.place == k) (is_saved k log) none in
+    get_or-set_other (restored log es) t.place k t.endpoint d (λ same. other_of t.place k apart.0 (sym same))
+    ∙ restored_elsewhere log es k d apart.1
+
+pub restored_length : (log : List Saved) (es : List Endpoint) → length (restored log es) ≡ length es
+unfolding restored
+restored_length [] es = refl
+restored_length (t ∷ log) es = length-set (restored log es) t.place t.endpoint ∙ restored_length log es
+
 -- The marks
 
 saved_snoc : (log : List Saved) (saved : Saved) (k : ℕ) → is_saved k (log ++ saved ∷ []) ≡ (is_saved k log || (saved.place == k))

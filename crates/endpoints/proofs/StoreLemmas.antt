@@ -187,7 +187,7 @@ not_zero : (n : ℕ) → 1 ≤ n → (n == 0) ≡ false
 not_zero n some = grind (arith, nat_tests, some)
 
 -- the endpoint at a place is that of its line
-endpoint_there : (list : List Endpoint) (own : Post) (number : ℕ) (endpoint : Endpoint) → 1 ≤ number → number - 1 < length list → endpoint ≡ get_or list (number - 1) endpoint
+pub endpoint_there : (list : List Endpoint) (own : Post) (number : ℕ) (endpoint : Endpoint) → 1 ≤ number → number - 1 < length list → endpoint ≡ get_or list (number - 1) endpoint
     → endpoint_at (endpoints_of list own) number ≡ Some endpoint
 endpoint_there list own number endpoint some inside is = rw (not_zero number some) (slice_get-get_or list (number - 1) endpoint inside ∙ ap Some (sym is))
 

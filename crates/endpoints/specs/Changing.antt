@@ -1,9 +1,10 @@
 -- Changes in place: what a call makes of what it is lent.
-use Rattle.std.specs.Prelude.{◌≡◌, ℕ, Some, slice_set, slice_index_or}
+use Rattle.std.specs.Prelude.{◌≡◌, ◌⊎◌, ℕ, Some, slice_set, slice_index_or}
 use Rattle.std.specs.Borrow.{MutBor}
 use denote.Param.Members.{Once}
 use Rattle.plain_machine.specs.declared.post.Post.{Post}
 use Rattle.plain_machine.specs.declared.endpoint.Endpoint.{Endpoint}
+use Rattle.plain_machine.specs.Effect.{Effect, silently}
 use Rattle.plain_machine.specs.Machine.{Endpoints, endpoint_at, with_endpoint, with_own}
 use Rattle.endpoint_rules.specs.Telling.{HasId}
 use Rattle.endpoints.specs.StoreState.{StoreState}
@@ -63,3 +64,7 @@ pub record GatewayChanges {F C T : Type 0} (g : Call F Post C T) (f : F) (was : 
   pub becomes : Post
   pub leaves : Leaves g f was.endpoints.own with r becomes left
   pub store : is ≡ record was { endpoints = with_own was.endpoints becomes }
+
+-- of what isn't saved: what the event found stays, where it has the endpoint of the line already, and else the same comes to it
+abbrev pub ComesToo : (Endpoints → Effect Endpoints) → Endpoints → Endpoints → Type 0
+ComesToo turn found found' = (found' ≡ found) ⊎ (turn found ≡ silently found')

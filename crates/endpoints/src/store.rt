@@ -101,7 +101,7 @@ impl Store {
     ghost use Rattle.plain_machine.specs.Acting.{acted};
     ghost use Rattle.plain_machine.specs.Refusing.{is_unheeded};
     ghost use Rattle.endpoints.specs.StoreState.{committed};
-    ghost use Rattle.endpoints.specs.Changing.{LineChanges, GatewayChanges, KeepsId};
+    ghost use Rattle.endpoints.specs.Changing.{LineChanges, GatewayChanges, KeepsId, ComesToo};
     ghost use Rattle.endpoint_rules.specs.Telling.{IsLine};
 
     /// A store with these endpoints, and with this post of the gateway itself. An error is for want of memory only.
@@ -230,13 +230,16 @@ impl Store {
         }
     }
 
-    /// An act at the telephone of a line that doesn't heed it. It takes no memory, and isn't saved.
+    /// An act at the telephone of a line that doesn't heed it. It takes no memory, and isn't saved: where nothing was saved of
+    /// the line before, the act comes to what the event found too.
     pub fn pass_over(&mut self, line: u16, act: Act)
         requires line { IsLine line }
         requires within { line - 1 < length self.old.endpoints.list }
         requires unheeded { is_unheeded (endpoint_at self.old.endpoints line) act ≡ true }
-        ensures { (setup : Setup) (moment : ℕ) →
+        ensures acted { (setup : Setup) (moment : ℕ) →
             acted setup self.old.endpoints line moment act ≡ silently self.new.endpoints }
+        ensures found { (setup : Setup) (moment : ℕ) →
+            ComesToo (λ found. acted setup found line moment act) self.old.found self.new.found }
     {
         self.endpoints.pass_over(line, act);
     }

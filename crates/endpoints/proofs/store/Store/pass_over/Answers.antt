@@ -1,4 +1,5 @@
 use Rattle.std.proofs.Common.{◌∙◌, sym}
+use Rattle.endpoints.proofs.PassingLemmas.{comes_too}
 use Rattle.endpoints.proofs.store.Store.pass_over.Goals as goal
 
 pub invariant_of-self : goal.invariant_of-self
@@ -8,3 +9,8 @@ invariant_of-self c = record {
   room = c.self.invariant.room;
   own = c.self.invariant.own;
 }
+
+pub returns-clause-found : goal.returns-clause-found
+returns-clause-found c = λ setup moment. rw (← c.self.view_is)
+    (comes_too setup moment c.args.line c.args.act c.self.inside.saved.list c.self.inside.own_saved c.self.inside.endpoints c.pass_over.new.self c.requires.line
+    (rw (← c.self.view_is) at c.requires.within) (c.pass_over.ensures.acted setup moment))
