@@ -1,5 +1,5 @@
 """The values of L and M, session descriptions, and the connections of a line (RFC 3435, 2.1.3, 2.3.5 to 2.3.7 and 3.4), by
-docs/PROTOCOL.md and not by the program. Encodings and codecs that no worked row names are left out."""
+docs/PROTOCOL.md and not by the program. Encodings and codecs that no drawn scenario names are left out."""
 import re
 
 from events import Fault

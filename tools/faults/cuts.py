@@ -1,4 +1,4 @@
-"""Scenarios of datagrams that are cut or have a byte changed: those of worked rows, each as it is read, and through the gateway.
+"""Scenarios of datagrams that are cut or have a byte changed: those of other scenarios, each as it is read, and through the gateway.
 
 What is expected is what gateway.py and messages.py answer, which also must answer the rows themselves as they are told.
 """

@@ -1,4 +1,4 @@
-"""A gateway that answers the commands of the worked rows (RFC 3435, 2.3, 2.4 and 3.5), by docs/PROTOCOL.md and not by the
+"""A gateway that answers the commands of scenarios (RFC 3435, 2.3, 2.4 and 3.5), by docs/PROTOCOL.md and not by the
 program. Telephones rest, the clock stands, and signals never begin; where a command would need more, it stops."""
 import copy
 import re
@@ -113,7 +113,7 @@ class Line:
         if not found:
             raise Fault(515)
         if {"L", "N", "P", "LC", "RC"} & set(values.items):
-            raise NotImplementedError("an item that no worked row has")
+            raise NotImplementedError("an item that no drawn scenario has")
         return reported(values.items, {"C": found[0].call, "M": found[0].mode})
 
     def created(self, values):
@@ -150,7 +150,7 @@ class Values:
     def __init__(self, command):
         given = dict(command.params)
         if {"K", "N", "B", "T"} & set(given):
-            raise NotImplementedError("a parameter that no worked row has")
+            raise NotImplementedError("a parameter that no drawn scenario has")
         self.call = identifier(given["C"]) if "C" in given else None
         self.id = identifier(given["I"]) if "I" in given else None
         self.mode = mode(given["M"]) if "M" in given else None

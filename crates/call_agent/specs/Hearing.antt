@@ -3,11 +3,12 @@ use Rattle.std.specs.Prelude.{ℕ, List, [], ◌∷◌, ◌++◌, find, Option, 
 use Rattle.std.specs.declared.net.socket_addr.SocketAddrV4.{SocketAddrV4}
 use Rattle.mgcp_text.specs.declared.message.Message.{Message}
 use Rattle.mgcp_text.specs.declared.message.Message.TheVariants as messages
-use Rattle.mgcp_text.specs.Reading.{Outcome, message, no_header, bad_version, bad_body, read_text}
+use Rattle.mgcp_text.specs.Reading.{Outcome, read_text}
 use Rattle.plain_machine.specs.declared.refusal.Refusal.{Refusal}
 use Rattle.plain_machine.specs.declared.refusal.Refusal.TheVariants.{NoSuchLine}
 use Rattle.plain_machine.specs.Event.{GatewayEvent, datagram, phone, tick}
 use Rattle.transmission.specs.Texts.{texts_of}
+use Rattle.transmission.specs.Hearing.{response_as}
 use Rattle.plain_machine.specs.Refusing.{tick_refusal}
 use Rattle.machine_laws.specs.Saying.{Begun}
 use Rattle.call_agent.specs.declared.setup.AgentSetup.{AgentSetup}
@@ -19,13 +20,10 @@ use Rattle.call_agent.specs.Taking.{GatewayCommand, read_command, command_of, ex
 
 -- Texts that arrive
 
--- what is done at what is no command: a response is heard, and what has no header does nothing
+-- what is done at what is no command
 abbrev pub heard_as : Outcome → AgentMachine → SocketAddrV4 → List ℕ → AgentEffect
-heard_as (message (messages.Response code id params body)) m source text = responded m source code id params text
-heard_as (message (messages.Command verb id name params body)) m source text = idle m
-heard_as no_header m source text = idle m
-heard_as (bad_version id) m source text = idle m
-heard_as (bad_body id) m source text = idle m
+heard_as outcome m source text =
+    response_as (idle m) (λ code id params body. responded m source code id params text) outcome
 
 abbrev pub handled_as : Option GatewayCommand → Outcome → AgentMachine → SocketAddrV4 → List ℕ → AgentEffect
 handled_as None outcome m source text = heard_as outcome m source text

@@ -4,9 +4,8 @@ use Rattle.std.specs.declared.net.socket_addr.SocketAddrV4.{SocketAddrV4}
 use Rattle.mgcp_text.specs.declared.message.Param.{Param}
 use Rattle.mgcp_text.specs.declared.message.Verb.{Verb}
 use Rattle.mgcp_text.specs.declared.message.Verb.TheVariants.{Epcf, Rqnt, Ntfy, Crcx, Mdcx, Dlcx, Auep, Aucx, Rsip, Other}
-use Rattle.mgcp_text.specs.declared.message.Message.TheVariants as messages
 use Rattle.mgcp_text.specs.Confirmation.{k_of}
-use Rattle.mgcp_text.specs.Reading.{Outcome, message, no_header, bad_version, bad_body}
+use Rattle.mgcp_text.specs.Reading.{Outcome}
 use Rattle.mgcp_text.specs.Writing.{written}
 use Rattle.mgcp_text.specs.Answer.{plain_code, response_of}
 use Rattle.endpoint_names.specs.Name.{name_of}
@@ -15,11 +14,12 @@ use Rattle.history.specs.declared.span.IdSpan.{IdSpan}
 use Rattle.history.specs.declared.entry.Entry.TheVariants.{Confirmation}
 use Rattle.history.specs.Memory.{most_firsts}
 use Rattle.history.specs.Kept.{first_entry}
-use Rattle.history.specs.Looking.{Looked, new, repeat, confirmed, full, look_of}
+use Rattle.history.specs.Looking.{Looked, look_of}
 use Rattle.transmission.specs.Confirming.{spans_of}
 use Rattle.plain_machine.specs.Answering.{line_meant}
 use Rattle.machine_laws.specs.Notified.{observed_with}
-use Rattle.transmission.specs.Transacting.{message_to}
+use Rattle.transmission.specs.Hearing.{command_as}
+use Rattle.transmission.specs.Transacting.{message_to, transacted_as}
 use Rattle.call_agent.specs.Growing.{told_at}
 use Rattle.call_agent.specs.declared.setup.AgentSetup.{AgentSetup}
 use Rattle.call_agent.specs.declared.taking.Taken.{Taken}
@@ -71,13 +71,14 @@ abbrev pub read_command : AgentSetup → Verb → ℕ → List ℕ → List Para
 read_command setup verb id name params =
     record { id = id; confirms = spans_of (k_of params); code = code_for verb; taken = taken_of setup verb name params }
 
--- the command that an outcome is: another version and a body that can't be read are answered, what has no header is not
+-- one that can't be read past its id is answered by this code
+abbrev pub faulty_command : ℕ → ℕ → GatewayCommand
+faulty_command id code = record { id = id; confirms = []; code = code; taken = [] }
+
+-- the command that an outcome is, if it is one
 abbrev pub command_of : AgentSetup → Outcome → Option GatewayCommand
-command_of setup no_header = None
-command_of setup (bad_version id) = Some (record { id = id; confirms = []; code = 528; taken = [] })
-command_of setup (bad_body id) = Some (record { id = id; confirms = []; code = 510; taken = [] })
-command_of setup (message (messages.Command verb id name params body)) = Some (read_command setup verb id name params)
-command_of setup (message (messages.Response code id params body)) = None
+command_of setup outcome =
+    command_as faulty_command (λ verb id name params body. read_command setup verb id name params) outcome
 
 abbrev pub answer_to : GatewayCommand → List ℕ
 answer_to command = written (response_of command.id (plain_code command.code))
@@ -92,12 +93,11 @@ executed m source command = record {
   sent = message_to source m.now (answer_to command) ∷ [];
 }
 
--- as at a gateway a repeat gets the stored answer, what is confirmed gets silence, and what finds no room is lost
+-- by what is told of its id, as at a gateway
 abbrev pub transacted_by : Looked → AgentMachine → SocketAddrV4 → GatewayCommand → AgentEffect
-transacted_by new m source command = executed m source command
-transacted_by (repeat text) m source command = record { machine = m; sent = message_to source m.now text ∷ [] }
-transacted_by confirmed m source command = idle m
-transacted_by full m source command = idle m
+transacted_by looked m source command =
+    transacted_as looked (executed m source command)
+    (λ text. record { machine = m; sent = message_to source m.now text ∷ [] }) (idle m)
 
 abbrev pub transacted : AgentMachine → SocketAddrV4 → GatewayCommand → AgentEffect
 transacted m source command = transacted_by (look_of most_firsts m.history command.id m.now) m source command

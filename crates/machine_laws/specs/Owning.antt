@@ -2,7 +2,8 @@
 use Rattle.std.specs.Prelude.{◌≡◌, ℕ, ◌<◌, Bool, true, false, List, []}
 use Rattle.std.specs.declared.net.socket_addr.SocketAddrV4.{SocketAddrV4}
 use Rattle.mgcp_text.specs.declared.message.Message.TheVariants as messages
-use Rattle.mgcp_text.specs.Reading.{Outcome, message, no_header, bad_version, bad_body}
+use Rattle.mgcp_text.specs.Reading.{Outcome}
+use Rattle.transmission.specs.Hearing.{response_as}
 use Rattle.plain_machine.specs.Arriving.{TextArrival}
 use Rattle.plain_machine.specs.Message.{own_of, of_none, answer, again, command, resent, acknowledgement, Said, Sent}
 use Rattle.plain_machine.specs.Responding.{acknowledged}
@@ -21,12 +22,8 @@ acknowledging moment source id =
 
 -- the acknowledgement that a text asks for, if it is a response that asks for one
 abbrev pub acknowledged_as : ℕ → SocketAddrV4 → Outcome → List Sent
-acknowledged_as moment source no_header = []
-acknowledged_as moment source (bad_version id) = []
-acknowledged_as moment source (bad_body id) = []
-acknowledged_as moment source (message (messages.Command verb id name params body)) = []
-acknowledged_as moment source (message (messages.Response code id params body)) =
-    acknowledged moment source code id params
+acknowledged_as moment source outcome =
+    response_as [] (λ code id params body. acknowledged moment source code id params) outcome
 
 abbrev pub acknowledgements_to : TextArrival → List Sent
 acknowledgements_to a = acknowledged_as a.moment a.source a.outcome

@@ -1,9 +1,10 @@
 -- What is done at a text that arrived: a command is executed and answered (RFC 3435, 3.2 and 3.5).
 use Rattle.std.specs.Prelude.{ℕ, List, [], ◌∷◌, ◌++◌, Option, Some, None, Result, Ok, Err}
 use Rattle.std.specs.declared.net.socket_addr.SocketAddrV4.{SocketAddrV4}
-use Rattle.mgcp_text.specs.declared.message.Message.TheVariants as messages
-use Rattle.mgcp_text.specs.Reading.{Outcome, message, no_header, bad_version, bad_body, read_text}
+use Rattle.mgcp_text.specs.Reading.{Outcome, read_text}
 use Rattle.mgcp_text.specs.declared.message.Message.{Message}
+use Rattle.mgcp_text.specs.declared.message.Param.{Param}
+use Rattle.mgcp_text.specs.declared.message.Verb.{Verb}
 use Rattle.mgcp_text.specs.Answer.{plain_code, response_of}
 use Rattle.mgcp_text.specs.Writing.{written}
 use Rattle.mgcp_text.specs.Confirmation.{k_of}
@@ -12,8 +13,10 @@ use Rattle.history.specs.declared.span.IdSpan.{IdSpan}
 use Rattle.history.specs.declared.entry.Entry.{Entry}
 use Rattle.history.specs.declared.entry.Entry.TheVariants.{First, Confirmation}
 use Rattle.history.specs.Memory.{most_firsts}
-use Rattle.history.specs.Looking.{Looked, new, repeat, confirmed, full, look_of}
+use Rattle.history.specs.Looking.{Looked, look_of}
 use Rattle.transmission.specs.Confirming.{spans_of}
+use Rattle.transmission.specs.Hearing.{command_as, response_as}
+use Rattle.transmission.specs.Transacting.{transacted_as}
 use Rattle.endpoint_names.specs.declared.name.Pattern.{Pattern}
 use Rattle.endpoint_names.specs.declared.name.Pattern.TheVariants.{One, All, Any}
 use Rattle.endpoint_names.specs.declared.name.NameFault.{NameFault}
@@ -72,13 +75,11 @@ executed m source t = record {
   sent = reply m source t.line (answer (response_to t)) ∷ t.done.told.sent;
 }
 
--- a command, by what is told of its id: a first is executed, a repeat gets the stored answer, what is confirmed gets
--- silence, and what finds no room is lost. But for a first nothing changes (RFC 3435, 3.5.1)
+-- a command, by what is told of its id; but for a first nothing changes
 abbrev pub transacted_by : Looked → Machine → SocketAddrV4 → Transaction → Effect Machine
-transacted_by new m source t = executed m source t
-transacted_by (repeat text) m source t = record { value = m; sent = reply m source t.line (again text) ∷ [] }
-transacted_by confirmed m source t = silently m
-transacted_by full m source t = silently m
+transacted_by told m source t =
+    transacted_as told (executed m source t)
+    (λ text. record { value = m; sent = reply m source t.line (again text) ∷ [] }) (silently m)
 
 abbrev pub transacted : Machine → SocketAddrV4 → Transaction → Effect Machine
 transacted m source t = transacted_by (look_of most_firsts m.history t.id m.now) m source t
@@ -93,23 +94,16 @@ command_with setup m id command confirms =
     transaction id (line_of_name setup command.name) (spans_of confirms)
     (commanded setup m.endpoints m.now id command confirms)
 
--- the command that an outcome is: another version and a body that can't be read are answered, what has no header is not
-abbrev pub transaction_of : Setup → Machine → Outcome → Option Transaction
-transaction_of setup m no_header = None
-transaction_of setup m (bad_version id) = Some (refusing m id 528)
-transaction_of setup m (bad_body id) = Some (refusing m id 510)
-transaction_of setup m (message (messages.Command verb id name params body)) =
-    Some (command_with setup m id (record { verb = verb; name = name; params = params; body = body }) (k_of params))
-transaction_of setup m (message (messages.Response code id params body)) = None
+abbrev pub read_command : Setup → Machine → Verb → ℕ → List ℕ → List Param → List ℕ → Transaction
+read_command setup m verb id name params body =
+    command_with setup m id (record { verb = verb; name = name; params = params; body = body }) (k_of params)
 
--- what is done at what is no command: a response is heard, and what has no header does nothing
+abbrev pub transaction_of : Setup → Machine → Outcome → Option Transaction
+transaction_of setup m outcome = command_as (refusing m) (read_command setup m) outcome
+
 abbrev pub heard_as : Outcome → Setup → Machine → SocketAddrV4 → Effect Endpoints
-heard_as (message (messages.Response code id params body)) setup m source =
-    heard_from setup m.endpoints m.now source code id params
-heard_as (message (messages.Command verb id name params body)) setup m source = silently m.endpoints
-heard_as no_header setup m source = silently m.endpoints
-heard_as (bad_version id) setup m source = silently m.endpoints
-heard_as (bad_body id) setup m source = silently m.endpoints
+heard_as outcome setup m source =
+    response_as (silently m.endpoints) (λ code id params body. heard_from setup m.endpoints m.now source code id params) outcome
 
 abbrev pub handled_as : Option Transaction → Setup → Machine → SocketAddrV4 → Outcome → Effect Machine
 handled_as None setup m source outcome = told_in m (heard_as outcome setup m source)
