@@ -183,11 +183,11 @@ audit_coded Endpoint params = tt
 audit_coded Connection params =
     coded_on _ (identifier_from (value_at (codes "I") params)) _ (identifier_coded (value_at (codes "I") params)) (λ identifier. tt)
 
-asked_for_coded : (task : Task) (params : List Param) (text : List ℕ) (hosts : List Host) → Refusable (asked_for task params text hosts)
-asked_for_coded (ReportOf reporting target) params text hosts =
+asked_for_coded : (task : Task) (params : List Param) (body : List ℕ) (hosts : List Host) → Refusable (asked_for task params body hosts)
+asked_for_coded (ReportOf reporting target) params body hosts =
     refusable_on (audit_of reporting params) _ (audit_coded reporting params) (λ audit. tt)
-asked_for_coded (DeedOn connecting target) params text hosts =
-    refusable_on (deed_of connecting params text hosts) _ (deed_coded connecting params text hosts) (λ deed. tt)
+asked_for_coded (DeedOn connecting target) params body hosts =
+    refusable_on (deed_of connecting params (counted connecting body) hosts) _ (deed_coded connecting params (counted connecting body) hosts) (λ deed. tt)
 
 checked_coded : {A : Type 0} (fault : Option Refused) (next : Result A Refused) → IfSome fault IsParamRefusal → Refusable next → Refusable (checked fault next)
 checked_coded None next here there = there
@@ -197,12 +197,11 @@ asked_coded : (found : Meant) (params : List Param) (body : List ℕ) (confirms 
     → Refusable (asked found params body confirms hosts)
 unfolding asked
 asked_coded found params body confirms hosts =
-    let text : List ℕ = counted found.row.described body in
-    checked_coded _ (asked_for found.task params text hosts)
+    checked_coded _ (asked_for found.task params body hosts)
     (first_gives (params_fault found.row 1 [] params) _ (params_give found.row 1 [] params)
     (first_gives (option_map absence (absent_letter found.row params)) _ (missing_gives (absent_letter found.row params))
     (unreadable_gives (is_readable confirms))))
-    (asked_for_coded found.task params text hosts)
+    (asked_for_coded found.task params body hosts)
 
 pub param_code : (found : Meant) (params : List Param) (body : List ℕ) (confirms : KValue) (hosts : List Host) (refused : Refused)
     → asked found params body confirms hosts ≡ Err refused → has_code param_codes refused.code ≡ true

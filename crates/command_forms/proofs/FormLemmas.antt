@@ -93,14 +93,14 @@ passed_letters missing call requested c x e = search rules
 record HasPassed (found : Meant) (params : List Param) (body : List ℕ) (hosts : List Host) (asks : Asks) : Type 0 where
   whole : missing_letter found.row.must params ≡ None
   together : names_call found.row.purpose params ≡ true
-  reads : asked_for found.task params (counted found.row.described body) hosts ≡ Ok asks
+  reads : asked_for found.task params body hosts ≡ Ok asks
 
 has_passed : (found : Meant) (params : List Param) (body : List ℕ) (confirms : KValue) (hosts : List Host) (asks : Asks)
     → asked found params body confirms hosts ≡ Ok asks → HasPassed found params body hosts asks
 unfolding asked absent_letter
 has_passed found params body confirms hosts asks e =
     let is = passed (params_fault found.row 1 [] params) (option_map absence (absent_letter found.row params)) (is_readable confirms)
-    (refusal (Value letter_k) 510) (asked_for found.task params (counted found.row.described body) hosts) asks e in
+    (refusal (Value letter_k) 510) (asked_for found.task params body hosts) asks e in
     let letters = passed_letters (missing_letter found.row.must params) (names_call found.row.purpose params) (are_of_request params) letter_c letter_x (is.0) in
     record { whole = letters.0; together = letters.1; reads = is.1 }
 
@@ -123,16 +123,16 @@ form_meant command confirms names asks e = by_meant (meant command names) refl w
 
 -- For which lines
 
-target_is : (task : Task) (params : List Param) (text : List ℕ) (hosts : List Host) (asks : Asks)
-    → asked_for task params text hosts ≡ Ok asks → target_in asks ≡ target_meant task
-target_is (ReportOf Endpoint within) params text hosts asks e = search rules
-target_is (ReportOf Connection within) params text hosts asks e = search rules
-target_is (DeedOn connecting within) params text hosts asks e = search rules
+target_is : (task : Task) (params : List Param) (body : List ℕ) (hosts : List Host) (asks : Asks)
+    → asked_for task params body hosts ≡ Ok asks → target_in asks ≡ target_meant task
+target_is (ReportOf Endpoint within) params body hosts asks e = search rules
+target_is (ReportOf Connection within) params body hosts asks e = search rules
+target_is (DeedOn connecting within) params body hosts asks e = search rules
 
 pub same_target : (found : Meant) (params : List Param) (body : List ℕ) (confirms : KValue) (hosts : List Host) (asks : Asks)
     → asked found params body confirms hosts ≡ Ok asks → target_in asks ≡ target_meant found.task
 same_target found params body confirms hosts asks e =
-    target_is found.task params (counted found.row.described body) hosts asks (has_passed found params body confirms hosts asks e).reads
+    target_is found.task params body hosts asks (has_passed found params body confirms hosts asks e).reads
 
 line_named_within : (local : List ℕ) (lines line : ℕ) → line_named local lines ≡ Some line → (1 ≤ line) × (line ≤ lines)
 unfolding line_named
@@ -340,17 +340,18 @@ pub purpose_is : (command : Command) (names : Names) (found : Meant) → meant c
 unfolding meant
 purpose_is command names found e = search rules
 
--- in the rows in which a deed creates or modifies, a description counts
-row_counts : (verb : Verb) (row : VerbRow) (connecting : Connecting) (body : List ℕ) → row_of verb ≡ Some row → row.purpose ≡ ForDeed connecting
-    → IsCounted connecting (counted row.described body) body
-row_counts verb row connecting body e p = search rules
+counts : (connecting : Connecting) (body : List ℕ) → IsCounted connecting (counted connecting body) body
+counts Keeps body = tt
+counts Creates body = refl
+counts Modifies body = refl
+counts Deletes body = tt
 
 -- the deed that was read, by what is meant
 record IsRead (found : Meant) (params : List Param) (body : List ℕ) (hosts : List Host) (target : Target) (deed : Deed) : Type 0 where
   connecting : Connecting
   of_task : found.task ≡ DeedOn connecting target
   together : names_call found.row.purpose params ≡ true
-  read : deed_of connecting params (counted found.row.described body) hosts ≡ Ok deed
+  read : deed_of connecting params (counted connecting body) hosts ≡ Ok deed
 
 no_deed : {P : Type 0} (read : Result Audit Refused) (within : AuditTarget) (target : Target) (deed : Deed)
     → read >>= (λ audit. Ok (Reports within audit)) ≡ Ok (Does target deed) → P
@@ -368,10 +369,10 @@ asked_read found params body confirms hosts target deed e =
     let passes = has_passed found params body confirms hosts (Does target deed) e in
     by_task found.task refl passes.together passes.reads where
       by_task : (task : Task) → found.task ≡ task → names_call found.row.purpose params ≡ true
-          → asked_for task params (counted found.row.described body) hosts ≡ Ok (Does target deed) → IsRead found params body hosts target deed
+          → asked_for task params body hosts ≡ Ok (Does target deed) → IsRead found params body hosts target deed
       by_task (ReportOf reporting within) is together read = no_deed (audit_of reporting params) within target deed read
       by_task (DeedOn connecting within) is together read =
-          let made = deed_asked (deed_of connecting params (counted found.row.described body) hosts) within target deed read in
+          let made = deed_asked (deed_of connecting params (counted connecting body) hosts) within target deed read in
           record { connecting = connecting; of_task = is ∙ ap (DeedOn connecting) (made.0); together = together; read = made.1 }
 
 -- the row of what is meant says so too
@@ -384,14 +385,13 @@ pub deed_has_values : (command : Command) (confirms : KValue) (names : Names) (t
 deed_has_values command confirms names target deed e =
     let m = form_meant command confirms names (Does target deed) e in
     let r = asked_read m.found command.params command.body confirms names.table target deed m.asked_there in
-    let text : List ℕ = counted m.found.row.described command.body in
-    let row = row_is command names m.found m.means in
+    let text : List ℕ = counted r.connecting command.body in
     let purpose = deed_purpose command names m.found r.connecting target m.means r.of_task in
     let together : names_call (ForDeed r.connecting) command.params ≡ true =
     subst (λ (of_row : Purpose). names_call of_row command.params ≡ true) purpose r.together in
     is_ok (HasDeed command.params command.body names.table) (deed_of r.connecting command.params text names.table) deed
     (deed_has r.connecting command.params text command.body names.table
-    (row_counts command.verb m.found.row r.connecting command.body row purpose) together) r.read
+    (counts r.connecting command.body) together) r.read
 
 -- what is meant says what becomes of connections
 connected_as : (connecting : Connecting) (params : List Param) (remote : Option Session)
@@ -417,8 +417,8 @@ pub deed_of_task : (found : Meant) (params : List Param) (body : List ℕ) (conf
 deed_of_task found params body confirms hosts target deed e =
     let r = asked_read found params body confirms hosts target deed e in
     let same : connecting_in deed.connections ≡ r.connecting =
-    is_ok (λ made. connecting_in made.connections ≡ r.connecting) (deed_of r.connecting params (counted found.row.described body) hosts) deed
-    (deed_as r.connecting params (counted found.row.described body) hosts) r.read in
+    is_ok (λ made. connecting_in made.connections ≡ r.connecting) (deed_of r.connecting params (counted r.connecting body) hosts) deed
+    (deed_as r.connecting params (counted r.connecting body) hosts) r.read in
     r.of_task ∙ ap (λ (connecting : Connecting). DeedOn connecting target) (sym same)
 
 pub deed_of_row : (command : Command) (names : Names) (found : Meant) (confirms : KValue) (target : Target) (deed : Deed) → meant command names ≡ Ok found
@@ -524,18 +524,18 @@ no_report : (read : Result Deed Refused) (within : Target) (target : AuditTarget
 no_report (Ok deed) within target audit e = absurd cc
 no_report (Err refused) within target audit e = absurd cc
 
-report_from : (task : Task) (target : AuditTarget) (params : List Param) (text : List ℕ) (hosts : List Host) (audit : Audit)
-    → asked_for task params text hosts ≡ Ok (Reports target audit) → IsReport task params target audit
-report_from (ReportOf reporting within) target params text hosts audit e =
+report_from : (task : Task) (target : AuditTarget) (params : List Param) (body : List ℕ) (hosts : List Host) (audit : Audit)
+    → asked_for task params body hosts ≡ Ok (Reports target audit) → IsReport task params target audit
+report_from (ReportOf reporting within) target params body hosts audit e =
     let made = audit_asked (audit_of reporting params) within target audit e in
     record { reporting = reporting; of_task = ap (ReportOf reporting) (made.0); read = made.1 }
-report_from (DeedOn connecting within) target params text hosts audit e =
-    absurd (no_report (deed_of connecting params text hosts) within target audit e)
+report_from (DeedOn connecting within) target params body hosts audit e =
+    absurd (no_report (deed_of connecting params (counted connecting body) hosts) within target audit e)
 
 report_asked : (found : Meant) (params : List Param) (body : List ℕ) (confirms : KValue) (hosts : List Host) (target : AuditTarget) (audit : Audit)
     → asked found params body confirms hosts ≡ Ok (Reports target audit) → IsReport found.task params target audit
 report_asked found params body confirms hosts target audit e =
-    report_from found.task target params (counted found.row.described body) hosts audit
+    report_from found.task target params body hosts audit
     (has_passed found params body confirms hosts (Reports target audit) e).reads
 
 report_purpose : (command : Command) (names : Names) (found : Meant) (reporting : Reporting) (target : AuditTarget) → meant command names ≡ Ok found
@@ -652,7 +652,7 @@ form_may_be command confirms names asks e =
       by_asks found means (Does (One line) deed) takes read = tt
       by_asks found means (Does All deed) takes read =
           let r = asked_read found command.params command.body confirms names.table All deed read in
-          let text : List ℕ = counted found.row.described command.body in
+          let text : List ℕ = counted r.connecting command.body in
           let of_row = deed_purpose command names found r.connecting All means r.of_task in
           is_ok (λ made. may_connect_all made.connections ≡ true) (deed_of r.connecting command.params text names.table) deed
           (deed_all r.connecting command.params text names.table (all_of found means (ForDeed r.connecting) of_row takes)) r.read

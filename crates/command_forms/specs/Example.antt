@@ -341,4 +341,4 @@ items_alone = (record { code = codes "F"; value = codes "ES" }) ∷ []
 
 abbrev pub of_identifier : VerbRow
 of_identifier =
-    record { must = codes "X"; may = []; wildcard = wildcards.Never; described = false; purpose = ForDeed Keeps }
+    record { must = codes "X"; may = []; wildcard = wildcards.Never; purpose = ForDeed Keeps }

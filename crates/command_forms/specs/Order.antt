@@ -12,6 +12,7 @@ use Rattle.command_forms.specs.declared.forms.Asks.TheVariants.{Reports, Does}
 use Rattle.command_forms.specs.declared.forms.Audit.{Audit}
 use Rattle.command_forms.specs.declared.refused.Place.TheVariants.{Verb, Value}
 use Rattle.command_forms.specs.declared.refused.Refused.{Refused}
+use Rattle.command_forms.specs.declared.verbs.Connecting.{Connecting}
 use Rattle.command_forms.specs.declared.verbs.Connecting.TheVariants.{Keeps, Creates, Modifies, Deletes}
 use Rattle.command_forms.specs.declared.verbs.Meant.{Meant}
 use Rattle.command_forms.specs.declared.verbs.Purpose.{Purpose}
@@ -56,17 +57,19 @@ absent_letter row params = first_fault
     ∷ unless (are_requested params) letter_x
     ∷ [])
 
--- the text behind the parameters, where descriptions count; else it is ignored
-abbrev pub counted : Bool → List ℕ → List ℕ
-counted false body = []
-counted true body = body
+-- the text behind the parameters, which counts where a connection is created or modified (RFC 3435, 2.3.5 and 2.3.6)
+abbrev pub counted : Connecting → List ℕ → List ℕ
+counted Keeps body = []
+counted Creates body = body
+counted Modifies body = body
+counted Deletes body = []
 
--- what is to be done on these lines, by these parameters and this text
+-- what is to be done on these lines, by these parameters and the text behind them
 abbrev pub asked_for : Task → List Param → List ℕ → List Host → Result Asks Refused
-asked_for (ReportOf reporting target) params text hosts =
+asked_for (ReportOf reporting target) params body hosts =
     audit_of reporting params >>= λ audit. Ok (Reports target audit)
-asked_for (DeedOn connecting target) params text hosts =
-    deed_of connecting params text hosts >>= λ deed. Ok (Does target deed)
+asked_for (DeedOn connecting target) params body hosts =
+    deed_of connecting params (counted connecting body) hosts >>= λ deed. Ok (Does target deed)
 
 -- What a command asks for whose verb and name mean this. The faults are in this order: those of the parameters from
 -- top to bottom, one that is missing: 510 (protocol error), and then those of the values, wherever their lines stand, K
@@ -78,7 +81,7 @@ asked found params body confirms hosts =
     ∷ option_map absence (absent_letter found.row params)
     ∷ unless (is_readable confirms) (refusal (Value letter_k) 510)
     ∷ []))
-    (asked_for found.task params (counted found.row.described body) hosts)
+    (asked_for found.task params body hosts)
 
 -- an audit asks for a report
 abbrev pub is_audit : Purpose → Bool

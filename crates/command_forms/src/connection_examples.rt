@@ -421,6 +421,8 @@ pub fn some_cases_are_of_no_command()
     ensures without_call { deletion_by None (Some (codes "1")) ≡ deletions.All }
     ensures kept { with_remote (Some session) deeds.Keep ≡ deeds.Keep }
     ensures deleted { with_remote (Some session) (deeds.Delete deletions.All) ≡ deeds.Delete deletions.All }
-    ensures ignored { counted false described ≡ [] }
-    ensures counts { counted true described ≡ described }
+    ensures ignored { counted Keeps described ≡ [] }
+    ensures ignored_of_deletion { counted Deletes described ≡ [] }
+    ensures counts_of_creation { counted Creates described ≡ described }
+    ensures counts_of_modification { counted Modifies described ≡ described }
 {}

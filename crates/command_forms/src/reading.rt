@@ -51,11 +51,14 @@ fn absent_letter(row: &VerbRow, params: &[Param<'_>]) -> Option<u8>
     None
 }
 
-// The text behind the parameters, where descriptions count.
-fn counted(described: bool, body: &[u8]) -> &[u8]
-    ensures { result.now ≡ counted described body.now }
+// The text behind the parameters, where it counts: as the description of a connection that is created or modified.
+fn counted(connecting: Connecting, body: &[u8]) -> &[u8]
+    ensures { result.now ≡ counted connecting body.now }
 {
-    if described { body } else { b"" }
+    match connecting {
+        Connecting::Creates | Connecting::Modifies => body,
+        Connecting::Keeps | Connecting::Deletes => b"",
+    }
 }
 
 // What is to be reported by F and, of a connection, by I.
@@ -73,15 +76,15 @@ fn audit_of<'m>(reporting: Reporting, params: &'m [Param<'_>]) -> Result<Audit<'
     Ok(Audit { items, connection })
 }
 
-// What the values of these parameters and this text ask for.
+// What the values of these parameters and the text behind them ask for.
 fn asked_for<'m>(
     alloc: Global,
     task: Task,
     params: &'m [Param<'_>],
-    text: &[u8],
+    body: &[u8],
     table: &Table,
 ) -> Result<Asks<'m>, Stop>
-    ensures { StopsAs (asked_for task params.now text.now table.now) result }
+    ensures { StopsAs (asked_for task params.now body.now table.now) result }
 {
     match task {
         Task::ReportOf(reporting, target) => {
@@ -89,7 +92,7 @@ fn asked_for<'m>(
         }
         Task::DeedOn(connecting, target) => Ok(Asks::Does(
             target,
-            deed_of(alloc, connecting, params, text, table)?,
+            deed_of(alloc, connecting, params, counted(connecting, body), table)?,
         )),
     }
 }
@@ -123,8 +126,7 @@ pub fn asked<'m>(
     if !is_readable(confirms) {
         return Err(Stop::of(Place::Value(b'K'), ReturnCode::ProtocolError));
     }
-    let text = counted(found.row.described, body);
-    asked_for(alloc, found.task, params, text, table)
+    asked_for(alloc, found.task, params, body, table)
 }
 
 fn is_audit(purpose: Purpose) -> bool

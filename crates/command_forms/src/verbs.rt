@@ -1,8 +1,11 @@
 //! The verbs that are served.
 ghost use Rattle.std.specs.Prelude.{◌≡◌};
-ghost use Rattle.command_forms.specs.Verbs.{row_of};
+ghost use Rattle.command_forms.specs.Verbs.{row, row_of};
 
 use crate::forms::{AuditTarget, Target};
+use crate::verbs::Connecting::{Creates, Deletes, Keeps, Modifies};
+use crate::verbs::Purpose::{ForDeed, ForReport};
+use crate::verbs::Reporting::{Connection, Endpoint};
 use mgcp_text::{Bytes, Verb};
 
 /// Which wildcard the name of a command may have.
@@ -43,13 +46,12 @@ pub(crate) enum Purpose {
 }
 
 /// A verb that is served: the codes of the parameters that it must have and of those that it may have, each a letter;
-/// which wildcard its name may have; whether a description counts; and what it asks for.
+/// which wildcard its name may have; and what it asks for.
 #[derive(Drop)]
 pub(crate) struct VerbRow {
     pub must: Bytes<'static>,
     pub may: Bytes<'static>,
     pub wildcard: Wildcard,
-    pub described: bool,
     pub purpose: Purpose,
 }
 
@@ -68,60 +70,35 @@ pub struct Meant {
     pub(crate) task: Task,
 }
 
+// A row of the table; each code is one letter.
+fn row(
+    must: &'static [u8],
+    may: &'static [u8],
+    wildcard: Wildcard,
+    purpose: Purpose,
+) -> Option<VerbRow>
+    ensures { result ≡ row must.now may.now wildcard purpose }
+{
+    Some(VerbRow {
+        must: Bytes::of(must),
+        may: Bytes::of(may),
+        wildcard,
+        purpose,
+    })
+}
+
 /// The row of a verb, if it is served.
 pub(crate) fn row_of(verb: Verb) -> Option<VerbRow>
     ensures { result ≡ row_of verb }
 {
     match verb {
-        Verb::Epcf => Some(VerbRow {
-            must: Bytes::of(b""),
-            may: Bytes::of(b"B"),
-            wildcard: Wildcard::All,
-            described: false,
-            purpose: Purpose::ForDeed(Connecting::Keeps),
-        }),
-        Verb::Rqnt => Some(VerbRow {
-            must: Bytes::of(b"X"),
-            may: Bytes::of(b"NBRSDTQ"),
-            wildcard: Wildcard::All,
-            described: false,
-            purpose: Purpose::ForDeed(Connecting::Keeps),
-        }),
-        Verb::Crcx => Some(VerbRow {
-            must: Bytes::of(b"CM"),
-            may: Bytes::of(b"NBLXRSDTQ"),
-            wildcard: Wildcard::Any,
-            described: true,
-            purpose: Purpose::ForDeed(Connecting::Creates),
-        }),
-        Verb::Mdcx => Some(VerbRow {
-            must: Bytes::of(b"CI"),
-            may: Bytes::of(b"NBMLXRSDTQ"),
-            wildcard: Wildcard::Never,
-            described: true,
-            purpose: Purpose::ForDeed(Connecting::Modifies),
-        }),
-        Verb::Dlcx => Some(VerbRow {
-            must: Bytes::of(b""),
-            may: Bytes::of(b"CINBXRSDTQ"),
-            wildcard: Wildcard::AllWithoutCall,
-            described: false,
-            purpose: Purpose::ForDeed(Connecting::Deletes),
-        }),
-        Verb::Auep => Some(VerbRow {
-            must: Bytes::of(b""),
-            may: Bytes::of(b"F"),
-            wildcard: Wildcard::AllWithoutItems,
-            described: false,
-            purpose: Purpose::ForReport(Reporting::Endpoint),
-        }),
-        Verb::Aucx => Some(VerbRow {
-            must: Bytes::of(b"I"),
-            may: Bytes::of(b"F"),
-            wildcard: Wildcard::Never,
-            described: false,
-            purpose: Purpose::ForReport(Reporting::Connection),
-        }),
+        Verb::Epcf => row(b"", b"B", Wildcard::All, ForDeed(Keeps)),
+        Verb::Rqnt => row(b"X", b"NBRSDTQ", Wildcard::All, ForDeed(Keeps)),
+        Verb::Crcx => row(b"CM", b"NBLXRSDTQ", Wildcard::Any, ForDeed(Creates)),
+        Verb::Mdcx => row(b"CI", b"NBMLXRSDTQ", Wildcard::Never, ForDeed(Modifies)),
+        Verb::Dlcx => row(b"", b"CINBXRSDTQ", Wildcard::AllWithoutCall, ForDeed(Deletes)),
+        Verb::Auep => row(b"", b"F", Wildcard::AllWithoutItems, ForReport(Endpoint)),
+        Verb::Aucx => row(b"I", b"F", Wildcard::Never, ForReport(Connection)),
         Verb::Ntfy | Verb::Rsip | Verb::Other => None,
     }
 }
