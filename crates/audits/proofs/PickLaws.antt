@@ -8,7 +8,7 @@ use Rattle.std.proofs.lemmas.Slice.Eq.{bytes_eq-Decides}
 use Rattle.mg_bytes.specs.Case.{same_but_case}
 use Rattle.mg_bytes.proofs.DigitLemmas.{both_true}
 use Rattle.mgcp_text.specs.declared.message.Param.{Param}
-use Rattle.mgcp_text.specs.Answer.{Answer, response_of}
+use Rattle.mgcp_text.specs.Answer.{AnswerContent, response_of}
 use Rattle.mgcp_text.specs.Message.{has_code, param_at}
 use Rattle.mg_bytes.specs.Lines.{crlf}
 use Rattle.mgcp_text.specs.Writing.{body_text, written}
@@ -222,13 +222,13 @@ picked_begins known items more =
 
 -- Whether an answer fits
 
-pub fits : (id : ℕ) (wanted : Answer) → length (written (response_of id wanted)) ≤ largest_datagram → fitting id wanted ≡ Ok wanted
+pub fits : (id : ℕ) (wanted : AnswerContent) → length (written (response_of id wanted)) ≤ largest_datagram → fitting id wanted ≡ Ok wanted
 unfolding fitting
 fits id wanted short =
     let is : nat_le (length (written (response_of id wanted))) largest_datagram ≡ true = grind (arith, nat_tests) in
     rw is refl
 
-pub too_long : (id : ℕ) (wanted : Answer) → largest_datagram < length (written (response_of id wanted)) → fitting id wanted ≡ Err 533
+pub too_long : (id : ℕ) (wanted : AnswerContent) → largest_datagram < length (written (response_of id wanted)) → fitting id wanted ≡ Err 533
 unfolding fitting
 too_long id wanted long =
     let is : nat_le (length (written (response_of id wanted))) largest_datagram ≡ false = grind (arith, nat_tests) in

@@ -13,7 +13,7 @@ use Rattle.mg_bytes.proofs.HexLemmas.{hex_no_blanks, hex_one_line}
 use Rattle.mg_packages.specs.declared.hook.Hook.{Hook}
 use Rattle.mg_packages.specs.declared.hook.Hook.TheVariants.{OnHook, OffHook}
 use Rattle.mgcp_text.specs.declared.message.Param.{Param}
-use Rattle.mgcp_text.specs.Answer.{Answer, response_of}
+use Rattle.mgcp_text.specs.Answer.{AnswerContent, response_of}
 use Rattle.mgcp_text.specs.Message.{has_code, param_at}
 use Rattle.mgcp_text.specs.Parameter.{is_code}
 use Rattle.mgcp_text.specs.Writing.{written, is_writable_param, is_writable_body}
@@ -58,25 +58,25 @@ use Rattle.transmission.specs.Texts.{largest_datagram}
 
 -- Whether an answer fits
 
-fit_same : (b : Bool) (wanted answer : Answer) → checked {F = ℕ} (unless b 533) (Ok wanted) ≡ Ok answer → (b ≡ true) × (answer ≡ wanted)
+fit_same : (b : Bool) (wanted answer : AnswerContent) → checked {F = ℕ} (unless b 533) (Ok wanted) ≡ Ok answer → (b ≡ true) × (answer ≡ wanted)
 fit_same true wanted answer e = let same : answer ≡ wanted = cc in (refl, same)
 fit_same false wanted answer e = absurd cc
 
-pub fitting_same : (id : ℕ) (wanted answer : Answer) → fitting id wanted ≡ Ok answer → answer ≡ wanted
+pub fitting_same : (id : ℕ) (wanted answer : AnswerContent) → fitting id wanted ≡ Ok answer → answer ≡ wanted
 unfolding fitting
 fitting_same id wanted answer e = (fit_same (nat_le (length (written (response_of id wanted))) largest_datagram) wanted answer e).1
 
-pub fitting_short : (id : ℕ) (wanted answer : Answer) → fitting id wanted ≡ Ok answer → length (written (response_of id answer)) ≤ largest_datagram
+pub fitting_short : (id : ℕ) (wanted answer : AnswerContent) → fitting id wanted ≡ Ok answer → length (written (response_of id answer)) ≤ largest_datagram
 unfolding fitting
 fitting_short id wanted answer e =
     let is = fit_same (nat_le (length (written (response_of id wanted))) largest_datagram) wanted answer e in
     rw (is.1) (leb-true _ _ is.0)
 
-fit_code : (b : Bool) (wanted : Answer) (code : ℕ) → checked {F = ℕ} (unless b 533) (Ok wanted) ≡ Err code → code ≤ 999
+fit_code : (b : Bool) (wanted : AnswerContent) (code : ℕ) → checked {F = ℕ} (unless b 533) (Ok wanted) ≡ Err code → code ≤ 999
 fit_code true wanted code e = absurd cc
 fit_code false wanted code e = let same : 533 ≡ code = cc in omega (arith, same)
 
-pub fitting_code : (id : ℕ) (wanted : Answer) (code : ℕ) → fitting id wanted ≡ Err code → code ≤ 999
+pub fitting_code : (id : ℕ) (wanted : AnswerContent) (code : ℕ) → fitting id wanted ≡ Err code → code ≤ 999
 unfolding fitting
 fitting_code id wanted code e = fit_code (nat_le (length (written (response_of id wanted))) largest_datagram) wanted code e
 
@@ -94,10 +94,10 @@ none_writable = record { are = refl }
 all_cons : {param : Param} {params : List Param} → IsWritable param → AreWritable params → AreWritable (param ∷ params)
 all_cons one others = record { are = rw (one.is, others.are) refl }
 
-wanted_written : (id : ℕ) (params : List Param) (body : List ℕ) (answer : Answer) → AreWritable params → is_writable_body body ≡ true
+wanted_written : (id : ℕ) (params : List Param) (body : List ℕ) (answer : AnswerContent) → AreWritable params → is_writable_body body ≡ true
     → fitting id (record { code = 200; params = params; body = body }) ≡ Ok answer → CanBeWritten id answer
 wanted_written id params body answer each whole e =
-    let wanted : Answer = record { code = 200; params = params; body = body } in
+    let wanted : AnswerContent = record { code = 200; params = params; body = body } in
     let same : answer ≡ wanted = fitting_same id wanted answer e in
     record {
       three_digits = rw same (lit≤ tt);
@@ -191,7 +191,7 @@ nothing_writable : is_writable_body [] ≡ true
 unfolding is_writable_body
 nothing_writable = refl
 
-pub line_written : (id : ℕ) (endpoint : AuditedEndpoint) (items : List (List ℕ)) (answer : Answer) → IsShowable endpoint
+pub line_written : (id : ℕ) (endpoint : AuditedEndpoint) (items : List (List ℕ)) (answer : AnswerContent) → IsShowable endpoint
     → endpoint_report id endpoint items ≡ Ok answer → CanBeWritten id answer
 unfolding endpoint_report
 line_written id endpoint items answer is e =
@@ -299,7 +299,7 @@ audited_is id standing found has all e =
     place_audited standing (place_where (holds_id id) standing.places) found has all
     (λ place is. omega (arith, found_inside (holds_id id) 0 place standing.places is)) e
 
-report_written : (id : ℕ) (entity : List ℕ) (made : Result Audited ℕ) (items : List (List ℕ)) (answer : Answer)
+report_written : (id : ℕ) (entity : List ℕ) (made : Result Audited ℕ) (items : List (List ℕ)) (answer : AnswerContent)
     → list_any is_blank entity ≡ false → list_any is_line_feed entity ≡ false → ((found : Audited) → made ≡ Ok found → IsAudited found)
     → report_from id entity made items ≡ Ok answer → CanBeWritten id answer
 report_written id entity (Err code) items answer blankless in_line is e = absurd cc
@@ -310,7 +310,7 @@ report_written id entity (Ok found) items answer blankless in_line is e =
     (connection_params_writable entity found.connection blankless in_line has.connection))
     (descriptions_writable found items has) e
 
-pub connection_written : (id : ℕ) (endpoint : AuditedEndpoint) (connection : List ℕ) (items : List (List ℕ)) (answer : Answer) → IsShowable endpoint
+pub connection_written : (id : ℕ) (endpoint : AuditedEndpoint) (connection : List ℕ) (items : List (List ℕ)) (answer : AnswerContent) → IsShowable endpoint
     → connection_report id endpoint connection items ≡ Ok answer → CanBeWritten id answer
 unfolding connection_report
 connection_written id endpoint connection items answer is e =

@@ -1,7 +1,7 @@
 -- What is reported of a connection (RFC 3435, 2.3.11 and 3.2.2): its parameters, and its descriptions behind them (3.4).
 use Rattle.std.specs.Prelude.{ℕ, ◌&&◌, if◌then◌else◌, codes, List, [], ◌∷◌, ◌++◌, Option, Some, None, Result, Ok, Err}
 use Rattle.mgcp_text.specs.declared.message.Param.{Param}
-use Rattle.mgcp_text.specs.Answer.{Answer}
+use Rattle.mgcp_text.specs.Answer.{AnswerContent}
 use Rattle.mg_bytes.specs.Lines.{crlf}
 use Rattle.sdp_subset.specs.declared.session.Session.{Session}
 use Rattle.sdp_subset.specs.Writing.{session_text}
@@ -42,7 +42,7 @@ descriptions_text audited items =
     ++ (if asks_for (codes "RC") items then remote_text audited.connection.remote else []))
 
 -- the answer to an audit of a connection
-abbrev pub report_from : ℕ → List ℕ → Result Audited ℕ → List (List ℕ) → Result Answer ℕ
+abbrev pub report_from : ℕ → List ℕ → Result Audited ℕ → List (List ℕ) → Result AnswerContent ℕ
 report_from id entity (Err code) items = Err code
 report_from id entity (Ok audited) items = fitting id (record {
   code = 200;
@@ -51,6 +51,6 @@ report_from id entity (Ok audited) items = fitting id (record {
 })
 
 -- that of the connection of a line with this identifier, under this id; none is 515
-unfoldable pub connection_report : ℕ → AuditedEndpoint → List ℕ → List (List ℕ) → Result Answer ℕ
+unfoldable pub connection_report : ℕ → AuditedEndpoint → List ℕ → List (List ℕ) → Result AnswerContent ℕ
 connection_report id endpoint connection items =
     report_from id endpoint.entity.text (audited connection endpoint.connections) items

@@ -4,7 +4,7 @@ use Rattle.std.specs.Prelude.{ℕ, codes, List, [], ◌∷◌, ◌++◌, map, Op
 use Rattle.std.specs.List.{join_with_byte}
 use Rattle.mg_bytes.specs.Bytes.{comma}
 use Rattle.mgcp_text.specs.declared.message.Param.{Param}
-use Rattle.mgcp_text.specs.Answer.{Answer}
+use Rattle.mgcp_text.specs.Answer.{AnswerContent}
 use Rattle.mg_packages.specs.declared.hook.Hook.{Hook}
 use Rattle.mg_packages.specs.declared.hook.Hook.TheVariants.{OnHook, OffHook}
 use Rattle.mg_packages.specs.Looking.{signal_name}
@@ -80,6 +80,6 @@ abbrev pub endpoint_params : AuditedEndpoint → List Param
 endpoint_params endpoint = line_params endpoint ++ event_params endpoint.line
 
 -- the answer to an audit of a line under this id, which asks for these items
-unfoldable pub endpoint_report : ℕ → AuditedEndpoint → List (List ℕ) → Result Answer ℕ
+unfoldable pub endpoint_report : ℕ → AuditedEndpoint → List (List ℕ) → Result AnswerContent ℕ
 endpoint_report id endpoint items =
     fitting id (record { code = 200; params = picked (endpoint_params endpoint) items; body = [] })

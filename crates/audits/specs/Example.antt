@@ -1,7 +1,7 @@
 -- What the worked examples speak of.
 use Rattle.std.specs.Prelude.{ℕ, List, [], ◌∷◌, replicate, codes, length, Option, Some, Result, Ok, Err}
 use Rattle.mg_bytes.specs.Items.{items_of}
-use Rattle.mgcp_text.specs.Answer.{Answer, response_of}
+use Rattle.mgcp_text.specs.Answer.{AnswerContent, response_of}
 use Rattle.mgcp_text.specs.Writing.{written}
 use Rattle.mg_packages.specs.declared.hook.Hook.TheVariants.{OffHook}
 use Rattle.mg_packages.specs.declared.signal.Signal.TheVariants.{DialTone, MessageWaiting}
@@ -72,7 +72,7 @@ abbrev pub calling_with_entity : ℕ → AuditedEndpoint
 calling_with_entity size = record (with_entity size) { connections = with_one first_connection }
 
 -- the text of a response
-abbrev pub text_from : ℕ → Result Answer ℕ → Result (List ℕ) ℕ
+abbrev pub text_from : ℕ → Result AnswerContent ℕ → Result (List ℕ) ℕ
 text_from id (Ok answer) = Ok (written (response_of id answer))
 text_from id (Err code) = Err code
 

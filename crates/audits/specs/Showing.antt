@@ -5,7 +5,7 @@ use Rattle.std.specs.List.{AllByRecursion, list_all, list_any}
 use Rattle.mg_bytes.specs.Blanks.{is_blank}
 use Rattle.mg_bytes.specs.Lines.{is_line_feed}
 use Rattle.mg_bytes.specs.Numbers.{is_hex_text}
-use Rattle.mgcp_text.specs.Answer.{Answer, response_of}
+use Rattle.mgcp_text.specs.Answer.{AnswerContent, response_of}
 use Rattle.mgcp_text.specs.Writing.{written, is_writable_param, is_writable_body}
 use Rattle.event_syntax.specs.Requested.{is_spelled_map, all_maps_are_spelled}
 use Rattle.sdp_subset.specs.Writing.{IsSession}
@@ -39,7 +39,7 @@ pub record IsShowable (endpoint : AuditedEndpoint) : Type 0 where
   pub places : AllByRecursion IsShowablePlace endpoint.connections.places
 
 -- the answer under this id can be written, and fits into a datagram (RFC 3435, 3.3, 3.5.4 and 3.5.5)
-pub record CanBeWritten (id : ℕ) (answer : Answer) : Type 0 where
+pub record CanBeWritten (id : ℕ) (answer : AnswerContent) : Type 0 where
   pub three_digits : answer.code ≤ 999
   pub each : list_all is_writable_param answer.params ≡ true
   pub whole : is_writable_body answer.body ≡ true

@@ -1,7 +1,7 @@
 //! Laws of audits, in the words of their subject. Each function has an empty body: its clauses are the theorems.
 ghost use Rattle.std.specs.Prelude.{◌≡◌, ◌≤◌, ◌<◌, ◌++◌, ℕ, List, length, codes, true, if◌then◌else◌, None, Ok, Err};
 ghost use Rattle.mgcp_text.specs.declared.message.Param.{Param};
-ghost use Rattle.mgcp_text.specs.Answer.{Answer, response_of};
+ghost use Rattle.mgcp_text.specs.Answer.{AnswerContent, response_of};
 ghost use Rattle.mgcp_text.specs.Message.{param_at};
 ghost use Rattle.mgcp_text.specs.Writing.{body_text, written};
 ghost use Rattle.sdp_subset.specs.Writing.{session_text};
@@ -27,9 +27,9 @@ pub fn a_report_has_the_order_of_f()
 
 /// A response of up to 4,000 bytes is as it was wanted, and a longer one gives way to 533 (RFC 3435, 2.4 and 3.5.4).
 pub fn a_response_is_too_long_past_4000_bytes()
-    ensures short { (id : ℕ) (wanted : Answer) → length (written (response_of id wanted)) ≤ largest_datagram →
+    ensures short { (id : ℕ) (wanted : AnswerContent) → length (written (response_of id wanted)) ≤ largest_datagram →
         fitting id wanted ≡ Ok wanted }
-    ensures long { (id : ℕ) (wanted : Answer) → largest_datagram < length (written (response_of id wanted)) →
+    ensures long { (id : ℕ) (wanted : AnswerContent) → largest_datagram < length (written (response_of id wanted)) →
         fitting id wanted ≡ Err 533 }
 {}
 

@@ -10,7 +10,7 @@ use crate::endpoint::AuditedEndpoint;
 use crate::limit::fitting;
 use crate::picking::{Subject, picked};
 use mg_bytes::{CodeFault, Identifier, ReturnCode};
-use mgcp_text::{Answer, Bytes, TransactionId};
+use mgcp_text::{AnswerContent, Bytes, TransactionId};
 use std::alloc::Global;
 
 /// The answer to an audit of a line under this id (RFC 3435, 2.3.10): of what is known the items of F, in their order and each
@@ -24,11 +24,11 @@ pub fn endpoint_report(
     id: TransactionId,
     endpoint: AuditedEndpoint<'_>,
     items: &[u8],
-) -> Result<Answer, CodeFault>
+) -> Result<AnswerContent, CodeFault>
     ensures { AnswersAs (endpoint_report id (shown endpoint.entry) (items_of items.now)) result }
 {
     let params = picked(alloc, Subject::Line(endpoint), items)?;
-    let wanted = Answer::with(ReturnCode::Executed.number(), params, Bytes::of(b""));
+    let wanted = AnswerContent::with(ReturnCode::Executed.number(), params, Bytes::of(b""));
     fitting(alloc, id, wanted)
 }
 
@@ -45,7 +45,7 @@ pub fn connection_report(
     endpoint: AuditedEndpoint<'_>,
     connection: &Identifier,
     items: &[u8],
-) -> Result<Answer, CodeFault>
+) -> Result<AnswerContent, CodeFault>
     ensures { AnswersAs (connection_report id (shown endpoint.entry) connection.now (items_of items.now)) result }
 {
     let audited = endpoint.connections.audit(connection)?;
@@ -55,6 +55,6 @@ pub fn connection_report(
     fitting(
         alloc,
         id,
-        Answer::with(ReturnCode::Executed.number(), params, body),
+        AnswerContent::with(ReturnCode::Executed.number(), params, body),
     )
 }

@@ -15,7 +15,7 @@ use crate::growing::Growing;
 use crate::issuing::{GREATEST_ID, IssueFault, Issued, command_text, is_good};
 use crate::setup::AgentSetup;
 use crate::state::{Answer, Answered, Context, State};
-use crate::told::Told;
+use crate::told::TakenEvents;
 use crate::working::step_state;
 use event_values::Observed;
 use history::History;
@@ -75,7 +75,7 @@ impl Agent {
             ≡ record { own = own; gateway = gateway; domain = domain; lines = lines; first = first }) }
         ensures stands { IfOk result (λ a. AgentStands a []) }
     {
-        let told = Told::nothing(alloc, lines)?;
+        let told = TakenEvents::nothing(alloc, lines)?;
         let setup = AgentSetup {
             own,
             gateway,

@@ -3,7 +3,7 @@
 use crate::flights::Flights;
 use crate::growing::Growing;
 use crate::setup::AgentSetup;
-use crate::told::Told;
+use crate::told::TakenEvents;
 use history::History;
 use mg_bytes::Text;
 use std::alloc::Global;
@@ -32,7 +32,7 @@ pub(crate) struct State {
     pub next: u32,
     pub flights: Flights,
     pub answers: Growing<Answered>,
-    pub told: Told,
+    pub told: TakenEvents,
     pub history: History,
 }
 

@@ -11,11 +11,11 @@ ghost use Rattle.call_agent.specs.Taking.{code_for, taken_on, taken_of, with_tak
 ghost use Rattle.call_agent.specs.State.{kept_in, Does};
 
 use crate::state::{Context, State};
-use crate::told::Told;
+use crate::told::TakenEvents;
 use endpoint_names::{Pattern, read_name};
 use event_values::{Observed, read_observed};
 use mg_bytes::{CodeFault, OutOfMemory, ReturnCode, Sequence};
-use mgcp_text::{Answer, Message, Param, Verb, param_at, read_k};
+use mgcp_text::{AnswerContent, Message, Param, Verb, param_at, read_k};
 use plain_machine::OutDatagram;
 use std::alloc::{AllocError, Global};
 use transmission::{Origin, answer, spans_of};
@@ -102,7 +102,7 @@ fn taken_on(
 }
 
 // This is told, if there is anything.
-fn tell(told: &mut Told, taken: Option<Taken>) -> Result<(), OutOfMemory>
+fn tell(told: &mut TakenEvents, taken: Option<Taken>) -> Result<(), OutOfMemory>
     ensures ok { OnOk result (told.new ≡ record told.old { is = fold with_taken told.old.is (cons_option taken []) }) }
     ensures err { OnErr result (told.new ≡ told.old) }
 {
@@ -134,7 +134,7 @@ pub(crate) fn execute(
     let confirms = spans_of(context.alloc, &read_k(context.alloc, said)?)?;
     let taken = taken_of(context, verb, name, said.params())?;
     tell(&mut state.told, taken)?;
-    let given = Answer::plain(context.alloc, code_for(verb));
+    let given = AnswerContent::plain(context.alloc, code_for(verb));
     answer(
         context.alloc,
         &mut state.history,

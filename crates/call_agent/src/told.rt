@@ -13,11 +13,11 @@ use std::marker::Model;
 /// What was told of each line, of which the first is line 1. A contract sees a list for each, and as the event that happens
 /// found them.
 #[derive(Drop)]
-pub(crate) struct Told {
+pub(crate) struct TakenEvents {
     lines: Vec<Growing<Observed>>,
 }
 
-impl Model for Told {
+impl Model for TakenEvents {
     ghost use Rattle.std.specs.Prelude.{List};
     ghost use Rattle.event_values.specs.declared.observed.Observed.{Observed};
     ghost use Rattle.call_agent.specs.Growing.{Grown, all_in};
@@ -27,16 +27,16 @@ impl Model for Told {
     ghost view = { λ t. all_in t.lines.items };
 }
 
-impl Told {
+impl TakenEvents {
     /// Nothing was told of any of so many lines.
-    pub(crate) fn nothing(alloc: Global, count: u16) -> Result<Told, OutOfMemory>
+    pub(crate) fn nothing(alloc: Global, count: u16) -> Result<TakenEvents, OutOfMemory>
         ensures { IfOk result (λ told. told ≡ grown_to (replicate count [])) }
     {
         let mut lines = Vec::new(alloc);
         for _ in 0..count {
             lines.push(Growing::new(alloc))?;
         }
-        Ok(Told { lines })
+        Ok(TakenEvents { lines })
     }
 
     /// All that was told of a line; nothing of a line that there isn't.

@@ -12,8 +12,8 @@ use Rattle.event_syntax.specs.Requested.{requested_of}
 use Rattle.event_syntax.specs.Detect.{detected_of}
 use Rattle.event_values.specs.Signals.{signals_of}
 use Rattle.connections.specs.Options.{options_of}
-use Rattle.command_forms.specs.declared.refused.Place.{Place}
-use Rattle.command_forms.specs.declared.refused.Place.TheVariants.{Line, Value}
+use Rattle.command_forms.specs.declared.refused.FaultyPart.{FaultyPart}
+use Rattle.command_forms.specs.declared.refused.FaultyPart.TheVariants.{Line, Value}
 use Rattle.command_forms.specs.declared.refused.Refused.{Refused}
 use Rattle.command_forms.specs.declared.verbs.Connecting.{Connecting}
 use Rattle.command_forms.specs.declared.verbs.Connecting.TheVariants.{Keeps, Creates, Modifies, Deletes}
@@ -62,7 +62,7 @@ first_gives (Some refused) checks here there = here
 param_gives : (row : VerbRow) (before : List Param) (param : Param) → IfSome (param_fault row before param) IsParamCode
 param_gives row before param = search rules
 
-place_gives : (place : Place) (fault : Option ℕ) → IfSome fault IsParamCode → IfSome (fault_at place fault) IsParamRefusal
+place_gives : (place : FaultyPart) (fault : Option ℕ) → IfSome fault IsParamCode → IfSome (fault_at place fault) IsParamRefusal
 place_gives place None here = tt
 place_gives place (Some code) here = here
 
@@ -118,7 +118,7 @@ Refusable read = IfErr read IsParamRefusal
 refusable_on : {A B : Type 0} (read : Result A Refused) (next : A → Result B Refused) → Refusable read → ((x : A) → Refusable (next x)) → Refusable (read >>= next)
 refusable_on read next here on = on_err IsParamRefusal read next here on
 
-coded_on : {A B : Type 0} (place : Place) (read : Result A ℕ) (next : A → Result B Refused) → Coded read → ((x : A) → Refusable (next x))
+coded_on : {A B : Type 0} (place : FaultyPart) (read : Result A ℕ) (next : A → Result B Refused) → Coded read → ((x : A) → Refusable (next x))
     → Refusable (placed place read >>= next)
 coded_on place (Ok x) next here on = on x
 coded_on place (Err code) next here on = here

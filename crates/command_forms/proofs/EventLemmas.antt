@@ -9,7 +9,7 @@ use Rattle.event_syntax.specs.declared.request.RequestedEvent.{RequestedEvent}
 use Rattle.event_syntax.specs.Requested.{requested_of}
 use Rattle.event_syntax.specs.Detect.{detected_of}
 use Rattle.event_syntax.proofs.Computing.{on_examples as syntax_examples}
-use Rattle.command_forms.specs.declared.refused.Place.{Place}
+use Rattle.command_forms.specs.declared.refused.FaultyPart.{FaultyPart}
 use Rattle.command_forms.specs.Refusing.{stopped}
 use Rattle.command_forms.specs.Params.{value_at}
 use Rattle.command_forms.specs.Deeds.{events_of}
@@ -28,7 +28,7 @@ nothing_meanwhile params requested r t =
     rw (r, none) refl
 
 -- what was read at a place is what the definition says
-pub read_there : {A : Type 0} (place : Place) (said : Result A ℕ) (read : Result A CodeFault) (value : A) → AnswersAs said read
+pub read_there : {A : Type 0} (place : FaultyPart) (said : Result A ℕ) (read : Result A CodeFault) (value : A) → AnswersAs said read
     → Ok value ≡ stopped place read → said ≡ Ok value
 read_there place said (Ok x) value answers e = let same : x ≡ value = cc in answers ∙ ap Ok same
 read_there place said (Err (Code code)) value answers e = absurd cc

@@ -40,7 +40,7 @@ use Rattle.command_forms.specs.declared.forms.ConnectionDeed.TheVariants as deed
 use Rattle.command_forms.specs.declared.forms.Deed.{Deed}
 use Rattle.command_forms.specs.declared.forms.Target.{Target}
 use Rattle.command_forms.specs.declared.forms.Target.TheVariants.{One, All, Any}
-use Rattle.command_forms.specs.declared.refused.Place.TheVariants.{Value}
+use Rattle.command_forms.specs.declared.refused.FaultyPart.TheVariants.{Value}
 use Rattle.command_forms.specs.declared.refused.Refused.{Refused}
 use Rattle.command_forms.specs.declared.verbs.Connecting.{Connecting}
 use Rattle.command_forms.specs.declared.verbs.Connecting.TheVariants.{Keeps, Creates, Modifies, Deletes}

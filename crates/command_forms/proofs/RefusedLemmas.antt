@@ -5,7 +5,7 @@ use Rattle.mgcp_text.specs.declared.confirmation.KValue.{KValue}
 use Rattle.mgcp_text.specs.declared.message.Message.{Message}
 use Rattle.mgcp_text.specs.declared.message.Message.TheVariants as messages
 use Rattle.endpoint_names.specs.declared.names.Names.{Names}
-use Rattle.command_forms.specs.declared.refused.Place.{Place}
+use Rattle.command_forms.specs.declared.refused.FaultyPart.{FaultyPart}
 use Rattle.command_forms.specs.declared.refused.Refused.{Refused}
 use Rattle.mg_bytes.specs.Steps.{◌>>=◌}
 use Rattle.command_forms.specs.Refusing.{placed, coded}
@@ -18,7 +18,7 @@ on_ok P (Ok x) next each = each x refl
 on_ok P (Err refused) next each = tt
 
 -- and so where the first is read at a place
-pub on_placed : {A B : Type 0} (P : B → Type 0) (place : Place) (read : Result A ℕ) (next : A → Result B Refused)
+pub on_placed : {A B : Type 0} (P : B → Type 0) (place : FaultyPart) (read : Result A ℕ) (next : A → Result B Refused)
     → ((x : A) → read ≡ Ok x → IfOk (next x) P) → IfOk (placed place read >>= next) P
 on_placed P place (Ok x) next each = each x refl
 on_placed P place (Err code) next each = tt

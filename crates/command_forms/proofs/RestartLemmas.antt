@@ -10,7 +10,7 @@ use Rattle.command_forms.specs.declared.forms.Asks.{Asks}
 use Rattle.command_forms.specs.declared.forms.Asks.TheVariants.{Does}
 use Rattle.command_forms.specs.declared.forms.Deed.{Deed}
 use Rattle.command_forms.specs.declared.forms.Target.{Target}
-use Rattle.command_forms.specs.declared.refused.Place.TheVariants as places
+use Rattle.command_forms.specs.declared.refused.FaultyPart.TheVariants as places
 use Rattle.command_forms.specs.declared.refused.Refused.{Refused}
 use Rattle.command_forms.specs.declared.verbs.Connecting.{Connecting}
 use Rattle.command_forms.specs.declared.verbs.Meant.{Meant}

@@ -19,7 +19,7 @@ use Rattle.event_syntax.specs.Events.{events_called}
 use Rattle.event_syntax.specs.Detect.{most_events, without_parameters, detected_from, detected, detected_in, detected_of}
 use Rattle.event_values.specs.Handling.{handling_of}
 use Rattle.event_values.specs.Signals.{most_signals, setting_of, signal_called, signal_entry_from, signal_entry, signals_in, signals_of}
-use Rattle.event_syntax.specs.Actions.{Word, word_of, Deed, plain, embed, accumulate_and_embed, Said, said_by, said_of, Rule, ruled_by, said_in, rule_from, rule_of}
+use Rattle.event_syntax.specs.Actions.{Word, word_of, Joined, plain, embed, accumulate_and_embed, Said, said_by, said_of, Rule, ruled_by, said_in, rule_from, rule_of}
 use Rattle.event_syntax.specs.Embedding.{embedded_event_by, embedded_event, nothing_embedded, with_events, with_signals, with_map, with_part_named, with_part_in, with_part_from, with_part, with_parts, embedded_in}
 use Rattle.event_syntax.specs.Requested.{reaction_of, requested, requested_in, requested_of}
 use Rattle.command_forms.specs.Values.{handling_at}
@@ -135,12 +135,12 @@ rule_coded entry = by_form (form_of entry) where
       coded_on (events_called form.head) _ (events_coded form.head)
       (λ events. coded_on (said_in form.inside) (ruled_by events) (said_in_coded form.inside) (ruled_coded events))
 
-deed_coded : (rule : Rule) (deed : Deed) → Coded (embedded_event_by rule deed)
-deed_coded rule deed = search rules
+joined_coded : (rule : Rule) (joined : Joined) → Coded (embedded_event_by rule joined)
+joined_coded rule joined = search rules
 
 embedded_event_coded : (entry : List ℕ) → Coded (embedded_event entry)
 unfolding embedded_event
-embedded_event_coded entry = coded_on (rule_of entry) _ (rule_coded entry) (λ rule. deed_coded rule rule.deed)
+embedded_event_coded entry = coded_on (rule_of entry) _ (rule_coded entry) (λ rule. joined_coded rule rule.joined)
 
 map_coded : (read : Result (List ℕ) MapFault) → Coded (or_code read)
 map_coded read = search rules
@@ -174,7 +174,7 @@ embedded_coded : (inside : List ℕ) → Coded (embedded_in inside)
 unfolding embedded_in
 embedded_coded inside = parts_coded nothing_embedded (items inside)
 
-reaction_coded : (deed : Deed) → Coded (reaction_of deed)
+reaction_coded : (joined : Joined) → Coded (reaction_of joined)
 reaction_coded (plain action) = tt
 reaction_coded (embed inside) = coded_on (embedded_in inside) _ (embedded_coded inside) (λ request. tt)
 reaction_coded (accumulate_and_embed inside) = coded_on (embedded_in inside) _ (embedded_coded inside) (λ request. tt)
@@ -182,7 +182,7 @@ reaction_coded (accumulate_and_embed inside) = coded_on (embedded_in inside) _ (
 requested_entry_coded : (entry : List ℕ) → Coded (requested entry)
 unfolding requested
 requested_entry_coded entry =
-    coded_on (rule_of entry) _ (rule_coded entry) (λ rule. coded_on (reaction_of rule.deed) _ (reaction_coded rule.deed) (λ reaction. tt))
+    coded_on (rule_of entry) _ (rule_coded entry) (λ rule. coded_on (reaction_of rule.joined) _ (reaction_coded rule.joined) (λ reaction. tt))
 
 pub requested_coded : (value : List ℕ) → Coded (requested_of value)
 unfolding requested_of requested_in

@@ -18,7 +18,7 @@ use Rattle.connections.specs.Options.{options_of, no_options}
 use Rattle.command_forms.specs.declared.forms.ConnectionDeed.{ConnectionDeed}
 use Rattle.command_forms.specs.declared.forms.ConnectionDeed.TheVariants as deeds
 use Rattle.command_forms.specs.declared.forms.Deed.{Deed}
-use Rattle.command_forms.specs.declared.refused.Place.TheVariants.{Value, Description}
+use Rattle.command_forms.specs.declared.refused.FaultyPart.TheVariants.{Value, Description}
 use Rattle.command_forms.specs.declared.refused.Refused.{Refused}
 use Rattle.command_forms.specs.declared.verbs.Connecting.{Connecting}
 use Rattle.command_forms.specs.declared.verbs.Connecting.TheVariants.{Keeps, Creates, Modifies, Deletes}

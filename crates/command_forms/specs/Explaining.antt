@@ -6,8 +6,8 @@ use Rattle.mg_bytes.specs.ReturnCode.{words_of, code_with}
 use Rattle.mgcp_text.specs.declared.message.Message.{Message}
 use Rattle.mgcp_text.specs.declared.confirmation.KValue.{KValue}
 use Rattle.endpoint_names.specs.declared.names.Names.{Names}
-use Rattle.command_forms.specs.declared.refused.Place.{Place}
-use Rattle.command_forms.specs.declared.refused.Place.TheVariants.{Verb, Name, Line, Missing, Value, Description}
+use Rattle.command_forms.specs.declared.refused.FaultyPart.{FaultyPart}
+use Rattle.command_forms.specs.declared.refused.FaultyPart.TheVariants.{Verb, Name, Line, Missing, Value, Description}
 use Rattle.command_forms.specs.declared.refused.Refused.{Refused}
 use Rattle.command_forms.specs.Order.{judged_in}
 
@@ -22,21 +22,21 @@ refused_code refused = option_map (λ found. found.code) refused
 -- In words
 
 -- what is at fault, and which of these it is
-abbrev pub place_name : Place → List ℕ
-place_name Verb = codes "verb"
-place_name Name = codes "endpoint name"
-place_name (Line number) = codes "parameter line "
-place_name (Missing letter) = codes "missing parameter "
-place_name (Value letter) = codes "value of parameter "
-place_name Description = codes "remote description"
+abbrev pub part_name : FaultyPart → List ℕ
+part_name Verb = codes "verb"
+part_name Name = codes "endpoint name"
+part_name (Line number) = codes "parameter line "
+part_name (Missing letter) = codes "missing parameter "
+part_name (Value letter) = codes "value of parameter "
+part_name Description = codes "remote description"
 
-abbrev pub place_number : Place → List ℕ
-place_number Verb = []
-place_number Name = []
-place_number (Line number) = decimal number
-place_number (Missing letter) = letter ∷ []
-place_number (Value letter) = letter ∷ []
-place_number Description = []
+abbrev pub part_number : FaultyPart → List ℕ
+part_number Verb = []
+part_number Name = []
+part_number (Line number) = decimal number
+part_number (Missing letter) = letter ∷ []
+part_number (Value letter) = letter ∷ []
+part_number Description = []
 
 abbrev pub words_from : Option ReturnCode → List ℕ
 words_from None = []
@@ -46,4 +46,4 @@ words_from (Some code) = words_of code
 unfoldable pub explanation_of : Refused → List ℕ
 explanation_of refused =
     decimal refused.code ++ codes " " ++ words_from (code_with refused.code) ++ codes ": "
-    ++ place_name refused.at ++ place_number refused.at
+    ++ part_name refused.at ++ part_number refused.at

@@ -10,7 +10,7 @@ use Rattle.endpoint_names.specs.declared.table.Host.{Host}
 use Rattle.command_forms.specs.declared.forms.Asks.{Asks}
 use Rattle.command_forms.specs.declared.forms.Asks.TheVariants.{Reports, Does}
 use Rattle.command_forms.specs.declared.forms.Audit.{Audit}
-use Rattle.command_forms.specs.declared.refused.Place.TheVariants.{Verb, Value}
+use Rattle.command_forms.specs.declared.refused.FaultyPart.TheVariants.{Verb, Value}
 use Rattle.command_forms.specs.declared.refused.Refused.{Refused}
 use Rattle.command_forms.specs.declared.verbs.Connecting.{Connecting}
 use Rattle.command_forms.specs.declared.verbs.Connecting.TheVariants.{Keeps, Creates, Modifies, Deletes}

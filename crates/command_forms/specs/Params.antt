@@ -6,7 +6,7 @@ use Rattle.mg_bytes.specs.Case.{same_but_case}
 use Rattle.mg_bytes.specs.Checks.{unless, first_fault}
 use Rattle.mgcp_text.specs.declared.message.Param.{Param}
 use Rattle.mgcp_text.specs.Message.{param_at}
-use Rattle.command_forms.specs.declared.refused.Place.TheVariants.{Line}
+use Rattle.command_forms.specs.declared.refused.FaultyPart.TheVariants.{Line}
 use Rattle.command_forms.specs.declared.refused.Refused.{Refused}
 use Rattle.command_forms.specs.declared.verbs.VerbRow.{VerbRow}
 use Rattle.command_forms.specs.Refusing.{fault_at}

@@ -3,8 +3,8 @@
 use Rattle.std.specs.Prelude.{◌≡◌, ◌≤◌, ⊤, ℕ, Option, option_map, Result, Ok, Err}
 use Rattle.mg_bytes.specs.declared.code_fault.CodeFault.{CodeFault}
 use Rattle.mg_bytes.specs.declared.code_fault.CodeFault.TheVariants as faults
-use Rattle.command_forms.specs.declared.refused.Place.{Place}
-use Rattle.command_forms.specs.declared.refused.Place.TheVariants.{Missing}
+use Rattle.command_forms.specs.declared.refused.FaultyPart.{FaultyPart}
+use Rattle.command_forms.specs.declared.refused.FaultyPart.TheVariants.{Missing}
 use Rattle.command_forms.specs.declared.refused.Refused.{Refused}
 use Rattle.command_forms.specs.declared.refused.Stop.{Stop}
 use Rattle.command_forms.specs.declared.refused.Stop.TheVariants.{OutOfMemory, AtFault}
@@ -50,7 +50,7 @@ abbrev pub letter_x : ℕ
 letter_x = 88
 
 -- a refusal with this code, at this place
-abbrev pub refusal : Place → ℕ → Refused
+abbrev pub refusal : FaultyPart → ℕ → Refused
 refusal place code = record { code = code; at = place }
 
 -- what must stand there and doesn't: 510 (protocol error)
@@ -58,11 +58,11 @@ abbrev pub absence : ℕ → Refused
 absence letter = refusal (Missing letter) 510
 
 -- the fault of a check, at this place
-abbrev pub fault_at : Place → Option ℕ → Option Refused
+abbrev pub fault_at : FaultyPart → Option ℕ → Option Refused
 fault_at place fault = option_map (refusal place) fault
 
 -- what is read at this place
-abbrev pub placed : {A : Type 0} → Place → Result A ℕ → Result A Refused
+abbrev pub placed : {A : Type 0} → FaultyPart → Result A ℕ → Result A Refused
 placed place (Ok value) = Ok value
 placed place (Err code) = Err (refusal place code)
 
@@ -85,7 +85,7 @@ stop_of (Ok value) = Ok value
 stop_of (Err refused) = Err (AtFault refused)
 
 -- what was read at this place, as a judgement
-abbrev pub stopped : {A : Type 0} → Place → Result A CodeFault → Result A Stop
+abbrev pub stopped : {A : Type 0} → FaultyPart → Result A CodeFault → Result A Stop
 stopped place (Ok value) = Ok value
 stopped place (Err (faults.Code code)) = Err (AtFault (refusal place code))
 stopped place (Err faults.OutOfMemory) = Err OutOfMemory

@@ -3,7 +3,7 @@
 
 ghost use Rattle.std.specs.Prelude.{◌≡◌, ◌++◌, true, false, codes, replicate, [], ◌∷◌, Some, None};
 ghost use Rattle.command_forms.specs.declared.forms.Target.TheVariants as targets;
-ghost use Rattle.mg_packages.specs.declared.event.Event.TheVariants.{OffHook, OnHook};
+ghost use Rattle.mg_packages.specs.declared.event.LineEvent.TheVariants.{OffHook, OnHook};
 ghost use Rattle.mg_packages.specs.declared.signal.Signal.TheVariants.{DialTone};
 ghost use Rattle.digit_map.specs.declared.change.MapChange.TheVariants.{Replace};
 ghost use Rattle.event_syntax.specs.declared.events.Events.TheVariants.{One};

@@ -8,7 +8,7 @@ ghost use Rattle.command_forms.specs.Deeds.{deletion_of, connected_by, with_remo
 use crate::boxed_deed::BoxedDeed;
 use crate::forms::{ConnectionDeed, Deed};
 use crate::params::value_at;
-use crate::refused::Place::{Description, Value};
+use crate::refused::FaultyPart::{Description, Value};
 use crate::refused::{Stop, placed};
 use crate::values::{
     change_at, encoding_at, entity_at, handling_at, identifier_at, identifier_from, mode_at,

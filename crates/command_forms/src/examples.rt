@@ -5,7 +5,7 @@ ghost use Rattle.std.specs.Prelude.{◌≡◌, ◌++◌, true, false, codes, rep
 ghost use Rattle.std.specs.List.{repeat};
 ghost use Rattle.mgcp_text.specs.declared.message.Message.TheVariants as messages;
 ghost use Rattle.mgcp_text.specs.declared.message.Verb.TheVariants.{Auep};
-ghost use Rattle.mg_packages.specs.declared.event.Event.TheVariants.{OffHook, OnHook, Flash, GenericComplete};
+ghost use Rattle.mg_packages.specs.declared.event.LineEvent.TheVariants.{OffHook, OnHook, Flash, GenericComplete};
 ghost use Rattle.mg_packages.specs.declared.signal.Signal.TheVariants.{DialTone, Ringing, MessageWaiting};
 ghost use Rattle.digit_map.specs.declared.change.MapChange.TheVariants.{Remove, Replace};
 ghost use Rattle.event_syntax.specs.declared.events.Events.TheVariants.{AllOfLine, One, Letters};
@@ -18,7 +18,7 @@ ghost use Rattle.mgcp_text.specs.declared.confirmation.KValue.TheVariants.{Absen
 ghost use Rattle.connections.specs.declared.codec.Encoding.TheVariants.{Mu};
 ghost use Rattle.command_forms.specs.declared.forms.AuditTarget.TheVariants as audits;
 ghost use Rattle.command_forms.specs.declared.forms.Target.TheVariants as targets;
-ghost use Rattle.command_forms.specs.declared.refused.Place.TheVariants as places;
+ghost use Rattle.command_forms.specs.declared.refused.FaultyPart.TheVariants as places;
 ghost use Rattle.command_forms.specs.declared.verbs.Connecting.TheVariants.{Keeps};
 ghost use Rattle.command_forms.specs.Refusing.{refusal};
 ghost use Rattle.command_forms.specs.Meaning.{is_for, meant_in};

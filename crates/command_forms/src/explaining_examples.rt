@@ -11,7 +11,7 @@ ghost use Rattle.command_forms.specs.Refusing.{refusal, letter_b, letter_c, lett
 ghost use Rattle.command_forms.specs.Refusing.{letter_n, letter_q, letter_r, letter_s, letter_t, letter_x};
 ghost use Rattle.command_forms.specs.Explaining.{explanation_of, explained_in};
 
-use crate::refused::Place;
+use crate::refused::FaultyPart;
 
 /// The letters of parameters stand for what is written.
 pub fn letters_have_names()
@@ -24,7 +24,7 @@ pub fn letters_have_names()
 pub fn the_verb_or_the_name_is_at_fault()
     ensures verb { why_on (codes "RSIP") (codes "aaln/17") []
         ≡ Some (codes "504 unknown or unsupported command: verb") }
-    ensures response { explained_in (messages.Response 200 2001 [] []) Absent gateway ≡ Some (refusal Place.Verb 504) }
+    ensures response { explained_in (messages.Response 200 2001 [] []) Absent gateway ≡ Some (refusal FaultyPart.Verb 504) }
     ensures unknown { why_on (codes "AUEP") (codes "aaln/17") []
         ≡ Some (codes "500 the endpoint is unknown: endpoint name") }
     ensures wildcard { why_on (codes "RQNT") (codes "$") (codes "X: 1\r\n")
@@ -69,7 +69,7 @@ pub fn a_faulty_value_is_named()
     ensures k { why_request (codes "N: x\r\nX: 1\r\nK: x\r\n")
         ≡ Some (codes "510 protocol error: value of parameter K") }
     ensures audit_k { explained_in (messages.Command Auep 2001 (codes "aaln/1@rgw.example.net") [] []) Unreadable gateway
-        ≡ Some (refusal (Place.Value letter_k) 510) }
+        ≡ Some (refusal (FaultyPart.Value letter_k) 510) }
     ensures k_of_connection { why_audit_connection (codes "I: x\r\nK: x\r\n")
         ≡ Some (codes "510 protocol error: value of parameter K") }
     ensures i_of_connection { why_audit_connection (codes "F: ES\r\nI: x\r\n")
@@ -129,5 +129,5 @@ pub fn a_faulty_value_of_a_connection_is_named()
 
 /// A code that this gateway doesn't have is shown without words.
 pub fn other_codes_have_no_words()
-    ensures { explanation_of (refusal Place.Verb 999) ≡ codes "999 : verb" }
+    ensures { explanation_of (refusal FaultyPart.Verb 999) ≡ codes "999 : verb" }
 {}

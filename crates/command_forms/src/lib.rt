@@ -30,5 +30,5 @@ pub use crate::boxed_deed::BoxedDeed;
 pub use crate::forms::{Asks, Audit, AuditTarget, ConnectionDeed, Deed, Target};
 pub use crate::meaning::meant;
 pub use crate::reading::{asked, explained, form, form_while};
-pub use crate::refused::{Place, Refused, Stop, explain};
+pub use crate::refused::{FaultyPart, Refused, Stop, explain};
 pub use crate::verbs::Meant;

@@ -7,7 +7,7 @@ ghost use Rattle.command_forms.specs.Meaning.{named, takes_all, takes_any, audit
 
 use crate::forms::{AuditTarget, Target};
 use crate::params::{has_code, value_at};
-use crate::refused::{Place, Stop, placed};
+use crate::refused::{FaultyPart, Stop, placed};
 use crate::verbs::{Meant, Purpose, Task, Wildcard, row_of};
 use endpoint_names::{NameFault, Names, Pattern, read_name};
 use mg_bytes::{CodeFault, ReturnCode};
@@ -132,14 +132,14 @@ pub fn meant(message: &Message<'_>, names: &Names) -> Result<Meant, Stop>
         ..
     } = message
     else {
-        return Err(Stop::of(Place::Verb, ReturnCode::UnsupportedCommand));
+        return Err(Stop::of(FaultyPart::Verb, ReturnCode::UnsupportedCommand));
     };
     let Some(row) = row_of(*verb) else {
-        return Err(Stop::of(Place::Verb, ReturnCode::UnsupportedCommand));
+        return Err(Stop::of(FaultyPart::Verb, ReturnCode::UnsupportedCommand));
     };
-    let pattern = placed(Place::Name, named(name.as_slice(), names))?;
+    let pattern = placed(FaultyPart::Name, named(name.as_slice(), names))?;
     let task = placed(
-        Place::Name,
+        FaultyPart::Name,
         task_of(row.purpose, row.wildcard, params.as_slice(), pattern),
     )?;
     Ok(Meant { row, task })

@@ -5,7 +5,7 @@ ghost use Rattle.mgcp_text.specs.Message.{param_at};
 ghost use Rattle.mg_bytes.specs.Bytes.{is_slash};
 ghost use Rattle.command_forms.specs.Params.{begins_x, is_critical, is_ignored, is_among, is_taken, param_fault, params_fault, has, missing_letter, has_none, value_at};
 
-use crate::refused::{Place, Refused};
+use crate::refused::{FaultyPart, Refused};
 use crate::verbs::VerbRow;
 use mg_bytes::{ReturnCode, same_no_case};
 use mgcp_text::{Param, param_at};
@@ -83,7 +83,7 @@ pub(crate) fn params_fault(row: &VerbRow, params: &[Param<'_>]) -> Option<Refuse
         if let Some(code) = param_fault(row, &params[..place], param) {
             return Some(Refused {
                 code,
-                at: Place::Line(place + 1),
+                at: FaultyPart::Line(place + 1),
             });
         }
     }

@@ -10,7 +10,7 @@ use crate::deeds::deed_of;
 use crate::forms::{Asks, Audit};
 use crate::meaning::meant;
 use crate::params::{has_code, has_none, missing_letter, params_fault, value_at};
-use crate::refused::{Place, Refused, Stop, placed};
+use crate::refused::{FaultyPart, Refused, Stop, placed};
 use crate::values::{identifier_from, is_readable};
 use crate::verbs::{Connecting, Meant, Purpose, Reporting, Task, VerbRow};
 use endpoint_names::{Names, Table};
@@ -69,7 +69,7 @@ fn audit_of<'m>(reporting: Reporting, params: &'m [Param<'_>]) -> Result<Audit<'
     let connection = match reporting {
         Reporting::Endpoint => None,
         Reporting::Connection => Some(placed(
-            Place::Value(b'I'),
+            FaultyPart::Value(b'I'),
             identifier_from(value_at(b"I", params)),
         )?),
     };
@@ -121,10 +121,10 @@ pub fn asked<'m>(
         return Err(Stop::AtFault(refused));
     }
     if let Some(letter) = absent_letter(&found.row, params) {
-        return Err(Stop::of(Place::Missing(letter), ReturnCode::ProtocolError));
+        return Err(Stop::of(FaultyPart::Missing(letter), ReturnCode::ProtocolError));
     }
     if !is_readable(confirms) {
-        return Err(Stop::of(Place::Value(b'K'), ReturnCode::ProtocolError));
+        return Err(Stop::of(FaultyPart::Value(b'K'), ReturnCode::ProtocolError));
     }
     asked_for(alloc, found.task, params, body, table)
 }
@@ -152,10 +152,10 @@ fn judged_while<'m>(
 {
     let found = meant(message, names)?;
     let Message::Command { params, body, .. } = message else {
-        return Err(Stop::of(Place::Verb, ReturnCode::UnsupportedCommand));
+        return Err(Stop::of(FaultyPart::Verb, ReturnCode::UnsupportedCommand));
     };
     if !(serves || is_audit(found.row.purpose)) {
-        return Err(Stop::of(Place::Verb, ReturnCode::Restarting));
+        return Err(Stop::of(FaultyPart::Verb, ReturnCode::Restarting));
     }
     let (params, body) = (params.as_slice(), body.as_slice());
     asked(alloc, &found, params, body, confirms, &names.table)

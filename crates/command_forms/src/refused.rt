@@ -1,7 +1,7 @@
 //! Why a command is refused, and in words for people.
 ghost use Rattle.std.specs.Prelude.{◌≡◌, ◌++◌, IfOk, OnOk};
 ghost use Rattle.command_forms.specs.Refusing.{stopped};
-ghost use Rattle.command_forms.specs.Explaining.{place_name, place_number, words_from, explanation_of};
+ghost use Rattle.command_forms.specs.Explaining.{part_name, part_number, words_from, explanation_of};
 ghost use Rattle.mg_bytes.specs.ReturnCode.{code_with};
 
 use mg_bytes::{CodeFault, OutOfMemory, ReturnCode, Text, put_decimal};
@@ -9,7 +9,7 @@ use std::alloc::Global;
 
 /// What of a command is at fault.
 #[derive(Clone, Copy, Debug)]
-pub enum Place {
+pub enum FaultyPart {
     /// The verb.
     Verb,
     /// The endpoint's name.
@@ -30,7 +30,7 @@ pub struct Refused {
     /// The return code (RFC 3435, 2.4).
     pub code: u16,
     /// What of the command is at fault.
-    pub at: Place,
+    pub at: FaultyPart,
 }
 
 /// Why the judging of a command stops.
@@ -48,7 +48,7 @@ impl Stop {
     ghost use Rattle.command_forms.specs.declared.refused.Stop.TheVariants as stops;
 
     /// The stop for this return code at this place.
-    pub(crate) fn of(place: Place, code: ReturnCode) -> Stop
+    pub(crate) fn of(place: FaultyPart, code: ReturnCode) -> Stop
         ensures { result ≡ stops.AtFault (refusal place (number_of code)) }
     {
         Stop::AtFault(Refused {
@@ -82,7 +82,7 @@ impl From<Stop> for CodeFault {
 }
 
 /// What was read at this place, or the stop for its fault there.
-pub(crate) fn placed<A>(place: Place, read: Result<A, CodeFault>) -> Result<A, Stop>
+pub(crate) fn placed<A>(place: FaultyPart, read: Result<A, CodeFault>) -> Result<A, Stop>
     ensures { result ≡ stopped place read }
 {
     match read {
@@ -92,26 +92,26 @@ pub(crate) fn placed<A>(place: Place, read: Result<A, CodeFault>) -> Result<A, S
     }
 }
 
-fn place_name(place: Place) -> &'static [u8]
-    ensures { result.now ≡ place_name place }
+fn part_name(place: FaultyPart) -> &'static [u8]
+    ensures { result.now ≡ part_name place }
 {
     match place {
-        Place::Verb => b"verb",
-        Place::Name => b"endpoint name",
-        Place::Line(_) => b"parameter line ",
-        Place::Missing(_) => b"missing parameter ",
-        Place::Value(_) => b"value of parameter ",
-        Place::Description => b"remote description",
+        FaultyPart::Verb => b"verb",
+        FaultyPart::Name => b"endpoint name",
+        FaultyPart::Line(_) => b"parameter line ",
+        FaultyPart::Missing(_) => b"missing parameter ",
+        FaultyPart::Value(_) => b"value of parameter ",
+        FaultyPart::Description => b"remote description",
     }
 }
 
-fn put_place_number(alloc: Global, out: &mut Vec<u8>, place: Place) -> Result<(), OutOfMemory>
-    ensures { OnOk result (out.new.items ≡ out.old.items ++ place_number place) }
+fn put_part_number(alloc: Global, out: &mut Vec<u8>, place: FaultyPart) -> Result<(), OutOfMemory>
+    ensures { OnOk result (out.new.items ≡ out.old.items ++ part_number place) }
 {
     match place {
-        Place::Verb | Place::Name | Place::Description => {}
-        Place::Line(number) => put_decimal(alloc, out, number as u64)?,
-        Place::Missing(letter) | Place::Value(letter) => out.push(letter)?,
+        FaultyPart::Verb | FaultyPart::Name | FaultyPart::Description => {}
+        FaultyPart::Line(number) => put_decimal(alloc, out, number as u64)?,
+        FaultyPart::Missing(letter) | FaultyPart::Value(letter) => out.push(letter)?,
     }
     Ok(())
 }
@@ -139,7 +139,7 @@ pub fn explain(alloc: Global, refused: &Refused) -> Result<Text, OutOfMemory>
     out.push(b' ')?;
     out.extend_from_slice(words_of(refused.code))?;
     out.extend_from_slice(b": ")?;
-    out.extend_from_slice(place_name(refused.at))?;
-    put_place_number(alloc, &mut out, refused.at)?;
+    out.extend_from_slice(part_name(refused.at))?;
+    put_part_number(alloc, &mut out, refused.at)?;
     Ok(Text::of(out))
 }

@@ -6,7 +6,7 @@ ghost use Rattle.mgcp_text.specs.declared.message.Message.TheVariants as message
 ghost use Rattle.mgcp_text.specs.declared.message.Verb.TheVariants.{Auep, Rqnt};
 ghost use Rattle.mgcp_text.specs.declared.confirmation.KValue.TheVariants.{Absent, Unreadable};
 ghost use Rattle.command_forms.specs.declared.forms.AuditTarget.TheVariants as audits;
-ghost use Rattle.command_forms.specs.declared.refused.Place.TheVariants as places;
+ghost use Rattle.command_forms.specs.declared.refused.FaultyPart.TheVariants as places;
 ghost use Rattle.command_forms.specs.Refusing.{letter_k, refusal};
 ghost use Rattle.command_forms.specs.Order.{judged_while_in, form_while_in};
 ghost use Rattle.command_forms.specs.Explaining.{explained_in, explanation_of};

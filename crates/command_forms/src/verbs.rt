@@ -96,7 +96,12 @@ pub(crate) fn row_of(verb: Verb) -> Option<VerbRow>
         Verb::Rqnt => row(b"X", b"NBRSDTQ", Wildcard::All, ForDeed(Keeps)),
         Verb::Crcx => row(b"CM", b"NBLXRSDTQ", Wildcard::Any, ForDeed(Creates)),
         Verb::Mdcx => row(b"CI", b"NBMLXRSDTQ", Wildcard::Never, ForDeed(Modifies)),
-        Verb::Dlcx => row(b"", b"CINBXRSDTQ", Wildcard::AllWithoutCall, ForDeed(Deletes)),
+        Verb::Dlcx => row(
+            b"",
+            b"CINBXRSDTQ",
+            Wildcard::AllWithoutCall,
+            ForDeed(Deletes),
+        ),
         Verb::Auep => row(b"", b"F", Wildcard::AllWithoutItems, ForReport(Endpoint)),
         Verb::Aucx => row(b"I", b"F", Wildcard::Never, ForReport(Connection)),
         Verb::Ntfy | Verb::Rsip | Verb::Other => None,

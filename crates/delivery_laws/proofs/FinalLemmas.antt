@@ -7,7 +7,7 @@ use Rattle.std.specs.declared.net.socket_addr.SocketAddrV4.{SocketAddrV4}
 use Rattle.mgcp_text.specs.declared.confirmation.KValue.{KValue}
 use Rattle.mgcp_text.specs.declared.message.Message.TheVariants as messages
 use Rattle.mgcp_text.specs.declared.message.Param.{Param}
-use Rattle.mgcp_text.specs.Answer.{Answer, plain_code, response_of}
+use Rattle.mgcp_text.specs.Answer.{AnswerContent, plain_code, response_of}
 use Rattle.mgcp_text.specs.Confirmation.{k_of}
 use Rattle.mgcp_text.specs.Reading.{Outcome, message, no_header, bad_version, bad_body, id_in, read_text}
 use Rattle.mgcp_text.specs.Writing.{written}
@@ -110,7 +110,7 @@ code_of (bad_body id) = 0
 final_of : (code : ℕ) → 200 ≤ code → code ≤ 999 → is_final code ≡ true
 final_of code low high = rw (le-leb 200 code low, le-leb code 999 high) refl
 
-written_final : (id : ℕ) (given : Answer) → IsId id → IsAnswer given → 200 ≤ given.code → IsFinal (written (response_of id given))
+written_final : (id : ℕ) (given : AnswerContent) → IsId id → IsAnswer given → 200 ≤ given.code → IsFinal (written (response_of id given))
 unfolding code_of
 written_final id given has is high = λ code other params body reads.
     let same : given.code ≡ code = ap code_of (sym (read_again (response_of id given) (answer_writable id given has.0 has.1 is)) ∙ reads) in

@@ -2,7 +2,7 @@
 use Rattle.std.proofs.Common.{ℕ, ◌≤◌, Bool, true, false, List, length, Option, Some, None, arith}
 use Rattle.std.specs.Prelude.{Result, Ok, Err, nat_le}
 use Rattle.mg_bytes.specs.Checks.{unless, checked}
-use Rattle.mgcp_text.specs.Answer.{Answer, response_of}
+use Rattle.mgcp_text.specs.Answer.{AnswerContent, response_of}
 use Rattle.mgcp_text.specs.Writing.{written}
 use Rattle.connections.specs.Standing.{audited}
 use Rattle.connections.specs.declared.answer.Audited.{Audited}
@@ -15,11 +15,11 @@ use Rattle.plain_machine.specs.Commanding.{answer_by}
 use Rattle.plain_machine.specs.Reporting.{report_by}
 use Rattle.delivery_laws.proofs.ConnectionCodes.{IsHigh, audited_high}
 
-fit_high : (b : Bool) (wanted : Answer) → 200 ≤ wanted.code → 200 ≤ (answer_by (checked {F = ℕ} (unless b 533) (Ok wanted))).code
+fit_high : (b : Bool) (wanted : AnswerContent) → 200 ≤ wanted.code → 200 ≤ (answer_by (checked {F = ℕ} (unless b 533) (Ok wanted))).code
 fit_high true wanted high = high
 fit_high false wanted high = omega arith
 
-pub fitting_high : (id : ℕ) (wanted : Answer) → 200 ≤ wanted.code → 200 ≤ (answer_by (fitting id wanted)).code
+pub fitting_high : (id : ℕ) (wanted : AnswerContent) → 200 ≤ wanted.code → 200 ≤ (answer_by (fitting id wanted)).code
 unfolding fitting
 fitting_high id wanted high = fit_high (nat_le (length (written (response_of id wanted))) largest_datagram) wanted high
 

@@ -49,7 +49,7 @@ use Rattle.machine_laws.specs.Saying.{Begun, begun_at, begun_in}
 use Rattle.machine_laws.proofs.EachLemmas.{Each, each_push}
 use Rattle.world_laws.proofs.LinkLaws.{final_is}
 use Rattle.dialled_end_to_end.specs.GivenUp.{announces, has_given_up}
-use Rattle.dialled_once.specs.Course.{Step}
+use Rattle.dialled_once.specs.Course.{CourseStep}
 use Rattle.dialled_once.proofs.CourseLemmas.{EndpointTurns}
 
 -- what is in flight, as what began
@@ -390,7 +390,7 @@ module _ (A : ℕ → Type 0) (B : Type 0) where
     by_said (acknowledgement response) e = absurd cc
 
   -- it is so whatever the course
-  abbrev pub FliesBeside : Bool → List Step → List Sent → Endpoint → Type 0
+  abbrev pub FliesBeside : Bool → List CourseStep → List Sent → Endpoint → Type 0
   FliesBeside serving course sent endpoint = Flies sent endpoint
 
   pub flight_turns : (setup : Setup) → EndpointTurns setup (λ (response : Response). 200 ≤ response.code → A response.id) FliesBeside

@@ -24,7 +24,7 @@ use Rattle.machine_laws.specs.Saying.{Begun, begun_by, begun_at, begun_in}
 use Rattle.machine_laws.proofs.EachLemmas.{Each}
 use Rattle.machine_laws.proofs.WaitLaws.{opening_waits}
 use Rattle.line_isolation.specs.Belonging.{is_of, of_line}
-use Rattle.dialled_once.specs.Course.{Step, acts, notified_by, accepted, course_of}
+use Rattle.dialled_once.specs.Course.{CourseStep, acts, notified_by, accepted, course_of}
 use Rattle.dialled_once.specs.Dialled.{told_along}
 use Rattle.dialled_once.proofs.CourseLemmas.{AnyResponse, EndpointTurns, answer_notifies, events_stand, hear_all}
 use Rattle.dialled_once.proofs.DialledLemmas.{told_both}
@@ -42,14 +42,14 @@ notified_both some more =
     ap told_along (flat_map-append (λ (one : Sent). notified_by one.said) some more) ∙ told_both (steps_in some) (steps_in more)
 
 -- the course tells so
-abbrev TellsSo : Bool → List Step → List Sent → Endpoint → Type 0
+abbrev TellsSo : Bool → List CourseStep → List Sent → Endpoint → Type 0
 TellsSo serving course sent endpoint = told_along course ≡ notified sent
 
-turn_tells : (course : List Step) (sent more : List Sent) → told_along course ≡ notified sent → told_along (course ++ steps_in more) ≡ notified (sent ++ more)
+turn_tells : (course : List CourseStep) (sent more : List Sent) → told_along course ≡ notified sent → told_along (course ++ steps_in more) ≡ notified (sent ++ more)
 turn_tells course sent more is = told_both course (steps_in more) ∙ ap (λ (x : List Observed). x ++ notified more) is ∙ sym (notified_both sent more)
 
 -- what else stands in a course tells nothing
-added_tells : (course added : List Step) (sent more : List Sent) → told_along added ≡ [] → told_along course ≡ notified sent → told_along ((course ++ added) ++ steps_in more) ≡ notified (sent ++ more)
+added_tells : (course added : List CourseStep) (sent more : List Sent) → told_along added ≡ [] → told_along course ≡ notified sent → told_along ((course ++ added) ++ steps_in more) ≡ notified (sent ++ more)
 added_tells course added sent more none is =
     turn_tells (course ++ added) sent more (told_both course added ∙ ap (λ (x : List Observed). told_along course ++ x) none ∙ append-nil (told_along course) ∙ is)
 
@@ -66,7 +66,7 @@ told_turns setup = record {
   redirecting = λ serving course sent agent line endpoint is. turn_tells course sent (redirected_on agent line endpoint).sent is;
   opening = λ course sent agent moment line endpoint closed is. turn_tells course sent (opened_on agent setup moment line endpoint).sent is;
   answering = λ serving course sent one endpoint answers is.
-      is ∙ sym (notified_both sent (one ∷ []) ∙ ap (λ (x : List Step). notified sent ++ told_along (x ++ [])) (answer_notifies one.said answers) ∙ append-nil (notified sent));
+      is ∙ sym (notified_both sent (one ∷ []) ∙ ap (λ (x : List CourseStep). notified sent ++ told_along (x ++ [])) (answer_notifies one.said answers) ∙ append-nil (notified sent));
 }
 
 pub course_tells : (setup : Setup) (line : ℕ) (some : 1 ≤ line) (events : List GatewayEvent) (endpoint : Endpoint) → endpoint_at (plain setup events).endpoints line ≡ Some endpoint

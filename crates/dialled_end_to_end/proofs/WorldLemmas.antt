@@ -33,7 +33,7 @@ use Rattle.agent_core.specs.World.{World, WorldStep, gateway_in, plain_world, st
 use Rattle.world_laws.specs.Reached.{Reached, own_in, taken_in}
 use Rattle.world_laws.proofs.LinkLaws.{taken_once, taken_as_sent, world_linked}
 use Rattle.world_laws.proofs.TakenLaws.{heard_was_taken}
-use Rattle.dialled_once.specs.Course.{Step}
+use Rattle.dialled_once.specs.Course.{CourseStep}
 use Rattle.dialled_end_to_end.specs.GivenUp.{has_given_up}
 use Rattle.dialled_once.proofs.CourseLemmas.{AllHear, AnyResponse, Hears, Stands, EndpointTurns, events_stand, hear_all}
 use Rattle.dialled_end_to_end.proofs.FlightLemmas.{Fine, Flies, FliesBeside, flight_turns, flying, gave_nothing_up, opening_flies, starts_gone, stays_gone}
@@ -201,7 +201,7 @@ MatchesBy setup line took taken = (s : Endpoint) → endpoint_at (plain setup to
     → Matches (begun_ids (line_begun setup line took)) (taken_ids (line_taken line taken))
 
 -- no line comes from nowhere
-abbrev NoEndpoint : Bool → List Step → List Sent → Endpoint → Type 0
+abbrev NoEndpoint : Bool → List CourseStep → List Sent → Endpoint → Type 0
 NoEndpoint serving course sent endpoint = ⊥
 
 none_turns : (setup : Setup) → EndpointTurns setup AnyResponse NoEndpoint

@@ -2,8 +2,8 @@
 use Rattle.std.proofs.Common.{◌≡◌, Bool, true, false, List, [], ◌∷◌, refl, ap}
 use Rattle.std.specs.List.{list_all}
 use Rattle.mg_bytes.specs.declared.letter.Letter.TheVariants as letters
-use Rattle.mg_packages.specs.declared.event.Event.{Event}
-use Rattle.mg_packages.specs.declared.event.Event.TheVariants as events
+use Rattle.mg_packages.specs.declared.event.LineEvent.{LineEvent}
+use Rattle.mg_packages.specs.declared.event.LineEvent.TheVariants as events
 use Rattle.event_syntax.specs.declared.request.Action.TheVariants.{Notify, Accumulate, Dial, Ignore}
 use Rattle.event_syntax.specs.declared.request.RequestedEvent.{RequestedEvent}
 use Rattle.event_syntax.specs.declared.request.Reaction.{Reaction}
@@ -30,23 +30,23 @@ is_plain (Embed request) e = absurd cc
 is_plain (AccumulateAndEmbed request) e = absurd cc
 
 -- what a telephone does, and what it doesn't
-abbrev of_phone : List Event
+abbrev of_phone : List LineEvent
 of_phone =
     events.OffHook ∷ events.OnHook ∷ events.Flash ∷ events.Letter letters.Zero ∷ events.Letter letters.One ∷ events.Letter letters.Two ∷ events.Letter letters.Three ∷ events.Letter letters.Four ∷ events.Letter letters.Five ∷ events.Letter letters.Six ∷ events.Letter letters.Seven ∷ events.Letter letters.Eight ∷ events.Letter letters.Nine ∷ events.Letter letters.Star ∷ events.Letter letters.Hash ∷ events.Letter letters.A ∷ events.Letter letters.B ∷ events.Letter letters.C ∷ events.Letter letters.D ∷ []
 
-abbrev of_none : List Event
+abbrev of_none : List LineEvent
 of_none = events.LineComplete ∷ events.GenericComplete ∷ events.Letter letters.Timer ∷ []
 
-pub notifies_each : (requested : List RequestedEvent) → list_all (λ (event : Event). is_notify (chosen requested event).reaction) of_phone ≡ true
-    → list_all (λ (event : Event). is_bare (chosen requested event).reaction) of_none ≡ true → NotifiesAll requested
+pub notifies_each : (requested : List RequestedEvent) → list_all (λ (event : LineEvent). is_notify (chosen requested event).reaction) of_phone ≡ true
+    → list_all (λ (event : LineEvent). is_bare (chosen requested event).reaction) of_none ≡ true → NotifiesAll requested
 notifies_each requested phone others = record { phone = by_event each; bare = λ event. by_bare each also event } where
-  each : Each (λ (event : Event). is_notify (chosen requested event).reaction ≡ true) of_phone
-  each = each_passes (λ (event : Event). is_notify (chosen requested event).reaction) of_phone phone
+  each : Each (λ (event : LineEvent). is_notify (chosen requested event).reaction ≡ true) of_phone
+  each = each_passes (λ (event : LineEvent). is_notify (chosen requested event).reaction) of_phone phone
 
-  also : Each (λ (event : Event). is_bare (chosen requested event).reaction ≡ true) of_none
-  also = each_passes (λ (event : Event). is_bare (chosen requested event).reaction) of_none others
+  also : Each (λ (event : LineEvent). is_bare (chosen requested event).reaction ≡ true) of_none
+  also = each_passes (λ (event : LineEvent). is_bare (chosen requested event).reaction) of_none others
 
-  by_event : Each (λ (event : Event). is_notify (chosen requested event).reaction ≡ true) of_phone → (event : Event) → is_of_phone event ≡ true → (chosen requested event).reaction ≡ Plain Notify
+  by_event : Each (λ (event : LineEvent). is_notify (chosen requested event).reaction ≡ true) of_phone → (event : LineEvent) → is_of_phone event ≡ true → (chosen requested event).reaction ≡ Plain Notify
   by_event each events.OffHook is = is_plain (chosen requested events.OffHook).reaction each.0
   by_event each events.OnHook is = is_plain (chosen requested events.OnHook).reaction each.1.0
   by_event each events.Flash is = is_plain (chosen requested events.Flash).reaction each.1.1.0
@@ -70,8 +70,8 @@ notifies_each requested phone others = record { phone = by_event each; bare = λ
   by_event each events.GenericComplete is = absurd cc
   by_event each (events.Letter letters.Timer) is = absurd cc
 
-  by_bare : Each (λ (event : Event). is_notify (chosen requested event).reaction ≡ true) of_phone → Each (λ (event : Event). is_bare (chosen requested event).reaction ≡ true) of_none
-      → (event : Event) → is_bare (chosen requested event).reaction ≡ true
+  by_bare : Each (λ (event : LineEvent). is_notify (chosen requested event).reaction ≡ true) of_phone → Each (λ (event : LineEvent). is_bare (chosen requested event).reaction ≡ true) of_none
+      → (event : LineEvent) → is_bare (chosen requested event).reaction ≡ true
   by_bare each also events.OffHook = ap is_bare (is_plain (chosen requested events.OffHook).reaction each.0)
   by_bare each also events.OnHook = ap is_bare (is_plain (chosen requested events.OnHook).reaction each.1.0)
   by_bare each also events.Flash = ap is_bare (is_plain (chosen requested events.Flash).reaction each.1.1.0)

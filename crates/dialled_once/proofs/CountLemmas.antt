@@ -2,7 +2,7 @@
 use Rattle.std.proofs.Common.{rules, ℕ, ◌+◌, ◌≤◌, Bool, true, false, if◌then◌else◌, length, None, sym, subst}
 use Rattle.std.specs.Prelude.{nat_lt, min}
 use Rattle.mg_bytes.specs.declared.letter.Letter.TheVariants as letters
-use Rattle.mg_packages.specs.declared.event.Event.TheVariants as events
+use Rattle.mg_packages.specs.declared.event.LineEvent.TheVariants as events
 use Rattle.mg_packages.specs.declared.signal.Kind.{Kind}
 use Rattle.mg_packages.specs.declared.signal.Kind.TheVariants.{TimeOut, Brief, OnOff}
 use Rattle.mg_packages.specs.declared.signal.Signal.{Signal}

@@ -73,7 +73,7 @@ use Rattle.line_isolation.specs.Passing.{PassesAlone, rests, goes_on, line_due, 
 use Rattle.line_isolation.proofs.AlikeLemmas.{behind_acknowledged}
 use Rattle.line_isolation.proofs.OwningLemmas.{of_both, turn_if, sent_by, LineTurns, on_one_line, on_many_lines, acted_owned, deed_owned, responded_owned, redirected_owned, opened_owned}
 use Rattle.line_isolation.proofs.PassLemmas.{line_passes, own_passes}
-use Rattle.dialled_once.specs.Course.{Step, acts, notified_by, notified_in, accepted, accepted_by, accepted_there, accepted_for, accepted_of, accepted_at, course_in, course_at, course_from, acted_on as act_steps}
+use Rattle.dialled_once.specs.Course.{CourseStep, acts, notified_by, notified_in, accepted, accepted_by, accepted_there, accepted_for, accepted_of, accepted_at, course_in, course_at, course_from, acted_on as act_steps}
 use Rattle.dialled_once.proofs.EndpointLemmas.{steps_in, Calls, Goes, act_goes, deed_goes, opened_goes, redirected_goes, response_goes, happened_goes}
 
 -- The gateway itself serves on, or not yet
@@ -123,24 +123,24 @@ some_same : (a b : Endpoint) → Some a ≡ Some b → a ≡ b
 some_same a b e = ap (λ (o : Option Endpoint). unwrap_or o a) e
 
 -- A turn of an endpoint, beside the course of its line and what the line sent so far
-abbrev pub TurnKeeps : (Bool → List Step → List Sent → Endpoint → Type 0) → Bool → List Step → List Sent → Effect Endpoint → Type 0
+abbrev pub TurnKeeps : (Bool → List CourseStep → List Sent → Endpoint → Type 0) → Bool → List CourseStep → List Sent → Effect Endpoint → Type 0
 TurnKeeps G serving course sent turn = G serving (course ++ steps_in turn.sent) (sent ++ turn.sent) turn.value
 
 -- what each turn keeps, before the gateway serves and while it does, where H holds of the responses
-pub record EndpointTurns (setup : Setup) (H : Response → Type 0) (G : Bool → List Step → List Sent → Endpoint → Type 0) : Type 0 where
-  pub act : (serving : Bool) (course : List Step) (sent : List Sent) (line moment : ℕ) (act : Act) (endpoint : Endpoint) → G serving course sent endpoint
+pub record EndpointTurns (setup : Setup) (H : Response → Type 0) (G : Bool → List CourseStep → List Sent → Endpoint → Type 0) : Type 0 where
+  pub act : (serving : Bool) (course : List CourseStep) (sent : List Sent) (line moment : ℕ) (act : Act) (endpoint : Endpoint) → G serving course sent endpoint
       → TurnKeeps G serving (course ++ acts act ∷ []) sent (acted_on setup line moment act endpoint)
-  pub deed : (course : List Step) (sent : List Sent) (deed : Deed) (moment line : ℕ) (endpoint : Endpoint) → G true course sent endpoint
+  pub deed : (course : List CourseStep) (sent : List Sent) (deed : Deed) (moment line : ℕ) (endpoint : Endpoint) → G true course sent endpoint
       → TurnKeeps G true (course ++ accepted deed.request) sent (deed_on setup deed moment line endpoint)
-  pub response : (serving : Bool) (course : List Step) (sent : List Sent) (line moment : ℕ) (response : Response) (endpoint : Endpoint) → H response → G serving course sent endpoint
+  pub response : (serving : Bool) (course : List CourseStep) (sent : List Sent) (line moment : ℕ) (response : Response) (endpoint : Endpoint) → H response → G serving course sent endpoint
       → TurnKeeps G serving course sent (responded_on setup line moment response endpoint)
-  pub happening : (serving : Bool) (course : List Step) (sent : List Sent) (line : ℕ) (item : DueItem) (endpoint : Endpoint) → due_on (line, endpoint) ≡ Some item → G serving course sent endpoint
+  pub happening : (serving : Bool) (course : List CourseStep) (sent : List Sent) (line : ℕ) (item : DueItem) (endpoint : Endpoint) → due_on (line, endpoint) ≡ Some item → G serving course sent endpoint
       → TurnKeeps G serving course sent (happened_on item.kind setup line item.moment endpoint)
-  pub redirecting : (serving : Bool) (course : List Step) (sent : List Sent) (agent : Entity) (line : ℕ) (endpoint : Endpoint) → G serving course sent endpoint
+  pub redirecting : (serving : Bool) (course : List CourseStep) (sent : List Sent) (agent : Entity) (line : ℕ) (endpoint : Endpoint) → G serving course sent endpoint
       → TurnKeeps G serving course sent (redirected_on agent line endpoint)
-  pub opening : (course : List Step) (sent : List Sent) (agent : Option Entity) (moment line : ℕ) (endpoint : Endpoint) → IsClosed endpoint → G false course sent endpoint
+  pub opening : (course : List CourseStep) (sent : List Sent) (agent : Option Entity) (moment line : ℕ) (endpoint : Endpoint) → IsClosed endpoint → G false course sent endpoint
       → TurnKeeps G true course sent (opened_on agent setup moment line endpoint)
-  pub answering : (serving : Bool) (course : List Step) (sent : List Sent) (one : Sent) (endpoint : Endpoint) → is_answer one.said ≡ true → G serving course sent endpoint
+  pub answering : (serving : Bool) (course : List CourseStep) (sent : List Sent) (one : Sent) (endpoint : Endpoint) → is_answer one.said ≡ true → G serving course sent endpoint
       → G serving course (sent ++ one ∷ []) endpoint
 
 -- the responses that arrive
@@ -172,28 +172,28 @@ answer_notifies (own_command said) is = absurd cc
 answer_notifies (resent text) is = absurd cc
 answer_notifies (acknowledgement response) is = absurd cc
 
-module _ (setup : Setup) (H : Response → Type 0) (G : Bool → List Step → List Sent → Endpoint → Type 0) (turns : EndpointTurns setup H G) (line : ℕ) (some : 1 ≤ line) where
+module _ (setup : Setup) (H : Response → Type 0) (G : Bool → List CourseStep → List Sent → Endpoint → Type 0) (turns : EndpointTurns setup H G) (line : ℕ) (some : 1 ≤ line) where
   -- the endpoint of the line, beside its course and what it sent
-  abbrev pub Holds : List Step → List Sent → Endpoints → Type 0
+  abbrev pub Holds : List CourseStep → List Sent → Endpoints → Type 0
   Holds course sent endpoints = (s : Endpoint) → endpoint_at endpoints line ≡ Some s → G (serves endpoints) course sent s
 
   -- it goes on so, beside what the line notifies and sends
-  abbrev GoesOn : List Step → List Sent → Effect Endpoints → Type 0
+  abbrev GoesOn : List CourseStep → List Sent → Effect Endpoints → Type 0
   GoesOn course sent is = Holds (course ++ notified_in line is.sent) (sent ++ of_line line is.sent) is.value
 
-  both_padded : (serving : Bool) (course : List Step) (sent : List Sent) (s : Endpoint) → G serving course sent s → G serving (course ++ []) (sent ++ []) s
+  both_padded : (serving : Bool) (course : List CourseStep) (sent : List Sent) (s : Endpoint) → G serving course sent s → G serving (course ++ []) (sent ++ []) s
   both_padded serving course sent s g =
-      subst (λ (c : List Step). G serving c (sent ++ []) s) (sym (append-nil course)) (subst (λ (x : List Sent). G serving course x s) (sym (append-nil sent)) g)
+      subst (λ (c : List CourseStep). G serving c (sent ++ []) s) (sym (append-nil course)) (subst (λ (x : List Sent). G serving course x s) (sym (append-nil sent)) g)
 
-  padded : (endpoints : Endpoints) (course : List Step) (sent : List Sent) → Holds course sent endpoints → Holds (course ++ []) (sent ++ []) endpoints
+  padded : (endpoints : Endpoints) (course : List CourseStep) (sent : List Sent) → Holds course sent endpoints → Holds (course ++ []) (sent ++ []) endpoints
   padded endpoints course sent holds = λ s at. both_padded (serves endpoints) course sent s (holds s at)
 
   -- nothing is accepted
-  course_padded : (endpoints : Endpoints) (course : List Step) (sent : List Sent) → Holds course sent endpoints → Holds (course ++ []) sent endpoints
-  course_padded endpoints course sent holds = subst (λ (c : List Step). Holds c sent endpoints) (sym (append-nil course)) holds
+  course_padded : (endpoints : Endpoints) (course : List CourseStep) (sent : List Sent) → Holds course sent endpoints → Holds (course ++ []) sent endpoints
+  course_padded endpoints course sent holds = subst (λ (c : List CourseStep). Holds c sent endpoints) (sym (append-nil course)) holds
 
   -- its own turn
-  turns_hold : (endpoints : Endpoints) (course : List Step) (sent : List Sent) (turn : Endpoint → Effect Endpoint) (is : Effect Endpoints) → LineTurns line endpoints turn is
+  turns_hold : (endpoints : Endpoints) (course : List CourseStep) (sent : List Sent) (turn : Endpoint → Effect Endpoint) (is : Effect Endpoints) → LineTurns line endpoints turn is
       → ((s : Endpoint) → endpoint_at endpoints line ≡ Some s → TurnKeeps G (serves is.value) course sent (turn s)) → GoesOn course sent is
   turns_hold endpoints course sent turn is turned goes s at = by_endpoint (endpoint_at endpoints line) refl where
     by_endpoint : (found : Option Endpoint) → endpoint_at endpoints line ≡ found → G (serves is.value) (course ++ notified_in line is.sent) (sent ++ of_line line is.sent) s
@@ -206,7 +206,7 @@ module _ (setup : Setup) (H : Response → Type 0) (G : Bool → List Step → L
 
   -- An act
 
-  act_holds : (endpoints : Endpoints) (course : List Step) (sent : List Sent) (n moment : ℕ) (act : Act) → Holds course sent endpoints
+  act_holds : (endpoints : Endpoints) (course : List CourseStep) (sent : List Sent) (n moment : ℕ) (act : Act) → Holds course sent endpoints
       → GoesOn (course ++ act_steps line n act) sent (acted setup endpoints n moment act)
   act_holds endpoints course sent n moment act holds = by_line (n == line) (on_one_line endpoints line n (acted_on setup n moment act) (acted_owned setup n moment act)) where
     is : Effect Endpoints
@@ -224,12 +224,12 @@ module _ (setup : Setup) (H : Response → Type 0) (G : Bool → List Step → L
         (λ s at. turns.act (serves is.value) course sent n moment act s (goes s at))
     by_line false turned =
         turns_hold endpoints (course ++ []) sent silently is turned
-        (λ s at. both_padded (serves is.value) (course ++ []) sent s (subst (λ (c : List Step). G (serves is.value) c sent s) (sym (append-nil course)) (goes s at)))
+        (λ s at. both_padded (serves is.value) (course ++ []) sent s (subst (λ (c : List CourseStep). G (serves is.value) c sent s) (sym (append-nil course)) (goes s at)))
 
   -- A tick
 
   line_passed : (serving : Bool) (moment : ℕ) (was : Option Endpoint) (is : Effect (Option Endpoint)) → PassesAlone (line_due line) (line_happens setup line) moment was is
-      → (course : List Step) (sent : List Sent) → ((s : Endpoint) → was ≡ Some s → G serving course sent s)
+      → (course : List CourseStep) (sent : List Sent) → ((s : Endpoint) → was ≡ Some s → G serving course sent s)
       → (s : Endpoint) → is.value ≡ Some s → G serving (course ++ steps_in is.sent) (sent ++ is.sent) s
   line_passed serving moment was is (rests w t none same) course sent goes s at =
       subst (λ (x : List Sent). G serving (course ++ steps_in x) (sent ++ x) s) (sym (ap (λ (t : Effect (Option Endpoint)). t.sent) same))
@@ -242,12 +242,12 @@ module _ (setup : Setup) (H : Response → Type 0) (G : Bool → List Step → L
       (λ x e. subst (λ (y : Endpoint). G serving (course ++ steps_in turn.sent) (sent ++ turn.sent) y) (some_same turn.value x e) here)
       s (sym (ap (λ (t : Effect (Option Endpoint)). t.value) same) ∙ at) in
       subst (λ (x : List Sent). G serving (course ++ steps_in x) (sent ++ x) s) (ap (λ (t : Effect (Option Endpoint)). t.sent) (sym same))
-      (subst (λ (c : List Step). G serving c (sent ++ (turn.sent ++ rest.sent)) s)
+      (subst (λ (c : List CourseStep). G serving c (sent ++ (turn.sent ++ rest.sent)) s)
       (append_assoc course (steps_in turn.sent) (steps_in rest.sent)
-      ∙ ap (λ (x : List Step). course ++ x) (sym (flat_map-append (λ (one : Sent). notified_by one.said) turn.sent rest.sent)))
+      ∙ ap (λ (x : List CourseStep). course ++ x) (sym (flat_map-append (λ (one : Sent). notified_by one.said) turn.sent rest.sent)))
       (subst (λ (x : List Sent). G serving ((course ++ steps_in turn.sent) ++ steps_in rest.sent) x s) (append_assoc sent turn.sent rest.sent) after))
 
-  pass_holds : (endpoints : Endpoints) (course : List Step) (sent : List Sent) (moment : ℕ) → IsFree endpoints.own → Holds course sent endpoints
+  pass_holds : (endpoints : Endpoints) (course : List CourseStep) (sent : List Sent) (moment : ℕ) → IsFree endpoints.own → Holds course sent endpoints
       → GoesOn course sent (pass setup endpoints moment)
   pass_holds endpoints course sent moment free holds s at =
       subst (λ (b : Bool). G b (course ++ notified_in line (pass setup endpoints moment).sent) (sent ++ of_line line (pass setup endpoints moment).sent) s) (sym (pass_serves setup endpoints moment free))
@@ -255,7 +255,7 @@ module _ (setup : Setup) (H : Response → Type 0) (G : Bool → List Step → L
 
   -- A response
 
-  all_hold : (endpoints : Endpoints) (course : List Step) (sent : List Sent) (serving : Bool) (turn : ℕ → Endpoint → Effect Endpoint)
+  all_hold : (endpoints : Endpoints) (course : List CourseStep) (sent : List Sent) (serving : Bool) (turn : ℕ → Endpoint → Effect Endpoint)
       → ((s : Endpoint) → endpoint_at endpoints line ≡ Some s → TurnKeeps G serving course sent (turn line s)) → LineTurns line endpoints (turn line) (on_all endpoints turn)
       → serves endpoints ≡ serving → GoesOn course sent (on_all endpoints turn)
   all_hold endpoints course sent serving turn goes turned served =
@@ -278,7 +278,7 @@ module _ (setup : Setup) (H : Response → Type 0) (G : Bool → List Step → L
       ap (λ (owner : Owner). if is_of line owner then one ∷ of_line line sent else of_line line sent) own
       ∙ ap (λ (b : Bool). if b then one ∷ of_line line sent else of_line line sent) (ne_eqb 0 line (λ same. absurd (omega (arith, some, same))))
 
-  own_heard_holds : (endpoints : Endpoints) (course : List Step) (sent : List Sent) (moment : ℕ) (response : Response) → KeepOrder endpoints → Holds course sent endpoints
+  own_heard_holds : (endpoints : Endpoints) (course : List CourseStep) (sent : List Sent) (moment : ℕ) (response : Response) → KeepOrder endpoints → Holds course sent endpoints
       → GoesOn course sent (own_heard setup endpoints moment response)
   unfolding replied_on replied announced announcement
   own_heard_holds endpoints course sent moment response order holds = by_heard (heard_on endpoints.own response) refl where
@@ -314,7 +314,7 @@ module _ (setup : Setup) (H : Response → Type 0) (G : Bool → List Step → L
         (λ s at. turns.opening course sent agent moment line s (waiting (Answered agent) e apart s at) (closed (Answered agent) e apart s at))
         (on_many_lines (is_for All) (opened_on agent setup moment) (opened_owned agent setup moment) first.value line) refl
 
-  one_heard_holds : (endpoints : Endpoints) (course : List Step) (sent : List Sent) (n moment : ℕ) (response : Response) → H response → Holds course sent endpoints
+  one_heard_holds : (endpoints : Endpoints) (course : List CourseStep) (sent : List Sent) (n moment : ℕ) (response : Response) → H response → Holds course sent endpoints
       → GoesOn course sent (on_line endpoints n (responded_on setup n moment response))
   one_heard_holds endpoints course sent n moment response hears holds =
       by_line (n == line) (on_one_line endpoints line n (responded_on setup n moment response) (responded_owned setup n moment response)) where
@@ -332,7 +332,7 @@ module _ (setup : Setup) (H : Response → Type 0) (G : Bool → List Step → L
             (λ s at. turns.response (serves is.value) course sent n moment response s hears (goes s at))
         by_line false turned = turns_hold endpoints course sent silently is turned (λ s at. both_padded (serves is.value) course sent s (goes s at))
 
-  heard_holds : (endpoints : Endpoints) (course : List Step) (sent : List Sent) (moment : ℕ) (source : SocketAddrV4) (code id : ℕ) (params : List Param) → KeepOrder endpoints
+  heard_holds : (endpoints : Endpoints) (course : List CourseStep) (sent : List Sent) (moment : ℕ) (source : SocketAddrV4) (code id : ℕ) (params : List Param) → KeepOrder endpoints
       → H (response_with setup id code params) → Holds course sent endpoints → GoesOn course sent (heard_from setup endpoints moment source code id params)
   heard_holds endpoints course sent moment source code id params order hears holds =
       subst (λ (x : List Sent). Holds (course ++ steps_in x) (sent ++ x) is.value) (sym (behind_acknowledged setup line moment source code id params is.sent)) (by_test (line_of_id id == 0)) where
@@ -348,11 +348,11 @@ module _ (setup : Setup) (H : Response → Type 0) (G : Bool → List Step → L
 
   -- A command
 
-  none_accepted : (b : Bool) (request : List Step) → (if b && false then request else []) ≡ []
+  none_accepted : (b : Bool) (request : List CourseStep) → (if b && false then request else []) ≡ []
   none_accepted true request = refl
   none_accepted false request = refl
 
-  deed_holds : (endpoints : Endpoints) (course : List Step) (sent : List Sent) (target : Target) (more : List Param) (deed : Deed) (moment : ℕ) → serves endpoints ≡ true
+  deed_holds : (endpoints : Endpoints) (course : List CourseStep) (sent : List Sent) (target : Target) (more : List Param) (deed : Deed) (moment : ℕ) → serves endpoints ≡ true
       → Holds course sent endpoints → GoesOn (course ++ accepted_by endpoints line target deed) sent (deed_done setup endpoints target more deed moment).told
   deed_holds endpoints course sent target more deed moment serving holds = by_refusal (refused_by endpoints target deed) where
     whole : Done
@@ -373,16 +373,16 @@ module _ (setup : Setup) (H : Response → Type 0) (G : Bool → List Step → L
     by_meant false turned =
         turns_hold endpoints (course ++ []) sent silently whole.told turned
         (λ s at. both_padded (serves whole.told.value) (course ++ []) sent s
-        (subst (λ (c : List Step). G (serves whole.told.value) c sent s) (sym (append-nil course)) (subst (λ (b : Bool). G b course sent s) (sym served) (goes s at))))
+        (subst (λ (c : List CourseStep). G (serves whole.told.value) c sent s) (sym (append-nil course)) (subst (λ (b : Bool). G b course sent s) (sym served) (goes s at))))
 
     by_refusal : (found : Option ℕ)
         → GoesOn (course ++ (if is_for target line && is_none found then accepted deed.request else [])) sent (unless_refused found endpoints whole).told
     by_refusal None = by_meant (is_for target line) (on_many_lines (is_for target) (deed_on setup deed moment) (deed_owned setup deed moment) endpoints line)
     by_refusal (Some code) =
-        subst (λ (x : List Step). Holds ((course ++ x) ++ []) (sent ++ []) endpoints) (sym (none_accepted (is_for target line) (accepted deed.request)))
+        subst (λ (x : List CourseStep). Holds ((course ++ x) ++ []) (sent ++ []) endpoints) (sym (none_accepted (is_for target line) (accepted deed.request)))
         (padded endpoints (course ++ []) sent (course_padded endpoints course sent holds))
 
-  target_holds : (endpoints : Endpoints) (course : List Step) (sent : List Sent) (target : Target) (deed : Deed) (moment : ℕ) → serves endpoints ≡ true → Holds course sent endpoints
+  target_holds : (endpoints : Endpoints) (course : List CourseStep) (sent : List Sent) (target : Target) (deed : Deed) (moment : ℕ) → serves endpoints ≡ true → Holds course sent endpoints
       → GoesOn (course ++ accepted_for endpoints line target deed) sent (done_for setup endpoints target deed moment).told
   target_holds endpoints course sent (One n) deed moment serving holds = deed_holds endpoints course sent (One n) [] deed moment serving holds
   target_holds endpoints course sent All deed moment serving holds = deed_holds endpoints course sent All [] deed moment serving holds
@@ -391,7 +391,7 @@ module _ (setup : Setup) (H : Response → Type 0) (G : Bool → List Step → L
     by_place None = padded endpoints (course ++ []) sent (course_padded endpoints course sent holds)
     by_place (Some n) = deed_holds endpoints course sent (One n) _ deed moment serving holds
 
-  asks_hold : (endpoints : Endpoints) (course : List Step) (sent : List Sent) (asks : Result Asks ℕ) (moment id : ℕ)
+  asks_hold : (endpoints : Endpoints) (course : List CourseStep) (sent : List Sent) (asks : Result Asks ℕ) (moment id : ℕ)
       → ((target : Target) (deed : Deed) → asks ≡ Ok (Does target deed) → serves endpoints ≡ true) → Holds course sent endpoints
       → GoesOn (course ++ accepted_of endpoints line asks) sent (done_by asks setup endpoints moment id).told
   asks_hold endpoints course sent (Err code) moment id serving holds = padded endpoints (course ++ []) sent (course_padded endpoints course sent holds)
@@ -401,7 +401,7 @@ module _ (setup : Setup) (H : Response → Type 0) (G : Bool → List Step → L
   -- A text
 
   -- an answer goes out before what lines send because of it, and notifies nothing
-  answered_first : (endpoints : Endpoints) (course added : List Step) (sent : List Sent) (one : Sent) (more : List Sent) (becomes : Endpoints) → is_answer one.said ≡ true
+  answered_first : (endpoints : Endpoints) (course added : List CourseStep) (sent : List Sent) (one : Sent) (more : List Sent) (becomes : Endpoints) → is_answer one.said ≡ true
       → Holds course sent endpoints
       → ((before : List Sent) → Holds course before endpoints → Holds ((course ++ added) ++ notified_in line more) (before ++ of_line line more) becomes)
       → Holds (course ++ (added ++ notified_in line (one ∷ more))) (sent ++ of_line line (one ∷ more)) becomes
@@ -409,12 +409,12 @@ module _ (setup : Setup) (H : Response → Type 0) (G : Bool → List Step → L
     by_test : (b : Bool) → Holds (course ++ (added ++ steps_in (if b then one ∷ of_line line more else of_line line more))) (sent ++ (if b then one ∷ of_line line more else of_line line more)) becomes
     by_test true =
         subst (λ (x : List Sent). Holds (course ++ (added ++ steps_in (one ∷ of_line line more))) x becomes) (append_assoc sent (one ∷ []) (of_line line more))
-        (subst (λ (c : List Step). Holds c ((sent ++ one ∷ []) ++ of_line line more) becomes)
-        (append_assoc course added (notified_in line more) ∙ ap (λ (x : List Step). course ++ (added ++ (x ++ notified_in line more))) (sym (answer_notifies one.said answers)))
+        (subst (λ (c : List CourseStep). Holds c ((sent ++ one ∷ []) ++ of_line line more) becomes)
+        (append_assoc course added (notified_in line more) ∙ ap (λ (x : List CourseStep). course ++ (added ++ (x ++ notified_in line more))) (sym (answer_notifies one.said answers)))
         (goes (sent ++ one ∷ []) (λ s at. turns.answering (serves endpoints) course sent one s answers (holds s at))))
-    by_test false = subst (λ (c : List Step). Holds c (sent ++ of_line line more) becomes) (append_assoc course added (notified_in line more)) (goes sent holds)
+    by_test false = subst (λ (c : List CourseStep). Holds c (sent ++ of_line line more) becomes) (append_assoc course added (notified_in line more)) (goes sent holds)
 
-  transacted_holds : (looked : Looked) (m : Machine) (source : SocketAddrV4) (id : ℕ) (who : Option ℕ) (confirms : List IdSpan) (done : Done) (course added : List Step) (sent : List Sent)
+  transacted_holds : (looked : Looked) (m : Machine) (source : SocketAddrV4) (id : ℕ) (who : Option ℕ) (confirms : List IdSpan) (done : Done) (course added : List CourseStep) (sent : List Sent)
       → Holds course sent m.endpoints → ((before : List Sent) → Holds course before m.endpoints → GoesOn (course ++ added) before done.told)
       → Holds (course ++ ((if is_new looked then added else []) ++ notified_in line (transacted_by looked m source (transaction id who confirms done)).sent))
       (sent ++ of_line line (transacted_by looked m source (transaction id who confirms done)).sent)
@@ -429,16 +429,16 @@ module _ (setup : Setup) (H : Response → Type 0) (G : Bool → List Step → L
   transacted_holds confirmed m source id who confirms done course added sent holds after = padded m.endpoints course sent holds
   transacted_holds full m source id who confirms done course added sent holds after = padded m.endpoints course sent holds
 
-  refused_holds : (looked : Looked) (m : Machine) (course : List Step) (sent : List Sent) (source : SocketAddrV4) (id code : ℕ) → Holds course sent m.endpoints
+  refused_holds : (looked : Looked) (m : Machine) (course : List CourseStep) (sent : List Sent) (source : SocketAddrV4) (id code : ℕ) → Holds course sent m.endpoints
       → Holds (course ++ notified_in line (transacted_by looked m source (transaction id None [] (only_answer m.endpoints (plain_code code)))).sent)
       (sent ++ of_line line (transacted_by looked m source (transaction id None [] (only_answer m.endpoints (plain_code code)))).sent)
       (transacted_by looked m source (transaction id None [] (only_answer m.endpoints (plain_code code)))).value.endpoints
   refused_holds looked m course sent source id code holds =
       let is : Effect Machine = transacted_by looked m source (transaction id None [] (only_answer m.endpoints (plain_code code))) in
-      subst (λ (x : List Step). Holds (course ++ (x ++ notified_in line is.sent)) (sent ++ of_line line is.sent) is.value.endpoints) (either_way (is_new looked) [])
+      subst (λ (x : List CourseStep). Holds (course ++ (x ++ notified_in line is.sent)) (sent ++ of_line line is.sent) is.value.endpoints) (either_way (is_new looked) [])
       (transacted_holds looked m source id None [] (only_answer m.endpoints (plain_code code)) course [] sent holds
       (λ before h. padded m.endpoints (course ++ []) before (course_padded m.endpoints course before h))) where
-        either_way : (b : Bool) (steps : List Step) → (if b then steps else steps) ≡ steps
+        either_way : (b : Bool) (steps : List CourseStep) → (if b then steps else steps) ≡ steps
         either_way true steps = refl
         either_way false steps = refl
 
@@ -450,7 +450,7 @@ module _ (setup : Setup) (H : Response → Type 0) (G : Bool → List Step → L
     by_serving true e = refl
     by_serving false e = absurd (while_none command confirms setup.names target deed e)
 
-  handled_holds : (m : Machine) (course : List Step) (sent : List Sent) (source : SocketAddrV4) (outcome : Outcome) → KeepOrder m.endpoints → Hears setup H outcome → Holds course sent m.endpoints
+  handled_holds : (m : Machine) (course : List CourseStep) (sent : List Sent) (source : SocketAddrV4) (outcome : Outcome) → KeepOrder m.endpoints → Hears setup H outcome → Holds course sent m.endpoints
       → Holds (course ++ (accepted_at setup m line outcome ++ notified_in line (handled setup m source outcome).sent)) (sent ++ of_line line (handled setup m source outcome).sent)
       (handled setup m source outcome).value.endpoints
   unfolding handled
@@ -469,7 +469,7 @@ module _ (setup : Setup) (H : Response → Type 0) (G : Bool → List Step → L
   -- Events
 
   -- the machine beside the course of the line and what it sent
-  pub record Stands (course : List Step) (sent : List Sent) (m : Machine) : Type 0 where
+  pub record Stands (course : List CourseStep) (sent : List Sent) (m : Machine) : Type 0 where
     pub order : KeepOrder m.endpoints
     pub holds : Holds course sent m.endpoints
 
@@ -477,39 +477,39 @@ module _ (setup : Setup) (H : Response → Type 0) (G : Bool → List Step → L
   is_free m order = own_free m.endpoints.own order.order.own
 
   -- one thing behind another
-  both_stand : (course here next : List Step) (sent some more : List Sent) (m : Machine) → Stands ((course ++ here) ++ next) ((sent ++ of_line line some) ++ of_line line more) m
+  both_stand : (course here next : List CourseStep) (sent some more : List Sent) (m : Machine) → Stands ((course ++ here) ++ next) ((sent ++ of_line line some) ++ of_line line more) m
       → Stands (course ++ (here ++ next)) (sent ++ of_line line (some ++ more)) m
   both_stand course here next sent some more m s =
-      subst (λ (c : List Step). Stands c (sent ++ of_line line (some ++ more)) m) (append_assoc course here next)
+      subst (λ (c : List CourseStep). Stands c (sent ++ of_line line (some ++ more)) m) (append_assoc course here next)
       (subst (λ (x : List Sent). Stands ((course ++ here) ++ next) x m)
       (append_assoc sent (of_line line some) (of_line line more) ∙ ap (λ (x : List Sent). sent ++ x) (sym (of_both line some more))) s)
 
-  texts_stand : (m : Machine) (course : List Step) (sent : List Sent) (now : ℕ) (source : SocketAddrV4) (texts : List (List ℕ)) → AllHear setup H (map (arrival now source) texts)
+  texts_stand : (m : Machine) (course : List CourseStep) (sent : List Sent) (now : ℕ) (source : SocketAddrV4) (texts : List (List ℕ)) → AllHear setup H (map (arrival now source) texts)
       → Stands course sent m → Stands (course ++ course_in setup m line source texts) (sent ++ of_line line (took_all setup m source texts).sent) (took_all setup m source texts).value
   unfolding took_all course_in
   texts_stand m course sent now source [] hears s = record { order = s.order; holds = padded m.endpoints course sent s.holds }
   texts_stand m course sent now source (text ∷ texts) hears s =
       let one : Effect Machine = handled setup m source (read_text text) in
-      let here : List Step = accepted_at setup m line (read_text text) ++ notified_in line one.sent in
+      let here : List CourseStep = accepted_at setup m line (read_text text) ++ notified_in line one.sent in
       both_stand course here (course_in setup one.value line source texts) sent one.sent (took_all setup one.value source texts).sent (took_all setup one.value source texts).value
       (texts_stand one.value (course ++ here) (sent ++ of_line line one.sent) now source texts hears.1 (record {
         order = text_waits setup m source (read_text text) s.order;
         holds = handled_holds m course sent source (read_text text) s.order hears.0 s.holds;
       }))
 
-  event_stands : (m : Machine) (course : List Step) (sent : List Sent) (now : ℕ) (event : GatewayEvent) → AllHear setup H (arrivals_at now event) → Stands course sent m
+  event_stands : (m : Machine) (course : List CourseStep) (sent : List Sent) (now : ℕ) (event : GatewayEvent) → AllHear setup H (arrivals_at now event) → Stands course sent m
       → Stands (course ++ course_at setup m line event) (sent ++ of_line line (effect setup m event).sent) (effect setup m event).value
   unfolding effect
   event_stands m course sent now (datagram source bytes) hears s = texts_stand m course sent now source (texts_of bytes) hears s
   event_stands m course sent now (phone n act) hears s =
       let out : List Sent = (acted setup m.endpoints n m.now act).sent in
-      subst (λ (c : List Step). Stands c (sent ++ of_line line out) (told_in m (acted setup m.endpoints n m.now act)).value) (append_assoc course (act_steps line n act) (notified_in line out))
+      subst (λ (c : List CourseStep). Stands c (sent ++ of_line line out) (told_in m (acted setup m.endpoints n m.now act)).value) (append_assoc course (act_steps line n act) (notified_in line out))
       (record { order = acts_wait setup m.endpoints n m.now act s.order; holds = act_holds m.endpoints course sent n m.now act s.holds })
   event_stands m course sent now (tick moment) hears s =
       record { order = pass_waits setup m.endpoints moment s.order; holds = pass_holds m.endpoints course sent moment (is_free m s.order) s.holds }
 
   -- whatever arrives at which moment
-  pub events_stand : (m : Machine) (course : List Step) (sent : List Sent) (now : ℕ) (events : List GatewayEvent) → AllHear setup H (arrivals_from now events) → Stands course sent m
+  pub events_stand : (m : Machine) (course : List CourseStep) (sent : List Sent) (now : ℕ) (events : List GatewayEvent) → AllHear setup H (arrivals_from now events) → Stands course sent m
       → Stands (course ++ course_from setup m line events) (sent ++ of_line line (sent_from setup m events)) (machine_after setup m events)
   unfolding machine_after course_from sent_from arrivals_from
   events_stand m course sent now [] hears s = record { order = s.order; holds = padded m.endpoints course sent s.holds }
@@ -527,10 +527,10 @@ module _ (setup : Setup) (H : Response → Type 0) (G : Bool → List Step → L
 abbrev pub AnyResponse : Response → Type 0
 AnyResponse response = Unit {0}
 
-abbrev pub LineGoes : Setup → (Bool → List Step → LineState → Type 0) → Bool → List Step → List Sent → Endpoint → Type 0
+abbrev pub LineGoes : Setup → (Bool → List CourseStep → LineState → Type 0) → Bool → List CourseStep → List Sent → Endpoint → Type 0
 LineGoes setup Q serving course sent endpoint = Goes setup Q serving course endpoint
 
-pub call_turns : (setup : Setup) (Q : Bool → List Step → LineState → Type 0) → Calls Q → EndpointTurns setup AnyResponse (LineGoes setup Q)
+pub call_turns : (setup : Setup) (Q : Bool → List CourseStep → LineState → Type 0) → Calls Q → EndpointTurns setup AnyResponse (LineGoes setup Q)
 call_turns setup Q calls = record {
   act = λ serving course sent line moment act endpoint g. act_goes setup Q calls serving course line moment act endpoint g;
   deed = λ course sent deed moment line endpoint g. deed_goes setup Q calls course deed moment line endpoint g;

@@ -15,7 +15,7 @@ use Rattle.mg_line.specs.Line.{LineState, Notice, LineDone, opening_line}
 use Rattle.mg_line.specs.Opening.{opened}
 use Rattle.mg_line.specs.Requesting.{asked}
 use Rattle.mg_line.proofs.LoseLemmas.{lost_only_grows}
-use Rattle.dialled_once.specs.Course.{Step, acts, accepts, notifies}
+use Rattle.dialled_once.specs.Course.{CourseStep, acts, accepts, notifies}
 use Rattle.dialled_once.specs.Dialled.{done_at, done_in, told_at, told_along, AskForAll, latest_from, AsksIfAny}
 use Rattle.dialled_once.specs.Following.{FollowFrom, AreInStep, OnceFrom, Follows, IsResting, StaysResting}
 use Rattle.dialled_once.specs.Keeping.{happened_in, told_of, IsUntouched, KeepsAll, Conserves, StaysUntouched}
@@ -27,26 +27,26 @@ use Rattle.dialled_once.proofs.EndpointLemmas.{steps_of, Calls}
 -- What is followed
 
 -- the identifier of the latest request
-abbrev pub followed : List ℕ → List Step → List ℕ
+abbrev pub followed : List ℕ → List CourseStep → List ℕ
 followed latest [] = latest
 followed latest (acts act ∷ course) = followed latest course
 followed latest (accepts request ∷ course) = followed request.identifier course
 followed latest (notifies identifier observed ∷ course) = followed latest course
 
-followed_both : (latest : List ℕ) (some more : List Step) → followed latest (some ++ more) ≡ followed (followed latest some) more
+followed_both : (latest : List ℕ) (some more : List CourseStep) → followed latest (some ++ more) ≡ followed (followed latest some) more
 followed_both latest [] more = refl
 followed_both latest (acts act ∷ some) more = followed_both latest some more
 followed_both latest (accepts request ∷ some) more = followed_both request.identifier some more
 followed_both latest (notifies identifier observed ∷ some) more = followed_both latest some more
 
-follow_both : (latest : List ℕ) (some more : List Step) → FollowFrom latest some → FollowFrom (followed latest some) more → FollowFrom latest (some ++ more)
+follow_both : (latest : List ℕ) (some more : List CourseStep) → FollowFrom latest some → FollowFrom (followed latest some) more → FollowFrom latest (some ++ more)
 follow_both latest [] more one two = two
 follow_both latest (acts act ∷ some) more one two = follow_both latest some more one two
 follow_both latest (accepts request ∷ some) more one two = follow_both request.identifier some more one two
 follow_both latest (notifies identifier observed ∷ some) more one two = (one.0, follow_both latest some more one.1 two)
 
 module _ (first : List ℕ) where
-  pub record Followed (serving : Bool) (course : List Step) (line : LineState) : Type 0 where
+  pub record Followed (serving : Bool) (course : List CourseStep) (line : LineState) : Type 0 where
     pub follow : FollowFrom first course
     pub latest : line.identifier ≡ followed first course
 
@@ -58,7 +58,7 @@ module _ (first : List ℕ) where
   told_stays identifier None = refl
   told_stays identifier (Some notice) = refl
 
-  goes_on : (serving serving' : Bool) (course : List Step) (identifier : List ℕ) (handling : Handling) (done : LineDone) → FollowFrom first course → followed first course ≡ identifier
+  goes_on : (serving serving' : Bool) (course : List CourseStep) (identifier : List ℕ) (handling : Handling) (done : LineDone) → FollowFrom first course → followed first course ≡ identifier
       → Follows identifier handling done → Followed serving' (course ++ steps_of done.notice) done.line
   goes_on serving serving' course identifier handling done follow latest follows = record {
     follow = follow_both first course (steps_of done.notice) follow
@@ -88,59 +88,59 @@ module _ (first : List ℕ) where
 -- Once for each request
 
 -- it notified since the latest request
-abbrev pub has_notified : Bool → List Step → Bool
+abbrev pub has_notified : Bool → List CourseStep → Bool
 has_notified notified [] = notified
 has_notified notified (acts act ∷ course) = has_notified notified course
 has_notified notified (accepts request ∷ course) = has_notified false course
 has_notified notified (notifies identifier observed ∷ course) = has_notified true course
 
-notified_both : (notified : Bool) (some more : List Step) → has_notified notified (some ++ more) ≡ has_notified (has_notified notified some) more
+notified_both : (notified : Bool) (some more : List CourseStep) → has_notified notified (some ++ more) ≡ has_notified (has_notified notified some) more
 notified_both notified [] more = refl
 notified_both notified (acts act ∷ some) more = notified_both notified some more
 notified_both notified (accepts request ∷ some) more = notified_both false some more
 notified_both notified (notifies identifier observed ∷ some) more = notified_both true some more
 
-once_both : (notified : Bool) (some more : List Step) → OnceFrom notified some → OnceFrom (has_notified notified some) more → OnceFrom notified (some ++ more)
+once_both : (notified : Bool) (some more : List CourseStep) → OnceFrom notified some → OnceFrom (has_notified notified some) more → OnceFrom notified (some ++ more)
 once_both notified [] more one two = two
 once_both notified (acts act ∷ some) more one two = once_both notified some more one two
 once_both notified (accepts request ∷ some) more one two = once_both false some more one two
 once_both notified (notifies identifier observed ∷ some) more one two = (one.0, once_both true some more one.1 two)
 
-in_step_front : (some more : List Step) → AreInStep (some ++ more) → AreInStep some
+in_step_front : (some more : List CourseStep) → AreInStep (some ++ more) → AreInStep some
 in_step_front [] more all = tt
 in_step_front (acts act ∷ some) more all = in_step_front some more all
 in_step_front (accepts request ∷ some) more all = (all.0, in_step_front some more all.1)
 in_step_front (notifies identifier observed ∷ some) more all = in_step_front some more all
 
-in_step_back : (some more : List Step) → AreInStep (some ++ more) → AreInStep more
+in_step_back : (some more : List CourseStep) → AreInStep (some ++ more) → AreInStep more
 in_step_back [] more all = all
 in_step_back (acts act ∷ some) more all = in_step_back some more all
 in_step_back (accepts request ∷ some) more all = in_step_back some more all.1
 in_step_back (notifies identifier observed ∷ some) more all = in_step_back some more all
 
 -- a line that notified since the latest request rests, and so it does before the gateway serves
-pub record Once (serving : Bool) (course : List Step) (line : LineState) : Type 0 where
+pub record Once (serving : Bool) (course : List CourseStep) (line : LineState) : Type 0 where
   pub once : OnceFrom false course
   pub step : line.handling.notifying ≡ InStep
   pub rested : has_notified false course ≡ true → IsResting line
   pub closed : serving ≡ false → IsResting line × (has_notified false course ≡ false)
 
-abbrev pub OnceInStep : Bool → List Step → LineState → Type 0
+abbrev pub OnceInStep : Bool → List CourseStep → LineState → Type 0
 OnceInStep serving course line = AreInStep course → Once serving course line
 
 -- what rests tells nothing
-silent_once : (serving : Bool) (course : List Step) (done : LineDone) → OnceFrom false course → StaysResting done → (serving ≡ false → has_notified false course ≡ false)
+silent_once : (serving : Bool) (course : List CourseStep) (done : LineDone) → OnceFrom false course → StaysResting done → (serving ≡ false → has_notified false course ≡ false)
     → Once serving (course ++ steps_of done.notice) done.line
 silent_once serving course done once rests closed =
     subst (λ (notice : Option Notice). Once serving (course ++ steps_of notice) done.line) (sym rests.silent)
-    (subst (λ (c : List Step). Once serving c done.line) (sym (append-nil course))
+    (subst (λ (c : List CourseStep). Once serving c done.line) (sym (append-nil course))
     (record { once = once; step = rests.line.step; rested = λ is. rests.line; closed = λ is. (rests.line, closed is) }))
 
 -- what may tell something, where nothing was told since the latest request
-told_once : (course : List Step) (done : LineDone) (notice : Option Notice) → OnceFrom false course → has_notified false course ≡ false → done.line.handling.notifying ≡ InStep
+told_once : (course : List CourseStep) (done : LineDone) (notice : Option Notice) → OnceFrom false course → has_notified false course ≡ false → done.line.handling.notifying ≡ InStep
     → IfSome notice (λ n. IsResting done.line) → Once true (course ++ steps_of notice) done.line
 told_once course done None once not step rests =
-    subst (λ (c : List Step). Once true c done.line) (sym (append-nil course)) (record {
+    subst (λ (c : List CourseStep). Once true c done.line) (sym (append-nil course)) (record {
       once = once;
       step = step;
       rested = λ is. absurd (let clash : false ≡ true = sym not ∙ is in cc);
@@ -154,7 +154,7 @@ told_once course done (Some notice) once not step rests = record {
 }
 
 -- either it rests, or it tells as it may
-either_once : (serving : Bool) (course : List Step) (line : LineState) (done : LineDone) → Once serving course line → done.line.handling.notifying ≡ InStep
+either_once : (serving : Bool) (course : List CourseStep) (line : LineState) (done : LineDone) → Once serving course line → done.line.handling.notifying ≡ InStep
     → (IsResting line → StaysResting done) → IfSome done.notice (λ n. IsResting done.line) → Once serving (course ++ steps_of done.notice) done.line
 either_once false course line done o step rests told = silent_once false course done o.once (rests (o.closed refl).0) (λ is. (o.closed refl).1)
 either_once true course line done o step rests told = by_notified (has_notified false course) refl where
@@ -162,7 +162,7 @@ either_once true course line done o step rests told = by_notified (has_notified 
   by_notified true is = silent_once true course done o.once (rests (o.rested is)) (λ no. absurd cc)
   by_notified false is = told_once course done done.notice o.once is step told
 
-acted_once : (serving : Bool) (course : List Step) (line : LineState) (act : Act) → Once serving course line → Once serving (course ++ acts act ∷ []) line
+acted_once : (serving : Bool) (course : List CourseStep) (line : LineState) (act : Act) → Once serving course line → Once serving (course ++ acts act ∷ []) line
 acted_once serving course line act o = record {
   once = once_both false course (acts act ∷ []) o.once tt;
   step = o.step;
@@ -213,13 +213,13 @@ opening_once = λ all.
 
 -- Until the telephone does something
 
-pub done_both : (some more : List Step) → done_in (some ++ more) ≡ done_in some ++ done_in more
+pub done_both : (some more : List CourseStep) → done_in (some ++ more) ≡ done_in some ++ done_in more
 done_both some more = flat_map-append done_at some more
 
-pub told_both : (some more : List Step) → told_along (some ++ more) ≡ told_along some ++ told_along more
+pub told_both : (some more : List CourseStep) → told_along (some ++ more) ≡ told_along some ++ told_along more
 told_both some more = flat_map-append told_at some more
 
-latest_both : (latest : Option Request) (some more : List Step) → latest_from latest (some ++ more) ≡ latest_from (latest_from latest some) more
+latest_both : (latest : Option Request) (some more : List CourseStep) → latest_from latest (some ++ more) ≡ latest_from (latest_from latest some) more
 latest_both latest [] more = refl
 latest_both latest (acts act ∷ some) more = latest_both latest some more
 latest_both latest (accepts request ∷ some) more = latest_both (Some request) some more
@@ -242,27 +242,27 @@ front_none [] more e = refl
 front_none (x ∷ some) more e = absurd cc
 
 -- before any act nothing of a telephone is kept, and a line that is asked for all keeps all
-pub record Begins (course : List Step) (line : LineState) : Type 0 where
+pub record Begins (course : List CourseStep) (line : LineState) : Type 0 where
   pub untouched : IsUntouched line
   pub told : happened_in (told_along course) ≡ []
   pub keeps : AsksIfAny (latest_from None course) → KeepsAll line
 
-abbrev pub BeginsUntouched : Bool → List Step → LineState → Type 0
+abbrev pub BeginsUntouched : Bool → List CourseStep → LineState → Type 0
 BeginsUntouched serving course line = done_in course ≡ [] → Begins course line
 
 -- nothing more is told of it
-told_none : (course : List Step) (notice : Option Notice) → happened_in (told_along course) ≡ [] → happened_in (told_of notice) ≡ []
+told_none : (course : List CourseStep) (notice : Option Notice) → happened_in (told_along course) ≡ [] → happened_in (told_of notice) ≡ []
     → happened_in (told_along (course ++ steps_of notice)) ≡ []
 told_none course notice before now =
     ap happened_in (told_both course (steps_of notice)) ∙ ap (λ (x : List Observed). happened_in (told_along course ++ x)) (told_is notice)
     ∙ happened_both (told_along course) (told_of notice) ∙ ap (λ (x : List Observed). x ++ happened_in (told_of notice)) before ∙ now
 
 -- nothing was done before, where nothing was done up to what is told then
-none_before : (course : List Step) (notice : Option Notice) → done_in (course ++ steps_of notice) ≡ [] → done_in course ≡ []
+none_before : (course : List CourseStep) (notice : Option Notice) → done_in (course ++ steps_of notice) ≡ [] → done_in course ≡ []
 none_before course notice none = front_none (done_in course) (done_in (steps_of notice)) (sym (done_both course (steps_of notice)) ∙ none)
 
 -- a call that isn't an act or a request
-other_begins : (course : List Step) (line : LineState) (done : LineDone) → Begins course line → StaysUntouched done → (KeepsAll line → KeepsAll done.line)
+other_begins : (course : List CourseStep) (line : LineState) (done : LineDone) → Begins course line → StaysUntouched done → (KeepsAll line → KeepsAll done.line)
     → Begins (course ++ steps_of done.notice) done.line
 other_begins course line done b stays keeps =
     let latest = latest_both None course (steps_of done.notice) ∙ latest_stays (latest_from None course) done.notice in
@@ -272,11 +272,11 @@ other_begins course line done b stays keeps =
       keeps = λ asks. keeps (b.keeps (subst AsksIfAny latest asks));
     }
 
-request_begins : (course : List Step) (line : LineState) (request : Request) (moment : ℕ) → Begins course line
+request_begins : (course : List CourseStep) (line : LineState) (request : Request) (moment : ℕ) → Begins course line
     → Begins ((course ++ accepts request ∷ []) ++ steps_of (asked line request moment).notice) (asked line request moment).line
 request_begins course line request moment b =
     let done : LineDone = asked line request moment in
-    let front : List Step = course ++ accepts request ∷ [] in
+    let front : List CourseStep = course ++ accepts request ∷ [] in
     let latest : latest_from None (front ++ steps_of done.notice) ≡ Some request =
     latest_both None front (steps_of done.notice) ∙ latest_stays (latest_from None front) done.notice ∙ latest_both None course (accepts request ∷ []) in
     let stays = nothing_is_made_up.request line request moment b.untouched in
@@ -327,24 +327,24 @@ calls_count = record {
 
 -- And from then on
 
-ask_front : (some more : List Step) → AskForAll (some ++ more) → AskForAll some
+ask_front : (some more : List CourseStep) → AskForAll (some ++ more) → AskForAll some
 ask_front [] more all = tt
 ask_front (acts act ∷ some) more all = ask_front some more all
 ask_front (accepts request ∷ some) more all = (all.0, ask_front some more all.1)
 ask_front (notifies identifier observed ∷ some) more all = ask_front some more all
 
-ask_back : (some more : List Step) → AskForAll (some ++ more) → AskForAll more
+ask_back : (some more : List CourseStep) → AskForAll (some ++ more) → AskForAll more
 ask_back [] more all = all
 ask_back (acts act ∷ some) more all = ask_back some more all
 ask_back (accepts request ∷ some) more all = ask_back some more all.1
 ask_back (notifies identifier observed ∷ some) more all = ask_back some more all
 
 -- all that was done is told or kept, as long as nothing is lost
-pub record ToldOnce (course : List Step) (line : LineState) : Type 0 where
+pub record ToldOnce (course : List CourseStep) (line : LineState) : Type 0 where
   pub keeps : KeepsAll line
   pub whole : done_in course ≡ happened_in (told_along course) ++ happened_in line.quarantined.events
 
-pub record Told (serving : Bool) (course : List Step) (line : LineState) : Type 0 where
+pub record Told (serving : Bool) (course : List CourseStep) (line : LineState) : Type 0 where
   pub counted : line.quarantined.lost ≤ most_lost
   pub once : AskForAll course → line.quarantined.lost ≡ 0 → ToldOnce course line
 
@@ -355,7 +355,7 @@ grown done told held new now left whole conserves =
     ∙ sym (append_assoc (happened_in told) (happened_in now) left) ∙ ap (λ (x : List Observed). x ++ left) (sym (happened_both told now))
 
 -- a call with what is new in the course, and in what was done
-told_goes : (course step : List Step) (line : LineState) (done : LineDone) (new : List Observed) → ToldOnce course line → Conserves line new done
+told_goes : (course step : List CourseStep) (line : LineState) (done : LineDone) (new : List Observed) → ToldOnce course line → Conserves line new done
     → done_in step ≡ new → told_along step ≡ [] → ToldOnce ((course ++ step) ++ steps_of done.notice) done.line
 told_goes course step line done new t conserves does tells = record {
   keeps = conserves.keeps;
@@ -367,9 +367,9 @@ told_goes course step line done new t conserves does tells = record {
       ∙ ap (λ (x : List Observed). x ++ told_of done.notice) (told_both course step ∙ ap (λ (x : List Observed). told_along course ++ x) tells ∙ append-nil (told_along course))));
 }
 
-told_plain : (course : List Step) (line : LineState) (done : LineDone) → ToldOnce course line → Conserves line [] done → ToldOnce (course ++ steps_of done.notice) done.line
+told_plain : (course : List CourseStep) (line : LineState) (done : LineDone) → ToldOnce course line → Conserves line [] done → ToldOnce (course ++ steps_of done.notice) done.line
 told_plain course line done t conserves =
-    subst (λ (c : List Step). ToldOnce (c ++ steps_of done.notice) done.line) (append-nil course) (told_goes course [] line done [] t conserves refl refl)
+    subst (λ (c : List CourseStep). ToldOnce (c ++ steps_of done.notice) done.line) (append-nil course) (told_goes course [] line done [] t conserves refl refl)
 
 pub calls_told : Calls Told
 calls_told = record {

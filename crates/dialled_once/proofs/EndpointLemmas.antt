@@ -38,51 +38,51 @@ use Rattle.plain_machine.specs.Responding.{responded_as, responded_on, redirecte
 use Rattle.plain_machine.specs.Falling.{due_on, post_due, happened_on}
 use Rattle.plain_machine.proofs.FirstLemmas.{OfItsCommand, OfItsAnnouncement, OfItsLine, post_cases, due_cases}
 use Rattle.machine_laws.specs.Notified.{observed_or_none}
-use Rattle.dialled_once.specs.Course.{Step, acts, accepts, notifies, notified_by, accepted}
+use Rattle.dialled_once.specs.Course.{CourseStep, acts, accepts, notifies, notified_by, accepted}
 use Rattle.dialled_once.proofs.ReadingLemmas.{CanBeTold, read_again, IsReadable, TellsReadable, phoned_readable, asked_readable, answered_readable, opened_readable, fired_readable}
 use Rattle.machine_laws.proofs.EachLemmas.{Each}
 
 -- what a line tells, as its course has it
-abbrev pub steps_of : Option Notice → List Step
+abbrev pub steps_of : Option Notice → List CourseStep
 steps_of None = []
 steps_of (Some notice) = notifies notice.identifier notice.observed ∷ []
 
 -- the same of what a line sends
-abbrev pub steps_in : List Sent → List Step
+abbrev pub steps_in : List Sent → List CourseStep
 steps_in sent = flat_map (λ (one : Sent). notified_by one.said) sent
 
 -- What each call of a line keeps beside the course so far, before the gateway serves and while it does
-pub record Calls (Q : Bool → List Step → LineState → Type 0) : Type 0 where
-  pub act : (serving : Bool) (course : List Step) (line : LineState) (act : Act) (moment : ℕ) → Q serving course line
+pub record Calls (Q : Bool → List CourseStep → LineState → Type 0) : Type 0 where
+  pub act : (serving : Bool) (course : List CourseStep) (line : LineState) (act : Act) (moment : ℕ) → Q serving course line
       → Q serving ((course ++ acts act ∷ []) ++ steps_of (phoned line act moment).notice) (phoned line act moment).line
-  pub request : (course : List Step) (line : LineState) (request : Request) (moment : ℕ) → Q true course line
+  pub request : (course : List CourseStep) (line : LineState) (request : Request) (moment : ℕ) → Q true course line
       → Q true ((course ++ accepts request ∷ []) ++ steps_of (asked line request moment).notice) (asked line request moment).line
-  pub answering : (serving : Bool) (course : List Step) (line : LineState) (moment : ℕ) → Q serving course line
+  pub answering : (serving : Bool) (course : List CourseStep) (line : LineState) (moment : ℕ) → Q serving course line
       → Q serving (course ++ steps_of (answered line moment).notice) (answered line moment).line
-  pub serving : (course : List Step) (line : LineState) (moment : ℕ) → Q false course line
+  pub serving : (course : List CourseStep) (line : LineState) (moment : ℕ) → Q false course line
       → Q true (course ++ steps_of (opened line moment).notice) (opened line moment).line
-  pub firing : (serving : Bool) (course : List Step) (line : LineState) (at : ℕ) (due : LineDue) (moment : ℕ) → due_of line ≡ Some (at, due)
+  pub firing : (serving : Bool) (course : List CourseStep) (line : LineState) (at : ℕ) (due : LineDue) (moment : ℕ) → due_of line ≡ Some (at, due)
       → Q serving course line → Q serving (course ++ steps_of (fired line due moment).notice) (fired line due moment).line
 
-module _ (setup : Setup) (Q : Bool → List Step → LineState → Type 0) where
+module _ (setup : Setup) (Q : Bool → List CourseStep → LineState → Type 0) where
   -- the line of an endpoint, beside its course
-  pub record Goes (serving : Bool) (course : List Step) (endpoint : Endpoint) : Type 0 where
+  pub record Goes (serving : Bool) (course : List CourseStep) (endpoint : Endpoint) : Type 0 where
     pub readable : IsReadable endpoint.line
     pub holds : Q serving course endpoint.line
 
   -- and after a turn
-  abbrev pub TurnGoes : Bool → List Step → Effect Endpoint → Type 0
+  abbrev pub TurnGoes : Bool → List CourseStep → Effect Endpoint → Type 0
   TurnGoes serving course turn = Goes serving (course ++ steps_in turn.sent) turn.value
 
-  pub same_goes : (serving : Bool) (course : List Step) (endpoint other : Endpoint) → other.line ≡ endpoint.line → Goes serving course endpoint → Goes serving course other
+  pub same_goes : (serving : Bool) (course : List CourseStep) (endpoint other : Endpoint) → other.line ≡ endpoint.line → Goes serving course endpoint → Goes serving course other
   same_goes serving course endpoint other same goes =
       record { readable = subst IsReadable (sym same) goes.readable; holds = subst (λ (line : LineState). Q serving course line) (sym same) goes.holds }
 
   -- a turn that leaves the line, and notifies nothing
-  pub still_goes : (serving : Bool) (course : List Step) (endpoint : Endpoint) (turn : Effect Endpoint) → turn.value.line ≡ endpoint.line → steps_in turn.sent ≡ []
+  pub still_goes : (serving : Bool) (course : List CourseStep) (endpoint : Endpoint) (turn : Effect Endpoint) → turn.value.line ≡ endpoint.line → steps_in turn.sent ≡ []
       → Goes serving course endpoint → TurnGoes serving course turn
   still_goes serving course endpoint turn same none goes =
-      subst (λ (c : List Step). Goes serving c turn.value) (sym (ap (λ (x : List Step). course ++ x) none ∙ append-nil course))
+      subst (λ (c : List CourseStep). Goes serving c turn.value) (sym (ap (λ (x : List CourseStep). course ++ x) none ∙ append-nil course))
       (same_goes serving course endpoint turn.value same goes)
 
   notice_steps : (line moment : ℕ) (endpoint : Endpoint) (notice : Option Notice) → IfSome notice (λ (n : Notice). Each CanBeTold n.observed)
@@ -96,7 +96,7 @@ module _ (setup : Setup) (Q : Bool → List Step → LineState → Type 0) where
   notice_line line moment endpoint None = refl
   notice_line line moment endpoint (Some notice) = refl
 
-  noted_goes : (serving : Bool) (course : List Step) (line moment : ℕ) (endpoint : Endpoint) (done : LineDone) → TellsReadable done
+  noted_goes : (serving : Bool) (course : List CourseStep) (line moment : ℕ) (endpoint : Endpoint) (done : LineDone) → TellsReadable done
       → Q serving (course ++ steps_of done.notice) done.line → TurnGoes serving course (noted setup line moment endpoint done)
   unfolding noted
   noted_goes serving course line moment endpoint done tells holds =
@@ -104,19 +104,19 @@ module _ (setup : Setup) (Q : Bool → List Step → LineState → Type 0) where
       let same : (with_notice setup line moment to done.notice).value.line ≡ done.line = notice_line line moment to done.notice in
       record {
         readable = subst IsReadable (sym same) tells.line;
-        holds = subst (λ (x : List Step). Q serving (course ++ x) (with_notice setup line moment to done.notice).value.line)
+        holds = subst (λ (x : List CourseStep). Q serving (course ++ x) (with_notice setup line moment to done.notice).value.line)
             (sym (notice_steps line moment to done.notice tells.told))
             (subst (λ (l : LineState). Q serving (course ++ steps_of done.notice) l) (sym same) holds);
       }
 
   module _ (calls : Calls Q) where
-    pub act_goes : (serving : Bool) (course : List Step) (line moment : ℕ) (act : Act) (endpoint : Endpoint) → Goes serving course endpoint
+    pub act_goes : (serving : Bool) (course : List CourseStep) (line moment : ℕ) (act : Act) (endpoint : Endpoint) → Goes serving course endpoint
         → TurnGoes serving (course ++ acts act ∷ []) (acted_on setup line moment act endpoint)
     act_goes serving course line moment act endpoint goes =
         noted_goes serving (course ++ acts act ∷ []) line moment endpoint (phoned endpoint.line act moment) (phoned_readable endpoint.line act moment goes.readable)
         (calls.act serving course endpoint.line act moment goes.holds)
 
-    pub deed_goes : (course : List Step) (deed : Deed) (moment line : ℕ) (endpoint : Endpoint) → Goes true course endpoint
+    pub deed_goes : (course : List CourseStep) (deed : Deed) (moment line : ℕ) (endpoint : Endpoint) → Goes true course endpoint
         → TurnGoes true (course ++ accepted deed.request) (deed_on setup deed moment line endpoint)
     unfolding deed_on
     deed_goes course deed moment line endpoint goes = by_request deed.request where
@@ -126,24 +126,24 @@ module _ (setup : Setup) (Q : Bool → List Step → LineState → Type 0) where
       by_request : (request : Option Request) → TurnGoes true (course ++ accepted request) (noted setup line moment to (asked_if request endpoint.line moment))
       by_request None =
           noted_goes true (course ++ []) line moment to (record { line = endpoint.line; notice = None }) (record { line = goes.readable; told = tt })
-          (subst (λ (c : List Step). Q true c endpoint.line) (sym (append-nil (course ++ []) ∙ append-nil course)) goes.holds)
+          (subst (λ (c : List CourseStep). Q true c endpoint.line) (sym (append-nil (course ++ []) ∙ append-nil course)) goes.holds)
       by_request (Some request) =
           noted_goes true (course ++ accepts request ∷ []) line moment to (asked endpoint.line request moment) (asked_readable endpoint.line request moment goes.readable)
           (calls.request course endpoint.line request moment goes.holds)
 
-    pub opened_goes : (course : List Step) (agent : Option Entity) (moment line : ℕ) (endpoint : Endpoint) → Goes false course endpoint
+    pub opened_goes : (course : List CourseStep) (agent : Option Entity) (moment line : ℕ) (endpoint : Endpoint) → Goes false course endpoint
         → TurnGoes true course (opened_on agent setup moment line endpoint)
     unfolding opened_on
     opened_goes course agent moment line endpoint goes =
         noted_goes true course line moment (with_entity agent endpoint) (opened endpoint.line moment) (opened_readable endpoint.line moment goes.readable)
         (calls.serving course endpoint.line moment goes.holds)
 
-    pub redirected_goes : (serving : Bool) (course : List Step) (agent : Entity) (line : ℕ) (endpoint : Endpoint) → Goes serving course endpoint
+    pub redirected_goes : (serving : Bool) (course : List CourseStep) (agent : Entity) (line : ℕ) (endpoint : Endpoint) → Goes serving course endpoint
         → TurnGoes serving course (redirected_on agent line endpoint)
     unfolding redirected_on
     redirected_goes serving course agent line endpoint goes = still_goes serving course endpoint (silently (with_entity (Some agent) endpoint)) refl refl goes
 
-    pub response_goes : (serving : Bool) (course : List Step) (line moment : ℕ) (response : Response) (endpoint : Endpoint) → Goes serving course endpoint
+    pub response_goes : (serving : Bool) (course : List CourseStep) (line moment : ℕ) (response : Response) (endpoint : Endpoint) → Goes serving course endpoint
         → TurnGoes serving course (responded_on setup line moment response endpoint)
     unfolding responded_on replied announced announcement
     response_goes serving course line moment response endpoint goes = by_heard (heard_on endpoint.post response) where
@@ -188,7 +188,7 @@ module _ (setup : Setup) (Q : Bool → List Step → LineState → Type 0) where
           (of.found.0, of.due ∙ ap (λ (d : LineDue). Some (of.found.0, d)) equal)
       by_case (inr of) = of_post (post_cases line endpoint.post item of)
 
-    pub happened_goes : (serving : Bool) (course : List Step) (line : ℕ) (item : DueItem) (endpoint : Endpoint) → due_on (line, endpoint) ≡ Some item
+    pub happened_goes : (serving : Bool) (course : List CourseStep) (line : ℕ) (item : DueItem) (endpoint : Endpoint) → due_on (line, endpoint) ≡ Some item
         → Goes serving course endpoint → TurnGoes serving course (happened_on item.kind setup line item.moment endpoint)
     unfolding happened_on
     happened_goes serving course line item endpoint is goes = by_due item.kind refl where

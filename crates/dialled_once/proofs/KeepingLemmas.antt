@@ -2,8 +2,8 @@
 use Rattle.std.proofs.Common.{◌≡◌, ℕ, Bool, true, false, List, [], ◌∷◌, ◌++◌, length, refl, sym, ap, subst, ◌∙◌, arith, append-nil}
 use Rattle.std.specs.Prelude.{Option, Some, None, IfSome, ◌||◌, nat_lt, if◌then◌else◌}
 use Rattle.mg_bytes.specs.declared.letter.Letter.{Letter}
-use Rattle.mg_packages.specs.declared.event.Event.{Event}
-use Rattle.mg_packages.specs.declared.event.Event.TheVariants as events
+use Rattle.mg_packages.specs.declared.event.LineEvent.{LineEvent}
+use Rattle.mg_packages.specs.declared.event.LineEvent.TheVariants as events
 use Rattle.mg_packages.specs.declared.signal.Kind.{Kind}
 use Rattle.mg_packages.specs.declared.signal.Kind.TheVariants.{TimeOut, Brief, OnOff}
 use Rattle.mg_packages.specs.declared.signal.Signal.{Signal}
@@ -53,7 +53,7 @@ happened_both (Ended signal ∷ some) more = happened_both some more
 behind_none : (some : List Observed) (event : Observed) → happened_in some ≡ [] → happened_in (some ++ event ∷ []) ≡ happened_in (event ∷ [])
 behind_none some event none = happened_both some (event ∷ []) ∙ ap (λ xs. xs ++ happened_in (event ∷ [])) none
 
-phone_more : (some : List Observed) (event : Event) → AreOfPhone some → is_of_phone event ≡ true → AreOfPhone (some ++ Happened event ∷ [])
+phone_more : (some : List Observed) (event : LineEvent) → AreOfPhone some → is_of_phone event ≡ true → AreOfPhone (some ++ Happened event ∷ [])
 phone_more [] event all is = (is, tt)
 phone_more (Happened x ∷ some) event all is = (all.0, phone_more some event all.1 is)
 phone_more (Ended signal ∷ some) event all is = phone_more some event all is
@@ -148,22 +148,22 @@ end_asks line signal moment all =
 
 -- What the telephone does occurs: it is notified
 
-abbrev hushed_for : LineState → Event → LineState
+abbrev hushed_for : LineState → LineEvent → LineState
 hushed_for line event = with_event (signals_after (chosen line.requests.requested event) line) (Happened event)
 
-is_notified : (line : LineState) (event : Event) (moment : ℕ) → NotifiesAll line.requests.requested → is_of_phone event ≡ true
+is_notified : (line : LineState) (event : LineEvent) (moment : ℕ) → NotifiesAll line.requests.requested → is_of_phone event ≡ true
     → occurred line (Happened event) moment ≡ notified (hushed_for line event)
 unfolding occurred acted
 is_notified line event moment all is =
     ap (λ (reaction : Reaction). acted reaction (signals_after (chosen line.requests.requested event) line) (Happened event) moment) (all.phone event is)
 
-record Tells (line : LineState) (event : Event) (done : LineDone) : Type 0 where
+record Tells (line : LineState) (event : LineEvent) (done : LineDone) : Type 0 where
   keeps : KeepsAll done.line
   told : happened_in (told_of done.notice) ≡ Happened event ∷ []
   quarantined : done.line.quarantined ≡ line.quarantined
   some : (next : LineState → LineDone) → unless_notified done.notice done next ≡ done
 
-notified_tells : (line : LineState) (event : Event) → NotifiesAll line.requests.requested → happened_in line.accumulated ≡ [] → AreOfPhone line.quarantined.events
+notified_tells : (line : LineState) (event : LineEvent) → NotifiesAll line.requests.requested → happened_in line.accumulated ≡ [] → AreOfPhone line.quarantined.events
     → Tells line event (notified (hushed_for line event))
 unfolding notified
 notified_tells line event all none phone = record {
@@ -173,7 +173,7 @@ notified_tells line event all none phone = record {
   some = λ next. refl;
 }
 
-occurred_tells : (line : LineState) (event : Event) (moment : ℕ) → NotifiesAll line.requests.requested → happened_in line.accumulated ≡ []
+occurred_tells : (line : LineState) (event : LineEvent) (moment : ℕ) → NotifiesAll line.requests.requested → happened_in line.accumulated ≡ []
     → AreOfPhone line.quarantined.events → is_of_phone event ≡ true → Tells line event (occurred line (Happened event) moment)
 occurred_tells line event moment all none phone is =
     subst (Tells line event) (sym (is_notified line event moment all is)) (notified_tells line event all none phone)
@@ -184,7 +184,7 @@ record Drained (was : List Observed) (done : LineDone) : Type 0 where
   keeps : KeepsAll done.line
   whole : happened_in (told_of done.notice) ++ happened_in done.line.quarantined.events ≡ happened_in was
 
-first_drained : (event : Event) (was : List Observed) (line : LineState) (done : LineDone) (next : LineState → LineDone) → line.quarantined.events ≡ was
+first_drained : (event : LineEvent) (was : List Observed) (line : LineState) (done : LineDone) (next : LineState → LineDone) → line.quarantined.events ≡ was
     → Tells line event done → Drained (Happened event ∷ was) (unless_notified done.notice done next)
 first_drained event was line done next same h = subst (Drained (Happened event ∷ was)) (sym (h.some next)) (record {
   keeps = h.keeps;
@@ -376,7 +376,7 @@ fired_keeps line at (SignalEnd signal) moment k is =
 -- Acts
 
 -- what the telephone does is asked for, or persistent: else nothing would be done at it
-some_asked : (line : LineState) (event : Event) → NotifiesAll line.requests.requested → is_of_phone event ≡ true → (a b : Bool)
+some_asked : (line : LineState) (event : LineEvent) → NotifiesAll line.requests.requested → is_of_phone event ≡ true → (a b : Bool)
     → is_requested line.requests.requested event ≡ a → is_persistent event ≡ b → (c : Bool) → (a || c || b) ≡ true
 unfolding notified
 some_asked line event all is true b ea eb c = refl
@@ -387,12 +387,12 @@ some_asked line event all is false false ea eb c =
     let clash : None ≡ (notified (hushed_for line event)).notice = ap (λ (done : LineDone). done.notice) (sym nothing ∙ is_notified line event 0 all is) in
     absurd cc
 
-phone_kept : (line : LineState) (event : Event) → NotifiesAll line.requests.requested → is_of_phone event ≡ true → is_kept line.requests (Happened event) ≡ true
+phone_kept : (line : LineState) (event : LineEvent) → NotifiesAll line.requests.requested → is_of_phone event ≡ true → is_kept line.requests (Happened event) ≡ true
 unfolding is_kept
 phone_kept line event all is =
     some_asked line event all is (is_requested line.requests.requested event) (is_persistent event) refl refl (is_detected line.requests.detected event)
 
-held_act : (held : Held) (event : Event) → (holding held (Happened event)).lost ≡ 0 → (holding held (Happened event)).events ≡ held.events ++ Happened event ∷ []
+held_act : (held : Held) (event : LineEvent) → (holding held (Happened event)).lost ≡ 0 → (holding held (Happened event)).events ≡ held.events ++ Happened event ∷ []
 unfolding holding
 held_act held event = by_room (nat_lt (length held.events) held.room) where
   by_room : (b : Bool) → (if b then one_kept held (Happened event) else one_lost held).lost ≡ 0
@@ -400,7 +400,7 @@ held_act held event = by_room (nat_lt (length held.events) held.room) where
   by_room true none = refl
   by_room false none = absurd (omega (arith, none))
 
-left_act : (line : LineState) (event : Event) → is_kept line.requests (Happened event) ≡ true → (quarantining line (Happened event)).quarantined.lost ≡ 0
+left_act : (line : LineState) (event : LineEvent) → is_kept line.requests (Happened event) ≡ true → (quarantining line (Happened event)).quarantined.lost ≡ 0
     → (quarantining line (Happened event)).quarantined.events ≡ line.quarantined.events ++ Happened event ∷ []
 unfolding quarantining
 left_act line event kept = by_kept (is_kept line.requests (Happened event)) kept where
@@ -409,7 +409,7 @@ left_act line event kept = by_kept (is_kept line.requests (Happened event)) kept
   by_kept true is none = held_act line.quarantined event none
   by_kept false is none = absurd cc
 
-kept_act : (state : State) (line : LineState) (event : Event) → line.state ≡ state → (state ≡ Normal → ⊥) → is_of_phone event ≡ true → KeepsAll line
+kept_act : (state : State) (line : LineState) (event : LineEvent) → line.state ≡ state → (state ≡ Normal → ⊥) → is_of_phone event ≡ true → KeepsAll line
     → (quarantining line (Happened event)).quarantined.lost ≡ 0 → Conserves line (Happened event ∷ []) (still (quarantining line (Happened event)))
 unfolding quarantining
 kept_act state line event is waits phone k none =
@@ -425,7 +425,7 @@ kept_act state line event is waits phone k none =
       whole = ap happened_in held ∙ happened_both line.quarantined.events (Happened event ∷ []);
     }
 
-act_detected_in : (state : State) (line : LineState) (event : Event) (moment : ℕ) → line.state ≡ state → is_of_phone event ≡ true → KeepsAll line
+act_detected_in : (state : State) (line : LineState) (event : LineEvent) (moment : ℕ) → line.state ≡ state → is_of_phone event ≡ true → KeepsAll line
     → (detected_in state line (Happened event) moment).line.quarantined.lost ≡ 0 → Conserves line (Happened event ∷ []) (detected_in state line (Happened event) moment)
 act_detected_in Notification line event moment is phone k none = kept_act Notification line event is (λ e. absurd cc) phone k none
 act_detected_in Lockstep line event moment is phone k none = kept_act Lockstep line event is (λ e. absurd cc) phone k none
@@ -439,7 +439,7 @@ act_detected_in Normal line event moment is phone k none =
           ∙ ap (λ xs. Happened event ∷ xs) empty ∙ sym (ap (λ xs. xs ++ Happened event ∷ []) (k.normal is));
     }
 
-act_detected : (line : LineState) (event : Event) (moment : ℕ) → is_of_phone event ≡ true → KeepsAll line
+act_detected : (line : LineState) (event : LineEvent) (moment : ℕ) → is_of_phone event ≡ true → KeepsAll line
     → (detected line (Happened event) moment).line.quarantined.lost ≡ 0 → Conserves line (Happened event ∷ []) (detected line (Happened event) moment)
 unfolding detected
 act_detected line event moment phone k none = act_detected_in line.state line event moment refl phone k none

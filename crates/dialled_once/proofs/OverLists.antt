@@ -17,7 +17,7 @@ use Rattle.gateway_laws.proofs.TurnLemmas.{on_made, of_line as of_its_line}
 use Rattle.plain_machine.proofs.ListLaws.{machine_on, lines_after}
 use Rattle.machine_laws.proofs.LineLemmas.{place_of}
 use Rattle.machine_laws.proofs.WaitLaws.{opening_waits}
-use Rattle.dialled_once.specs.Course.{Step, acts, accepts, notifies, course_at, course_of, course_from, requests_in}
+use Rattle.dialled_once.specs.Course.{CourseStep, acts, accepts, notifies, course_at, course_of, course_from, requests_in}
 use Rattle.dialled_once.specs.Dialled.{done_in, told_along, IsAskedForAll, IsToldOnce}
 use Rattle.dialled_once.specs.Keeping.{happened_in}
 use Rattle.dialled_once.specs.Following.{Follow, AreInStep, OnceFrom, OnceForEach}
@@ -38,7 +38,7 @@ opens setup line endpoint at =
 abbrev line_sent_of : Setup → ℕ → List GatewayEvent → List Sent
 line_sent_of setup line events = of_line line (sent_of setup events)
 
-module _ (setup : Setup) (Q : Bool → List Step → LineState → Type 0) (calls : Calls Q) (line : ℕ) (some : 1 ≤ line) (begins : Q false [] opening_line) where
+module _ (setup : Setup) (Q : Bool → List CourseStep → LineState → Type 0) (calls : Calls Q) (line : ℕ) (some : 1 ≤ line) (begins : Q false [] opening_line) where
   opening_stands : Stands setup AnyResponse (LineGoes setup Q) (call_turns setup Q calls) line some [] [] (opening setup)
   opening_stands = record {
     order = opening_waits setup;
@@ -75,19 +75,19 @@ course_once setup line events endpoint at in_step =
     ((all.holds endpoint at).holds in_step).once
 
 -- in words: between two notifications stands a request
-once_behind : (notified : Bool) (some more : List Step) → OnceFrom notified (some ++ more) → (later : Bool) × OnceFrom later more
+once_behind : (notified : Bool) (some more : List CourseStep) → OnceFrom notified (some ++ more) → (later : Bool) × OnceFrom later more
 once_behind notified [] more once = (notified, once)
 once_behind notified (acts act ∷ some) more once = once_behind notified some more once
 once_behind notified (accepts request ∷ some) more once = once_behind false some more once
 once_behind notified (notifies identifier observed ∷ some) more once = once_behind true some more once.1
 
-some_between : (between after : List Step) (identifier : List ℕ) (observed : List Observed) → OnceFrom true (between ++ notifies identifier observed ∷ after) → requests_in between ≢ []
+some_between : (between after : List CourseStep) (identifier : List ℕ) (observed : List Observed) → OnceFrom true (between ++ notifies identifier observed ∷ after) → requests_in between ≢ []
 some_between [] after identifier observed once none = let clash : true ≡ false = once.0 in cc
 some_between (acts act ∷ between) after identifier observed once none = some_between between after identifier observed once none
 some_between (accepts request ∷ between) after identifier observed once none = cc
 some_between (notifies x o ∷ between) after identifier observed once none = let clash : true ≡ false = once.0 in cc
 
-pub once_between : (course before between after : List Step) (x y : List ℕ) (o p : List Observed) → OnceForEach course
+pub once_between : (course before between after : List CourseStep) (x y : List ℕ) (o p : List Observed) → OnceForEach course
     → course ≡ before ++ notifies x o ∷ (between ++ notifies y p ∷ after) → requests_in between ≢ []
 once_between course before between after x y o p once is =
     let split : OnceFrom false (before ++ notifies x o ∷ (between ++ notifies y p ∷ after)) = subst (OnceFrom false) is once in
@@ -100,11 +100,11 @@ course_on : (setup : Setup) (m : Machine) (line : ℕ) (es fs : List GatewayEven
 unfolding course_from machine_after
 course_on setup m line [] fs = refl
 course_on setup m line (e ∷ es) fs =
-    ap (λ (x : List Step). course_at setup m line e ++ x) (course_on setup (effect setup m e).value line es fs)
+    ap (λ (x : List CourseStep). course_at setup m line e ++ x) (course_on setup (effect setup m e).value line es fs)
     ∙ sym (append_assoc (course_at setup m line e) (course_from setup (effect setup m e).value line es) _)
 
 -- where nothing was done before, and nothing told of it
-whole_course : (before after : List Step) (line : LineState) → done_in before ≡ [] → happened_in (told_along before) ≡ [] → IsToldOnce after line → IsToldOnce (before ++ after) line
+whole_course : (before after : List CourseStep) (line : LineState) → done_in before ≡ [] → happened_in (told_along before) ≡ [] → IsToldOnce after line → IsToldOnce (before ++ after) line
 whole_course before after line undone untold once =
     done_both before after ∙ ap (λ (x : List Observed). x ++ done_in after) undone ∙ once
     ∙ ap (λ (x : List Observed). x ++ happened_in line.quarantined.events)
@@ -136,7 +136,7 @@ pub course_told : (setup : Setup) (line : ℕ) (before after : List GatewayEvent
 course_told setup line before after endpoint at asked =
     let some = numbered (plain setup (before ++ after)) line endpoint at in
     let m : Machine = plain setup before in
-    let course : List Step = course_from setup m line after in
+    let course : List CourseStep = course_from setup m line after in
     let begun = always setup BeginsUntouched calls_begin line some opening_begins before in
     let counted = always setup (λ serving course l. IsCounted l) calls_count line some zero_count before in
     let from : Stands setup AnyResponse (LineGoes setup Told) (call_turns setup Told calls_told) line some [] [] m = record {
@@ -153,7 +153,7 @@ course_told setup line before after endpoint at asked =
     ap (λ (n : Machine). endpoint_at n.endpoints line) (sym (machine_on setup (opening setup) before after)) ∙ at in
     let told = ((to.holds endpoint there).holds.once asked.since asked.none_lost).whole in
     let untold : happened_in (told_along (course_of setup line before)) ≡ [] = (let before_it = there_before setup m line after endpoint some there in ((begun.holds before_it.0 before_it.1).holds asked.undone).told) in
-    subst (λ (c : List Step). IsToldOnce c endpoint.line) (sym (course_on setup (opening setup) line before after))
+    subst (λ (c : List CourseStep). IsToldOnce c endpoint.line) (sym (course_on setup (opening setup) line before after))
     (whole_course (course_of setup line before) course endpoint.line asked.undone untold told) where
       zero_count : IsCounted opening_line
       zero_count = omega arith

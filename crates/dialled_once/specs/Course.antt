@@ -33,15 +33,15 @@ use Rattle.plain_machine.specs.Requesting.{refused_by, line_with_place}
 use Rattle.machine_laws.specs.Notified.{observed_with}
 use Rattle.line_isolation.specs.Belonging.{of_line}
 
-pub data Step : Type 0 where
-  acts : (act : Act) → Step
-  accepts : (request : Request) → Step
-  notifies : (identifier : List ℕ) (observed : List Observed) → Step
+pub data CourseStep : Type 0 where
+  acts : (act : Act) → CourseStep
+  accepts : (request : Request) → CourseStep
+  notifies : (identifier : List ℕ) (observed : List Observed) → CourseStep
 
 -- What a line notifies
 
 -- X and O of a notification, as they are read
-abbrev pub notified_with : Verb → List Param → List Step
+abbrev pub notified_with : Verb → List Param → List CourseStep
 notified_with Ntfy params =
     notifies (value_at (codes "X") params) (observed_with params) ∷ []
 notified_with Epcf params = []
@@ -55,7 +55,7 @@ notified_with Rsip params = []
 notified_with Other params = []
 
 -- at its first send alone: what is sent once more is no other notification
-abbrev pub notified_by : Said → List Step
+abbrev pub notified_by : Said → List CourseStep
 notified_by (command (messages.Command verb id name params body)) = notified_with verb params
 notified_by (command (messages.Response code id params body)) = []
 notified_by (answer response) = []
@@ -64,38 +64,38 @@ notified_by (resent text) = []
 notified_by (acknowledgement response) = []
 
 -- the notifications of a line among what is sent
-abbrev pub notified_in : ℕ → List Sent → List Step
+abbrev pub notified_in : ℕ → List Sent → List CourseStep
 notified_in line sent = flat_map (λ one. notified_by one.said) (of_line line sent)
 
 -- What a line accepts
 
 -- the request of a deed, if it has one
-abbrev pub accepted : Option Request → List Step
+abbrev pub accepted : Option Request → List CourseStep
 accepted None = []
 accepted (Some request) = accepts request ∷ []
 
 -- where the deed is for the line, and no line that it is for refuses it
-abbrev pub accepted_by : Endpoints → ℕ → Target → Deed → List Step
+abbrev pub accepted_by : Endpoints → ℕ → Target → Deed → List CourseStep
 accepted_by endpoints line target deed =
     if is_for target line && is_none (refused_by endpoints target deed) then accepted deed.request else []
 
-abbrev pub accepted_there : Option ℕ → Endpoints → ℕ → Deed → List Step
+abbrev pub accepted_there : Option ℕ → Endpoints → ℕ → Deed → List CourseStep
 accepted_there None endpoints line deed = []
 accepted_there (Some chosen) endpoints line deed = accepted_by endpoints line (One chosen) deed
 
 -- a deed for any one line is for that which is chosen
-abbrev pub accepted_for : Endpoints → ℕ → Target → Deed → List Step
+abbrev pub accepted_for : Endpoints → ℕ → Target → Deed → List CourseStep
 accepted_for endpoints line (One other) deed = accepted_by endpoints line (One other) deed
 accepted_for endpoints line All deed = accepted_by endpoints line All deed
 accepted_for endpoints line Any deed = accepted_there (line_with_place endpoints) endpoints line deed
 
-abbrev pub accepted_of : Endpoints → ℕ → Result Asks ℕ → List Step
+abbrev pub accepted_of : Endpoints → ℕ → Result Asks ℕ → List CourseStep
 accepted_of endpoints line (Err code) = []
 accepted_of endpoints line (Ok (Reports target audit)) = []
 accepted_of endpoints line (Ok (Does target deed)) = accepted_for endpoints line target deed
 
 -- of a text that is a command which is executed: a repeat is accepted by no line
-abbrev pub accepted_at : Setup → Machine → ℕ → Outcome → List Step
+abbrev pub accepted_at : Setup → Machine → ℕ → Outcome → List CourseStep
 accepted_at setup m line no_header = []
 accepted_at setup m line (bad_version id) = []
 accepted_at setup m line (bad_body id) = []
@@ -108,37 +108,37 @@ accepted_at setup m line (message (messages.Response code id params body)) = []
 -- The course
 
 -- the texts of a datagram in order: what is accepted comes before what is notified because of it
-unfoldable pub course_in : Setup → Machine → ℕ → SocketAddrV4 → List (List ℕ) → List Step
+unfoldable pub course_in : Setup → Machine → ℕ → SocketAddrV4 → List (List ℕ) → List CourseStep
 course_in setup m line source [] = []
 course_in setup m line source (text ∷ texts) =
     (accepted_at setup m line (read_text text) ++ notified_in line (handled setup m source (read_text text)).sent)
     ++ course_in setup (handled setup m source (read_text text)).value line source texts
 
 -- an act at this telephone
-abbrev pub acted_on : ℕ → ℕ → Act → List Step
+abbrev pub acted_on : ℕ → ℕ → Act → List CourseStep
 acted_on line other act = if other == line then acts act ∷ [] else []
 
-abbrev pub course_at : Setup → Machine → ℕ → GatewayEvent → List Step
+abbrev pub course_at : Setup → Machine → ℕ → GatewayEvent → List CourseStep
 course_at setup m line (datagram source bytes) = course_in setup m line source (texts_of bytes)
 course_at setup m line (phone other act) = acted_on line other act ++ notified_in line (effect setup m (phone other act)).sent
 course_at setup m line (tick moment) = notified_in line (effect setup m (tick moment)).sent
 
 -- what happens on a line at these events, in its order
-unfoldable pub course_from : Setup → Machine → ℕ → List GatewayEvent → List Step
+unfoldable pub course_from : Setup → Machine → ℕ → List GatewayEvent → List CourseStep
 course_from setup m line [] = []
 course_from setup m line (event ∷ events) = course_at setup m line event ++ course_from setup (effect setup m event).value line events
 
 -- from the opening on
-abbrev pub course_of : Setup → ℕ → List GatewayEvent → List Step
+abbrev pub course_of : Setup → ℕ → List GatewayEvent → List CourseStep
 course_of setup line events = course_from setup (opening setup) line events
 
 -- Parts of it
 
-abbrev pub requests_at : Step → List Request
+abbrev pub requests_at : CourseStep → List Request
 requests_at (acts act) = []
 requests_at (accepts request) = request ∷ []
 requests_at (notifies identifier observed) = []
 
 -- the requests that were accepted
-abbrev pub requests_in : List Step → List Request
+abbrev pub requests_in : List CourseStep → List Request
 requests_in course = flat_map requests_at course

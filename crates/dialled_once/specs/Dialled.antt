@@ -4,36 +4,36 @@ use Rattle.event_values.specs.declared.observed.Observed.{Observed}
 use Rattle.event_requests.specs.declared.request.Request.{Request}
 use Rattle.mg_line.specs.Acting.{observed_at}
 use Rattle.mg_line.specs.Line.{LineState}
-use Rattle.dialled_once.specs.Course.{Step, acts, accepts, notifies}
+use Rattle.dialled_once.specs.Course.{CourseStep, acts, accepts, notifies}
 use Rattle.dialled_once.specs.Keeping.{happened_in, AsksForAll}
 
 -- what the telephone did, as the events that it is
-abbrev pub done_at : Step → List Observed
+abbrev pub done_at : CourseStep → List Observed
 done_at (acts act) = observed_at act ∷ []
 done_at (accepts request) = []
 done_at (notifies identifier observed) = []
 
-abbrev pub done_in : List Step → List Observed
+abbrev pub done_in : List CourseStep → List Observed
 done_in course = flat_map done_at course
 
 -- what the notifications told, joined
-abbrev pub told_at : Step → List Observed
+abbrev pub told_at : CourseStep → List Observed
 told_at (acts act) = []
 told_at (accepts request) = []
 told_at (notifies identifier observed) = observed
 
-abbrev pub told_along : List Step → List Observed
+abbrev pub told_along : List CourseStep → List Observed
 told_along course = flat_map told_at course
 
 -- each request that is accepted asks for all that the telephone does
-abbrev pub AskForAll : List Step → Type 0
+abbrev pub AskForAll : List CourseStep → Type 0
 AskForAll [] = Unit {0}
 AskForAll (acts act ∷ course) = AskForAll course
 AskForAll (accepts request ∷ course) = AsksForAll request × AskForAll course
 AskForAll (notifies identifier observed ∷ course) = AskForAll course
 
 -- the latest request that was accepted, if one was; at first that of before the course
-abbrev pub latest_from : Option Request → List Step → Option Request
+abbrev pub latest_from : Option Request → List CourseStep → Option Request
 latest_from latest [] = latest
 latest_from latest (acts act ∷ course) = latest_from latest course
 latest_from latest (accepts request ∷ course) = latest_from (Some request) course
@@ -45,7 +45,7 @@ AsksIfAny (Some request) = AsksForAll request
 
 -- The condition: the line was asked for all before its telephone did anything, and so it was each time since; and nothing
 -- was lost.
-pub record IsAskedForAll (before after : List Step) (line : LineState) : Type 0 where
+pub record IsAskedForAll (before after : List CourseStep) (line : LineState) : Type 0 where
   pub undone : done_in before ≡ []
   pub asked : AsksIfAny (latest_from None before)
   pub since : AskForAll after
@@ -53,5 +53,5 @@ pub record IsAskedForAll (before after : List Step) (line : LineState) : Type 0 
 
 -- What the telephone did is what the notifications told, joined, and then what is quarantined: each event once and in its
 -- place, but for the ends of signals.
-abbrev pub IsToldOnce : List Step → LineState → Type 0
+abbrev pub IsToldOnce : List CourseStep → LineState → Type 0
 IsToldOnce course line = done_in course ≡ happened_in (told_along course) ++ happened_in line.quarantined.events

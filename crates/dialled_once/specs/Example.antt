@@ -4,8 +4,8 @@ use Rattle.std.specs.Option.{unwrap_or}
 use Rattle.event_values.specs.declared.observed.Observed.{Observed}
 use Rattle.event_values.specs.declared.observed.Observed.TheVariants.{Happened}
 use Rattle.mg_bytes.specs.declared.letter.Letter.TheVariants as letters
-use Rattle.mg_packages.specs.declared.event.Event.{Event}
-use Rattle.mg_packages.specs.declared.event.Event.TheVariants as events
+use Rattle.mg_packages.specs.declared.event.LineEvent.{LineEvent}
+use Rattle.mg_packages.specs.declared.event.LineEvent.TheVariants as events
 use Rattle.event_syntax.specs.declared.request.Reaction.{Reaction}
 use Rattle.event_requests.specs.Choice.{chosen}
 use Rattle.mg_line.specs.declared.phone.Act.TheVariants.{OffHook, OnHook, Key}
@@ -15,7 +15,7 @@ use Rattle.plain_machine.specs.Event.{GatewayEvent, phone, tick}
 use Rattle.plain_machine.specs.Example.{two_lines, ready, rqnt, response}
 use Rattle.plain_machine.specs.Lists.{plain}
 use Rattle.plain_machine.specs.Machine.{endpoint_at}
-use Rattle.dialled_once.specs.Course.{Step, course_from, course_of, requests_in}
+use Rattle.dialled_once.specs.Course.{CourseStep, course_from, course_of, requests_in}
 use Rattle.dialled_once.specs.Dialled.{done_in, told_along, IsAskedForAll, IsToldOnce}
 use Rattle.dialled_once.specs.Keeping.{happened_in}
 
@@ -69,7 +69,7 @@ abbrev pub dials_behind_that : List GatewayEvent
 dials_behind_that = tick 1300 ∷ phone 1 OffHook ∷ response 200 10000000 ∷ phone 1 (Key Five) ∷ []
 
 -- all that a telephone does
-abbrev pub of_a_telephone : List Event
+abbrev pub of_a_telephone : List LineEvent
 of_a_telephone =
     events.OffHook ∷ events.OnHook ∷ events.Flash ∷ map events.Letter (letters.Zero ∷ letters.One ∷ letters.Two ∷ letters.Three
     ∷ letters.Four ∷ letters.Five ∷ letters.Six ∷ letters.Seven ∷ letters.Eight ∷ letters.Nine ∷ letters.Star ∷ letters.Hash
@@ -80,7 +80,7 @@ abbrev pub asked_and_full : List GatewayEvent
 asked_and_full = asks_for_all 7 (codes "aaln/1") ∷ phone 1 OffHook ∷ replicate (most_quarantined + 1) (phone 1 (Key Five))
 
 -- the course of line 1, where the gateway serves before these events
-abbrev pub course_then : List GatewayEvent → List Step
+abbrev pub course_then : List GatewayEvent → List CourseStep
 course_then events = course_of two_lines 1 (ready ++ events)
 
 -- what the telephone of line 1 did, what was told, and what is quarantined after it

@@ -12,37 +12,37 @@ use Rattle.mg_line.specs.Requesting.{asked}
 use Rattle.mg_line.specs.Answering.{answered}
 use Rattle.mg_line.specs.Opening.{opened}
 use Rattle.mg_line.specs.Falling.{fired}
-use Rattle.dialled_once.specs.Course.{Step, acts, accepts, notifies}
+use Rattle.dialled_once.specs.Course.{CourseStep, acts, accepts, notifies}
 
 -- Of a course
 
 -- each notification has the identifier of the latest request that was accepted before it; this is that of the one before
 -- the course
-abbrev pub FollowFrom : List ℕ → List Step → Type 0
+abbrev pub FollowFrom : List ℕ → List CourseStep → Type 0
 FollowFrom latest [] = Unit {0}
 FollowFrom latest (acts act ∷ course) = FollowFrom latest course
 FollowFrom latest (accepts request ∷ course) = FollowFrom request.identifier course
 FollowFrom latest (notifies identifier observed ∷ course) = (identifier ≡ latest) × FollowFrom latest course
 
 -- `0` before any (this gateway's profile)
-abbrev pub Follow : List Step → Type 0
+abbrev pub Follow : List CourseStep → Type 0
 Follow course = FollowFrom (codes "0") course
 
 -- all requests that are accepted ask for one notification
-abbrev pub AreInStep : List Step → Type 0
+abbrev pub AreInStep : List CourseStep → Type 0
 AreInStep [] = Unit {0}
 AreInStep (acts act ∷ course) = AreInStep course
 AreInStep (accepts request ∷ course) = (request.handling.notifying ≡ InStep) × AreInStep course
 AreInStep (notifies identifier observed ∷ course) = AreInStep course
 
 -- between two notifications a request is accepted; this says whether the line notified since the latest one
-abbrev pub OnceFrom : Bool → List Step → Type 0
+abbrev pub OnceFrom : Bool → List CourseStep → Type 0
 OnceFrom notified [] = Unit {0}
 OnceFrom notified (acts act ∷ course) = OnceFrom notified course
 OnceFrom notified (accepts request ∷ course) = OnceFrom false course
 OnceFrom notified (notifies identifier observed ∷ course) = (notified ≡ false) × OnceFrom true course
 
-abbrev pub OnceForEach : List Step → Type 0
+abbrev pub OnceForEach : List CourseStep → Type 0
 OnceForEach course = OnceFrom false course
 
 -- Of one call

@@ -1,7 +1,7 @@
 -- What a line keeps of what its telephone does, where all of it is to be notified (RFC 3435, 4.4.1).
 use Rattle.std.specs.Prelude.{◌≡◌, ℕ, Bool, true, false, not, List, [], ◌∷◌, ◌++◌, Option, Some, None}
-use Rattle.mg_packages.specs.declared.event.Event.{Event}
-use Rattle.mg_packages.specs.declared.event.Event.TheVariants as events
+use Rattle.mg_packages.specs.declared.event.LineEvent.{LineEvent}
+use Rattle.mg_packages.specs.declared.event.LineEvent.TheVariants as events
 use Rattle.event_values.specs.declared.handling.Quarantined.TheVariants.{Process}
 use Rattle.event_values.specs.declared.observed.Observed.{Observed}
 use Rattle.event_values.specs.declared.observed.Observed.TheVariants.{Happened, Ended}
@@ -31,7 +31,7 @@ happened_in (Happened event ∷ rest) = Happened event ∷ happened_in rest
 happened_in (Ended signal ∷ rest) = happened_in rest
 
 -- what a telephone does: it goes off hook and on hook, flashes, and sends sixteen keys
-abbrev pub is_of_phone : Event → Bool
+abbrev pub is_of_phone : LineEvent → Bool
 is_of_phone events.OffHook = true
 is_of_phone events.OnHook = true
 is_of_phone events.Flash = true
@@ -59,8 +59,8 @@ is_bare (AccumulateAndEmbed request) = false
 
 -- everything that a telephone does is notified, and nothing embeds a request
 pub record NotifiesAll (requested : List RequestedEvent) : Type 0 where
-  pub phone : (event : Event) → is_of_phone event ≡ true → (chosen requested event).reaction ≡ Plain Notify
-  pub bare : (event : Event) → is_bare (chosen requested event).reaction ≡ true
+  pub phone : (event : LineEvent) → is_of_phone event ≡ true → (chosen requested event).reaction ≡ Plain Notify
+  pub bare : (event : LineEvent) → is_bare (chosen requested event).reaction ≡ true
 
 -- and so it is of what was quarantined
 pub record AsksForAll (request : Request) : Type 0 where

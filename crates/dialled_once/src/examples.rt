@@ -8,7 +8,7 @@ ghost use Rattle.event_syntax.specs.declared.request.Action.TheVariants.{Notify}
 ghost use Rattle.event_syntax.specs.declared.request.Reaction.TheVariants.{Plain};
 ghost use Rattle.mg_line.specs.declared.phone.Act.TheVariants as acts;
 ghost use Rattle.mg_line.specs.declared.phone.Key.TheVariants as keys;
-ghost use Rattle.mg_packages.specs.declared.event.Event.TheVariants as events;
+ghost use Rattle.mg_packages.specs.declared.event.LineEvent.TheVariants as events;
 ghost use Rattle.mg_packages.specs.declared.signal.Signal.TheVariants as tones;
 ghost use Rattle.mg_bytes.specs.declared.letter.Letter.TheVariants as letters;
 ghost use Rattle.plain_machine.specs.Event.{phone, tick};

@@ -6,7 +6,7 @@ ghost use Rattle.plain_machine.specs.declared.endpoint.Endpoint.{Endpoint};
 ghost use Rattle.plain_machine.specs.Event.{GatewayEvent};
 ghost use Rattle.plain_machine.specs.Lists.{plain};
 ghost use Rattle.plain_machine.specs.Machine.{endpoint_at};
-ghost use Rattle.dialled_once.specs.Course.{Step, notifies, course_from, course_of, requests_in};
+ghost use Rattle.dialled_once.specs.Course.{CourseStep, notifies, course_from, course_of, requests_in};
 ghost use Rattle.dialled_once.specs.Dialled.{IsAskedForAll, IsToldOnce};
 ghost use Rattle.dialled_once.specs.Following.{Follow, AreInStep, OnceForEach, FollowsTheLatest, RestsUntilAsked, RestsOnceNotified};
 ghost use Rattle.dialled_once.specs.Keeping.{NothingIsSkipped, NothingIsMadeUp};
@@ -35,7 +35,7 @@ pub fn a_line_in_step_notifies_once_for_each_request()
     ensures once { (setup : Setup) (line : ℕ) (events : List GatewayEvent) (endpoint : Endpoint) →
         endpoint_at (plain setup events).endpoints line ≡ Some endpoint → AreInStep (course_of setup line events) →
         OnceForEach (course_of setup line events) }
-    ensures between { (course before between after : List Step) (x y : List ℕ) (o p : List Observed) →
+    ensures between { (course before between after : List CourseStep) (x y : List ℕ) (o p : List Observed) →
         OnceForEach course → course ≡ before ++ notifies x o ∷ (between ++ notifies y p ∷ after) →
         requests_in between ≢ [] }
 {}

@@ -17,7 +17,7 @@ use connections::{
     Change, Connections, Created, Creation, Deletion, Encoding, Plan, Planned, write_number,
 };
 use mg_bytes::{Identifier, OutOfMemory, ReturnCode, Text};
-use mgcp_text::{Answer, Bytes, Param, Params};
+use mgcp_text::{AnswerContent, Bytes, Param, Params};
 use plain_machine::Endpoint;
 use sdp_subset::{Session, write_sdp};
 
@@ -242,12 +242,12 @@ pub fn answer_with(
     more: Params<'static>,
     deed: &Deed,
     news: &News,
-) -> Result<Answer, OutOfMemory>
+) -> Result<AnswerContent, OutOfMemory>
     requires { list_all is_writable_param more ≡ true }
     ensures { IfOk result (λ answer. answer ≡ answer_with more.entry deed.now (shown_as news.now)) }
 {
     let mut params = params_of(context, news)?;
     let body = body_of(context, news)?;
     params.append(more)?;
-    Ok(Answer::with(done_code(&deed.connections), params, body))
+    Ok(AnswerContent::with(done_code(&deed.connections), params, body))
 }

@@ -1,7 +1,7 @@
 -- What is done at an event (RFC 3435, 2.3.3 and 4.4.1).
 use Rattle.std.specs.Prelude.{Bool, false, ◌||◌, if◌then◌else◌, List, Option, Some, None, find}
 use Rattle.std.specs.List.{list_any}
-use Rattle.mg_packages.specs.declared.event.Event.{Event}
+use Rattle.mg_packages.specs.declared.event.LineEvent.{LineEvent}
 use Rattle.mg_packages.specs.Looking.{is_persistent}
 use Rattle.event_syntax.specs.declared.events.Events.{Events}
 use Rattle.event_values.specs.declared.observed.Observed.{Observed}
@@ -18,22 +18,22 @@ pub record Chosen : Type 0 where
   pub keep : Bool
 
 -- where no entry names it, a persistent event is notified, and nothing is done at another
-abbrev pub unasked : Event → Chosen
+abbrev pub unasked : LineEvent → Chosen
 unasked event = record { reaction = Plain (if is_persistent event then Notify else Ignore); keep = false }
 
-abbrev pub chosen_by : Event → Option RequestedEvent → Chosen
+abbrev pub chosen_by : LineEvent → Option RequestedEvent → Chosen
 chosen_by event None = unasked event
 chosen_by event (Some entry) = record { reaction = entry.reaction; keep = entry.keep }
 
 -- what the first entry says that names the event
-unfoldable pub chosen : List RequestedEvent → Event → Chosen
+unfoldable pub chosen : List RequestedEvent → LineEvent → Chosen
 chosen requested event = chosen_by event (find (λ entry. names entry.events event) requested)
 
 -- whether some entry of R names an event, and of T
-abbrev pub is_requested : List RequestedEvent → Event → Bool
+abbrev pub is_requested : List RequestedEvent → LineEvent → Bool
 is_requested requested event = list_any (λ entry. names entry.events event) requested
 
-abbrev pub is_detected : List Events → Event → Bool
+abbrev pub is_detected : List Events → LineEvent → Bool
 is_detected detected event = list_any (λ events. names events event) detected
 
 -- whether an event is kept while it can't occur: R or T names it, or it is persistent

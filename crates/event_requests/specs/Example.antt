@@ -1,6 +1,6 @@
 -- What is asked for in the worked examples.
 use Rattle.std.specs.Prelude.{ℕ, Bool, true, false, List, [], ◌∷◌, Result, Ok, Err}
-use Rattle.mg_packages.specs.declared.event.Event.{Event}
+use Rattle.mg_packages.specs.declared.event.LineEvent.{LineEvent}
 use Rattle.event_syntax.specs.declared.request.Action.{Action}
 use Rattle.event_syntax.specs.declared.request.RequestedEvent.{RequestedEvent}
 use Rattle.event_syntax.specs.declared.request.EmbeddedRequest.{EmbeddedRequest}
@@ -31,7 +31,7 @@ abbrev pub asked : List ℕ → List ℕ → EventRequests
 asked value detected = record { requested = requested value; detected = detected_in (detected_of detected) }
 
 -- what is done at an event under this value of R
-abbrev pub at : List ℕ → Event → Chosen
+abbrev pub at : List ℕ → LineEvent → Chosen
 at value event = chosen (requested value) event
 
 -- an action is done, and the time-out signals stop, or go on
@@ -46,11 +46,11 @@ abbrev pub wants_map : Bool → List ℕ → Bool
 wants_map known value = lacks_map known (requested value)
 
 -- whether the first entry of this value of T names an event
-abbrev pub first_names : List Events → Event → Bool
+abbrev pub first_names : List Events → LineEvent → Bool
 first_names [] event = false
 first_names (events ∷ rest) event = names events event
 
-abbrev pub is_named_by : List ℕ → Event → Bool
+abbrev pub is_named_by : List ℕ → LineEvent → Bool
 is_named_by value event = first_names (detected_in (detected_of value)) event
 
 -- the request that the first entry of this value of R embeds

@@ -6,24 +6,24 @@ ghost use Rattle.event_requests.specs.Deciding.{reaction_of, seen};
 use crate::decision::{Decision, Doing};
 use crate::naming::names;
 use event_syntax::{Action, Events, Reaction, RequestedEvent};
-use mg_packages::{Event, is_persistent};
+use mg_packages::{LineEvent, is_persistent};
 
 /// Whether some entry of R names an event.
-pub(crate) fn is_requested(entries: &[RequestedEvent], event: Event) -> bool
+pub(crate) fn is_requested(entries: &[RequestedEvent], event: LineEvent) -> bool
     ensures { result ≡ is_requested entries.now event }
 {
     entries.iter().any(|entry| names(entry.events, event))
 }
 
 /// Whether some entry of T names an event.
-pub(crate) fn is_detected(entries: &[Events], event: Event) -> bool
+pub(crate) fn is_detected(entries: &[Events], event: LineEvent) -> bool
     ensures { result ≡ is_detected entries.now event }
 {
     entries.iter().any(|events| names(*events, event))
 }
 
 /// Without an entry a persistent event is notified, and nothing is done at another.
-pub(crate) fn unasked<'a>(event: Event) -> Decision<'a>
+pub(crate) fn unasked<'a>(event: LineEvent) -> Decision<'a>
     ensures { seen result ≡ unasked event }
 {
     let action = if is_persistent(event) {
@@ -49,7 +49,7 @@ fn doing(reaction: &Reaction) -> Doing<'_>
 
 /// What the first entry of R says that names an event.
 #[tactic(auto, unfolding(crate::specs::Choice::chosen))]
-pub(crate) fn decided(entries: &[RequestedEvent], event: Event) -> Decision<'_>
+pub(crate) fn decided(entries: &[RequestedEvent], event: LineEvent) -> Decision<'_>
     ensures { seen result ≡ chosen entries.now event }
 {
     let mut rest = entries;

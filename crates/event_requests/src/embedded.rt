@@ -8,10 +8,10 @@ use crate::choice::unasked;
 use crate::decision::{Decision, Doing};
 use crate::naming::names;
 use event_syntax::EmbeddedEvent;
-use mg_packages::Event;
+use mg_packages::LineEvent;
 
 /// Whether some entry names an event.
-pub(crate) fn is_requested(entries: &[EmbeddedEvent], event: Event) -> bool
+pub(crate) fn is_requested(entries: &[EmbeddedEvent], event: LineEvent) -> bool
     ensures { result ≡ is_requested (map entry_in entries.now) event }
 {
     let mut rest = entries;
@@ -26,7 +26,7 @@ pub(crate) fn is_requested(entries: &[EmbeddedEvent], event: Event) -> bool
 
 /// What the first entry says that names an event.
 #[tactic(auto, unfolding(crate::specs::Choice::chosen))]
-pub(crate) fn decided(entries: &[EmbeddedEvent], event: Event) -> Decision<'_>
+pub(crate) fn decided(entries: &[EmbeddedEvent], event: LineEvent) -> Decision<'_>
     ensures { seen result ≡ chosen (map entry_in entries.now) event }
 {
     let mut rest = entries;

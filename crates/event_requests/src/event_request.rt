@@ -16,7 +16,7 @@ use event_syntax::{
     write_events,
 };
 use mg_bytes::{OutOfMemory, Text};
-use mg_packages::{Event, is_persistent};
+use mg_packages::{LineEvent, is_persistent};
 use std::alloc::Global;
 use std::marker::Model;
 use std::rc::Rc;
@@ -106,7 +106,7 @@ impl EventRequest {
     }
 
     /// Whether an entry of R names an event.
-    pub fn is_requested(&self, event: Event) -> bool
+    pub fn is_requested(&self, event: LineEvent) -> bool
         ensures { result ≡ is_requested self.now.requested event }
     {
         match &self.requested {
@@ -206,7 +206,7 @@ fn shared_detected(detected: &Detected) -> Result<Detected, OutOfMemory>
     }
 }
 
-fn is_detected_in(detected: &Detected, event: Event) -> bool
+fn is_detected_in(detected: &Detected, event: LineEvent) -> bool
     ensures { result ≡ is_detected (detected_in detected.now) event }
 {
     match detected {

@@ -9,65 +9,65 @@ ghost use Rattle.event_requests.specs.Example.{requested, asked, at, does, does_
 
 use event_syntax::{Action, Observed};
 use mg_bytes::Letter;
-use mg_packages::{Event, Signal};
+use mg_packages::{LineEvent, Signal};
 
 /// `L/all` names the events of L, one name one event, and a range of D the letters in it.
 pub fn entries_name_events()
-    ensures off_hook { is_named_by (codes "L/all") Event.OffHook ≡ true }
-    ensures on_hook { is_named_by (codes "L/all") Event.OnHook ≡ true }
-    ensures flash { is_named_by (codes "L/all") Event.Flash ≡ true }
-    ensures line_complete { is_named_by (codes "L/all") Event.LineComplete ≡ true }
-    ensures generic_complete { is_named_by (codes "L/all") Event.GenericComplete ≡ false }
-    ensures no_letter { is_named_by (codes "L/all") (Event.Letter Letter.Zero) ≡ false }
-    ensures generic { is_named_by (codes "G/all") Event.GenericComplete ≡ true }
-    ensures generic_alone { is_named_by (codes "G/all") Event.LineComplete ≡ false }
-    ensures one { is_named_by (codes "hd") Event.OffHook ≡ true }
-    ensures other { is_named_by (codes "hd") Event.OnHook ≡ false }
-    ensures letter { is_named_by (codes "D/5") (Event.Letter Letter.Five) ≡ true }
-    ensures other_letter { is_named_by (codes "D/5") (Event.Letter Letter.Six) ≡ false }
-    ensures first_of_range { is_named_by (codes "D/[0-9*#A-DT]") (Event.Letter Letter.Zero) ≡ false }
-    ensures range { is_named_by (codes "D/[0-9*#ABCDT]") (Event.Letter Letter.Zero) ≡ true }
-    ensures last_of_range { is_named_by (codes "D/[0-9*#ABCDT]") (Event.Letter Letter.Timer) ≡ true }
-    ensures keys { is_named_by (codes "D/all") (Event.Letter Letter.D) ≡ true }
-    ensures no_timer { is_named_by (codes "D/all") (Event.Letter Letter.Timer) ≡ false }
-    ensures no_hook { is_named_by (codes "D/all") Event.OffHook ≡ false }
+    ensures off_hook { is_named_by (codes "L/all") LineEvent.OffHook ≡ true }
+    ensures on_hook { is_named_by (codes "L/all") LineEvent.OnHook ≡ true }
+    ensures flash { is_named_by (codes "L/all") LineEvent.Flash ≡ true }
+    ensures line_complete { is_named_by (codes "L/all") LineEvent.LineComplete ≡ true }
+    ensures generic_complete { is_named_by (codes "L/all") LineEvent.GenericComplete ≡ false }
+    ensures no_letter { is_named_by (codes "L/all") (LineEvent.Letter Letter.Zero) ≡ false }
+    ensures generic { is_named_by (codes "G/all") LineEvent.GenericComplete ≡ true }
+    ensures generic_alone { is_named_by (codes "G/all") LineEvent.LineComplete ≡ false }
+    ensures one { is_named_by (codes "hd") LineEvent.OffHook ≡ true }
+    ensures other { is_named_by (codes "hd") LineEvent.OnHook ≡ false }
+    ensures letter { is_named_by (codes "D/5") (LineEvent.Letter Letter.Five) ≡ true }
+    ensures other_letter { is_named_by (codes "D/5") (LineEvent.Letter Letter.Six) ≡ false }
+    ensures first_of_range { is_named_by (codes "D/[0-9*#A-DT]") (LineEvent.Letter Letter.Zero) ≡ false }
+    ensures range { is_named_by (codes "D/[0-9*#ABCDT]") (LineEvent.Letter Letter.Zero) ≡ true }
+    ensures last_of_range { is_named_by (codes "D/[0-9*#ABCDT]") (LineEvent.Letter Letter.Timer) ≡ true }
+    ensures keys { is_named_by (codes "D/all") (LineEvent.Letter Letter.D) ≡ true }
+    ensures no_timer { is_named_by (codes "D/all") (LineEvent.Letter Letter.Timer) ≡ false }
+    ensures no_hook { is_named_by (codes "D/all") LineEvent.OffHook ≡ false }
 {}
 
 /// The end of a signal is `oc` of its package.
 pub fn ends_are_events()
-    ensures line { event_of (Observed.Ended Signal.DialTone) ≡ Event.LineComplete }
-    ensures generic { event_of (Observed.Ended Signal.Ringback) ≡ Event.GenericComplete }
-    ensures happened { event_of (Observed.Happened Event.Flash) ≡ Event.Flash }
+    ensures line { event_of (Observed.Ended Signal.DialTone) ≡ LineEvent.LineComplete }
+    ensures generic { event_of (Observed.Ended Signal.Ringback) ≡ LineEvent.GenericComplete }
+    ensures happened { event_of (Observed.Happened LineEvent.Flash) ≡ LineEvent.Flash }
 {}
 
 /// The first entry that names an event says what is done.
 pub fn the_first_entry_counts()
-    ensures first { at (codes "L/hd(A),L/hd(N)") Event.OffHook ≡ does Action.Accumulate }
-    ensures all { at (codes "L/all(I),L/hd(N)") Event.OffHook ≡ does Action.Ignore }
-    ensures later { at (codes "L/hd(A),L/hu(I),D/5") Event.OnHook ≡ does Action.Ignore }
-    ensures range { at (codes "D/[0-9T](D),D/5(N)") (Event.Letter Letter.Five) ≡ does Action.Dial }
-    ensures timer { at (codes "D/[0-9T](D)") (Event.Letter Letter.Timer) ≡ does Action.Dial }
-    ensures keep { at (codes "D/5(A,K)") (Event.Letter Letter.Five) ≡ does_keeping Action.Accumulate }
-    ensures keep_first { at (codes "D/5(A),D/5(A,K)") (Event.Letter Letter.Five) ≡ does Action.Accumulate }
+    ensures first { at (codes "L/hd(A),L/hd(N)") LineEvent.OffHook ≡ does Action.Accumulate }
+    ensures all { at (codes "L/all(I),L/hd(N)") LineEvent.OffHook ≡ does Action.Ignore }
+    ensures later { at (codes "L/hd(A),L/hu(I),D/5") LineEvent.OnHook ≡ does Action.Ignore }
+    ensures range { at (codes "D/[0-9T](D),D/5(N)") (LineEvent.Letter Letter.Five) ≡ does Action.Dial }
+    ensures timer { at (codes "D/[0-9T](D)") (LineEvent.Letter Letter.Timer) ≡ does Action.Dial }
+    ensures keep { at (codes "D/5(A,K)") (LineEvent.Letter Letter.Five) ≡ does_keeping Action.Accumulate }
+    ensures keep_first { at (codes "D/5(A),D/5(A,K)") (LineEvent.Letter Letter.Five) ≡ does Action.Accumulate }
 {}
 
 /// An event that no entry names is notified where it is persistent, and the time-out signals stop; at another nothing is
 /// done.
 pub fn events_without_an_entry()
-    ensures off_hook { at [] Event.OffHook ≡ does Action.Notify }
-    ensures on_hook { at (codes "L/hd(K),L/hf(A)") Event.OnHook ≡ does Action.Notify }
-    ensures flash { at (codes "D/all(A)") Event.Flash ≡ does Action.Notify }
-    ensures complete { at (codes "L/hd,G/oc") Event.LineComplete ≡ does Action.Ignore }
-    ensures generic { at (codes "L/oc") Event.GenericComplete ≡ does Action.Ignore }
-    ensures key { at (codes "D/[0-8]") (Event.Letter Letter.Nine) ≡ does Action.Ignore }
+    ensures off_hook { at [] LineEvent.OffHook ≡ does Action.Notify }
+    ensures on_hook { at (codes "L/hd(K),L/hf(A)") LineEvent.OnHook ≡ does Action.Notify }
+    ensures flash { at (codes "D/all(A)") LineEvent.Flash ≡ does Action.Notify }
+    ensures complete { at (codes "L/hd,G/oc") LineEvent.LineComplete ≡ does Action.Ignore }
+    ensures generic { at (codes "L/oc") LineEvent.GenericComplete ≡ does Action.Ignore }
+    ensures key { at (codes "D/[0-8]") (LineEvent.Letter Letter.Nine) ≡ does Action.Ignore }
 {}
 
 /// What can't occur is kept where R or T names it, or where it is persistent.
 pub fn some_events_are_kept()
-    ensures by_r { is_kept (asked (codes "D/5(I)") []) (Observed.Happened (Event.Letter Letter.Five)) ≡ true }
-    ensures by_t { is_kept (asked [] (codes "D/5")) (Observed.Happened (Event.Letter Letter.Five)) ≡ true }
-    ensures persistent { is_kept (asked [] []) (Observed.Happened Event.Flash) ≡ true }
-    ensures neither { is_kept (asked (codes "D/4") (codes "D/6")) (Observed.Happened (Event.Letter Letter.Five)) ≡ false }
+    ensures by_r { is_kept (asked (codes "D/5(I)") []) (Observed.Happened (LineEvent.Letter Letter.Five)) ≡ true }
+    ensures by_t { is_kept (asked [] (codes "D/5")) (Observed.Happened (LineEvent.Letter Letter.Five)) ≡ true }
+    ensures persistent { is_kept (asked [] []) (Observed.Happened LineEvent.Flash) ≡ true }
+    ensures neither { is_kept (asked (codes "D/4") (codes "D/6")) (Observed.Happened (LineEvent.Letter Letter.Five)) ≡ false }
     ensures end_of_a_signal { is_kept (asked [] (codes "G/oc")) (Observed.Ended Signal.Congestion) ≡ true }
     ensures end_of_another { is_kept (asked [] (codes "G/oc")) (Observed.Ended Signal.DialTone) ≡ false }
 {}

@@ -4,7 +4,7 @@ ghost use Rattle.event_requests.specs.Naming.{has_letter, is_of_line, is_letter_
 
 use event_syntax::{Events, Observed};
 use mg_bytes::{LETTERS, Letter};
-use mg_packages::{Event, Package, completion_of};
+use mg_packages::{LineEvent, Package, completion_of};
 
 // Whether a letter is one of a set.
 fn has_letter(set: &[bool], letter: Letter) -> bool
@@ -25,31 +25,31 @@ fn has_letter(set: &[bool], letter: Letter) -> bool
     false
 }
 
-fn is_of_line(event: Event) -> bool
+fn is_of_line(event: LineEvent) -> bool
     ensures { result ≡ is_of_line event }
 {
     match event {
-        Event::OffHook | Event::OnHook | Event::Flash | Event::LineComplete => true,
-        Event::GenericComplete | Event::Letter(_) => false,
+        LineEvent::OffHook | LineEvent::OnHook | LineEvent::Flash | LineEvent::LineComplete => true,
+        LineEvent::GenericComplete | LineEvent::Letter(_) => false,
     }
 }
 
-fn is_letter_of(set: &[bool], event: Event) -> bool
+fn is_letter_of(set: &[bool], event: LineEvent) -> bool
     ensures { result ≡ is_letter_of set.now event }
 {
     match event {
-        Event::Letter(letter) => has_letter(set, letter),
-        Event::OffHook
-        | Event::OnHook
-        | Event::Flash
-        | Event::LineComplete
-        | Event::GenericComplete => false,
+        LineEvent::Letter(letter) => has_letter(set, letter),
+        LineEvent::OffHook
+        | LineEvent::OnHook
+        | LineEvent::Flash
+        | LineEvent::LineComplete
+        | LineEvent::GenericComplete => false,
     }
 }
 
 /// Whether an entry names an event.
 #[tactic(auto, unfolding(crate::specs::Naming::names))]
-pub(crate) fn names(events: Events, event: Event) -> bool
+pub(crate) fn names(events: Events, event: LineEvent) -> bool
     ensures { result ≡ names events event }
 {
     match events {
@@ -60,11 +60,13 @@ pub(crate) fn names(events: Events, event: Event) -> bool
 }
 
 /// The event that an observed event is: the end of a signal is `oc` of its package.
-pub(crate) fn event_of(observed: Observed) -> Event
+pub(crate) fn event_of(observed: Observed) -> LineEvent
     ensures { result ≡ event_of observed }
 {
     match observed {
         Observed::Happened(event) => event,
-        Observed::Ended(signal) => completion_of(signal.package()).unwrap_or(Event::LineComplete),
+        Observed::Ended(signal) => completion_of(signal.package()).unwrap_or(
+            LineEvent::LineComplete,
+        ),
     }
 }

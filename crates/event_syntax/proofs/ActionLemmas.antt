@@ -12,11 +12,11 @@ use Rattle.event_syntax.specs.declared.request.Action.TheVariants.{Notify, Accum
 use Rattle.mg_bytes.specs.Steps.{◌>>=◌}
 use Rattle.event_cuts.specs.Faults.{each}
 use Rattle.event_cuts.specs.Cuts.{Form, form_of}
-use Rattle.event_syntax.specs.Actions.{Word, keeps, acts, embeds, word_named, word_with, word_from, word_of, Deed, plain, embed, accumulate_and_embed, by_two, deed_of, is_keeps, not_keeps, Said, saying, said_by, said_of, SoFar, nothing_said, with_deed, and_embed, and_action, and_word, deed_or_notify, takes}
+use Rattle.event_syntax.specs.Actions.{Word, keeps, acts, embeds, word_named, word_with, word_from, word_of, Joined, plain, embed, accumulate_and_embed, by_two, joined_of, is_keeps, not_keeps, Said, saying, said_by, said_of, SoFar, nothing_said, with_joined, and_embed, and_action, and_word, joined_or_notify, takes}
 
 -- what words say behind those so far
 abbrev pub said_after : SoFar → List Word → Result Said ℕ
-said_after so_far [] = Ok (record { deed = deed_or_notify so_far.deed; keep = so_far.keep })
+said_after so_far [] = Ok (record { joined = joined_or_notify so_far.joined; keep = so_far.keep })
 said_after so_far (word ∷ words) = and_word so_far word >>= λ more. said_after more words
 
 -- what actions say behind those so far
@@ -28,7 +28,7 @@ abbrev pub Only523 : {A : Type 0} → Result A ℕ → Type 0
 Only523 (Ok x) = Unit {0}
 Only523 (Err code) = code ≡ 523
 
-action_fault : (so_far : Option Deed) (action : Action) → Only523 (and_action so_far action)
+action_fault : (so_far : Option Joined) (action : Action) → Only523 (and_action so_far action)
 action_fault None action = tt
 action_fault (Some (plain other)) action = refl
 action_fault (Some (embed inside)) Notify = refl
@@ -37,7 +37,7 @@ action_fault (Some (embed inside)) Dial = refl
 action_fault (Some (embed inside)) Ignore = refl
 action_fault (Some (accumulate_and_embed inside)) action = refl
 
-embed_fault : (so_far : Option Deed) (inside : List ℕ) → Only523 (and_embed so_far inside)
+embed_fault : (so_far : Option Joined) (inside : List ℕ) → Only523 (and_embed so_far inside)
 embed_fault None inside = tt
 embed_fault (Some (plain Notify)) inside = refl
 embed_fault (Some (plain Accumulate)) inside = tt
@@ -47,20 +47,20 @@ embed_fault (Some (embed other)) inside = refl
 embed_fault (Some (accumulate_and_embed other)) inside = refl
 
 -- what words other than K do
-abbrev deeds : Option Deed → List Word → Result Deed ℕ
-deeds so_far [] = Ok (deed_or_notify so_far)
-deeds so_far (keeps ∷ words) = Err 523
-deeds so_far (acts action ∷ words) = and_action so_far action >>= λ deed. deeds (Some deed) words
-deeds so_far (embeds inside ∷ words) = and_embed so_far inside >>= λ deed. deeds (Some deed) words
+abbrev joins : Option Joined → List Word → Result Joined ℕ
+joins so_far [] = Ok (joined_or_notify so_far)
+joins so_far (keeps ∷ words) = Err 523
+joins so_far (acts action ∷ words) = and_action so_far action >>= λ joined. joins (Some joined) words
+joins so_far (embeds inside ∷ words) = and_embed so_far inside >>= λ joined. joins (Some joined) words
 
 -- behind two of them a third is one too many, behind A with E a second
-over_both : (inside : List ℕ) (word : Word) (words : List Word) → deeds (Some (accumulate_and_embed inside)) (word ∷ words) ≡ Err 523
+over_both : (inside : List ℕ) (word : Word) (words : List Word) → joins (Some (accumulate_and_embed inside)) (word ∷ words) ≡ Err 523
 over_both inside keeps words = refl
 over_both inside (acts action) words = refl
 over_both inside (embeds other) words = refl
 
-third : (deed : Deed) (word next : Word) (words : List Word) → deeds (Some deed) (word ∷ next ∷ words) ≡ Err 523
-third deed keeps next words = refl
+third : (joined : Joined) (word next : Word) (words : List Word) → joins (Some joined) (word ∷ next ∷ words) ≡ Err 523
+third joined keeps next words = refl
 third (plain action) (acts other) next words = refl
 third (plain Notify) (embeds inside) next words = refl
 third (plain Accumulate) (embeds inside) next words = over_both inside next words
@@ -74,11 +74,11 @@ third (embed inside) (embeds other) next words = refl
 third (accumulate_and_embed inside) (acts action) next words = refl
 third (accumulate_and_embed inside) (embeds other) next words = refl
 
-two : (first second : Word) → deeds None (first ∷ second ∷ []) ≡ by_two first second
+two : (first second : Word) → joins None (first ∷ second ∷ []) ≡ by_two first second
 two keeps second = refl
 two (acts Notify) second = not_with second
   where
-    not_with : (second : Word) → deeds (Some (plain Notify)) (second ∷ []) ≡ by_two (acts Notify) second
+    not_with : (second : Word) → joins (Some (plain Notify)) (second ∷ []) ≡ by_two (acts Notify) second
     not_with keeps = refl
     not_with (acts action) = refl
     not_with (embeds inside) = refl
@@ -98,28 +98,28 @@ two (embeds inside) (acts Dial) = refl
 two (embeds inside) (acts Ignore) = refl
 two (embeds inside) (embeds other) = refl
 
-all_deeds : (words : List Word) → deeds None words ≡ deed_of words
-all_deeds [] = refl
-all_deeds (keeps ∷ []) = refl
-all_deeds (acts action ∷ []) = refl
-all_deeds (embeds inside ∷ []) = refl
-all_deeds (first ∷ second ∷ []) = two first second
-all_deeds (keeps ∷ second ∷ next ∷ words) = refl
-all_deeds (acts action ∷ second ∷ next ∷ words) = third (plain action) second next words
-all_deeds (embeds inside ∷ second ∷ next ∷ words) = third (embed inside) second next words
+all_joins : (words : List Word) → joins None words ≡ joined_of words
+all_joins [] = refl
+all_joins (keeps ∷ []) = refl
+all_joins (acts action ∷ []) = refl
+all_joins (embeds inside ∷ []) = refl
+all_joins (first ∷ second ∷ []) = two first second
+all_joins (keeps ∷ second ∷ next ∷ words) = refl
+all_joins (acts action ∷ second ∷ next ∷ words) = third (plain action) second next words
+all_joins (embeds inside ∷ second ∷ next ∷ words) = third (embed inside) second next words
 
 -- K among them
-abbrev counted : Bool → Bool → Result Deed ℕ → Result Said ℕ
+abbrev counted : Bool → Bool → Result Joined ℕ → Result Said ℕ
 counted few keep read = if few then read >>= saying keep else Err 523
 
 fault_counted : (few keep : Bool) → counted few keep (Err 523) ≡ Err 523
 fault_counted true keep = refl
 fault_counted false keep = refl
 
-one_more : (so_far : SoFar) (words others : List Word) (few keep : Bool) (read : Result Deed ℕ) → Only523 read
-    → ((deed : Deed) → said_after (record { deed = Some deed; keep = so_far.keep }) words ≡ counted few keep (deeds (Some deed) others))
-    → ((read >>= with_deed so_far) >>= λ more. said_after more words) ≡ counted few keep (read >>= λ deed. deeds (Some deed) others)
-one_more so_far words others few keep (Ok deed) only rest = rest deed
+one_more : (so_far : SoFar) (words others : List Word) (few keep : Bool) (read : Result Joined ℕ) → Only523 read
+    → ((joined : Joined) → said_after (record { joined = Some joined; keep = so_far.keep }) words ≡ counted few keep (joins (Some joined) others))
+    → ((read >>= with_joined so_far) >>= λ more. said_after more words) ≡ counted few keep (read >>= λ joined. joins (Some joined) others)
+one_more so_far words others few keep (Ok joined) only rest = rest joined
 one_more so_far words others few keep (Err code) only rest = rw only (sym (fault_counted few keep))
 
 above_none : (n : ℕ) → leb (suc n) 0 ≡ false
@@ -129,36 +129,36 @@ above_one : (n : ℕ) → leb (suc n) 1 ≡ leb n 0
 above_one n = grind (arith, nat_tests)
 
 -- K was there
-kept : (deed : Option Deed) (words : List Word)
-    → said_after (record { deed = deed; keep = true }) words
-    ≡ counted (leb (length (filter is_keeps words)) 0) true (deeds deed (filter not_keeps words))
-kept deed [] = refl
-kept deed (keeps ∷ words) = rw above_none refl
-kept deed (acts action ∷ words) =
-    one_more (record { deed = deed; keep = true }) words (filter not_keeps words) _ true (and_action deed action)
-    (action_fault deed action) (λ next. kept (Some next) words)
-kept deed (embeds inside ∷ words) =
-    one_more (record { deed = deed; keep = true }) words (filter not_keeps words) _ true (and_embed deed inside)
-    (embed_fault deed inside) (λ next. kept (Some next) words)
+kept : (joined : Option Joined) (words : List Word)
+    → said_after (record { joined = joined; keep = true }) words
+    ≡ counted (leb (length (filter is_keeps words)) 0) true (joins joined (filter not_keeps words))
+kept joined [] = refl
+kept joined (keeps ∷ words) = rw above_none refl
+kept joined (acts action ∷ words) =
+    one_more (record { joined = joined; keep = true }) words (filter not_keeps words) _ true (and_action joined action)
+    (action_fault joined action) (λ next. kept (Some next) words)
+kept joined (embeds inside ∷ words) =
+    one_more (record { joined = joined; keep = true }) words (filter not_keeps words) _ true (and_embed joined inside)
+    (embed_fault joined inside) (λ next. kept (Some next) words)
 
 -- K wasn't there
-not_kept : (deed : Option Deed) (words : List Word)
-    → said_after (record { deed = deed; keep = false }) words
-    ≡ counted (leb (length (filter is_keeps words)) 1) (list_any is_keeps words) (deeds deed (filter not_keeps words))
-not_kept deed [] = refl
-not_kept deed (keeps ∷ words) = rw above_one (kept deed words)
-not_kept deed (acts action ∷ words) =
-    one_more (record { deed = deed; keep = false }) words (filter not_keeps words) _ (list_any is_keeps words)
-    (and_action deed action) (action_fault deed action) (λ next. not_kept (Some next) words)
-not_kept deed (embeds inside ∷ words) =
-    one_more (record { deed = deed; keep = false }) words (filter not_keeps words) _ (list_any is_keeps words)
-    (and_embed deed inside) (embed_fault deed inside) (λ next. not_kept (Some next) words)
+not_kept : (joined : Option Joined) (words : List Word)
+    → said_after (record { joined = joined; keep = false }) words
+    ≡ counted (leb (length (filter is_keeps words)) 1) (list_any is_keeps words) (joins joined (filter not_keeps words))
+not_kept joined [] = refl
+not_kept joined (keeps ∷ words) = rw above_one (kept joined words)
+not_kept joined (acts action ∷ words) =
+    one_more (record { joined = joined; keep = false }) words (filter not_keeps words) _ (list_any is_keeps words)
+    (and_action joined action) (action_fault joined action) (λ next. not_kept (Some next) words)
+not_kept joined (embeds inside ∷ words) =
+    one_more (record { joined = joined; keep = false }) words (filter not_keeps words) _ (list_any is_keeps words)
+    (and_embed joined inside) (embed_fault joined inside) (λ next. not_kept (Some next) words)
 
 said_together : (words : List Word) → said_after nothing_said words ≡ said_by words
 said_together words =
     not_kept None words
-    ∙ ap (counted (leb (length (filter is_keeps words)) 1) (list_any is_keeps words)) (all_deeds (filter not_keeps words))
-    ∙ ap (λ n. counted (leb n 1) (list_any is_keeps words) (deed_of (filter not_keeps words))) (length-filter is_keeps words)
+    ∙ ap (counted (leb (length (filter is_keeps words)) 1) (list_any is_keeps words)) (all_joins (filter not_keeps words))
+    ∙ ap (λ n. counted (leb n 1) (list_any is_keeps words) (joined_of (filter not_keeps words))) (length-filter is_keeps words)
 
 named_fault : (name : List ℕ) → Only523 (word_named name)
 named_fault name =
@@ -198,8 +198,8 @@ and_fault so_far keeps = keep_fault so_far.keep
     keep_fault : (keep : Bool) → Only523 (if keep then Err 523 else Ok (record so_far { keep = true }))
     keep_fault true = refl
     keep_fault false = tt
-and_fault so_far (acts action) = fault_on (and_action so_far.deed action) (with_deed so_far) (action_fault so_far.deed action) (λ deed. tt)
-and_fault so_far (embeds inside) = fault_on (and_embed so_far.deed inside) (with_deed so_far) (embed_fault so_far.deed inside) (λ deed. tt)
+and_fault so_far (acts action) = fault_on (and_action so_far.joined action) (with_joined so_far) (action_fault so_far.joined action) (λ joined. tt)
+and_fault so_far (embeds inside) = fault_on (and_embed so_far.joined inside) (with_joined so_far) (embed_fault so_far.joined inside) (λ joined. tt)
 
 -- a loop over actions
 pub behind_begin : (actions : List (List ℕ)) → said_behind nothing_said actions ≡ said_of actions
@@ -249,7 +249,7 @@ and_stops so_far left actions action word code all steps e and whole =
     ∙ ap (λ (t : List (List ℕ)). each word_of t >>= said_after so_far) (sym steps) ∙ whole
 
 pub behind_done : (so_far : SoFar) (left : List (List ℕ)) (all : Result Said ℕ) → left ≡ [] → said_behind so_far left ≡ all
-    → Ok (record { deed = deed_or_notify so_far.deed; keep = so_far.keep }) ≡ all
+    → Ok (record { joined = joined_or_notify so_far.joined; keep = so_far.keep }) ≡ all
 unfolding said_behind each
 behind_done so_far left all none whole = ap (λ (t : List (List ℕ)). each word_of t >>= said_after so_far) (sym none) ∙ whole
 

@@ -112,8 +112,8 @@ pub record ReadsEntry (inner : List ℕ → Bool) (text : List ℕ) (rule : Rule
   pub read : rule_of text ≡ Ok rule
 
 pub entry_reads : (inner : List ℕ → Bool) (events : Events) (text : List ℕ) (texts : List (List ℕ)) (words : List Word) (said : Said)
-    → is_writable events ≡ true → ReadsActions inner (text ∷ texts) words → said_by words ≡ Ok said → takes events said.deed ≡ true
-    → ReadsEntry inner (grouped (events_text events) (listed (text ∷ texts))) (record { events = events; deed = said.deed; keep = said.keep })
+    → is_writable events ≡ true → ReadsActions inner (text ∷ texts) words → said_by words ≡ Ok said → takes events said.joined ≡ true
+    → ReadsEntry inner (grouped (events_text events) (listed (text ∷ texts))) (record { events = events; joined = said.joined; keep = said.keep })
 unfolding is_requested rule_of said_of
 entry_reads inner events text texts words said ok actions says taken =
     let named = events_again events ok in
@@ -129,16 +129,16 @@ entry_reads inner events text texts words said ok actions says taken =
 
 -- R in an embedded request
 
-pub plain_says : (action : Action) (keep : Bool) → said_by (acts action ∷ keep_words keep) ≡ Ok (record { deed = plain action; keep = keep })
+pub plain_says : (action : Action) (keep : Bool) → said_by (acts action ∷ keep_words keep) ≡ Ok (record { joined = plain action; keep = keep })
 plain_says action true = refl
 plain_says action false = refl
 
 event_reads : (inner : List ℕ → Bool) (e : EmbeddedEvent) → is_writable_embedded_event e ≡ true
-    → ReadsEntry inner (embedded_event_text e) (record { events = e.events; deed = plain e.action; keep = e.keep })
+    → ReadsEntry inner (embedded_event_text e) (record { events = e.events; joined = plain e.action; keep = e.keep })
 unfolding embedded_event_text
 event_reads inner e ok =
     let parts : (is_writable e.events ≡ true) × (takes e.events (plain e.action) ≡ true) = both_true _ _ ok in
-    entry_reads inner e.events (action_text e.action) (keep_text e.keep) (acts e.action ∷ keep_words e.keep) (record { deed = plain e.action; keep = e.keep })
+    entry_reads inner e.events (action_text e.action) (keep_text e.keep) (acts e.action ∷ keep_words e.keep) (record { joined = plain e.action; keep = e.keep })
     parts.0 (and_action inner _ _ _ _ (action_reads inner e.action) (keep_actions inner e.keep)) (plain_says e.action e.keep) parts.1
 
 event_again : (e : EmbeddedEvent) → is_writable_embedded_event e ≡ true → embedded_event (embedded_event_text e) ≡ Ok e
@@ -277,10 +277,10 @@ once name request r s d in_r in_s in_d few =
     )
     (le-leb _ _ (omega arith))
 
-joined : (texts : List (List ℕ)) → is_something texts ≡ true → AllByRecursion IsEntry texts → AllByRecursion IsClosed texts
+joined_parts : (texts : List (List ℕ)) → is_something texts ≡ true → AllByRecursion IsEntry texts → AllByRecursion IsClosed texts
     → IsInner (listed texts) × (items (listed texts) ≡ texts)
-joined [] some entries_of closed = absurd cc
-joined (text ∷ texts) some entries_of closed = (list_inner text texts entries_of closed, items_join text texts entries_of)
+joined_parts [] some entries_of closed = absurd cc
+joined_parts (text ∷ texts) some entries_of closed = (list_inner text texts entries_of closed, items_join text texts entries_of)
 
 pub parts_read : (request : EmbeddedRequest) → is_writable_request request ≡ true → ReadsParts request
 unfolding with_parts
@@ -300,7 +300,7 @@ parts_read request ok =
     let closed : AllByRecursion IsClosed (parts_text request) =
     all_append IsClosed (events_part request.events) (signals_part request.signals ++ map_part request.map) r.closed
     (all_append IsClosed (signals_part request.signals) (map_part request.map) s.closed m.closed) in
-    let whole = joined (parts_text request) a.1 entries_of closed in
+    let whole = joined_parts (parts_text request) a.1 entries_of closed in
     let of_events : leb (count_by (is_called (codes "R")) (parts_text request)) 1 ≡ true =
     once (codes "R") request 1 0 0 (r.called (codes "R")) (s.called (codes "R")) (m.called (codes "R")) (omega arith) in
     let of_signals : leb (count_by (is_called (codes "S")) (parts_text request)) 1 ≡ true =

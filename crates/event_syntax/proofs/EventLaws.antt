@@ -3,7 +3,7 @@ use Rattle.std.proofs.Common.{◌≡◌, true, leb, eqb, length, arith, refl}
 use Rattle.std.specs.Prelude.{Ok}
 use Rattle.std.specs.List.{list_any}
 use Rattle.std.proofs.lemmas.Bool.{and_parts, le-leb, eqb-true}
-use Rattle.mg_packages.specs.declared.event.Event.TheVariants.{OffHook, Letter}
+use Rattle.mg_packages.specs.declared.event.LineEvent.TheVariants.{OffHook, Letter}
 use Rattle.event_syntax.specs.declared.events.Events.{Events}
 use Rattle.event_syntax.specs.declared.events.Events.TheVariants.{AllOfLine, One, Letters}
 use Rattle.event_syntax.specs.EventSpelling.{is_event}

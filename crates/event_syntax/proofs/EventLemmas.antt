@@ -7,8 +7,8 @@ use Rattle.mg_bytes.specs.Bytes.{slash, at_sign}
 use Rattle.mg_bytes.specs.Case.{same_but_case}
 use Rattle.mg_bytes.specs.Words.{split_once, in_brackets}
 use Rattle.mg_bytes.specs.declared.letter.Letter.TheVariants.{Zero}
-use Rattle.mg_packages.specs.declared.event.Event.{Event}
-use Rattle.mg_packages.specs.declared.event.Event.TheVariants.{OffHook, GenericComplete, Letter}
+use Rattle.mg_packages.specs.declared.event.LineEvent.{LineEvent}
+use Rattle.mg_packages.specs.declared.event.LineEvent.TheVariants.{OffHook, GenericComplete, Letter}
 use Rattle.mg_packages.specs.declared.package.Package.{Package}
 use Rattle.mg_packages.specs.declared.package.Package.TheVariants.{Line, Generic, Dtmf}
 use Rattle.mg_packages.specs.declared.signal.Signal.{Signal}
@@ -28,13 +28,13 @@ use Rattle.event_cuts.proofs.PassLemmas.{Passes}
 abbrev pub Writable : Events → Type 0
 Writable events = is_writable events ≡ true
 
-one_writable : (event : Event) → Writable (one event)
+one_writable : (event : LineEvent) → Writable (one event)
 unfolding letters_in parts_of
 one_writable OffHook = refl
 one_writable (Letter Zero) = refl
 one_writable _ = refl
 
-found_passes : (found : Option Event) (other : Option Signal) → Passes Writable (ok_or found (no_event other) >>= λ event. Ok (one event))
+found_passes : (found : Option LineEvent) (other : Option Signal) → Passes Writable (ok_or found (no_event other) >>= λ event. Ok (one event))
 found_passes (Some event) other = one_writable event
 found_passes None (Some signal) = lit≤ tt
 found_passes None None = lit≤ tt

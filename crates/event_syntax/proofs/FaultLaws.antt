@@ -5,7 +5,7 @@ use Rattle.std.specs.List.{list_all}
 use Rattle.event_syntax.specs.declared.events.Events.{Events}
 use Rattle.event_syntax.specs.declared.request.RequestedEvent.{RequestedEvent}
 use Rattle.event_syntax.specs.declared.request.Reaction.{Reaction}
-use Rattle.event_syntax.specs.Actions.{Deed, embed, accumulate_and_embed, Rule, rule_of}
+use Rattle.event_syntax.specs.Actions.{Joined, embed, accumulate_and_embed, Rule, rule_of}
 use Rattle.event_cuts.specs.Cuts.{entries}
 use Rattle.event_syntax.specs.Detect.{most_events, detected, detected_in, detected_of}
 use Rattle.event_syntax.specs.Embedding.{embedded_in}
@@ -41,7 +41,7 @@ requested_all value list good few is = requested_spelled value good ∙ whole_up
 -- An entry of R
 
 abbrev entry_from : Result Rule ℕ → Result RequestedEvent ℕ
-entry_from read = read >>= λ rule. reaction_of rule.deed >>= λ reaction. Ok (requested_by rule reaction)
+entry_from read = read >>= λ rule. reaction_of rule.joined >>= λ reaction. Ok (requested_by rule reaction)
 
 abbrev with_reaction : Rule → Result Reaction ℕ → Result RequestedEvent ℕ
 with_reaction rule read = read >>= λ reaction. Ok (requested_by rule reaction)
@@ -50,14 +50,14 @@ pub entry_itself : (entry : List ℕ) (code : ℕ) → rule_of entry ≡ Err cod
 unfolding requested
 entry_itself entry code fault = ap entry_from fault
 
-fault_in : (rule : Rule) (deed : Deed) (code : ℕ) → rule.deed ≡ deed → reaction_of deed ≡ Err code → entry_from (Ok rule) ≡ Err code
-fault_in rule deed code is fault = ap (λ (d : Deed). with_reaction rule (reaction_of d)) is ∙ ap (with_reaction rule) fault
+fault_in : (rule : Rule) (joined : Joined) (code : ℕ) → rule.joined ≡ joined → reaction_of joined ≡ Err code → entry_from (Ok rule) ≡ Err code
+fault_in rule joined code is fault = ap (λ (d : Joined). with_reaction rule (reaction_of d)) is ∙ ap (with_reaction rule) fault
 
-pub entry_embedded : (entry inside : List ℕ) (rule : Rule) (code : ℕ) → rule_of entry ≡ Ok rule → rule.deed ≡ embed inside → embedded_in inside ≡ Err code → requested entry ≡ Err code
+pub entry_embedded : (entry inside : List ℕ) (rule : Rule) (code : ℕ) → rule_of entry ≡ Ok rule → rule.joined ≡ embed inside → embedded_in inside ≡ Err code → requested entry ≡ Err code
 unfolding requested
 entry_embedded entry inside rule code ruled is fault = ap entry_from ruled ∙ fault_in rule (embed inside) code is (rw fault refl)
 
-pub entry_with_a : (entry inside : List ℕ) (rule : Rule) (code : ℕ) → rule_of entry ≡ Ok rule → rule.deed ≡ accumulate_and_embed inside → embedded_in inside ≡ Err code
+pub entry_with_a : (entry inside : List ℕ) (rule : Rule) (code : ℕ) → rule_of entry ≡ Ok rule → rule.joined ≡ accumulate_and_embed inside → embedded_in inside ≡ Err code
     → requested entry ≡ Err code
 unfolding requested
 entry_with_a entry inside rule code ruled is fault = ap entry_from ruled ∙ fault_in rule (accumulate_and_embed inside) code is (rw fault refl)

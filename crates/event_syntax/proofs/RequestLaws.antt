@@ -15,7 +15,7 @@ use Rattle.event_cuts.specs.Faults.{each}
 use Rattle.event_syntax.specs.RequestSpelling.{is_requested, are_requested_within, are_requested}
 use Rattle.event_syntax.specs.Events.{is_writable}
 use Rattle.event_syntax.specs.Actions.{acts, embeds, plain, embed, accumulate_and_embed, said_by, takes}
-use Rattle.event_syntax.specs.Requested.{listed, parts_text, embedded_text, action_text, keep_text, requested, requested_in, requested_of, requested_entry_text, requested_text, deed_in, is_writable_reaction, is_writable_entry, are_writable_requested}
+use Rattle.event_syntax.specs.Requested.{listed, parts_text, embedded_text, action_text, keep_text, requested, requested_in, requested_of, requested_entry_text, requested_text, joined_in, is_writable_reaction, is_writable_entry, are_writable_requested}
 use Rattle.event_cuts.proofs.JoinLemmas.{IsEntry, entries_join}
 use Rattle.event_syntax.proofs.ActionLemmas.{embed_alike, both_alike}
 use Rattle.event_syntax.proofs.EmbeddedLaws.{join_some, plain_says, action_reads, embed_reads, and_action, keep_actions, keep_words, entry_reads, embedded_again}
@@ -27,37 +27,37 @@ record Again (k : ℕ) (entry : RequestedEvent) : Type 0 where
   spelled : is_requested (are_requested_within (suc k)) (requested_entry_text entry) ≡ true
   read : requested (requested_entry_text entry) ≡ Ok entry
 
-embed_says : (inside : List ℕ) (keep : Bool) → said_by (embeds inside ∷ keep_words keep) ≡ Ok (record { deed = embed inside; keep = keep })
+embed_says : (inside : List ℕ) (keep : Bool) → said_by (embeds inside ∷ keep_words keep) ≡ Ok (record { joined = embed inside; keep = keep })
 embed_says inside true = refl
 embed_says inside false = refl
 
 both_say : (inside : List ℕ) (keep : Bool)
-    → said_by (acts Accumulate ∷ embeds inside ∷ keep_words keep) ≡ Ok (record { deed = accumulate_and_embed inside; keep = keep })
+    → said_by (acts Accumulate ∷ embeds inside ∷ keep_words keep) ≡ Ok (record { joined = accumulate_and_embed inside; keep = keep })
 both_say inside true = refl
 both_say inside false = refl
 
 entry_again : (k : ℕ) (events : Events) (reaction : Reaction) (keep : Bool) → is_writable events ≡ true
-    → takes events (deed_in reaction) ≡ true → is_writable_reaction reaction ≡ true
+    → takes events (joined_in reaction) ≡ true → is_writable_reaction reaction ≡ true
     → Again k (record { events = events; reaction = reaction; keep = keep })
 unfolding requested_entry_text requested
 entry_again k events (Plain action) keep ok taken good =
     let inner : List ℕ → Bool = are_requested_within (suc k) in
     let reads = entry_reads inner events (action_text action) (keep_text keep) (acts action ∷ keep_words keep)
-    (record { deed = plain action; keep = keep })
+    (record { joined = plain action; keep = keep })
     ok (and_action inner _ _ _ _ (action_reads inner action) (keep_actions inner keep)) (plain_says action keep) taken in
     record { is = reads.entry; spelled = reads.spelled; read = rw (reads.read) refl }
 entry_again k events (Embed request) keep ok taken good =
     let inner : List ℕ → Bool = are_requested_within (suc k) in
     let inside : List ℕ = listed (parts_text request) in
     let reads = entry_reads inner events (embedded_text request) (keep_text keep) (embeds inside ∷ keep_words keep)
-    (record { deed = embed inside; keep = keep })
+    (record { joined = embed inside; keep = keep })
     ok (and_action inner _ _ _ _ (embed_reads k request good) (keep_actions inner keep)) (embed_says inside keep) (embed_alike events inside [] ∙ taken) in
     record { is = reads.entry; spelled = reads.spelled; read = rw (reads.read, embedded_again request good) refl }
 entry_again k events (AccumulateAndEmbed request) keep ok taken good =
     let inner : List ℕ → Bool = are_requested_within (suc k) in
     let inside : List ℕ = listed (parts_text request) in
     let reads = entry_reads inner events (codes "A") (embedded_text request ∷ keep_text keep)
-    (acts Accumulate ∷ embeds inside ∷ keep_words keep) (record { deed = accumulate_and_embed inside; keep = keep })
+    (acts Accumulate ∷ embeds inside ∷ keep_words keep) (record { joined = accumulate_and_embed inside; keep = keep })
     ok (and_action inner _ _ _ _ (action_reads inner Accumulate) (and_action inner _ _ _ _ (embed_reads k request good) (keep_actions inner keep)))
     (both_say inside keep) (both_alike events inside [] ∙ taken) in
     record { is = reads.entry; spelled = reads.spelled; read = rw (reads.read, embedded_again request good) refl }

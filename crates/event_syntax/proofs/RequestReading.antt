@@ -33,7 +33,7 @@ use Rattle.event_syntax.specs.RequestSpelling.{is_part_in, is_part_with, is_part
 use Rattle.event_values.specs.Signals.{most_signals, signal_entry, signals_in, is_writable_signal, are_writable_signals}
 use Rattle.event_syntax.specs.Detect.{most_events}
 use Rattle.event_syntax.specs.Events.{events_called, is_writable}
-use Rattle.event_syntax.specs.Actions.{Word, keeps, acts, embeds, word_named, word_with, word_from, word_of, Deed, plain, embed, accumulate_and_embed, by_one, by_two, deed_of, not_keeps, Said, saying, said_by, said_of, said_in, takes, Rule, ruled_by, rule_from, rule_of}
+use Rattle.event_syntax.specs.Actions.{Word, keeps, acts, embeds, word_named, word_with, word_from, word_of, Joined, plain, embed, accumulate_and_embed, by_one, by_two, joined_of, not_keeps, Said, saying, said_by, said_of, said_in, takes, Rule, ruled_by, rule_from, rule_of}
 use Rattle.event_syntax.specs.Embedding.{embedded_event_by, embedded_event, nothing_embedded, with_events, with_signals, with_map, with_part_named, with_part_in, with_part_from, with_part, with_parts, embedded_in, Gives}
 use Rattle.event_syntax.specs.Requested.{requested_by, reaction_of, requested, requested_in, requested_of, events_part, signals_part, map_part, parts_text, is_writable_embedded_event, is_writable_map, is_something, is_writable_request, is_writable_entry, are_writable_requested}
 use Rattle.event_syntax.proofs.ActionLemmas.{embed_alike, both_alike}
@@ -65,10 +65,10 @@ word_fits inner keeps = true
 word_fits inner (acts action) = true
 word_fits inner (embeds inside) = are_inner_parts inner inside
 
-abbrev pub deed_fits : (List ℕ → Bool) → Deed → Bool
-deed_fits inner (plain action) = true
-deed_fits inner (embed inside) = are_inner_parts inner inside
-deed_fits inner (accumulate_and_embed inside) = are_inner_parts inner inside
+abbrev pub joined_fits : (List ℕ → Bool) → Joined → Bool
+joined_fits inner (plain action) = true
+joined_fits inner (embed inside) = are_inner_parts inner inside
+joined_fits inner (accumulate_and_embed inside) = are_inner_parts inner inside
 
 -- words
 one_of : (inner : List ℕ → Bool) (n a d i k : Bool) → Passes (λ word. word_fits inner word ≡ true)
@@ -103,13 +103,13 @@ unfolding is_action word_of
 word_passes inner action spelled = word_passes_from inner (form_of action) spelled
 
 -- what they say together
-one_passes : (inner : List ℕ → Bool) (word : Word) → word_fits inner word ≡ true → Passes (λ deed. deed_fits inner deed ≡ true) (by_one word)
+one_passes : (inner : List ℕ → Bool) (word : Word) → word_fits inner word ≡ true → Passes (λ joined. joined_fits inner joined ≡ true) (by_one word)
 one_passes inner keeps fits = lit≤ tt
 one_passes inner (acts action) fits = refl
 one_passes inner (embeds inside) fits = fits
 
 two_pass : (inner : List ℕ → Bool) (first second : Word) → word_fits inner first ≡ true → word_fits inner second ≡ true
-    → Passes (λ deed. deed_fits inner deed ≡ true) (by_two first second)
+    → Passes (λ joined. joined_fits inner joined ≡ true) (by_two first second)
 two_pass inner keeps second here there = lit≤ tt
 two_pass inner (acts Notify) second here there = lit≤ tt
 two_pass inner (acts Accumulate) keeps here there = lit≤ tt
@@ -124,14 +124,14 @@ two_pass inner (embeds inside) (acts Dial) here there = lit≤ tt
 two_pass inner (embeds inside) (acts Ignore) here there = lit≤ tt
 two_pass inner (embeds inside) (embeds other) here there = lit≤ tt
 
-deed_passes : (inner : List ℕ → Bool) (words : List Word) → list_all (word_fits inner) words ≡ true
-    → Passes (λ deed. deed_fits inner deed ≡ true) (deed_of words)
-deed_passes inner [] fits = refl
-deed_passes inner (word ∷ []) fits = one_passes inner word (both_true _ _ fits).0
-deed_passes inner (first ∷ second ∷ []) fits =
+joined_passes : (inner : List ℕ → Bool) (words : List Word) → list_all (word_fits inner) words ≡ true
+    → Passes (λ joined. joined_fits inner joined ≡ true) (joined_of words)
+joined_passes inner [] fits = refl
+joined_passes inner (word ∷ []) fits = one_passes inner word (both_true _ _ fits).0
+joined_passes inner (first ∷ second ∷ []) fits =
     let parts : (word_fits inner first ≡ true) × ((word_fits inner second && true) ≡ true) = both_true _ _ fits in
     two_pass inner first second parts.0 (both_true _ _ parts.1).0
-deed_passes inner (first ∷ second ∷ third ∷ rest) fits = lit≤ tt
+joined_passes inner (first ∷ second ∷ third ∷ rest) fits = lit≤ tt
 
 others_fit : (inner : List ℕ → Bool) (words : List Word) → list_all (word_fits inner) words ≡ true
     → list_all (word_fits inner) (filter not_keeps words) ≡ true
@@ -143,17 +143,17 @@ others_fit inner (embeds inside ∷ words) fits =
     rw (parts.0) (others_fit inner words parts.1)
 
 by_passes : (inner : List ℕ → Bool) (words : List Word) → list_all (word_fits inner) words ≡ true
-    → Passes (λ said. deed_fits inner said.deed ≡ true) (said_by words)
-by_passes inner words fits = few_pass _ _ (deed_of (filter not_keeps words)) (deed_passes inner (filter not_keeps words) (others_fit inner words fits))
+    → Passes (λ said. joined_fits inner said.joined ≡ true) (said_by words)
+by_passes inner words fits = few_pass _ _ (joined_of (filter not_keeps words)) (joined_passes inner (filter not_keeps words) (others_fit inner words fits))
   where
-    few_pass : (few keep : Bool) (read : Result Deed ℕ) → Passes (λ deed. deed_fits inner deed ≡ true) read
-        → Passes (λ said. deed_fits inner said.deed ≡ true) (if few then read >>= saying keep else Err 523)
-    few_pass true keep (Ok deed) here = here
+    few_pass : (few keep : Bool) (read : Result Joined ℕ) → Passes (λ joined. joined_fits inner joined ≡ true) read
+        → Passes (λ said. joined_fits inner said.joined ≡ true) (if few then read >>= saying keep else Err 523)
+    few_pass true keep (Ok joined) here = here
     few_pass true keep (Err code) here = here
     few_pass false keep read here = lit≤ tt
 
 said_passes : (inner : List ℕ → Bool) (actions : List (List ℕ)) → list_all (is_action inner) actions ≡ true
-    → Passes (λ said. deed_fits inner said.deed ≡ true) (said_of actions)
+    → Passes (λ said. joined_fits inner said.joined ≡ true) (said_of actions)
 unfolding said_of
 said_passes inner actions spelled =
     passes_on (λ words. (list_all (word_fits inner) words ≡ true) × (length words ≡ length actions)) _ (each word_of actions) said_by
@@ -163,16 +163,16 @@ said_passes inner actions spelled =
 -- the rule of an entry
 pub record RuleFits (inner : List ℕ → Bool) (rule : Rule) : Type 0 where
   pub events : is_writable rule.events ≡ true
-  pub taken : takes rule.events rule.deed ≡ true
-  pub deed : deed_fits inner rule.deed ≡ true
+  pub taken : takes rule.events rule.joined ≡ true
+  pub joined : joined_fits inner rule.joined ≡ true
 
-ruled_passes : (inner : List ℕ → Bool) (events : Events) (said : Said) → is_writable events ≡ true → deed_fits inner said.deed ≡ true
+ruled_passes : (inner : List ℕ → Bool) (events : Events) (said : Said) → is_writable events ≡ true → joined_fits inner said.joined ≡ true
     → Passes (RuleFits inner) (ruled_by events said)
 ruled_passes inner events said ok fits =
     ⊎_elim
-    (λ (h : takes events said.deed ≡ true). rw h (record { events = ok; taken = h; deed = fits }))
-    (λ (h : takes events said.deed ≡ false). rw h (lit≤ tt))
-    (cases_Bool (takes events said.deed))
+    (λ (h : takes events said.joined ≡ true). rw h (record { events = ok; taken = h; joined = fits }))
+    (λ (h : takes events said.joined ≡ false). rw h (lit≤ tt))
+    (cases_Bool (takes events said.joined))
 
 event_spelled : (inner : List ℕ → Bool) (name : List ℕ) (inside : List (List ℕ)) → is_requested_with inner name inside ≡ true
     → is_event name ≡ true
@@ -181,7 +181,7 @@ event_spelled inner name (actions ∷ []) spelled = (both_true _ _ spelled).0
 event_spelled inner name (actions ∷ parameters ∷ rest) spelled = (both_true _ _ (both_true _ _ spelled).0).0
 
 said_in_passes : (inner : List ℕ → Bool) (name : List ℕ) (inside : List (List ℕ)) → is_requested_with inner name inside ≡ true
-    → Passes (λ said. deed_fits inner said.deed ≡ true) (said_in inside)
+    → Passes (λ said. joined_fits inner said.joined ≡ true) (said_in inside)
 said_in_passes inner name [] spelled = said_passes inner [] refl
 said_in_passes inner name (actions ∷ []) spelled = said_passes inner (items actions) (both_true _ _ spelled).1
 said_in_passes inner name (actions ∷ parameters ∷ rest) spelled = lit≤ tt
@@ -190,7 +190,7 @@ rule_passes_from : (inner : List ℕ → Bool) (form : Option Form) → is_reque
 rule_passes_from inner None spelled = lit≤ tt
 rule_passes_from inner (Some form) spelled =
     passes_on (λ events. is_writable events ≡ true) _ (events_called form.head) _ (called_passes form.head (event_spelled inner form.head form.inside spelled))
-    (λ events ok. passes_on (λ said. deed_fits inner said.deed ≡ true) _ (said_in form.inside) _ (said_in_passes inner form.head form.inside spelled)
+    (λ events ok. passes_on (λ said. joined_fits inner said.joined ≡ true) _ (said_in form.inside) _ (said_in_passes inner form.head form.inside spelled)
     (λ said fits. ruled_passes inner events said ok fits))
 
 pub rule_passes : (inner : List ℕ → Bool) (entry : List ℕ) → is_requested inner entry ≡ true → Passes (RuleFits inner) (rule_of entry)
@@ -203,13 +203,13 @@ embedded_passes : (inner : List ℕ → Bool) (entry : List ℕ) → is_requeste
 unfolding embedded_event
 embedded_passes inner entry spelled =
     passes_on (RuleFits inner) _ (rule_of entry) _ (rule_passes inner entry spelled)
-    (λ rule fits. by_deed rule.events rule.deed rule.keep fits.events fits.taken)
+    (λ rule fits. by_joined rule.events rule.joined rule.keep fits.events fits.taken)
   where
-    by_deed : (events : Events) (deed : Deed) (keep : Bool) → is_writable events ≡ true → takes events deed ≡ true
-        → Passes (λ event. is_writable_embedded_event event ≡ true) (embedded_event_by (record { events = events; deed = deed; keep = keep }) deed)
-    by_deed events (plain action) keep ok taken = rw (ok) taken
-    by_deed events (embed inside) keep ok taken = lit≤ tt
-    by_deed events (accumulate_and_embed inside) keep ok taken = lit≤ tt
+    by_joined : (events : Events) (joined : Joined) (keep : Bool) → is_writable events ≡ true → takes events joined ≡ true
+        → Passes (λ event. is_writable_embedded_event event ≡ true) (embedded_event_by (record { events = events; joined = joined; keep = keep }) joined)
+    by_joined events (plain action) keep ok taken = rw (ok) taken
+    by_joined events (embed inside) keep ok taken = lit≤ tt
+    by_joined events (accumulate_and_embed inside) keep ok taken = lit≤ tt
 
 -- a text without blanks round it: it is empty, or isn't blank
 abbrev is_whole : List ℕ → Bool
@@ -442,9 +442,9 @@ inside_passes depth inside spelled =
 
 -- An entry, and the value
 
-reaction_passes : (depth : ℕ) (rule : Rule) (deed : Deed) → is_writable rule.events ≡ true → takes rule.events deed ≡ true
-    → deed_fits (are_requested_within depth) deed ≡ true
-    → Passes (λ entry. is_writable_entry entry ≡ true) (reaction_of deed >>= λ reaction. Ok (requested_by rule reaction))
+reaction_passes : (depth : ℕ) (rule : Rule) (joined : Joined) → is_writable rule.events ≡ true → takes rule.events joined ≡ true
+    → joined_fits (are_requested_within depth) joined ≡ true
+    → Passes (λ entry. is_writable_entry entry ≡ true) (reaction_of joined >>= λ reaction. Ok (requested_by rule reaction))
 reaction_passes depth rule (plain action) ok taken fits = rw (ok, taken) refl
 reaction_passes depth rule (embed inside) ok taken fits = of_read (embedded_in inside) (inside_passes depth inside fits)
   where
@@ -464,7 +464,7 @@ requested_passes : (depth : ℕ) (entry : List ℕ) → is_requested (are_reques
 unfolding requested
 requested_passes depth entry spelled =
     passes_on (RuleFits (are_requested_within depth)) _ (rule_of entry) _ (rule_passes (are_requested_within depth) entry spelled)
-    (λ rule fits. reaction_passes depth rule rule.deed fits.events fits.taken fits.deed)
+    (λ rule fits. reaction_passes depth rule rule.joined fits.events fits.taken fits.joined)
 
 requested_in_passes : (depth : ℕ) (texts : List (List ℕ)) → list_all (is_requested (are_requested_within depth)) texts ≡ true
     → Passes (λ list. are_writable_requested list ≡ true) (each_up_to most_events requested texts)

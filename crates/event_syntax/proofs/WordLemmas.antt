@@ -13,8 +13,8 @@ use Rattle.mg_bytes.specs.Letter.{byte_of}
 use Rattle.mg_bytes.specs.declared.letter.Letter.{Letter}
 use Rattle.mg_bytes.specs.declared.letter.Letter.TheVariants.{Zero}
 use Rattle.mg_bytes.proofs.DigitLemmas.{both_true}
-use Rattle.mg_packages.specs.declared.event.Event.{Event}
-use Rattle.mg_packages.specs.declared.event.Event.TheVariants.{OffHook, Letter as OfLetter}
+use Rattle.mg_packages.specs.declared.event.LineEvent.{LineEvent}
+use Rattle.mg_packages.specs.declared.event.LineEvent.TheVariants.{OffHook, Letter as OfLetter}
 use Rattle.mg_packages.specs.declared.signal.Signal.{Signal}
 use Rattle.mg_packages.specs.declared.signal.Signal.TheVariants.{DialTone}
 use Rattle.mg_packages.specs.Looking.{event_name, signal_name}
@@ -108,7 +108,7 @@ unfolding signal_name
 signal_name_word DialTone = record { blankless = refl; one_line = refl }
 signal_name_word _ = record { blankless = refl; one_line = refl }
 
-event_name_word : (event : Event) → IsWord (event_name event)
+event_name_word : (event : LineEvent) → IsWord (event_name event)
 unfolding event_name
 event_name_word OffHook = record { blankless = refl; one_line = refl }
 event_name_word (OfLetter Zero) = record { blankless = refl; one_line = refl }

@@ -10,8 +10,8 @@ use Rattle.event_syntax.specs.declared.request.Action.{Action}
 use Rattle.event_syntax.specs.declared.request.Action.TheVariants.{Notify, Accumulate, Dial, Ignore}
 use Rattle.event_syntax.specs.declared.rule.Word.{Word as HeldWord}
 use Rattle.event_syntax.specs.declared.rule.Word.TheVariants.{Keeps, Acts, Embeds}
-use Rattle.event_syntax.specs.declared.rule.Deed.{Deed as HeldDeed}
-use Rattle.event_syntax.specs.declared.rule.Deed.TheVariants.{Plain, Embed, AccumulateAndEmbed}
+use Rattle.event_syntax.specs.declared.rule.Joined.{Joined as HeldDeed}
+use Rattle.event_syntax.specs.declared.rule.Joined.TheVariants.{Plain, Embed, AccumulateAndEmbed}
 use Rattle.event_syntax.specs.declared.rule.SoFar.{SoFar as HeldSoFar}
 use Rattle.event_syntax.specs.declared.rule.Said.{Said as HeldSaid}
 use Rattle.event_syntax.specs.declared.rule.Rule.{Rule as HeldRule}
@@ -47,28 +47,28 @@ unfoldable pub word_of : List ℕ → Result Word ℕ
 word_of action = word_from (form_of action)
 
 -- what is done: an action, or an embedded request, which may stand with A
-pub data Deed : Type 0 where
-  plain : (action : Action) → Deed
-  embed : (inside : List ℕ) → Deed
-  accumulate_and_embed : (inside : List ℕ) → Deed
+pub data Joined : Type 0 where
+  plain : (action : Action) → Joined
+  embed : (inside : List ℕ) → Joined
+  accumulate_and_embed : (inside : List ℕ) → Joined
 
-abbrev pub by_one : Word → Result Deed ℕ
+abbrev pub by_one : Word → Result Joined ℕ
 by_one keeps = Err 523
 by_one (acts action) = Ok (plain action)
 by_one (embeds inside) = Ok (embed inside)
 
 -- only A and E go together, in either order
-abbrev pub by_two : Word → Word → Result Deed ℕ
+abbrev pub by_two : Word → Word → Result Joined ℕ
 by_two (acts Accumulate) (embeds inside) = Ok (accumulate_and_embed inside)
 by_two (embeds inside) (acts Accumulate) = Ok (accumulate_and_embed inside)
 by_two first second = Err 523
 
 -- no action means N
-abbrev pub deed_of : List Word → Result Deed ℕ
-deed_of [] = Ok (plain Notify)
-deed_of (word ∷ []) = by_one word
-deed_of (first ∷ second ∷ []) = by_two first second
-deed_of _ = Err 523
+abbrev pub joined_of : List Word → Result Joined ℕ
+joined_of [] = Ok (plain Notify)
+joined_of (word ∷ []) = by_one word
+joined_of (first ∷ second ∷ []) = by_two first second
+joined_of _ = Err 523
 
 abbrev pub is_keeps : Word → Bool
 is_keeps keeps = true
@@ -77,19 +77,19 @@ is_keeps (embeds inside) = false
 
 -- what actions say together: K stands with any, once
 pub record Said : Type 0 where
-  pub deed : Deed
+  pub joined : Joined
   pub keep : Bool
 
 abbrev pub not_keeps : Word → Bool
 not_keeps word = not (is_keeps word)
 
-abbrev pub saying : Bool → Deed → Result Said ℕ
-saying keep deed = Ok (record { deed = deed; keep = keep })
+abbrev pub saying : Bool → Joined → Result Said ℕ
+saying keep joined = Ok (record { joined = joined; keep = keep })
 
 abbrev pub said_by : List Word → Result Said ℕ
 said_by words =
     if nat_le (count_by is_keeps words) 1
-    then deed_of (filter not_keeps words) >>= saying (list_any is_keeps words) else Err 523
+    then joined_of (filter not_keeps words) >>= saying (list_any is_keeps words) else Err 523
 
 -- what the actions of an entry say
 unfoldable pub said_of : List (List ℕ) → Result Said ℕ
@@ -102,21 +102,21 @@ abbrev pub has_timer : List Bool → Bool
 has_timer set = slice_index_or set 16 false
 
 -- D stands on letters alone, and where T is among them nothing else does
-abbrev pub takes : Events → Deed → Bool
+abbrev pub takes : Events → Joined → Bool
 takes (Letters set) (plain Dial) = true
-takes (Letters set) deed = not (has_timer set)
+takes (Letters set) joined = not (has_timer set)
 takes events (plain Dial) = false
-takes events deed = true
+takes events joined = true
 
 -- the rule of an entry: at these events this is done, and the signals are kept or not
 pub record Rule : Type 0 where
   pub events : Events
-  pub deed : Deed
+  pub joined : Joined
   pub keep : Bool
 
 abbrev pub ruled_by : Events → Said → Result Rule ℕ
 ruled_by events said =
-    if takes events said.deed then Ok (record { events = events; deed = said.deed; keep = said.keep }) else Err 523
+    if takes events said.joined then Ok (record { events = events; joined = said.joined; keep = said.keep }) else Err 523
 
 -- behind the events stand actions, and then parameters, which no event takes
 abbrev pub said_in : List (List ℕ) → Result Said ℕ
@@ -139,53 +139,53 @@ rule_of entry = rule_from (form_of entry)
 
 -- what is done by the actions so far, if one of them but K was there
 pub record SoFar : Type 0 where
-  pub deed : Option Deed
+  pub joined : Option Joined
   pub keep : Bool
 
 abbrev pub nothing_said : SoFar
-nothing_said = record { deed = None; keep = false }
+nothing_said = record { joined = None; keep = false }
 
-abbrev pub with_deed : SoFar → Deed → Result SoFar ℕ
-with_deed so_far deed = Ok (record { deed = Some deed; keep = so_far.keep })
+abbrev pub with_joined : SoFar → Joined → Result SoFar ℕ
+with_joined so_far joined = Ok (record { joined = Some joined; keep = so_far.keep })
 
-abbrev pub and_embed : Option Deed → List ℕ → Result Deed ℕ
+abbrev pub and_embed : Option Joined → List ℕ → Result Joined ℕ
 and_embed None inside = Ok (embed inside)
 and_embed (Some (plain Accumulate)) inside = Ok (accumulate_and_embed inside)
-and_embed (Some deed) inside = Err 523
+and_embed (Some joined) inside = Err 523
 
-abbrev pub and_action : Option Deed → Action → Result Deed ℕ
+abbrev pub and_action : Option Joined → Action → Result Joined ℕ
 and_action None action = Ok (plain action)
 and_action (Some (embed inside)) Accumulate = Ok (accumulate_and_embed inside)
-and_action (Some deed) action = Err 523
+and_action (Some joined) action = Err 523
 
 -- with one action more
 abbrev pub and_word : SoFar → Word → Result SoFar ℕ
 and_word so_far keeps = if so_far.keep then Err 523 else Ok (record so_far { keep = true })
-and_word so_far (acts action) = and_action so_far.deed action >>= with_deed so_far
-and_word so_far (embeds inside) = and_embed so_far.deed inside >>= with_deed so_far
+and_word so_far (acts action) = and_action so_far.joined action >>= with_joined so_far
+and_word so_far (embeds inside) = and_embed so_far.joined inside >>= with_joined so_far
 
-abbrev pub deed_or_notify : Option Deed → Deed
-deed_or_notify None = plain Notify
-deed_or_notify (Some deed) = deed
+abbrev pub joined_or_notify : Option Joined → Joined
+joined_or_notify None = plain Notify
+joined_or_notify (Some joined) = joined
 
 abbrev pub word_seen : HeldWord → Word
 word_seen Keeps = keeps
 word_seen (Acts action) = acts action
 word_seen (Embeds inside) = embeds inside.now
 
-abbrev pub deed_seen : HeldDeed → Deed
-deed_seen (Plain action) = plain action
-deed_seen (Embed inside) = embed inside.now
-deed_seen (AccumulateAndEmbed inside) = accumulate_and_embed inside.now
+abbrev pub joined_seen : HeldDeed → Joined
+joined_seen (Plain action) = plain action
+joined_seen (Embed inside) = embed inside.now
+joined_seen (AccumulateAndEmbed inside) = accumulate_and_embed inside.now
 
 abbrev pub so_far_seen : HeldSoFar → SoFar
-so_far_seen so_far = record { deed = option_map deed_seen so_far.deed; keep = so_far.keep }
+so_far_seen so_far = record { joined = option_map joined_seen so_far.joined; keep = so_far.keep }
 
 abbrev pub said_seen : HeldSaid → Said
-said_seen said = record { deed = deed_seen said.deed; keep = said.keep }
+said_seen said = record { joined = joined_seen said.joined; keep = said.keep }
 
 abbrev pub rule_seen : HeldRule → Rule
-rule_seen rule = record { events = rule.events; deed = deed_seen rule.deed; keep = rule.keep }
+rule_seen rule = record { events = rule.events; joined = joined_seen rule.joined; keep = rule.keep }
 
 abbrev pub seen_as : {A B : Type 0} → (A → B) → Result A ℕ → Result B ℕ
 seen_as seen read = read >>= λ x. Ok (seen x)

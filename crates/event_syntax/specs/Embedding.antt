@@ -12,11 +12,11 @@ use Rattle.event_cuts.specs.Faults.{each_up_to}
 use Rattle.event_cuts.specs.Cuts.{Form, form_of, items, entries}
 use Rattle.event_values.specs.Signals.{signals_in}
 use Rattle.event_syntax.specs.Detect.{most_events}
-use Rattle.event_syntax.specs.Actions.{Deed, plain, embed, accumulate_and_embed, Rule, rule_of}
+use Rattle.event_syntax.specs.Actions.{Joined, plain, embed, accumulate_and_embed, Rule, rule_of}
 
 -- Its R: no request is embedded once more, which is 523 (illegal actions)
 
-abbrev pub embedded_event_by : Rule → Deed → Result EmbeddedEvent ℕ
+abbrev pub embedded_event_by : Rule → Joined → Result EmbeddedEvent ℕ
 embedded_event_by rule (plain action) = Ok (record { events = rule.events; action = action; keep = rule.keep })
 embedded_event_by rule (embed inside) = Err 523
 embedded_event_by rule (accumulate_and_embed inside) = Err 523
@@ -24,7 +24,7 @@ embedded_event_by rule (accumulate_and_embed inside) = Err 523
 unfoldable pub embedded_event : List ℕ → Result EmbeddedEvent ℕ
 embedded_event entry = do
   rule ← rule_of entry
-  embedded_event_by rule rule.deed
+  embedded_event_by rule rule.joined
 
 -- Its parts, from left to right
 

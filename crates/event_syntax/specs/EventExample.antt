@@ -2,7 +2,7 @@
 use Rattle.std.specs.Prelude.{ℕ, List, [], ◌∷◌, Result, Ok, codes, replicate}
 use Rattle.std.specs.List.{join_with_byte}
 use Rattle.mg_bytes.specs.Bytes.{comma}
-use Rattle.mg_packages.specs.declared.event.Event.{Event}
+use Rattle.mg_packages.specs.declared.event.LineEvent.{LineEvent}
 use Rattle.event_syntax.specs.declared.events.Events.{Events}
 use Rattle.event_syntax.specs.declared.events.Events.TheVariants.{One, Letters}
 use Rattle.event_syntax.specs.Ranges.{letters_in}
@@ -11,7 +11,7 @@ use Rattle.event_syntax.specs.Ranges.{letters_in}
 abbrev pub names : Events → Result (List Events) ℕ
 names events = Ok (events ∷ [])
 
-abbrev pub names_one : Event → Result (List Events) ℕ
+abbrev pub names_one : LineEvent → Result (List Events) ℕ
 names_one event = names (One event)
 
 -- so many entries `hd`, with commas between them

@@ -5,8 +5,8 @@ use Rattle.mg_bytes.specs.Bytes.{at_sign}
 use Rattle.mg_bytes.specs.Case.{same_but_case}
 use Rattle.mg_bytes.specs.Letter.{byte_of}
 use Rattle.mg_bytes.specs.Words.{split_once, in_brackets}
-use Rattle.mg_packages.specs.declared.event.Event.{Event}
-use Rattle.mg_packages.specs.declared.event.Event.TheVariants.{GenericComplete, Letter}
+use Rattle.mg_packages.specs.declared.event.LineEvent.{LineEvent}
+use Rattle.mg_packages.specs.declared.event.LineEvent.TheVariants.{GenericComplete, Letter}
 use Rattle.mg_packages.specs.declared.package.Package.{Package}
 use Rattle.mg_packages.specs.declared.package.Package.TheVariants.{Line, Generic, Dtmf}
 use Rattle.mg_packages.specs.Looking.{in_package, event_in, event_name}
@@ -18,7 +18,7 @@ use Rattle.event_syntax.specs.Ranges.{letters_in, letters_text}
 -- Reading
 
 -- one event; a letter is a set of one
-abbrev pub one : Event → Events
+abbrev pub one : LineEvent → Events
 one (Letter letter) = Letters (letters_in (byte_of letter ∷ []))
 one event = One event
 

@@ -21,7 +21,7 @@ use Rattle.event_syntax.specs.RequestSpelling.{are_requested}
 use Rattle.event_values.specs.Signals.{signals_text, are_writable_signals}
 use Rattle.event_syntax.specs.Events.{events_text, is_writable}
 use Rattle.event_syntax.specs.Detect.{most_events}
-use Rattle.event_syntax.specs.Actions.{Deed, plain, embed, accumulate_and_embed, Rule, rule_of, takes}
+use Rattle.event_syntax.specs.Actions.{Joined, plain, embed, accumulate_and_embed, Rule, rule_of, takes}
 use Rattle.event_syntax.specs.Embedding.{embedded_in}
 
 -- Reading
@@ -30,7 +30,7 @@ abbrev pub requested_by : Rule → Reaction → RequestedEvent
 requested_by rule reaction = record { events = rule.events; reaction = reaction; keep = rule.keep }
 
 -- what is embedded is read behind all that the entry says itself
-abbrev pub reaction_of : Deed → Result Reaction ℕ
+abbrev pub reaction_of : Joined → Result Reaction ℕ
 reaction_of (plain action) = Ok (Plain action)
 reaction_of (embed inside) = embedded_in inside >>= λ request. Ok (Embed request)
 reaction_of (accumulate_and_embed inside) = embedded_in inside >>= λ request. Ok (AccumulateAndEmbed request)
@@ -39,7 +39,7 @@ reaction_of (accumulate_and_embed inside) = embedded_in inside >>= λ request. O
 unfoldable pub requested : List ℕ → Result RequestedEvent ℕ
 requested entry = do
   rule ← rule_of entry
-  reaction ← reaction_of rule.deed
+  reaction ← reaction_of rule.joined
   Ok (requested_by rule reaction)
 
 -- the entries of a value that is spelled
@@ -147,14 +147,14 @@ is_writable_reaction (Embed request) = is_writable_request request
 is_writable_reaction (AccumulateAndEmbed request) = is_writable_request request
 
 -- what is done, by whatever is embedded
-abbrev pub deed_in : Reaction → Deed
-deed_in (Plain action) = plain action
-deed_in (Embed request) = embed []
-deed_in (AccumulateAndEmbed request) = accumulate_and_embed []
+abbrev pub joined_in : Reaction → Joined
+joined_in (Plain action) = plain action
+joined_in (Embed request) = embed []
+joined_in (AccumulateAndEmbed request) = accumulate_and_embed []
 
 abbrev pub is_writable_entry : RequestedEvent → Bool
 is_writable_entry entry =
-    is_writable entry.events && takes entry.events (deed_in entry.reaction) && is_writable_reaction entry.reaction
+    is_writable entry.events && takes entry.events (joined_in entry.reaction) && is_writable_reaction entry.reaction
 
 unfoldable pub are_writable_requested : List RequestedEvent → Bool
 are_writable_requested list = nat_le (length list) most_events && list_all is_writable_entry list

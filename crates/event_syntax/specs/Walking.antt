@@ -16,8 +16,8 @@ use Rattle.event_syntax.specs.declared.walk.Seen.{Seen}
 use Rattle.event_syntax.specs.declared.walk.Mark.{Mark}
 use Rattle.event_syntax.specs.declared.walk.Mark.TheVariants.{End, Comma, Opening, Closing}
 use Rattle.event_syntax.specs.declared.walk.Outer.{Outer}
-use Rattle.event_syntax.specs.declared.walk.Step.{Step}
-use Rattle.event_syntax.specs.declared.walk.Step.TheVariants.{Wrong, Ends, On, Into, Out}
+use Rattle.event_syntax.specs.declared.walk.WalkStep.{WalkStep}
+use Rattle.event_syntax.specs.declared.walk.WalkStep.TheVariants.{Wrong, Ends, On, Into, Out}
 use Rattle.event_syntax.specs.declared.walk.Stand.{Stand}
 use Rattle.event_syntax.specs.declared.walk.Stand.TheVariants.{Entry, BehindActions, BehindParameters, Action, BehindEmbedded, Part, BehindPart}
 
@@ -259,7 +259,7 @@ abbrev pub split_seen : Option (Bor (List ℕ) × Bor (List ℕ)) → Option (Li
 split_seen None = None
 split_seen (Some sides) = Some (sides.0.now, sides.1.now)
 
-abbrev pub step_seen : Step → Stepped
+abbrev pub step_seen : WalkStep → Stepped
 step_seen Wrong = wrong
 step_seen Ends = ends
 step_seen (On stand rest) = on stand rest.now

@@ -8,7 +8,7 @@ ghost use Rattle.event_syntax.specs.Embedding.{with_part, embedded_in, Gives};
 
 use crate::detect::MOST_EVENTS;
 use crate::request::{EmbeddedEvent, EmbeddedEvents, EmbeddedRequest};
-use crate::rule::{Deed, rule_of};
+use crate::rule::{Joined, rule_of};
 use digit_map::read_map;
 use event_cuts::{Inside, entries, form_of, has_at_most, items};
 use event_values::{SignalRequests, signals_in};
@@ -21,13 +21,15 @@ fn embedded_event(entry: &[u8]) -> Result<EmbeddedEvent, u16>
     ensures { result ≡ embedded_event entry.now }
 {
     let rule = rule_of(entry)?;
-    match rule.deed {
-        Deed::Plain(action) => Ok(EmbeddedEvent {
+    match rule.joined {
+        Joined::Plain(action) => Ok(EmbeddedEvent {
             events: rule.events,
             action,
             keep: rule.keep,
         }),
-        Deed::Embed(_) | Deed::AccumulateAndEmbed(_) => Err(ReturnCode::IllegalActions.number()),
+        Joined::Embed(_) | Joined::AccumulateAndEmbed(_) => Err(
+            ReturnCode::IllegalActions.number(),
+        ),
     }
 }
 

@@ -8,7 +8,7 @@ ghost use Rattle.event_syntax.specs.EventExample.{names, names_one, hooks, range
 
 use crate::events::Events;
 use mg_bytes::Letter;
-use mg_packages::Event;
+use mg_packages::LineEvent;
 
 /// In brackets stand letters, `X` and digit spans, and nothing else; the brackets aren't empty.
 pub fn ranges_are_letters_and_spans()
@@ -60,13 +60,13 @@ pub fn sets_are_written()
 
 /// An entry of T names one event, all events of a package, or some letters of D. Without a package L is meant.
 pub fn events_are_named()
-    ensures line { detected_of (codes "hu") ≡ names_one Event.OnHook }
-    ensures flash { detected_of (codes "l/HF") ≡ names_one Event.Flash }
-    ensures complete { detected_of (codes "L/oc") ≡ names_one Event.LineComplete }
-    ensures generic { detected_of (codes "g/oc") ≡ names_one Event.GenericComplete }
+    ensures line { detected_of (codes "hu") ≡ names_one LineEvent.OnHook }
+    ensures flash { detected_of (codes "l/HF") ≡ names_one LineEvent.Flash }
+    ensures complete { detected_of (codes "L/oc") ≡ names_one LineEvent.LineComplete }
+    ensures generic { detected_of (codes "g/oc") ≡ names_one LineEvent.GenericComplete }
     ensures all_of_line { detected_of (codes "L/all") ≡ names Events.AllOfLine }
     ensures all { detected_of (codes "ALL") ≡ names Events.AllOfLine }
-    ensures all_of_generic { detected_of (codes "G/all") ≡ names_one Event.GenericComplete }
+    ensures all_of_generic { detected_of (codes "G/all") ≡ names_one LineEvent.GenericComplete }
     // The keys, without T.
     ensures all_keys { detected_of (codes "D/All") ≡ names (range_of (codes "0123456789*#ABCD")) }
     ensures digits { detected_of (codes "D/x") ≡ names (range_of (codes "0-9")) }
@@ -119,7 +119,7 @@ pub fn misspelled_events_are_510()
 pub fn faults_of_events_have_an_order()
     ensures spelling_first { detected_of (codes "Q/a,D/[9-1]") ≡ Err 510 }
     ensures spelling_before_number { detected_of (hooks 33 ++ codes ",") ≡ Err 510 }
-    ensures most { detected_of (hooks 32) ≡ Ok (replicate 32 (Events.One Event.OffHook)) }
+    ensures most { detected_of (hooks 32) ≡ Ok (replicate 32 (Events.One LineEvent.OffHook)) }
     ensures number { detected_of (hooks 33) ≡ Err 502 }
     ensures number_before_entries { detected_of (codes "Q/a," ++ hooks 32) ≡ Err 502 }
     ensures entries_of_32 { detected_of (codes "Q/a," ++ hooks 31) ≡ Err 518 }
@@ -132,12 +132,12 @@ pub fn faults_of_events_have_an_order()
 
 /// T is read, blanks round commas and parentheses or not, and written with packages and without blanks.
 pub fn events_are_written()
-    ensures read { detected_of (codes " hf ,\tD/5,D/[0-9T] ,all") ≡ Ok (Events.One Event.Flash ∷ range_of (codes "5")
+    ensures read { detected_of (codes " hf ,\tD/5,D/[0-9T] ,all") ≡ Ok (Events.One LineEvent.Flash ∷ range_of (codes "5")
         ∷ range_of (codes "0123456789T") ∷ Events.AllOfLine ∷ []) }
     ensures empty { detected_of [] ≡ Ok [] }
     ensures blank { detected_of (codes " \t") ≡ Ok [] }
-    ensures written { detected_text (Events.One Event.Flash ∷ range_of (codes "5") ∷ range_of (codes "0-9T")
-        ∷ Events.AllOfLine ∷ Events.One Event.GenericComplete ∷ range_of (codes "A*") ∷ [])
+    ensures written { detected_text (Events.One LineEvent.Flash ∷ range_of (codes "5") ∷ range_of (codes "0-9T")
+        ∷ Events.AllOfLine ∷ Events.One LineEvent.GenericComplete ∷ range_of (codes "A*") ∷ [])
         ≡ codes "L/hf,D/5,D/[0123456789T],L/all,G/oc,D/[*A]" }
     ensures none { detected_text [] ≡ [] }
 {}
@@ -145,8 +145,8 @@ pub fn events_are_written()
 /// A list of events can be written so that it is read again where it has at most 32 entries, in which letters are sets
 /// that aren't empty.
 pub fn some_events_can_be_written()
-    ensures some { are_writable_events (Events.AllOfLine ∷ Events.One Event.OffHook ∷ range_of (codes "T") ∷ []) ≡ true }
-    ensures letter { are_writable_events (Events.One (Event.Letter Letter.Five) ∷ []) ≡ false }
+    ensures some { are_writable_events (Events.AllOfLine ∷ Events.One LineEvent.OffHook ∷ range_of (codes "T") ∷ []) ≡ true }
+    ensures letter { are_writable_events (Events.One (LineEvent.Letter Letter.Five) ∷ []) ≡ false }
     ensures no_letters { are_writable_events (Events.AllOfLine ∷ range_of [] ∷ []) ≡ false }
     ensures shorter { are_writable_events (Events.Letters (true ∷ []) ∷ []) ≡ false }
     ensures most { are_writable_events (replicate 32 Events.AllOfLine) ≡ true }

@@ -5,7 +5,7 @@ ghost use Rattle.mg_bytes.specs.Words.{in_brackets};
 
 use crate::range::{letters_in, put_letters};
 use mg_bytes::{OutOfMemory, ReturnCode, in_brackets, same_no_case, split_once};
-use mg_packages::{Event, Package, event_in, event_name, in_package};
+use mg_packages::{LineEvent, Package, event_in, event_name, in_package};
 
 /// The events that an entry of R or T names (RFC 3435, 2.1.7).
 #[derive(Clone, Copy)]
@@ -13,7 +13,7 @@ pub enum Events {
     /// `L/all`: hd, hu, hf and oc of L.
     AllOfLine,
     /// One event of L or G.
-    One(Event),
+    One(LineEvent),
     /// Events of D: whether each of `0` to `9`, `*`, `#`, `A` to `D`, `T` is among them.
     Letters([bool; 17]),
 }
@@ -30,16 +30,16 @@ impl Default for Events {
     }
 }
 
-fn one(event: Event) -> Events
+fn one(event: LineEvent) -> Events
     ensures { result ≡ one event }
 {
     match event {
-        Event::Letter(letter) => Events::Letters(letters_in(&[letter.byte()])),
-        Event::OffHook
-        | Event::OnHook
-        | Event::Flash
-        | Event::LineComplete
-        | Event::GenericComplete => Events::One(event),
+        LineEvent::Letter(letter) => Events::Letters(letters_in(&[letter.byte()])),
+        LineEvent::OffHook
+        | LineEvent::OnHook
+        | LineEvent::Flash
+        | LineEvent::LineComplete
+        | LineEvent::GenericComplete => Events::One(event),
     }
 }
 
@@ -88,7 +88,7 @@ fn events_in(within: Package, name: &[u8]) -> Result<Events, u16>
         }
         Package::Generic => {
             if is_all(name) {
-                Ok(Events::One(Event::GenericComplete))
+                Ok(Events::One(LineEvent::GenericComplete))
             } else {
                 one_in(Package::Generic, name)
             }

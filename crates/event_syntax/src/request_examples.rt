@@ -11,19 +11,19 @@ ghost use Rattle.event_syntax.specs.EventExample.{range_of};
 use crate::events::Events;
 use crate::request::Action;
 use event_values::Setting;
-use mg_packages::{Event, Signal};
+use mg_packages::{LineEvent, Signal};
 
 /// An entry of R says what is done at its events: N where nothing is said, or K alone.
 pub fn actions_are_read()
-    ensures notify { requested_of (codes "L/hd(N)") ≡ one_entry (does (Events.One Event.OffHook) Action.Notify) }
-    ensures nothing { requested_of (codes "hu") ≡ one_entry (does (Events.One Event.OnHook) Action.Notify) }
+    ensures notify { requested_of (codes "L/hd(N)") ≡ one_entry (does (Events.One LineEvent.OffHook) Action.Notify) }
+    ensures nothing { requested_of (codes "hu") ≡ one_entry (does (Events.One LineEvent.OnHook) Action.Notify) }
     ensures accumulate { requested_of (codes "L/all(a)") ≡ one_entry (does Events.AllOfLine Action.Accumulate) }
-    ensures ignore { requested_of (codes "oc ( i )") ≡ one_entry (does (Events.One Event.LineComplete) Action.Ignore) }
+    ensures ignore { requested_of (codes "oc ( i )") ≡ one_entry (does (Events.One LineEvent.LineComplete) Action.Ignore) }
     ensures dial { requested_of (codes "D/[0-9T](D)") ≡ one_entry (does (range_of (codes "0-9T")) Action.Dial) }
-    ensures keep_alone { requested_of (codes "G/oc(K)") ≡ one_entry (keeps (Events.One Event.GenericComplete) Action.Notify) }
+    ensures keep_alone { requested_of (codes "G/oc(K)") ≡ one_entry (keeps (Events.One LineEvent.GenericComplete) Action.Notify) }
     ensures keep { requested_of (codes "D/X(d, k)") ≡ one_entry (keeps (range_of (codes "X")) Action.Dial) }
-    ensures keep_first { requested_of (codes "L/hf(K,A)") ≡ one_entry (keeps (Events.One Event.Flash) Action.Accumulate) }
-    ensures keep_ignore { requested_of (codes "L/hf(I,K)") ≡ one_entry (keeps (Events.One Event.Flash) Action.Ignore) }
+    ensures keep_first { requested_of (codes "L/hf(K,A)") ≡ one_entry (keeps (Events.One LineEvent.Flash) Action.Accumulate) }
+    ensures keep_ignore { requested_of (codes "L/hf(I,K)") ≡ one_entry (keeps (Events.One LineEvent.Flash) Action.Ignore) }
 {}
 
 /// Each action stands at most once, and but for A with E only one of N, A, D, I and E; K stands with any.
@@ -67,19 +67,19 @@ pub fn actions_have_their_events()
 
 /// E embeds an R, an S and a digit map, in any order, by itself or with A, with K or without.
 pub fn requests_are_embedded()
-    ensures events { requested_of (codes "L/hd(E(R(L/hu(A),D/T(D,K))))") ≡ one_entry (embeds false (Events.One Event.OffHook)
-        (with_events (embedded_does (Events.One Event.OnHook) Action.Accumulate false
+    ensures events { requested_of (codes "L/hd(E(R(L/hu(A),D/T(D,K))))") ≡ one_entry (embeds false (Events.One LineEvent.OffHook)
+        (with_events (embedded_does (Events.One LineEvent.OnHook) Action.Accumulate false
         ∷ embedded_does (range_of (codes "T")) Action.Dial true ∷ []) nothing)) }
-    ensures signals { requested_of (codes "L/hd(e(s(L/dl(to=5))))") ≡ one_entry (embeds false (Events.One Event.OffHook)
+    ensures signals { requested_of (codes "L/hd(e(s(L/dl(to=5))))") ≡ one_entry (embeds false (Events.One LineEvent.OffHook)
         (with_signals (asks Signal.DialTone (Setting.Lasting 5) ∷ []) nothing)) }
-    ensures map { requested_of (codes "L/hd(E(D((0T | 1x))))") ≡ one_entry (embeds false (Events.One Event.OffHook)
+    ensures map { requested_of (codes "L/hd(E(D((0T | 1x))))") ≡ one_entry (embeds false (Events.One LineEvent.OffHook)
         (with_map (codes "(0T|1x)") nothing)) }
     ensures any_order { requested_of (codes "L/hd( K, E( D(x.T), R(hu), S(dl) ) )")
         ≡ requested_of (codes "L/hd(E(S(dl),R(hu),D(x.T)),K)") }
     ensures all { requested_of (codes "L/hd( K, E( D(x.T), R(hu), S(dl) ) )") ≡ one_entry (record {
-      events = Events.One Event.OffHook;
+      events = Events.One LineEvent.OffHook;
       reaction = inside (record {
-        events = embedded_does (Events.One Event.OnHook) Action.Notify false ∷ [];
+        events = embedded_does (Events.One LineEvent.OnHook) Action.Notify false ∷ [];
         signals = asks Signal.DialTone Setting.Start ∷ [];
         map = Some (codes "x.T");
       });

@@ -35,7 +35,7 @@ pub fn the_first_fault_of_requested_events_counts()
 pub fn an_entry_is_judged_before_what_is_embedded()
     ensures itself { (entry : List ℕ) (code : ℕ) → rule_of entry ≡ Err code → requested entry ≡ Err code }
     ensures embedded { (entry inside : List ℕ) (rule : Rule) (code : ℕ) → rule_of entry ≡ Ok rule
-        → rule.deed ≡ embed inside → embedded_in inside ≡ Err code → requested entry ≡ Err code }
+        → rule.joined ≡ embed inside → embedded_in inside ≡ Err code → requested entry ≡ Err code }
     ensures with_a { (entry inside : List ℕ) (rule : Rule) (code : ℕ) → rule_of entry ≡ Ok rule
-        → rule.deed ≡ accumulate_and_embed inside → embedded_in inside ≡ Err code → requested entry ≡ Err code }
+        → rule.joined ≡ accumulate_and_embed inside → embedded_in inside ≡ Err code → requested entry ≡ Err code }
 {}

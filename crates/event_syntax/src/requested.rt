@@ -3,14 +3,14 @@ ghost use Rattle.std.specs.Prelude.{◌≡◌, true, IfOk};
 ghost use Rattle.mg_bytes.specs.CodeFault.{AnswersAs};
 ghost use Rattle.event_cuts.specs.Cuts.{entries};
 ghost use Rattle.event_cuts.specs.Faults.{each};
-ghost use Rattle.event_syntax.specs.Actions.{deed_seen};
+ghost use Rattle.event_syntax.specs.Actions.{joined_seen};
 ghost use Rattle.event_syntax.specs.Embedding.{embedded_in, Gives};
 ghost use Rattle.event_syntax.specs.Requested.{reaction_of, requested, requested_in, requested_of, are_writable_requested};
 
 use crate::detect::MOST_EVENTS;
 use crate::embedded::embedded_in;
 use crate::request::{Embedding, Reaction, RequestedEvent, RequestedEvents};
-use crate::rule::{Deed, rule_of};
+use crate::rule::{Joined, rule_of};
 use crate::walk::are_requested;
 use event_cuts::{entries, has_at_most};
 use mg_bytes::{CodeFault, ReturnCode};
@@ -23,13 +23,13 @@ fn embedding_in(alloc: Global, inside: &[u8]) -> Result<Embedding, CodeFault>
     Ok(Embedding::new(alloc, request)?)
 }
 
-fn reaction_of(alloc: Global, deed: Deed<'_>) -> Result<Reaction, CodeFault>
-    ensures { Gives (reaction_of (deed_seen deed.entry)) result }
+fn reaction_of(alloc: Global, joined: Joined<'_>) -> Result<Reaction, CodeFault>
+    ensures { Gives (reaction_of (joined_seen joined.entry)) result }
 {
-    match deed {
-        Deed::Plain(action) => Ok(Reaction::Plain(action)),
-        Deed::Embed(inside) => Ok(Reaction::Embed(embedding_in(alloc, inside)?)),
-        Deed::AccumulateAndEmbed(inside) => {
+    match joined {
+        Joined::Plain(action) => Ok(Reaction::Plain(action)),
+        Joined::Embed(inside) => Ok(Reaction::Embed(embedding_in(alloc, inside)?)),
+        Joined::AccumulateAndEmbed(inside) => {
             Ok(Reaction::AccumulateAndEmbed(embedding_in(alloc, inside)?))
         }
     }
@@ -40,7 +40,7 @@ fn requested(alloc: Global, entry: &[u8]) -> Result<RequestedEvent, CodeFault>
     ensures { Gives (requested entry.now) result }
 {
     let rule = rule_of(entry).map_err(CodeFault::Code)?;
-    let reaction = reaction_of(alloc, rule.deed)?;
+    let reaction = reaction_of(alloc, rule.joined)?;
     Ok(RequestedEvent {
         events: rule.events,
         reaction,

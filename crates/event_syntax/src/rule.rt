@@ -2,8 +2,8 @@
 ghost use Rattle.std.specs.Prelude.{◌≡◌, option_map};
 ghost use Rattle.event_cuts.specs.Cuts.{items, inside_seen};
 ghost use Rattle.event_syntax.specs.Actions.{word_named, word_of, said_of, takes, ruled_by, said_in};
-ghost use Rattle.event_syntax.specs.Actions.{rule_of, and_embed, and_action, and_word, deed_or_notify};
-ghost use Rattle.event_syntax.specs.Actions.{word_seen, deed_seen, so_far_seen, said_seen, rule_seen, seen_as};
+ghost use Rattle.event_syntax.specs.Actions.{rule_of, and_embed, and_action, and_word, joined_or_notify};
+ghost use Rattle.event_syntax.specs.Actions.{word_seen, joined_seen, so_far_seen, said_seen, rule_seen, seen_as};
 
 use crate::events::{Events, events_called};
 use crate::request::Action;
@@ -23,7 +23,7 @@ pub(crate) enum Word<'a> {
 
 /// What is done, where an embedded request is what stands in the parentheses of E.
 #[derive(Clone, Copy)]
-pub(crate) enum Deed<'a> {
+pub(crate) enum Joined<'a> {
     Plain(Action),
     Embed(&'a [u8]),
     AccumulateAndEmbed(&'a [u8]),
@@ -32,14 +32,14 @@ pub(crate) enum Deed<'a> {
 /// What the actions up to one say.
 #[derive(Clone, Copy)]
 pub(crate) struct SoFar<'a> {
-    deed: Option<Deed<'a>>,
+    joined: Option<Joined<'a>>,
     keep: bool,
 }
 
 /// What all actions of an entry say.
 #[derive(Clone, Copy)]
 pub(crate) struct Said<'a> {
-    deed: Deed<'a>,
+    joined: Joined<'a>,
     keep: bool,
 }
 
@@ -47,7 +47,7 @@ pub(crate) struct Said<'a> {
 #[derive(Clone, Copy)]
 pub(crate) struct Rule<'a> {
     pub events: Events,
-    pub deed: Deed<'a>,
+    pub joined: Joined<'a>,
     pub keep: bool,
 }
 
@@ -82,22 +82,22 @@ fn word_of(action: &[u8]) -> Result<Word<'_>, u16>
     }
 }
 
-fn and_action<'a>(so_far: Option<Deed<'a>>, action: Action) -> Result<Deed<'a>, u16>
-    ensures { seen_as deed_seen result ≡ and_action (option_map deed_seen so_far.entry) action }
+fn and_action<'a>(so_far: Option<Joined<'a>>, action: Action) -> Result<Joined<'a>, u16>
+    ensures { seen_as joined_seen result ≡ and_action (option_map joined_seen so_far.entry) action }
 {
     match (so_far, action) {
-        (None, action) => Ok(Deed::Plain(action)),
-        (Some(Deed::Embed(inside)), Action::Accumulate) => Ok(Deed::AccumulateAndEmbed(inside)),
+        (None, action) => Ok(Joined::Plain(action)),
+        (Some(Joined::Embed(inside)), Action::Accumulate) => Ok(Joined::AccumulateAndEmbed(inside)),
         _ => Err(ReturnCode::IllegalActions.number()),
     }
 }
 
-fn and_embed<'a>(so_far: Option<Deed<'a>>, inside: &'a [u8]) -> Result<Deed<'a>, u16>
-    ensures { seen_as deed_seen result ≡ and_embed (option_map deed_seen so_far.entry) inside.now }
+fn and_embed<'a>(so_far: Option<Joined<'a>>, inside: &'a [u8]) -> Result<Joined<'a>, u16>
+    ensures { seen_as joined_seen result ≡ and_embed (option_map joined_seen so_far.entry) inside.now }
 {
     match so_far {
-        None => Ok(Deed::Embed(inside)),
-        Some(Deed::Plain(Action::Accumulate)) => Ok(Deed::AccumulateAndEmbed(inside)),
+        None => Ok(Joined::Embed(inside)),
+        Some(Joined::Plain(Action::Accumulate)) => Ok(Joined::AccumulateAndEmbed(inside)),
         _ => Err(ReturnCode::IllegalActions.number()),
     }
 }
@@ -117,22 +117,22 @@ fn and_word<'a>(so_far: SoFar<'a>, word: Word<'a>) -> Result<SoFar<'a>, u16>
             })
         }
         Word::Acts(action) => {
-            let deed = Some(and_action(so_far.deed, action)?);
-            Ok(SoFar { deed, ..so_far })
+            let joined = Some(and_action(so_far.joined, action)?);
+            Ok(SoFar { joined, ..so_far })
         }
         Word::Embeds(inside) => {
-            let deed = Some(and_embed(so_far.deed, inside)?);
-            Ok(SoFar { deed, ..so_far })
+            let joined = Some(and_embed(so_far.joined, inside)?);
+            Ok(SoFar { joined, ..so_far })
         }
     }
 }
 
-fn deed_or_notify(deed: Option<Deed<'_>>) -> Deed<'_>
-    ensures { deed_seen result ≡ deed_or_notify (option_map deed_seen deed.entry) }
+fn joined_or_notify(joined: Option<Joined<'_>>) -> Joined<'_>
+    ensures { joined_seen result ≡ joined_or_notify (option_map joined_seen joined.entry) }
 {
-    match deed {
-        Some(deed) => deed,
-        None => Deed::Plain(Action::Notify),
+    match joined {
+        Some(joined) => joined,
+        None => Joined::Plain(Action::Notify),
     }
 }
 
@@ -140,14 +140,14 @@ fn said_of(actions: &[u8]) -> Result<Said<'_>, u16>
     ensures { seen_as said_seen result ≡ said_of (items actions.now) }
 {
     let mut so_far = SoFar {
-        deed: None,
+        joined: None,
         keep: false,
     };
     for action in items(actions) {
         so_far = and_word(so_far, word_of(action)?)?;
     }
     Ok(Said {
-        deed: deed_or_notify(so_far.deed),
+        joined: joined_or_notify(so_far.joined),
         keep: so_far.keep,
     })
 }
@@ -158,7 +158,7 @@ fn said_in(inside: Inside<'_>) -> Result<Said<'_>, u16>
 {
     match inside {
         Inside::Nothing => Ok(Said {
-            deed: Deed::Plain(Action::Notify),
+            joined: Joined::Plain(Action::Notify),
             keep: false,
         }),
         Inside::Single(actions) => said_of(actions),
@@ -166,13 +166,13 @@ fn said_in(inside: Inside<'_>) -> Result<Said<'_>, u16>
     }
 }
 
-fn takes(events: Events, deed: Deed<'_>) -> bool
-    ensures { result ≡ takes events (deed_seen deed.entry) }
+fn takes(events: Events, joined: Joined<'_>) -> bool
+    ensures { result ≡ takes events (joined_seen joined.entry) }
 {
-    match (events, deed) {
-        (Events::Letters(_), Deed::Plain(Action::Dial)) => true,
+    match (events, joined) {
+        (Events::Letters(_), Joined::Plain(Action::Dial)) => true,
         (Events::Letters(set), _) => !set[16],
-        (_, Deed::Plain(Action::Dial)) => false,
+        (_, Joined::Plain(Action::Dial)) => false,
         _ => true,
     }
 }
@@ -180,12 +180,12 @@ fn takes(events: Events, deed: Deed<'_>) -> bool
 fn ruled_by(events: Events, said: Said<'_>) -> Result<Rule<'_>, u16>
     ensures { seen_as rule_seen result ≡ ruled_by events (said_seen said.entry) }
 {
-    if !takes(events, said.deed) {
+    if !takes(events, said.joined) {
         return Err(ReturnCode::IllegalActions.number());
     }
     Ok(Rule {
         events,
-        deed: said.deed,
+        joined: said.joined,
         keep: said.keep,
     })
 }

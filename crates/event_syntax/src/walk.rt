@@ -69,7 +69,7 @@ pub(crate) enum Mark {
 
 /// What a name and the mark behind it lead to.
 #[derive(Clone, Copy)]
-pub(crate) enum Step<'a> {
+pub(crate) enum WalkStep<'a> {
     /// The value isn't spelled.
     Wrong,
     /// It ends here.
@@ -140,47 +140,47 @@ fn split_closing(text: &[u8]) -> Option<(&[u8], &[u8])>
     None
 }
 
-fn entry_stepped(mark: Mark, rest: &[u8]) -> Step<'_>
+fn entry_stepped(mark: Mark, rest: &[u8]) -> WalkStep<'_>
     ensures { step_seen result ≡ entry_stepped mark rest.now }
 {
     match mark {
-        Mark::End => Step::Ends,
-        Mark::Comma => Step::On(Stand::Entry, rest),
-        Mark::Opening => Step::On(Stand::Action, rest),
-        Mark::Closing => Step::Out(rest),
+        Mark::End => WalkStep::Ends,
+        Mark::Comma => WalkStep::On(Stand::Entry, rest),
+        Mark::Opening => WalkStep::On(Stand::Action, rest),
+        Mark::Closing => WalkStep::Out(rest),
     }
 }
 
-fn behind_parameters(rest: &[u8]) -> Step<'_>
+fn behind_parameters(rest: &[u8]) -> WalkStep<'_>
     ensures { step_seen result ≡ behind_parameters (closing 0 rest.now) }
 {
     match split_closing(rest) {
         Some((inside, behind)) if are_parameters(trimmed(inside)) => {
-            Step::On(Stand::BehindParameters, behind)
+            WalkStep::On(Stand::BehindParameters, behind)
         }
-        _ => Step::Wrong,
+        _ => WalkStep::Wrong,
     }
 }
 
-fn behind_actions_stepped(mark: Mark, rest: &[u8]) -> Step<'_>
+fn behind_actions_stepped(mark: Mark, rest: &[u8]) -> WalkStep<'_>
     ensures { step_seen result ≡ behind_actions_stepped mark rest.now }
 {
     match mark {
-        Mark::End => Step::Ends,
-        Mark::Comma => Step::On(Stand::Entry, rest),
+        Mark::End => WalkStep::Ends,
+        Mark::Comma => WalkStep::On(Stand::Entry, rest),
         Mark::Opening => behind_parameters(rest),
-        Mark::Closing => Step::Out(rest),
+        Mark::Closing => WalkStep::Out(rest),
     }
 }
 
-fn behind_parameters_stepped(mark: Mark, rest: &[u8]) -> Step<'_>
+fn behind_parameters_stepped(mark: Mark, rest: &[u8]) -> WalkStep<'_>
     ensures { step_seen result ≡ behind_parameters_stepped mark rest.now }
 {
     match mark {
-        Mark::End => Step::Ends,
-        Mark::Comma => Step::On(Stand::Entry, rest),
-        Mark::Opening => Step::Wrong,
-        Mark::Closing => Step::Out(rest),
+        Mark::End => WalkStep::Ends,
+        Mark::Comma => WalkStep::On(Stand::Entry, rest),
+        Mark::Opening => WalkStep::Wrong,
+        Mark::Closing => WalkStep::Out(rest),
     }
 }
 
@@ -196,36 +196,36 @@ fn is_plain_action(name: &[u8]) -> bool
     is_word(name) && !is_embed(name)
 }
 
-fn action_stepped<'a>(name: &[u8], mark: Mark, rest: &'a [u8]) -> Step<'a>
+fn action_stepped<'a>(name: &[u8], mark: Mark, rest: &'a [u8]) -> WalkStep<'a>
     ensures { step_seen result ≡ action_stepped name.now mark rest.now }
 {
     match mark {
-        Mark::Comma if is_plain_action(name) => Step::On(Stand::Action, rest),
-        Mark::Opening if is_embed(name) => Step::On(Stand::Part(Seen::nothing()), rest),
-        Mark::Closing if is_plain_action(name) => Step::On(Stand::BehindActions, rest),
-        _ => Step::Wrong,
+        Mark::Comma if is_plain_action(name) => WalkStep::On(Stand::Action, rest),
+        Mark::Opening if is_embed(name) => WalkStep::On(Stand::Part(Seen::nothing()), rest),
+        Mark::Closing if is_plain_action(name) => WalkStep::On(Stand::BehindActions, rest),
+        _ => WalkStep::Wrong,
     }
 }
 
-fn behind_embedded_stepped(mark: Mark, rest: &[u8]) -> Step<'_>
+fn behind_embedded_stepped(mark: Mark, rest: &[u8]) -> WalkStep<'_>
     ensures { step_seen result ≡ behind_embedded_stepped mark rest.now }
 {
     match mark {
-        Mark::Comma => Step::On(Stand::Action, rest),
-        Mark::Closing => Step::On(Stand::BehindActions, rest),
-        Mark::End | Mark::Opening => Step::Wrong,
+        Mark::Comma => WalkStep::On(Stand::Action, rest),
+        Mark::Closing => WalkStep::On(Stand::BehindActions, rest),
+        Mark::End | Mark::Opening => WalkStep::Wrong,
     }
 }
 
-fn behind_signals(seen: Seen, rest: &[u8]) -> Step<'_>
+fn behind_signals(seen: Seen, rest: &[u8]) -> WalkStep<'_>
     ensures { step_seen result ≡ behind_signals seen (closing 0 rest.now) }
 {
     let Some((inside, behind)) = split_closing(rest) else {
-        return Step::Wrong;
+        return WalkStep::Wrong;
     };
     let signals = trimmed(inside);
     if signals.len() >= 1 && are_signals(signals) {
-        Step::On(
+        WalkStep::On(
             Stand::BehindPart(Seen {
                 signals: true,
                 ..seen
@@ -233,31 +233,31 @@ fn behind_signals(seen: Seen, rest: &[u8]) -> Step<'_>
             behind,
         )
     } else {
-        Step::Wrong
+        WalkStep::Wrong
     }
 }
 
-fn behind_map(seen: Seen, rest: &[u8]) -> Step<'_>
+fn behind_map(seen: Seen, rest: &[u8]) -> WalkStep<'_>
     ensures { step_seen result ≡ behind_map seen (closing 0 rest.now) }
 {
     let Some((inside, behind)) = split_closing(rest) else {
-        return Step::Wrong;
+        return WalkStep::Wrong;
     };
     if trimmed(inside).len() >= 1 {
-        Step::On(Stand::BehindPart(Seen { map: true, ..seen }), behind)
+        WalkStep::On(Stand::BehindPart(Seen { map: true, ..seen }), behind)
     } else {
-        Step::Wrong
+        WalkStep::Wrong
     }
 }
 
-fn part_opened<'a>(seen: Seen, name: &[u8], rest: &'a [u8]) -> Step<'a>
+fn part_opened<'a>(seen: Seen, name: &[u8], rest: &'a [u8]) -> WalkStep<'a>
     ensures { step_seen result ≡ part_opened seen name.now rest.now }
 {
     if same_no_case(name, b"R") {
         if seen.events {
-            Step::Wrong
+            WalkStep::Wrong
         } else {
-            Step::Into(
+            WalkStep::Into(
                 Seen {
                     events: true,
                     ..seen
@@ -267,38 +267,38 @@ fn part_opened<'a>(seen: Seen, name: &[u8], rest: &'a [u8]) -> Step<'a>
         }
     } else if same_no_case(name, b"S") {
         if seen.signals {
-            Step::Wrong
+            WalkStep::Wrong
         } else {
             behind_signals(seen, rest)
         }
     } else if same_no_case(name, b"D") && !seen.map {
         behind_map(seen, rest)
     } else {
-        Step::Wrong
+        WalkStep::Wrong
     }
 }
 
-fn part_stepped<'a>(seen: Seen, name: &[u8], mark: Mark, rest: &'a [u8]) -> Step<'a>
+fn part_stepped<'a>(seen: Seen, name: &[u8], mark: Mark, rest: &'a [u8]) -> WalkStep<'a>
     ensures { step_seen result ≡ part_stepped seen name.now mark rest.now }
 {
     match mark {
         Mark::Opening => part_opened(seen, name, rest),
-        Mark::End | Mark::Comma | Mark::Closing => Step::Wrong,
+        Mark::End | Mark::Comma | Mark::Closing => WalkStep::Wrong,
     }
 }
 
-fn behind_part_stepped(seen: Seen, mark: Mark, rest: &[u8]) -> Step<'_>
+fn behind_part_stepped(seen: Seen, mark: Mark, rest: &[u8]) -> WalkStep<'_>
     ensures { step_seen result ≡ behind_part_stepped seen mark rest.now }
 {
     match mark {
-        Mark::Comma => Step::On(Stand::Part(seen), rest),
-        Mark::Closing => Step::On(Stand::BehindEmbedded, rest),
-        Mark::End | Mark::Opening => Step::Wrong,
+        Mark::Comma => WalkStep::On(Stand::Part(seen), rest),
+        Mark::Closing => WalkStep::On(Stand::BehindEmbedded, rest),
+        Mark::End | Mark::Opening => WalkStep::Wrong,
     }
 }
 
 #[tactic(auto, unfolding(crate::specs::Walking::stepped))]
-fn stepped<'a>(stand: Stand, name: &[u8], mark: Mark, rest: &'a [u8]) -> Step<'a>
+fn stepped<'a>(stand: Stand, name: &[u8], mark: Mark, rest: &'a [u8]) -> WalkStep<'a>
     ensures { step_seen result ≡ stepped stand name.now mark rest.now }
 {
     match stand {
@@ -309,7 +309,7 @@ fn stepped<'a>(stand: Stand, name: &[u8], mark: Mark, rest: &'a [u8]) -> Step<'a
         Stand::BehindEmbedded if name.is_empty() => behind_embedded_stepped(mark, rest),
         Stand::Part(seen) => part_stepped(seen, name, mark, rest),
         Stand::BehindPart(seen) if name.is_empty() => behind_part_stepped(seen, mark, rest),
-        _ => Step::Wrong,
+        _ => WalkStep::Wrong,
     }
 }
 
@@ -335,13 +335,13 @@ fn walked(alloc: Global, value: &[u8]) -> Result<bool, OutOfMemory>
         let nested = nested_at(stand, outers.is_empty());
         let (name, mark, behind) = next_name(rest, nested);
         match stepped(stand, trimmed(name), mark, behind) {
-            Step::Wrong => return Ok(false),
-            Step::Ends => return Ok(outers.is_empty()),
-            Step::On(next, more) => {
+            WalkStep::Wrong => return Ok(false),
+            WalkStep::Ends => return Ok(outers.is_empty()),
+            WalkStep::On(next, more) => {
                 stand = next;
                 rest = more;
             }
-            Step::Into(seen, more) => {
+            WalkStep::Into(seen, more) => {
                 if depth == 0 {
                     return Ok(false);
                 }
@@ -350,7 +350,7 @@ fn walked(alloc: Global, value: &[u8]) -> Result<bool, OutOfMemory>
                 depth -= 1;
                 rest = more;
             }
-            Step::Out(more) => {
+            WalkStep::Out(more) => {
                 let Some(outer) = outers.pop() else {
                     return Ok(false);
                 };

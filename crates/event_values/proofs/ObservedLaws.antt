@@ -9,8 +9,8 @@ use Rattle.mg_bytes.specs.Bytes.{comma}
 use Rattle.mg_bytes.specs.Blanks.{is_blank}
 use Rattle.mg_bytes.specs.Lines.{is_line_feed}
 use Rattle.mg_bytes.specs.declared.letter.Letter.TheVariants.{Zero}
-use Rattle.mg_packages.specs.declared.event.Event.{Event}
-use Rattle.mg_packages.specs.declared.event.Event.TheVariants.{LineComplete, GenericComplete, Letter}
+use Rattle.mg_packages.specs.declared.event.LineEvent.{LineEvent}
+use Rattle.mg_packages.specs.declared.event.LineEvent.TheVariants.{LineComplete, GenericComplete, Letter}
 use Rattle.mg_packages.specs.declared.signal.Signal.{Signal}
 use Rattle.mg_packages.specs.declared.signal.Signal.TheVariants.{RingSplash, MessageWaiting, Confirm}
 use Rattle.mg_packages.specs.Looking.{event_of}
@@ -34,30 +34,30 @@ abbrev Lets : Result Observed ℕ → Type 0
 Lets (Ok told) = Good told
 Lets (Err code) = Unit {0}
 
-happened_lets : (event : Event) → Lets (happened event)
+happened_lets : (event : LineEvent) → Lets (happened event)
 happened_lets event =
     ⊎_elim
     (λ (h : is_completion event ≡ true). rw h tt)
     (λ (h : is_completion event ≡ false). rw h (rw h refl))
     (cases_Bool (is_completion event))
 
-ended_lets : (event : Event) (signal : Signal) → Lets (ended event signal)
+ended_lets : (event : LineEvent) (signal : Signal) → Lets (ended event signal)
 ended_lets event signal =
     ⊎_elim
     (λ (h : tells event signal ≡ true). rw h (both_true _ _ h).0)
     (λ (h : tells event signal ≡ false). rw h tt)
     (cases_Bool (tells event signal))
 
-signal_lets : (event : Event) (read : Result Signal ℕ) → Lets (read >>= ended event)
+signal_lets : (event : LineEvent) (read : Result Signal ℕ) → Lets (read >>= ended event)
 signal_lets event (Ok signal) = ended_lets event signal
 signal_lets event (Err code) = tt
 
-with_lets : (event : Event) (inside : List (List ℕ)) → Lets (observed_with event inside)
+with_lets : (event : LineEvent) (inside : List (List ℕ)) → Lets (observed_with event inside)
 with_lets event [] = happened_lets event
 with_lets event (signal ∷ []) = signal_lets event (signal_called signal)
 with_lets event (first ∷ second ∷ rest) = tt
 
-event_lets : (read : Result Event ℕ) (inside : List (List ℕ)) → Lets (read >>= λ event. observed_with event inside)
+event_lets : (read : Result LineEvent ℕ) (inside : List (List ℕ)) → Lets (read >>= λ event. observed_with event inside)
 event_lets (Ok event) inside = with_lets event inside
 event_lets (Err code) inside = tt
 

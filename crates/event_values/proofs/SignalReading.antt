@@ -7,7 +7,7 @@ use Rattle.mg_bytes.specs.Bytes.{slash, at_sign}
 use Rattle.mg_bytes.specs.Words.{split_once}
 use Rattle.mg_packages.specs.declared.package.Package.{Package}
 use Rattle.mg_packages.specs.declared.package.Package.TheVariants.{Line, Generic, Dtmf}
-use Rattle.mg_packages.specs.declared.event.Event.{Event}
+use Rattle.mg_packages.specs.declared.event.LineEvent.{LineEvent}
 use Rattle.mg_packages.specs.declared.signal.Kind.{Kind}
 use Rattle.mg_packages.specs.declared.signal.Signal.{Signal}
 use Rattle.mg_packages.specs.Looking.{in_package, in_package_from, package_named, no_signal, signal_in, signal_named, event_named, kind_of}
@@ -19,7 +19,7 @@ use Rattle.event_values.specs.Signals.{most_signals, takes, asked_by, taken_by, 
 use Rattle.event_cuts.proofs.PassLemmas.{Passes, passes_on, passes_up_to, passes_if, along}
 
 -- the signal
-found_passes : (found : Option Signal) (within : Package) (event : Option Event)
+found_passes : (found : Option Signal) (within : Package) (event : Option LineEvent)
     → Passes (λ signal. Unit {0}) (ok_or found (no_signal within event))
 found_passes (Some signal) within event = tt
 found_passes None Line None = lit≤ tt

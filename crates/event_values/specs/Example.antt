@@ -1,6 +1,6 @@
 -- What is read in the worked examples.
 use Rattle.std.specs.Prelude.{ℕ, List, [], ◌∷◌, ◌++◌, Result, Ok}
-use Rattle.mg_packages.specs.declared.event.Event.{Event}
+use Rattle.mg_packages.specs.declared.event.LineEvent.{LineEvent}
 use Rattle.mg_packages.specs.declared.signal.Signal.{Signal}
 use Rattle.mg_packages.specs.Looking.{signal_name}
 use Rattle.event_values.specs.declared.signals.Setting.{Setting}
@@ -35,7 +35,7 @@ abbrev pub handles : Notifying → Quarantined → Result Handling ℕ
 handles notifying quarantined = Ok (record { notifying = notifying; quarantined = quarantined })
 
 -- O of one event
-abbrev pub tells_of : Event → Result (List Observed) ℕ
+abbrev pub tells_of : LineEvent → Result (List Observed) ℕ
 tells_of event = Ok (Happened event ∷ [])
 
 abbrev pub tells_end : Signal → Result (List Observed) ℕ

@@ -3,7 +3,7 @@
 use Rattle.std.specs.Prelude.{ℕ, Bool, true, false, ◌&&◌, ◌||◌, not, if◌then◌else◌, List, [], ◌∷◌, ◌++◌, map, Option, Some, None, Result, Ok, Err}
 use Rattle.std.specs.List.{list_all, join_with_byte}
 use Rattle.mg_bytes.specs.Bytes.{comma}
-use Rattle.mg_packages.specs.declared.event.Event.{Event}
+use Rattle.mg_packages.specs.declared.event.LineEvent.{LineEvent}
 use Rattle.mg_packages.specs.declared.package.Package.{Package}
 use Rattle.mg_packages.specs.declared.package.Package.TheVariants.{Line, Generic}
 use Rattle.mg_packages.specs.declared.signal.Kind.{Kind}
@@ -19,16 +19,16 @@ use Rattle.event_values.specs.Signals.{signal_called}
 
 -- Which event tells what
 
-abbrev pub is_same : Event → Option Event → Bool
+abbrev pub is_same : LineEvent → Option LineEvent → Bool
 is_same event None = false
 is_same event (Some other) = is_same_event event other
 
 -- whether an event tells the ends of the signals of a package
-abbrev pub completes : Event → Package → Bool
+abbrev pub completes : LineEvent → Package → Bool
 completes event within = is_same event (completion_of within)
 
 -- whether it tells the ends of signals at all; then it never stands without the signal
-abbrev pub is_completion : Event → Bool
+abbrev pub is_completion : LineEvent → Bool
 is_completion event = completes event Line || completes event Generic
 
 -- time-out signals alone end by their time
@@ -38,19 +38,19 @@ is_timed Brief = false
 is_timed OnOff = false
 
 -- whether an event tells that a signal ended
-abbrev pub tells : Event → Signal → Bool
+abbrev pub tells : LineEvent → Signal → Bool
 tells event signal = is_timed (kind_of signal) && completes event (package_of signal)
 
 -- Reading
 
-abbrev pub happened : Event → Result Observed ℕ
+abbrev pub happened : LineEvent → Result Observed ℕ
 happened event = if is_completion event then Err 510 else Ok (Happened event)
 
-abbrev pub ended : Event → Signal → Result Observed ℕ
+abbrev pub ended : LineEvent → Signal → Result Observed ℕ
 ended event signal = if tells event signal then Ok (Ended signal) else Err 510
 
 -- an event, with the signal in parentheses behind it
-abbrev pub observed_with : Event → List (List ℕ) → Result Observed ℕ
+abbrev pub observed_with : LineEvent → List (List ℕ) → Result Observed ℕ
 observed_with event [] = happened event
 observed_with event (signal ∷ []) = signal_called signal >>= ended event
 observed_with event (first ∷ second ∷ rest) = Err 510
@@ -76,7 +76,7 @@ observed_of value = each observed_entry (entries value)
 
 -- Writing
 
-abbrev pub completion_name : Option Event → List ℕ
+abbrev pub completion_name : Option LineEvent → List ℕ
 completion_name None = []
 completion_name (Some event) = event_name event
 

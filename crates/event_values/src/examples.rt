@@ -11,7 +11,7 @@ use crate::handling::{Notifying, Quarantined};
 use crate::observed::Observed;
 use crate::signals::Setting;
 use mg_bytes::Letter;
-use mg_packages::{Event, SIGNALS, Signal};
+use mg_packages::{LineEvent, SIGNALS, Signal};
 
 /// `+` or no parameter starts any signal; `-` stops one that isn't brief; `to=` gives a time to one that ends by it.
 pub fn signals_take_parameters_by_kind()
@@ -167,16 +167,16 @@ pub fn handling_is_written()
 
 /// O is a list of events; the end of a signal by its time is told with the signal, and no other event is.
 pub fn observed_events_are_told()
-    ensures dialled { observed_of (codes "L/hd,D/8,D/1,D/2,D/3") ≡ Ok (Observed.Happened Event.OffHook
-        ∷ Observed.Happened (Event.Letter Letter.Eight) ∷ Observed.Happened (Event.Letter Letter.One)
-        ∷ Observed.Happened (Event.Letter Letter.Two) ∷ Observed.Happened (Event.Letter Letter.Three) ∷ []) }
-    ensures timer { observed_of (codes "D/T") ≡ tells_of (Event.Letter Letter.Timer) }
+    ensures dialled { observed_of (codes "L/hd,D/8,D/1,D/2,D/3") ≡ Ok (Observed.Happened LineEvent.OffHook
+        ∷ Observed.Happened (LineEvent.Letter Letter.Eight) ∷ Observed.Happened (LineEvent.Letter Letter.One)
+        ∷ Observed.Happened (LineEvent.Letter Letter.Two) ∷ Observed.Happened (LineEvent.Letter Letter.Three) ∷ []) }
+    ensures timer { observed_of (codes "D/T") ≡ tells_of (LineEvent.Letter Letter.Timer) }
     ensures ended { observed_of (codes "L/oc(L/dl)") ≡ tells_end Signal.DialTone }
     ensures ended_of_line { observed_of (codes "OC ( ro )") ≡ tells_end Signal.Reorder }
     ensures ended_of_generic { observed_of (codes "G/oc(G/rt)") ≡ tells_end Signal.Ringback }
     ensures congestion { observed_of (codes "G/oc(G/cg)") ≡ tells_end Signal.Congestion }
-    ensures blanks { observed_of (codes " hu ,D/#") ≡ Ok (Observed.Happened Event.OnHook
-        ∷ Observed.Happened (Event.Letter Letter.Hash) ∷ []) }
+    ensures blanks { observed_of (codes " hu ,D/#") ≡ Ok (Observed.Happened LineEvent.OnHook
+        ∷ Observed.Happened (LineEvent.Letter Letter.Hash) ∷ []) }
     ensures empty { observed_of [] ≡ Ok [] }
     ensures blank { observed_of (codes " ") ≡ Ok [] }
 {}
@@ -208,13 +208,13 @@ pub fn faults_of_observed_events_are_510()
 
 /// O is written with commas alone between the events.
 pub fn observed_events_are_written()
-    ensures four { observed_text (Observed.Happened Event.OffHook ∷ Observed.Happened (Event.Letter Letter.Five)
-        ∷ Observed.Happened (Event.Letter Letter.Timer) ∷ Observed.Ended Signal.DialTone ∷ [])
+    ensures four { observed_text (Observed.Happened LineEvent.OffHook ∷ Observed.Happened (LineEvent.Letter Letter.Five)
+        ∷ Observed.Happened (LineEvent.Letter Letter.Timer) ∷ Observed.Ended Signal.DialTone ∷ [])
         ≡ codes "L/hd,D/5,D/T,L/oc(L/dl)" }
     ensures generic { observed_text (Observed.Ended Signal.Ringback ∷ []) ≡ codes "G/oc(G/rt)" }
     ensures none { observed_text [] ≡ [] }
-    ensures writable { are_writable_observed (Observed.Happened Event.Flash ∷ Observed.Ended Signal.Busy ∷ []) ≡ true }
-    ensures bare_completion { are_writable_observed (Observed.Happened Event.LineComplete ∷ []) ≡ false }
-    ensures bare_generic { are_writable_observed (Observed.Happened Event.GenericComplete ∷ []) ≡ false }
+    ensures writable { are_writable_observed (Observed.Happened LineEvent.Flash ∷ Observed.Ended Signal.Busy ∷ []) ≡ true }
+    ensures bare_completion { are_writable_observed (Observed.Happened LineEvent.LineComplete ∷ []) ≡ false }
+    ensures bare_generic { are_writable_observed (Observed.Happened LineEvent.GenericComplete ∷ []) ≡ false }
     ensures brief { are_writable_observed (Observed.Ended Signal.Busy ∷ Observed.Ended Signal.Confirm ∷ []) ≡ false }
 {}

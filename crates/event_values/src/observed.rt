@@ -14,7 +14,7 @@ use crate::signals::signal_called;
 use event_cuts::{Inside, entries, form_of};
 use mg_bytes::{CodeFault, OutOfMemory, ReturnCode, Sequence, Text};
 use mg_packages::{
-    Event, Kind, Package, Signal, completion_of, event_name, event_of, kind_of, signal_name,
+    Kind, LineEvent, Package, Signal, completion_of, event_name, event_of, kind_of, signal_name,
 };
 use std::alloc::Global;
 
@@ -22,7 +22,7 @@ use std::alloc::Global;
 #[derive(Clone, Copy, PartialEq, Eq)]
 pub enum Observed {
     /// This event happened.
-    Happened(Event),
+    Happened(LineEvent),
     /// This signal ended by its time: `L/oc` or `G/oc`.
     Ended(Signal),
 }
@@ -30,17 +30,17 @@ pub enum Observed {
 // What stands in a place that has no event yet.
 impl Default for Observed {
     ghost use Rattle.std.specs.Prelude.{◌≡◌};
-    ghost use Rattle.mg_packages.specs.declared.event.Event.TheVariants.{OffHook};
+    ghost use Rattle.mg_packages.specs.declared.event.LineEvent.TheVariants.{OffHook};
     ghost use Rattle.event_values.specs.declared.observed.Observed.TheVariants.{Happened};
 
     ghost is_default = { λ observed. observed ≡ Happened OffHook };
 
     fn default() -> Self {
-        Observed::Happened(Event::OffHook)
+        Observed::Happened(LineEvent::OffHook)
     }
 }
 
-fn completes(event: Event, within: Package) -> bool
+fn completes(event: LineEvent, within: Package) -> bool
     ensures { result ≡ completes event within }
 {
     match completion_of(within) {
@@ -49,7 +49,7 @@ fn completes(event: Event, within: Package) -> bool
     }
 }
 
-fn is_completion(event: Event) -> bool
+fn is_completion(event: LineEvent) -> bool
     ensures { result ≡ is_completion event }
 {
     completes(event, Package::Line) || completes(event, Package::Generic)
@@ -64,13 +64,13 @@ fn is_timed(kind: Kind) -> bool
     }
 }
 
-fn tells(event: Event, signal: Signal) -> bool
+fn tells(event: LineEvent, signal: Signal) -> bool
     ensures { result ≡ tells event signal }
 {
     is_timed(kind_of(signal)) && completes(event, signal.package())
 }
 
-fn happened(event: Event) -> Result<Observed, u16>
+fn happened(event: LineEvent) -> Result<Observed, u16>
     ensures { result ≡ happened event }
 {
     if is_completion(event) {
@@ -80,7 +80,7 @@ fn happened(event: Event) -> Result<Observed, u16>
     }
 }
 
-fn ended(event: Event, signal: Signal) -> Result<Observed, u16>
+fn ended(event: LineEvent, signal: Signal) -> Result<Observed, u16>
     ensures { result ≡ ended event signal }
 {
     if tells(event, signal) {
@@ -90,7 +90,7 @@ fn ended(event: Event, signal: Signal) -> Result<Observed, u16>
     }
 }
 
-fn observed_with(event: Event, inside: Inside<'_>) -> Result<Observed, u16>
+fn observed_with(event: LineEvent, inside: Inside<'_>) -> Result<Observed, u16>
     ensures { result ≡ observed_with event (inside_seen inside.entry) }
 {
     match inside {

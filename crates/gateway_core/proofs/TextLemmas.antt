@@ -18,7 +18,7 @@ use Rattle.plain_machine.specs.Commanding.{done_by}
 use Rattle.std.proofs.lemmas.List.{map-append}
 use Rattle.std.specs.declared.net.socket_addr.SocketAddrV4.{SocketAddrV4}
 use Rattle.history.specs.declared.span.IdSpan.{IdSpan}
-use Rattle.mgcp_text.specs.Answer.{Answer, response_of}
+use Rattle.mgcp_text.specs.Answer.{AnswerContent, response_of}
 use Rattle.mgcp_text.specs.Reading.{Outcome, message, no_header, bad_version, bad_body, read_text}
 use Rattle.plain_machine.specs.declared.setup.Setup.{Setup}
 use Rattle.transmission.specs.declared.output.OutDatagram.{OutDatagram}
@@ -39,7 +39,7 @@ use Rattle.gateway_core.specs.Hearing.{left_done}
 use Rattle.gateway_core.specs.State.{machine_in, found_in, Went, Does}
 
 -- a first is executed: its command changed the store, then it was answered, and then comes what lines send because of it
-pub executed_then : (was is : State) (source : SocketAddrV4) (id : ℕ) (line : Option ℕ) (kept confirms : List IdSpan) (done : Done) (given : Answer) (caused were next are : List OutDatagram)
+pub executed_then : (was is : State) (source : SocketAddrV4) (id : ℕ) (line : Option ℕ) (kept confirms : List IdSpan) (done : Done) (given : AnswerContent) (caused were next are : List OutDatagram)
     → kept ≡ confirms → given ≡ done.answer → Goes done.told was.store is.store [] caused → is.clock ≡ was.clock
     → is.history ≡ with_first was.history id was.clock kept (written (response_of id given))
     → next ≡ were ++ message_to source was.clock (written (response_of id given)) ∷ [] → are ≡ next ++ caused
@@ -51,10 +51,10 @@ executed_then was is source id line kept confirms done given caused were next ar
   sent = more
       ∙ ap (λ (x : List OutDatagram). x ++ caused) sent
       ∙ append_assoc were (front id source was.clock given ∷ []) caused
-      ∙ ap (λ (a : Answer). were ++ front id source was.clock a ∷ caused) ok
+      ∙ ap (λ (a : AnswerContent). were ++ front id source was.clock a ∷ caused) ok
       ∙ ap (λ (x : List OutDatagram). were ++ front id source was.clock done.answer ∷ x) goes.sent;
 } where
-  front : ℕ → SocketAddrV4 → ℕ → Answer → OutDatagram
+  front : ℕ → SocketAddrV4 → ℕ → AnswerContent → OutDatagram
   front id source now a = message_to source now (written (response_of id a))
 
 -- the acknowledgements are those of the plain machine

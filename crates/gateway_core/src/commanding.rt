@@ -19,7 +19,7 @@ use command_forms::{Asks, Audit, AuditTarget, Deed, Target, form_while};
 use endpoint_rules::{Context, answer_with};
 use endpoints::{Store, deed_on_all, line_with_place, refused_by};
 use mg_bytes::{CodeFault, OutOfMemory, ReturnCode};
-use mgcp_text::{Answer, Bytes, KValue, Message, Params, TransactionId};
+use mgcp_text::{AnswerContent, Bytes, KValue, Message, Params, TransactionId};
 use plain_machine::OutDatagram;
 use std::alloc::AllocError;
 
@@ -30,7 +30,7 @@ fn line_report(
     line: u16,
     id: TransactionId,
     audit: &Audit<'_>,
-) -> Result<Answer, CodeFault>
+) -> Result<AnswerContent, CodeFault>
     ensures { AnswersAs (line_report (endpoint_at store.now.endpoints line) id audit.now) result }
 {
     let Some(endpoint) = store.endpoint(line) else {
@@ -51,12 +51,16 @@ fn line_report(
 
 // The names of all lines.
 #[tactic(auto, unfolding(mgcp_text::specs::Writing::is_writable_body))]
-fn all_reported(context: Context<'_>, store: &Store, id: TransactionId) -> Result<Answer, CodeFault>
+fn all_reported(
+    context: Context<'_>,
+    store: &Store,
+    id: TransactionId,
+) -> Result<AnswerContent, CodeFault>
     requires { is_domain context.setup.now.names.domain ≡ true }
     ensures { AnswersAs (fitting id (reported (names_of context.entry.setup.now store.now.endpoints))) result }
 {
     let names = names_of(context, store)?;
-    let report = Answer::with(ReturnCode::Executed.number(), names, Bytes::of(b""));
+    let report = AnswerContent::with(ReturnCode::Executed.number(), names, Bytes::of(b""));
     fitting(context.alloc, id, report)
 }
 
@@ -68,7 +72,7 @@ fn audited(
     id: TransactionId,
     target: AuditTarget,
     audit: &Audit<'_>,
-) -> Result<Answer, CodeFault>
+) -> Result<AnswerContent, CodeFault>
     requires { is_domain context.setup.now.names.domain ≡ true }
     ensures { AnswersAs (audited context.entry.setup.now store.now.endpoints id target audit.now) result }
 {
@@ -85,14 +89,14 @@ fn answer_to_audit(
     id: TransactionId,
     target: AuditTarget,
     audit: &Audit<'_>,
-) -> Result<Answer, OutOfMemory>
+) -> Result<AnswerContent, OutOfMemory>
     requires { is_domain context.setup.now.names.domain ≡ true }
     ensures { IfOk result (λ answer. answer
         ≡ answer_by (audited context.entry.setup.now store.now.endpoints id target audit.now)) }
 {
     match audited(context, store, id, target, audit) {
         Err(CodeFault::OutOfMemory) => Err(AllocError),
-        Err(CodeFault::Code(code)) => Ok(Answer::plain(context.alloc, code)),
+        Err(CodeFault::Code(code)) => Ok(AnswerContent::plain(context.alloc, code)),
         Ok(report) => Ok(report),
     }
 }
@@ -106,7 +110,7 @@ fn deed_done(
     more: Params<'static>,
     deed: &Deed,
     sent: &mut Vec<OutDatagram>,
-) -> Result<Answer, OutOfMemory>
+) -> Result<AnswerContent, OutOfMemory>
     requires may { MayTell context.setup.now moment }
     requires writable { list_all is_writable_param more ≡ true }
     ensures answer { IfOk result (λ answer. answer ≡ (deed_done context.entry.setup.now store.old.endpoints lines
@@ -115,7 +119,7 @@ fn deed_done(
         store.old store.new sent.old.items sent.new.items }
 {
     if let Some(code) = refused_by(store, lines, deed) {
-        return Ok(Answer::plain(context.alloc, code));
+        return Ok(AnswerContent::plain(context.alloc, code));
     }
     let news = deed_on_all(context, store, moment, lines, deed, sent)?;
     answer_with(context, more, deed, &news)
@@ -128,7 +132,7 @@ fn done_there(
     moment: u64,
     deed: &Deed,
     sent: &mut Vec<OutDatagram>,
-) -> Result<Answer, OutOfMemory>
+) -> Result<AnswerContent, OutOfMemory>
     requires { MayTell context.setup.now moment }
     ensures answer { IfOk result (λ answer. answer ≡ (done_there (line_with_place store.old.endpoints)
         context.entry.setup.now store.old.endpoints deed.now moment).answer) }
@@ -136,7 +140,7 @@ fn done_there(
         store.old.endpoints deed.now moment).told store.old store.new sent.old.items sent.new.items }
 {
     let Some(line) = line_with_place(store) else {
-        return Ok(Answer::plain(context.alloc, ReturnCode::NoEndpointAvailable.number()));
+        return Ok(AnswerContent::plain(context.alloc, ReturnCode::NoEndpointAvailable.number()));
     };
     let more = name_alone(context, line)?;
     deed_done(context, store, moment, Target::One(line), more, deed, sent)
@@ -150,7 +154,7 @@ fn done_for(
     target: Target,
     deed: &Deed,
     sent: &mut Vec<OutDatagram>,
-) -> Result<Answer, OutOfMemory>
+) -> Result<AnswerContent, OutOfMemory>
     requires { MayTell context.setup.now moment }
     ensures answer { IfOk result (λ answer. answer ≡ (done_for context.entry.setup.now store.old.endpoints target
         deed.now moment).answer) }
@@ -174,7 +178,7 @@ pub(crate) fn commanded(
     said: &Message<'_>,
     confirms: &KValue,
     sent: &mut Vec<OutDatagram>,
-) -> Result<Answer, OutOfMemory>
+) -> Result<AnswerContent, OutOfMemory>
     requires { MayTell context.setup.now moment }
     ensures answer { IfOk result (λ answer. answer ≡ (done_by
         (form_while_in (serves store.old.endpoints) said.now confirms.now context.entry.setup.now.names)
@@ -190,7 +194,7 @@ pub(crate) fn commanded(
         &context.setup.names,
     ) {
         Err(CodeFault::OutOfMemory) => Err(AllocError),
-        Err(CodeFault::Code(code)) => Ok(Answer::plain(context.alloc, code)),
+        Err(CodeFault::Code(code)) => Ok(AnswerContent::plain(context.alloc, code)),
         Ok(Asks::Reports(target, audit)) => answer_to_audit(context, store, id, target, &audit),
         Ok(Asks::Does(target, boxed)) => {
             done_for(context, store, moment, target, boxed.deed(), sent)

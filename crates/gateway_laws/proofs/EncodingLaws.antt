@@ -24,8 +24,8 @@ use Rattle.command_forms.specs.declared.forms.ConnectionDeed.TheVariants.{Keep, 
 use Rattle.command_forms.specs.declared.forms.Deed.{Deed}
 use Rattle.event_requests.specs.declared.request.Request.{Request}
 use Rattle.command_forms.specs.declared.forms.Target.{Target}
-use Rattle.command_forms.specs.declared.refused.Place.{Place}
-use Rattle.command_forms.specs.declared.refused.Place.TheVariants.{Line}
+use Rattle.command_forms.specs.declared.refused.FaultyPart.{FaultyPart}
+use Rattle.command_forms.specs.declared.refused.FaultyPart.TheVariants.{Line}
 use Rattle.command_forms.specs.declared.refused.Refused.{Refused}
 use Rattle.command_forms.specs.declared.verbs.Connecting.TheVariants.{Keeps}
 use Rattle.command_forms.specs.declared.verbs.Meant.{Meant}
@@ -100,7 +100,7 @@ taken_if_fine row before param e =
 abbrev Lacks : VerbRow → List ℕ → Type 0
 Lacks row code = (other : List ℕ) → same_but_case other code ≡ true → (is_ignored other || is_taken row other) ≡ false
 
-no_fault : (place : Place) (fault : Option ℕ) → fault_at place fault ≡ None → fault ≡ None
+no_fault : (place : FaultyPart) (fault : Option ℕ) → fault_at place fault ≡ None → fault ≡ None
 no_fault place None e = refl
 no_fault place (Some code) e = absurd cc
 

@@ -12,7 +12,7 @@ use Rattle.routes.specs.declared.route.Route.{Route}
 use Rattle.routes.specs.Route.{at}
 use Rattle.endpoint_names.specs.declared.entity.Entity.{Entity}
 use Rattle.mgcp_text.specs.Writing.{written}
-use Rattle.mg_packages.specs.declared.event.Event.TheVariants as events
+use Rattle.mg_packages.specs.declared.event.LineEvent.TheVariants as events
 use Rattle.mg_packages.specs.declared.signal.Kind.{Kind}
 use Rattle.mg_packages.specs.declared.signal.Kind.TheVariants.{TimeOut, Brief, OnOff}
 use Rattle.mg_packages.specs.declared.signal.Signal.{Signal}

@@ -8,7 +8,7 @@ use Rattle.std.proofs.lemmas.Bool.{and_parts}
 use Rattle.std.proofs.lemmas.Slice.Eq.{bytes_eq-Decides}
 use Rattle.mg_bytes.specs.declared.letter.Letter.{Letter}
 use Rattle.mg_bytes.specs.Blanks.{is_blank}
-use Rattle.mg_packages.specs.declared.event.Event.{Event}
+use Rattle.mg_packages.specs.declared.event.LineEvent.{LineEvent}
 use Rattle.digit_map.specs.declared.change.MapChange.{MapChange}
 use Rattle.digit_map.specs.declared.change.MapChange.TheVariants.{Keep, Remove, Replace}
 use Rattle.digit_map.specs.declared.fault.MapFault.{MapFault}
@@ -83,7 +83,7 @@ acted_spelled (Embed request) line event moment new are = embedded_spelled (reco
 acted_spelled (AccumulateAndEmbed request) line event moment new are =
     full_spelled (embedded (with_event line event) request moment) (embedded_spelled (with_event line event) request moment new are)
 
-found_spelled : (list : List RequestedEvent) (event : Event) → all_maps_are_spelled list ≡ true
+found_spelled : (list : List RequestedEvent) (event : LineEvent) → all_maps_are_spelled list ≡ true
     → has_spelled_map (chosen_by event (find (λ entry. names entry.events event) list)).reaction ≡ true
 found_spelled [] event all = refl
 found_spelled (entry ∷ list) event all =
@@ -95,7 +95,7 @@ found_spelled (entry ∷ list) event all =
       by_name true here there = here
       by_name false here there = there
 
-chosen_spelled : (list : List RequestedEvent) (event : Event) → all_maps_are_spelled list ≡ true → has_spelled_map (chosen list event).reaction ≡ true
+chosen_spelled : (list : List RequestedEvent) (event : LineEvent) → all_maps_are_spelled list ≡ true → has_spelled_map (chosen list event).reaction ≡ true
 unfolding chosen
 chosen_spelled list event all = found_spelled list event all
 

@@ -20,7 +20,7 @@ use Rattle.mgcp_text.specs.Confirmation.{k_of}
 use Rattle.mgcp_text.specs.Reading.{Outcome, message, no_header, bad_version, bad_body, id_in, read_text}
 use Rattle.mg_bytes.specs.Lines.{ended}
 use Rattle.mgcp_text.specs.Writing.{code_text, comment, response_line, param_line, body_text, written, is_writable_param, is_writable_body}
-use Rattle.mgcp_text.specs.Answer.{Answer, IsAnswer, plain_code, response_of}
+use Rattle.mgcp_text.specs.Answer.{AnswerContent, IsAnswer, plain_code, response_of}
 use Rattle.mgcp_text.proofs.AnswerLemmas.{answer_writable}
 use Rattle.mgcp_text.proofs.IdLemmas.{IsId, read_id}
 use Rattle.mgcp_text.proofs.WholeLemmas.{whole_written}
@@ -103,7 +103,7 @@ first_line code id small =
     let whole = length-append ((code_text code ++ (space ∷ decimal id)) ++ comment code) (13 ∷ 10 ∷ []) in
     omega (arith, digits, behind, two, three, whole)
 
-short_goes : (id : ℕ) (answer : Answer) → IsId id → IsAnswer answer → length (written (response_of id answer)) ≤ largest_datagram → Goes (written (response_of id answer))
+short_goes : (id : ℕ) (answer : AnswerContent) → IsId id → IsAnswer answer → length (written (response_of id answer)) ≤ largest_datagram → Goes (written (response_of id answer))
 short_goes id answer has is short =
     let whole = whole_written (response_of id answer) (answer_writable id answer has.0 has.1 is) in
     joinable-from largest_datagram (written (response_of id answer)) (record { ends = whole.ends; apart = whole.apart; short = short })
@@ -125,11 +125,11 @@ code_short code id small =
     omega (arith, head, two, three)
 
 -- an answer in this transaction that can be written, and is no longer than a datagram may be
-pub record IsFit (id : ℕ) (answer : Answer) : Type 0 where
+pub record IsFit (id : ℕ) (answer : AnswerContent) : Type 0 where
   pub is : IsAnswer answer
   pub short : length (written (response_of id answer)) ≤ largest_datagram
 
-pub fit_goes : (id : ℕ) (answer : Answer) → IsId id → IsFit id answer → Goes (written (response_of id answer))
+pub fit_goes : (id : ℕ) (answer : AnswerContent) → IsId id → IsFit id answer → Goes (written (response_of id answer))
 fit_goes id answer has fit = short_goes id answer has fit.is fit.short
 
 pub code_fits : (code id : ℕ) → IsId id → IsCode code → IsFit id (plain_code code)
@@ -139,7 +139,7 @@ pub code_goes : (code id : ℕ) → IsId id → IsCode code → Goes (written (r
 code_goes code id has small = fit_goes id (plain_code code) has (code_fits code id has small)
 
 -- a report that can be written, or a code
-report_goes : (id : ℕ) (report : Result Answer ℕ) → IsId id → ((answer : Answer) → report ≡ Ok answer → CanBeWritten id answer) → ((code : ℕ) → report ≡ Err code → IsCode code)
+report_goes : (id : ℕ) (report : Result AnswerContent ℕ) → IsId id → ((answer : AnswerContent) → report ≡ Ok answer → CanBeWritten id answer) → ((code : ℕ) → report ≡ Err code → IsCode code)
     → IsFit id (answer_by report)
 report_goes id (Ok answer) has fine small =
     let is = fine answer refl in
@@ -201,7 +201,7 @@ line_answered setup m id line audit fits has = by_endpoint (endpoint_at m.endpoi
 -- of all lines
 names_answered : (id : ℕ) (names : List Param) → IsId id → list_all is_writable_param names ≡ true → IsFit id (answer_by (fitting id (reported names)))
 names_answered id names has each =
-    let wanted : Answer = reported names in
+    let wanted : AnswerContent = reported names in
     report_goes id (fitting id wanted) has
     (λ answer e. let same : answer ≡ wanted = fitting_same id wanted answer e in
     record {

@@ -13,8 +13,8 @@ use Rattle.mg_bytes.specs.Blanks.{is_blank}
 use Rattle.mg_bytes.specs.Lines.{is_line_feed, ended}
 use Rattle.mg_bytes.specs.Numbers.{is_hex_text}
 use Rattle.mg_bytes.specs.declared.letter.Letter.TheVariants as letters
-use Rattle.mg_packages.specs.declared.event.Event.{Event}
-use Rattle.mg_packages.specs.declared.event.Event.TheVariants as events
+use Rattle.mg_packages.specs.declared.event.LineEvent.{LineEvent}
+use Rattle.mg_packages.specs.declared.event.LineEvent.TheVariants as events
 use Rattle.mg_packages.specs.declared.signal.Signal.TheVariants.{DialTone, Busy, Reorder, Ringing, RingSplash, MessageWaiting, Ringback, Congestion, Confirm}
 use Rattle.mg_packages.specs.Looking.{event_name, signal_name, package_of, completion_of, event_named}
 use Rattle.mgcp_text.specs.declared.message.Param.{Param}
@@ -66,7 +66,7 @@ identifier_is text digits =
 
 -- The events
 
-event_short : (event : Event) → length (event_name event) ≤ 4
+event_short : (event : LineEvent) → length (event_name event) ≤ 4
 unfolding event_name
 event_short events.OffHook = omega arith
 event_short events.OnHook = omega arith

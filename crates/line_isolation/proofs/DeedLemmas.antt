@@ -2,7 +2,7 @@
 use Rattle.std.proofs.Common.{◌≡◌, ◌≢◌, ℕ, ◌<◌, Bool, true, false, ◌==◌, if◌then◌else◌, List, [], Option, Some, None, Result, Ok, Err, inl, inr, refl, sym, ap, subst, ◌∙◌, arith}
 use Rattle.std.specs.Prelude.{◌⊎◌, option_map, option_and_then}
 use Rattle.std.proofs.lemmas.Bool.Decides.{Decides-eqb}
-use Rattle.mgcp_text.specs.Answer.{Answer, plain_code}
+use Rattle.mgcp_text.specs.Answer.{AnswerContent, plain_code}
 use Rattle.mgcp_text.specs.declared.confirmation.KValue.{KValue}
 use Rattle.endpoint_names.specs.Name.{name_of}
 use Rattle.command_forms.specs.Codes.{target_for, target_in}
@@ -43,7 +43,7 @@ pub record DoneAlike (line : ℕ) (one other : Done) : Type 0 where
   pub told : ToldAlike line one.told other.told
   pub answer : other.answer ≡ one.answer
 
-pub only_alike : (line : ℕ) (one other : Endpoints) (a b : Answer) → AreAlike line one other → b ≡ a → DoneAlike line (only_answer one a) (only_answer other b)
+pub only_alike : (line : ℕ) (one other : Endpoints) (a b : AnswerContent) → AreAlike line one other → b ≡ a → DoneAlike line (only_answer one a) (only_answer other b)
 only_alike line one other a b alike same = record { told = nothing_told line one other alike; answer = same }
 
 if_turned : (b : Bool) (turn : Endpoint → Effect Endpoint) (found : Option Endpoint)

@@ -14,7 +14,7 @@ use Rattle.command_forms.specs.declared.forms.Asks.{Asks}
 use Rattle.command_forms.specs.declared.forms.AuditTarget.TheVariants as audits
 use Rattle.command_forms.specs.declared.forms.Target.{Target}
 use Rattle.command_forms.specs.declared.forms.Target.TheVariants.{One, All, Any}
-use Rattle.command_forms.specs.declared.refused.Place.TheVariants.{Verb, Name}
+use Rattle.command_forms.specs.declared.refused.FaultyPart.TheVariants.{Verb, Name}
 use Rattle.command_forms.specs.declared.refused.Refused.{Refused}
 use Rattle.command_forms.specs.declared.verbs.Meant.{Meant}
 use Rattle.command_forms.specs.declared.verbs.Purpose.{Purpose}

@@ -3,7 +3,7 @@ use Rattle.std.proofs.Common.{◌≡◌, ◌≢◌, ℕ, Bool, true, false, ◌=
 use Rattle.std.specs.Prelude.{not}
 use Rattle.std.proofs.lemmas.Bool.Decides.{Decides-eqb}
 use Rattle.std.specs.declared.net.socket_addr.SocketAddrV4.{SocketAddrV4}
-use Rattle.mgcp_text.specs.Answer.{Answer, plain_code, response_of}
+use Rattle.mgcp_text.specs.Answer.{AnswerContent, plain_code, response_of}
 use Rattle.mgcp_text.specs.Confirmation.{k_of}
 use Rattle.mgcp_text.specs.declared.message.Message.TheVariants as messages
 use Rattle.mgcp_text.specs.Reading.{Outcome, message, no_header, bad_version, bad_body}
@@ -39,11 +39,11 @@ module _ (setup : Setup) (keep : ℕ → Bool) (line : ℕ) where
       → Matches keep line (transacted_by looked m source (transaction id who confirms done)) (transacted_by looked alone source (transaction id who confirms other))
   unfolding executed
   own_transacted new m alone source id who confirms done other agree alike has =
-      let first : ℕ → Answer → List Entry → List Entry =
+      let first : ℕ → AnswerContent → List Entry → List Entry =
       λ now answer entries. (entries ++ Confirmation confirms ∷ []) ++ First (record { id = id; moment = now; answer = written (response_of id answer) }) ∷ [] in
       let kept : first alone.now other.answer alone.history ≡ first m.now done.answer alone.history =
-      ap (λ (n : ℕ). first n other.answer alone.history) agree.now ∙ ap (λ (a : Answer). first m.now a alone.history) alike.answer in
-      let out : ℕ → Answer → Sent = λ now said. record { to = source; moment = now; owner = answer_of who; said = answer (response_of id said) } in
+      ap (λ (n : ℕ). first n other.answer alone.history) agree.now ∙ ap (λ (a : AnswerContent). first m.now a alone.history) alike.answer in
+      let out : ℕ → AnswerContent → Sent = λ now said. record { to = source; moment = now; owner = answer_of who; said = answer (response_of id said) } in
       let same : out alone.now other.answer ≡ out m.now done.answer = ap (λ (n : ℕ). out n other.answer) agree.now ∙ ap (out m.now) alike.answer in
       let put : Sent → List Sent → List Sent = λ one rest. if is_of line one.owner then one ∷ rest else rest in
       record {

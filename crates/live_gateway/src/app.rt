@@ -7,7 +7,7 @@ use crate::message_tally::MessageTally;
 use crate::report::report;
 use crate::session::serve;
 use crate::telephones::Telephones;
-use crate::trace::{Told, Trace, TraceState};
+use crate::trace::{Trace, TraceEntry, TraceState};
 use crate::words::{Settings, WordFault, read_words};
 use gateway_core::Gateway;
 use rgw_play::{LIMIT, PlayFault, gateway_of, read_key_at_fault, read_limited};
@@ -134,7 +134,7 @@ fn serve_wire<'w, R: Net + Clock + Print + Eprint>(
     wire: &mut LiveWire<'_, R>,
 ) -> Result<(), Ending<'w>> {
     let faults = serve(rt, alloc, gateway, wire);
-    wire.journal.trace.tell(Told::End);
+    wire.journal.trace.tell(TraceEntry::End);
     wire.journal.trace.write(rt);
     let Ok(counts) = report(alloc, gateway, &wire.journal.tally, faults) else {
         return Err(Ending::OutOfMemory);
@@ -154,7 +154,7 @@ fn journal_of<'w>(
         return Err(Ending::OutOfMemory);
     };
     let mut trace = Trace::new(alloc, settings.trace);
-    trace.tell(Told::Config { text });
+    trace.tell(TraceEntry::Config { text });
     Ok(Journal {
         tally,
         trace,

@@ -1,6 +1,6 @@
 //! What is kept of the turn under way, for its count and its trace.
 use crate::message_tally::MessageTally;
-use crate::trace::{Told, Trace};
+use crate::trace::{Trace, TraceEntry};
 use gateway_core::Input;
 use std::net::SocketAddrV4;
 
@@ -17,12 +17,12 @@ impl Journal {
     /// A datagram is given to the gateway.
     pub fn datagram(&mut self, source: SocketAddrV4, bytes: &[u8]) {
         self.tally.received(bytes);
-        self.trace.tell(Told::Datagram { source, bytes });
+        self.trace.tell(TraceEntry::Datagram { source, bytes });
     }
 
     /// A datagram is sent at this moment.
     pub fn sent(&mut self, moment: u64, to: SocketAddrV4, bytes: &[u8]) {
         self.tally.sent(moment, bytes);
-        self.trace.tell(Told::Sent { to, bytes });
+        self.trace.tell(TraceEntry::Sent { to, bytes });
     }
 }

@@ -5,7 +5,7 @@ ghost use Rattle.gateway_core.specs.Wire.{IsWithin};
 use crate::clock::{LONGEST_TICK, LiveClock};
 use crate::journal::Journal;
 use crate::telephones::{TelephoneRequest, Telephones};
-use crate::trace::Told;
+use crate::trace::TraceEntry;
 use gateway_core::{DATAGRAM_ROOM, Input, Wire, WireFault};
 use std::io;
 use std::io::ErrorKind;
@@ -167,7 +167,7 @@ impl<'a, R: Net + Clock> LiveWire<'a, R> {
             Input::Datagram { source, len } => self.journal.datagram(source, &room[..len]),
             Input::Phone { .. } => {
                 let line = self.ends.telephones.line();
-                self.journal.trace.tell(Told::Line { line });
+                self.journal.trace.tell(TraceEntry::Line { line });
             }
             Input::Tick { moment } => self.journal.trace.tick(moment),
             Input::End => {}

@@ -4,7 +4,7 @@ ghost use Rattle.std.specs.Prelude.{◌≤◌, ◌↔◌, IsTrue};
 use crate::live_wire::LiveWire;
 use crate::report::Faults;
 use crate::telephones::{TelephoneRequest, Telephones};
-use crate::trace::{Told, Trace};
+use crate::trace::{Trace, TraceEntry};
 use gateway_core::{Gateway, Input, Refusal};
 use mg_bytes::OutOfMemory;
 use mg_line::Act;
@@ -71,11 +71,11 @@ fn refuse_act(alloc: Global, telephones: &mut Telephones, trace: &mut Trace, ref
     match refusal_text(alloc, refusal) {
         Ok(text) => {
             let text = text.as_slice();
-            trace.tell(Told::Shown { text });
+            trace.tell(TraceEntry::Shown { text });
             telephones.answer(text);
         }
         Err(_) => {
-            trace.tell(Told::Taken);
+            trace.tell(TraceEntry::Taken);
             telephones.answer(OUT_OF_MEMORY);
         }
     }
@@ -92,8 +92,8 @@ fn answer_question(
         Ok(text) => {
             let text = text.as_slice();
             let line = telephones.line();
-            trace.tell(Told::Line { line });
-            trace.tell(Told::Shown { text });
+            trace.tell(TraceEntry::Line { line });
+            trace.tell(TraceEntry::Shown { text });
             telephones.answer(text);
         }
         Err(_) => telephones.answer(OUT_OF_MEMORY),
@@ -130,11 +130,11 @@ impl<'a, R: Net + Clock> LiveWire<'a, R> {
                 refuse_act(alloc, telephones, &mut self.journal.trace, refusal);
             }
             (Some(Input::Phone { .. }), false) => {
-                self.journal.trace.tell(Told::Taken);
+                self.journal.trace.tell(TraceEntry::Taken);
                 self.ends.telephones.answer(DONE);
             }
             (_, true) => self.journal.trace.refused(),
-            (_, false) => self.journal.trace.tell(Told::Taken),
+            (_, false) => self.journal.trace.tell(TraceEntry::Taken),
         }
     }
 }

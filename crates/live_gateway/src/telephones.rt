@@ -1,7 +1,7 @@
 //! The telephones: a socket that takes lines of text, and answers each.
 use mg_bytes::lines;
 use mg_line::Act;
-use rgw_play::{ScriptLine, Step, line_in};
+use rgw_play::{ScriptLine, ScriptStep, line_in};
 use std::alloc::Global;
 use std::io;
 use std::net::{Ipv4Addr, Net, SocketAddr, SocketAddrV4, UdpSocket};
@@ -49,13 +49,13 @@ fn request_in(alloc: Global, line: &[u8]) -> Option<TelephoneRequest> {
 }
 
 // What a step asks for.
-fn request_of(step: &Step) -> TelephoneRequest {
+fn request_of(step: &ScriptStep) -> TelephoneRequest {
     match step {
-        Step::Phone { line, act } => TelephoneRequest::Act {
+        ScriptStep::Phone { line, act } => TelephoneRequest::Act {
             line: *line,
             act: *act,
         },
-        Step::Show { line } => TelephoneRequest::Show { line: *line },
+        ScriptStep::Show { line } => TelephoneRequest::Show { line: *line },
         _ => TelephoneRequest::Unknown,
     }
 }

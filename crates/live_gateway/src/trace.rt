@@ -56,7 +56,7 @@ pub struct Trace {
 
 /// What a trace is told.
 #[derive(Clone, Copy)]
-pub enum Told<'a> {
+pub enum TraceEntry<'a> {
     /// The text of the configuration, with which it begins.
     Config {
         text: &'a [u8],
@@ -241,26 +241,26 @@ impl Trace {
         put_marked(&mut self.out, text)
     }
 
-    fn try_tell(&mut self, told: Told<'_>) -> Result<(), OutOfMemory> {
+    fn try_tell(&mut self, told: TraceEntry<'_>) -> Result<(), OutOfMemory> {
         match told {
-            Told::Config { text } => self.begin(text),
-            Told::Datagram { source, bytes } => {
+            TraceEntry::Config { text } => self.begin(text),
+            TraceEntry::Datagram { source, bytes } => {
                 self.new_lines();
                 put_datagram(self.alloc, &mut self.lines, source, bytes)
             }
-            Told::Line { line } => {
+            TraceEntry::Line { line } => {
                 self.new_lines();
                 put_pieces(&mut self.lines, &[line, b"\n"])
             }
-            Told::Taken => self.take(),
-            Told::Sent { to, bytes } => self.send(to, bytes),
-            Told::Shown { text } => self.show(text),
-            Told::End => self.tell_clock(),
+            TraceEntry::Taken => self.take(),
+            TraceEntry::Sent { to, bytes } => self.send(to, bytes),
+            TraceEntry::Shown { text } => self.show(text),
+            TraceEntry::End => self.tell_clock(),
         }
     }
 
     /// Tells this. Where memory was refused nothing is told from then on.
-    pub fn tell(&mut self, told: Told<'_>) {
+    pub fn tell(&mut self, told: TraceEntry<'_>) {
         if self.is_on() && self.try_tell(told).is_err() {
             self.state = TraceState::OutOfMemory;
             self.out.clear();

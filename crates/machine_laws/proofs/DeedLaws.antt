@@ -6,7 +6,7 @@ use Rattle.std.proofs.lemmas.Bool.Decides.{Decides-eqb}
 use Rattle.std.proofs.lemmas.List.Elements.{filter_passes}
 use Rattle.std.proofs.lemmas.Option.{none-some}
 use Rattle.mg_bytes.specs.Checks.{first_fault}
-use Rattle.mgcp_text.specs.Answer.{Answer, plain_code}
+use Rattle.mgcp_text.specs.Answer.{AnswerContent, plain_code}
 use Rattle.mgcp_text.specs.declared.confirmation.KValue.{KValue}
 use Rattle.mgcp_text.specs.declared.message.Param.{Param}
 use Rattle.command_forms.specs.Codes.{AreOf}
@@ -177,7 +177,7 @@ pub done_keeping : (setup : Setup) (endpoints : Endpoints) (lines : Target) (dee
 done_keeping setup endpoints lines deed moment none keeps =
     done_answer setup endpoints lines [] deed moment none
     ∙ ap (λ (shown : Shown). answer_with [] deed shown) (none_shown endpoints lines deed keeps)
-    ∙ ap (λ (connections : ConnectionDeed). let answer : Answer = record { code = done_code connections; params = []; body = [] } in answer) keeps
+    ∙ ap (λ (connections : ConnectionDeed). let answer : AnswerContent = record { code = done_code connections; params = []; body = [] } in answer) keeps
 
 apart_from_passing : (p : ℕ → Bool) (n line : ℕ) (list : List Endpoint) → p line ≡ false → All (λ (one : ℕ). line ≢ one) (passing_from p n list)
 apart_from_passing p n line list fails k d within same =

@@ -21,15 +21,15 @@ use Rattle.mg_line.specs.Falling.{due_of, fired}
 
 -- an act of the telephone, a request, the answer to the notification, or that to the gateway's announcement, each at a
 -- moment; and time that passes up to one
-pub data Turn : Type 0 where
-  does : (act : Act) → (moment : ℕ) → Turn
-  asks : (request : Request) → (moment : ℕ) → Turn
-  answers : (moment : ℕ) → Turn
-  opens : (moment : ℕ) → Turn
-  waits : (moment : ℕ) → Turn
+pub data Happening : Type 0 where
+  does : (act : Act) → (moment : ℕ) → Happening
+  asks : (request : Request) → (moment : ℕ) → Happening
+  answers : (moment : ℕ) → Happening
+  opens : (moment : ℕ) → Happening
+  waits : (moment : ℕ) → Happening
 
 -- What a line becomes, and what it told so far with the moments
-pub record Told : Type 0 where
+pub record Progress : Type 0 where
   pub line : LineState
   pub notices : List (ℕ × Notice)
 
@@ -37,42 +37,42 @@ abbrev pub noted : Option Notice → ℕ → List (ℕ × Notice)
 noted None moment = []
 noted (Some notice) moment = (moment, notice) ∷ []
 
-abbrev pub told : Told → ℕ → LineDone → Told
+abbrev pub told : Progress → ℕ → LineDone → Progress
 told so_far moment done = record { line = done.line; notices = so_far.notices ++ noted done.notice moment }
 
 -- what is due up to a moment happens at its own moment, and then what is due next
-abbrev pub up_to : Option (ℕ × LineDue) → ℕ → Told → (Told → Told) → Told
+abbrev pub up_to : Option (ℕ × LineDue) → ℕ → Progress → (Progress → Progress) → Progress
 up_to None moment so_far next = so_far
 up_to (Some due) moment so_far next =
     if nat_le due.0 moment then next (told so_far due.0 (fired so_far.line due.1 due.0)) else so_far
 
 -- so many times at most
-unfoldable pub passed : ℕ → Told → ℕ → Told
+unfoldable pub passed : ℕ → Progress → ℕ → Progress
 passed zero so_far moment = so_far
 passed (suc more) so_far moment = up_to (due_of so_far.line) moment so_far (λ next. passed more next moment)
 
-unfoldable pub after_turn : Told → Turn → Told
-after_turn so_far (does act moment) = told so_far moment (phoned so_far.line act moment)
-after_turn so_far (asks request moment) = told so_far moment (asked so_far.line request moment)
-after_turn so_far (answers moment) = told so_far moment (answered so_far.line moment)
-after_turn so_far (opens moment) = told so_far moment (opened so_far.line moment)
-after_turn so_far (waits moment) = passed 12 so_far moment
+unfoldable pub after_happening : Progress → Happening → Progress
+after_happening so_far (does act moment) = told so_far moment (phoned so_far.line act moment)
+after_happening so_far (asks request moment) = told so_far moment (asked so_far.line request moment)
+after_happening so_far (answers moment) = told so_far moment (answered so_far.line moment)
+after_happening so_far (opens moment) = told so_far moment (opened so_far.line moment)
+after_happening so_far (waits moment) = passed 12 so_far moment
 
-unfoldable pub after_turns : Told → List Turn → Told
-after_turns so_far [] = so_far
-after_turns so_far (turn ∷ turns) = after_turns (after_turn so_far turn) turns
+unfoldable pub after_happenings : Progress → List Happening → Progress
+after_happenings so_far [] = so_far
+after_happenings so_far (happening ∷ happenings) = after_happenings (after_happening so_far happening) happenings
 
 -- these turns on a line of a gateway that serves
-unfoldable pub scenario : List Turn → Told
-scenario turns = after_turns (record { line = ready_line; notices = [] }) turns
+unfoldable pub scenario : List Happening → Progress
+scenario happenings = after_happenings (record { line = ready_line; notices = [] }) happenings
 
 -- these turns from the opening on
-unfoldable pub opening_scenario : List Turn → Told
-opening_scenario turns = after_turns (record { line = opening_line; notices = [] }) turns
+unfoldable pub opening_scenario : List Happening → Progress
+opening_scenario happenings = after_happenings (record { line = opening_line; notices = [] }) happenings
 
-unfoldable pub repeated : ℕ → Turn → List Turn
-repeated zero turn = []
-repeated (suc more) turn = turn ∷ repeated more turn
+unfoldable pub repeated : ℕ → Happening → List Happening
+repeated zero happening = []
+repeated (suc more) happening = happening ∷ repeated more happening
 
 -- Requests and notifications, by their texts
 

@@ -7,7 +7,7 @@ use Rattle.mg_bytes.specs.Case.{same_but_case}
 use Rattle.mg_bytes.specs.Letter.{letter_of, byte_of, all_letters}
 use Rattle.mg_bytes.specs.declared.letter.Letter.{Letter}
 use Rattle.mg_bytes.specs.declared.letter.Letter.TheVariants.{Zero, One, Two, Three, Four, Five, Six, Seven, Eight, Nine, Star, Hash, A, B, C, D, Timer}
-use Rattle.mg_packages.specs.declared.event.Event.TheVariants as events
+use Rattle.mg_packages.specs.declared.event.LineEvent.TheVariants as events
 use Rattle.mg_packages.specs.declared.package.Package.TheVariants.{Dtmf}
 use Rattle.mg_packages.specs.Tables.{EventRow, event_row}
 use Rattle.mg_packages.specs.Looking.{is_same_package, event_named}

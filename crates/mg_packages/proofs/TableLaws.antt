@@ -3,8 +3,8 @@ use Rattle.std.proofs.Common.{◌≡◌, [], ◌∷◌, refl}
 use Rattle.std.specs.Prelude.{filter, Ok}
 use Rattle.mg_bytes.specs.Words.{split_once}
 use Rattle.mg_bytes.specs.declared.letter.Letter.TheVariants.{Zero}
-use Rattle.mg_packages.specs.declared.event.Event.{Event}
-use Rattle.mg_packages.specs.declared.event.Event.TheVariants as events
+use Rattle.mg_packages.specs.declared.event.LineEvent.{LineEvent}
+use Rattle.mg_packages.specs.declared.event.LineEvent.TheVariants as events
 use Rattle.mg_packages.specs.declared.package.Package.{Package}
 use Rattle.mg_packages.specs.declared.package.Package.TheVariants as packages
 use Rattle.mg_packages.specs.declared.signal.Signal.{Signal}
@@ -22,7 +22,7 @@ pub signal_has_one : (signal : Signal) → filter (λ row. is_same_signal row.va
 signal_has_one signals.DialTone = refl
 signal_has_one _ = refl
 
-pub event_has_one : (event : Event) → filter (λ row. is_same_event row.value event) event_rows ≡ event_row_of event ∷ []
+pub event_has_one : (event : LineEvent) → filter (λ row. is_same_event row.value event) event_rows ≡ event_row_of event ∷ []
 event_has_one events.OffHook = refl
 event_has_one (events.Letter Zero) = refl
 event_has_one _ = refl
@@ -36,7 +36,7 @@ pub signal_of_row : (signal : Signal) → (row_of signal).value ≡ signal
 signal_of_row signals.DialTone = refl
 signal_of_row _ = refl
 
-pub event_of_row : (event : Event) → (event_row_of event).value ≡ event
+pub event_of_row : (event : LineEvent) → (event_row_of event).value ≡ event
 event_of_row events.OffHook = refl
 event_of_row (events.Letter Zero) = refl
 event_of_row _ = refl
@@ -47,7 +47,7 @@ unfolding signal_of signal_name in_package signal_in signal_named event_named sp
 signal_again signals.DialTone = refl
 signal_again _ = refl
 
-pub event_again : (event : Event) → event_of (event_name event) ≡ Ok event
+pub event_again : (event : LineEvent) → event_of (event_name event) ≡ Ok event
 unfolding event_of event_name in_package event_in event_named signal_named split_once
 event_again events.OffHook = refl
 event_again (events.Letter Zero) = refl

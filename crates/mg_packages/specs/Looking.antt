@@ -5,11 +5,11 @@ use Rattle.std.specs.Borrow.{Bor}
 use Rattle.mg_bytes.specs.Bytes.{slash}
 use Rattle.mg_bytes.specs.Case.{same_but_case}
 use Rattle.mg_bytes.specs.Words.{split_once}
-use Rattle.mg_packages.specs.contracts.event.EventPartialEq.TheImpl as events
+use Rattle.mg_packages.specs.contracts.event.LineEventPartialEq.TheImpl as events
 use Rattle.mg_packages.specs.contracts.package.PackagePartialEq.TheImpl as packages
 use Rattle.mg_packages.specs.contracts.signal.SignalPartialEq.TheImpl as signals
-use Rattle.mg_packages.specs.declared.event.Event.{Event}
-use Rattle.mg_packages.specs.declared.event.Event.TheVariants.{OffHook}
+use Rattle.mg_packages.specs.declared.event.LineEvent.{LineEvent}
+use Rattle.mg_packages.specs.declared.event.LineEvent.TheVariants.{OffHook}
 use Rattle.mg_packages.specs.declared.hook.Hook.{Hook}
 use Rattle.mg_packages.specs.declared.hook.Hook.TheVariants as hook
 use Rattle.mg_packages.specs.declared.package.Package.{Package}
@@ -28,7 +28,7 @@ is_same_package a b = (packages.ghosts).eq a b
 abbrev pub is_same_signal : Signal → Signal → Bool
 is_same_signal a b = (signals.ghosts).eq a b
 
-abbrev pub is_same_event : Event → Event → Bool
+abbrev pub is_same_event : LineEvent → LineEvent → Bool
 is_same_event a b = (events.ghosts).eq a b
 
 -- Packages
@@ -61,7 +61,7 @@ seen (Err code) = Err code
 -- Names
 
 -- the event that a name is in a package, in any case
-unfoldable pub event_named : Package → List ℕ → Option Event
+unfoldable pub event_named : Package → List ℕ → Option LineEvent
 event_named within name =
     option_map (λ row. row.value)
     (find (λ row. is_same_package row.within within && same_but_case name row.name) event_rows)
@@ -78,12 +78,12 @@ no_event (Some signal) = 522
 no_event None = 512
 
 -- the event that a name is in a package, or the code
-unfoldable pub event_in : Package → List ℕ → Result Event ℕ
+unfoldable pub event_in : Package → List ℕ → Result LineEvent ℕ
 event_in within name = ok_or (event_named within name) (no_event (signal_named within name))
 
 -- the code for a name that is no signal: 522 where it is an event of L or G, else 513 (profile); so D, which has no
 -- signals, always gives 513
-abbrev pub no_signal : Package → Option Event → ℕ
+abbrev pub no_signal : Package → Option LineEvent → ℕ
 no_signal Dtmf event = 513
 no_signal within (Some event) = 522
 no_signal within None = 513
@@ -98,7 +98,7 @@ placed find_in (Ok place) = find_in place.0 place.1
 placed find_in (Err code) = Err code
 
 -- the event that `[package/]name` names, or the code
-unfoldable pub event_of : List ℕ → Result Event ℕ
+unfoldable pub event_of : List ℕ → Result LineEvent ℕ
 event_of text = placed event_in (in_package text)
 
 -- the signal that `[package/]name` names, or the code
@@ -113,7 +113,7 @@ row_of signal =
     unwrap_or (find (λ row. is_same_signal row.value signal) signal_rows) (signal_row Line [] DialTone Brief 0 always)
 
 -- the row of an event; again each has exactly one
-abbrev pub event_row_of : Event → EventRow
+abbrev pub event_row_of : LineEvent → EventRow
 event_row_of event = unwrap_or (find (λ row. is_same_event row.value event) event_rows) (event_row Line [] OffHook false)
 
 -- how a signal ends (RFC 3435, 2.1.7)
@@ -134,15 +134,15 @@ full_name within name = (package_row_of within).name ++ slash ∷ name
 unfoldable pub signal_name : Signal → List ℕ
 signal_name signal = full_name (row_of signal).within (row_of signal).name
 
-unfoldable pub event_name : Event → List ℕ
+unfoldable pub event_name : LineEvent → List ℕ
 event_name event = full_name (event_row_of event).within (event_row_of event).name
 
 -- whether an event occurs whether it was asked for or not
-unfoldable pub is_persistent : Event → Bool
+unfoldable pub is_persistent : LineEvent → Bool
 is_persistent event = (event_row_of event).persistent
 
 -- the event that tells the end of a time-out signal of a package
-unfoldable pub completion_of : Package → Option Event
+unfoldable pub completion_of : Package → Option LineEvent
 completion_of within = event_named within (codes "oc")
 
 -- 401: the phone is already off hook; 402: it is already on hook (RFC 3435, 2.4)

@@ -2,8 +2,8 @@
 -- said of events and signals is looked up here.
 use Rattle.std.specs.Prelude.{ℕ, Bool, true, false, codes, List, [], ◌∷◌, Option, Some, None}
 use Rattle.mg_bytes.specs.declared.letter.Letter.TheVariants.{Zero, One, Two, Three, Four, Five, Six, Seven, Eight, Nine, Star, Hash, A, B, C, D, Timer}
-use Rattle.mg_packages.specs.declared.event.Event.{Event}
-use Rattle.mg_packages.specs.declared.event.Event.TheVariants.{OffHook, OnHook, Flash, LineComplete, GenericComplete, Letter}
+use Rattle.mg_packages.specs.declared.event.LineEvent.{LineEvent}
+use Rattle.mg_packages.specs.declared.event.LineEvent.TheVariants.{OffHook, OnHook, Flash, LineComplete, GenericComplete, Letter}
 use Rattle.mg_packages.specs.declared.hook.Hook.{Hook}
 use Rattle.mg_packages.specs.declared.hook.Hook.TheVariants as hook
 use Rattle.mg_packages.specs.declared.package.Package.{Package}
@@ -63,12 +63,12 @@ signal_rows =
 -- a row of the table of events: its name in its package, and whether it is persistent, that is, occurs whether it was
 -- asked for or not
 pub record EventRow : Type 0 where
-  pub value : Event
+  pub value : LineEvent
   pub within : Package
   pub name : List ℕ
   pub persistent : Bool
 
-abbrev pub event_row : Package → List ℕ → Event → Bool → EventRow
+abbrev pub event_row : Package → List ℕ → LineEvent → Bool → EventRow
 event_row within name value persistent = record { value = value; within = within; name = name; persistent = persistent }
 
 abbrev pub event_rows : List EventRow

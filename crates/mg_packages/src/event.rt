@@ -7,7 +7,7 @@ use mg_bytes::Letter;
 
 /// An event of the packages.
 #[derive(Clone, Copy, PartialEq, Eq)]
-pub enum Event {
+pub enum LineEvent {
     /// `L/hd`
     OffHook,
     /// `L/hu`
@@ -25,7 +25,7 @@ pub enum Event {
 // The name of an event of D, with its package.
 #[tactic(auto, unfolding(crate::specs::Looking::event_name))]
 fn letter_name(letter: Letter) -> &'static [u8]
-    ensures { result.now ≡ event_name (Event.Letter letter) }
+    ensures { result.now ≡ event_name (LineEvent.Letter letter) }
 {
     match letter {
         Letter::Zero => b"D/0",
@@ -50,38 +50,38 @@ fn letter_name(letter: Letter) -> &'static [u8]
 
 /// The name of an event as it is written, with its package.
 #[tactic(auto, unfolding(crate::specs::Looking::event_name))]
-pub fn event_name(event: Event) -> &'static [u8]
+pub fn event_name(event: LineEvent) -> &'static [u8]
     ensures { result.now ≡ event_name event }
 {
     match event {
-        Event::OffHook => b"L/hd",
-        Event::OnHook => b"L/hu",
-        Event::Flash => b"L/hf",
-        Event::LineComplete => b"L/oc",
-        Event::GenericComplete => b"G/oc",
-        Event::Letter(letter) => letter_name(letter),
+        LineEvent::OffHook => b"L/hd",
+        LineEvent::OnHook => b"L/hu",
+        LineEvent::Flash => b"L/hf",
+        LineEvent::LineComplete => b"L/oc",
+        LineEvent::GenericComplete => b"G/oc",
+        LineEvent::Letter(letter) => letter_name(letter),
     }
 }
 
 /// Whether an event is persistent (RFC 3435, 2.1.7): it occurs whether it was asked for or not.
 #[tactic(auto, unfolding(crate::specs::Looking::is_persistent))]
-pub fn is_persistent(event: Event) -> bool
+pub fn is_persistent(event: LineEvent) -> bool
     ensures { result ≡ is_persistent event }
 {
     match event {
-        Event::OffHook | Event::OnHook | Event::Flash => true,
-        Event::LineComplete | Event::GenericComplete | Event::Letter(_) => false,
+        LineEvent::OffHook | LineEvent::OnHook | LineEvent::Flash => true,
+        LineEvent::LineComplete | LineEvent::GenericComplete | LineEvent::Letter(_) => false,
     }
 }
 
 /// The event that tells that a signal of a package ended by its time: `oc`. D has none.
 #[tactic(auto, unfolding(crate::specs::Looking::completion_of, crate::specs::Looking::event_named))]
-pub fn completion_of(within: Package) -> Option<Event>
+pub fn completion_of(within: Package) -> Option<LineEvent>
     ensures { result ≡ completion_of within }
 {
     match within {
-        Package::Line => Some(Event::LineComplete),
-        Package::Generic => Some(Event::GenericComplete),
+        Package::Line => Some(LineEvent::LineComplete),
+        Package::Generic => Some(LineEvent::GenericComplete),
         Package::Dtmf => None,
     }
 }

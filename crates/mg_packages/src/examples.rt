@@ -7,7 +7,7 @@ ghost use Rattle.mg_packages.specs.Looking.{in_package, event_of, signal_of, eve
 ghost use Rattle.mg_packages.specs.Looking.{kind_of, time_of, package_of, signal_name, refused_in};
 ghost use Rattle.mg_packages.specs.Looking.{event_name, is_persistent, completion_of};
 
-use crate::event::Event;
+use crate::event::LineEvent;
 use crate::hook::Hook;
 use crate::package::Package;
 use crate::signal::{Kind, SIGNALS, Signal};
@@ -47,29 +47,29 @@ pub fn the_hook_refuses_signals()
 
 /// The events of L are hd, hu, hf and oc, of which the first three are persistent; G has oc.
 pub fn events_have_names()
-    ensures off_hook { event_of (codes "L/hd") ≡ Ok Event.OffHook }
-    ensures on_hook { event_of (codes "L/hu") ≡ Ok Event.OnHook }
-    ensures flash { event_of (codes "L/hf") ≡ Ok Event.Flash }
-    ensures line_complete { event_of (codes "L/oc") ≡ Ok Event.LineComplete }
-    ensures generic_complete { event_of (codes "G/oc") ≡ Ok Event.GenericComplete }
-    ensures names { map event_name (Event.OffHook ∷ Event.OnHook ∷ Event.Flash ∷ Event.LineComplete
-        ∷ Event.GenericComplete ∷ []) ≡ codes "L/hd" ∷ codes "L/hu" ∷ codes "L/hf" ∷ codes "L/oc" ∷ codes "G/oc" ∷ [] }
-    ensures persistent { map is_persistent (Event.OffHook ∷ Event.OnHook ∷ Event.Flash ∷ Event.LineComplete
-        ∷ Event.GenericComplete ∷ Event.Letter Letter.Five ∷ []) ≡ true ∷ true ∷ true ∷ false ∷ false ∷ false ∷ [] }
+    ensures off_hook { event_of (codes "L/hd") ≡ Ok LineEvent.OffHook }
+    ensures on_hook { event_of (codes "L/hu") ≡ Ok LineEvent.OnHook }
+    ensures flash { event_of (codes "L/hf") ≡ Ok LineEvent.Flash }
+    ensures line_complete { event_of (codes "L/oc") ≡ Ok LineEvent.LineComplete }
+    ensures generic_complete { event_of (codes "G/oc") ≡ Ok LineEvent.GenericComplete }
+    ensures names { map event_name (LineEvent.OffHook ∷ LineEvent.OnHook ∷ LineEvent.Flash ∷ LineEvent.LineComplete
+        ∷ LineEvent.GenericComplete ∷ []) ≡ codes "L/hd" ∷ codes "L/hu" ∷ codes "L/hf" ∷ codes "L/oc" ∷ codes "G/oc" ∷ [] }
+    ensures persistent { map is_persistent (LineEvent.OffHook ∷ LineEvent.OnHook ∷ LineEvent.Flash ∷ LineEvent.LineComplete
+        ∷ LineEvent.GenericComplete ∷ LineEvent.Letter Letter.Five ∷ []) ≡ true ∷ true ∷ true ∷ false ∷ false ∷ false ∷ [] }
     ensures completions { map completion_of (Package.Line ∷ Package.Generic ∷ Package.Dtmf ∷ [])
-        ≡ Some Event.LineComplete ∷ Some Event.GenericComplete ∷ None ∷ [] }
+        ≡ Some LineEvent.LineComplete ∷ Some LineEvent.GenericComplete ∷ None ∷ [] }
 {}
 
 /// The events of D are the sixteen keys and T.
 pub fn letters_are_events()
-    ensures names { map (λ letter. event_name (Event.Letter letter)) all_letters ≡ codes "D/0" ∷ codes "D/1"
+    ensures names { map (λ letter. event_name (LineEvent.Letter letter)) all_letters ≡ codes "D/0" ∷ codes "D/1"
         ∷ codes "D/2" ∷ codes "D/3" ∷ codes "D/4" ∷ codes "D/5" ∷ codes "D/6" ∷ codes "D/7" ∷ codes "D/8" ∷ codes "D/9"
         ∷ codes "D/*" ∷ codes "D/#" ∷ codes "D/A" ∷ codes "D/B" ∷ codes "D/C" ∷ codes "D/D" ∷ codes "D/T" ∷ [] }
-    ensures nine { event_of (codes "D/9") ≡ Ok (Event.Letter Letter.Nine) }
-    ensures star { event_of (codes "D/*") ≡ Ok (Event.Letter Letter.Star) }
-    ensures hash { event_of (codes "D/#") ≡ Ok (Event.Letter Letter.Hash) }
-    ensures lower { event_of (codes "d/t") ≡ Ok (Event.Letter Letter.Timer) }
-    ensures d { event_of (codes "D/d") ≡ Ok (Event.Letter Letter.D) }
+    ensures nine { event_of (codes "D/9") ≡ Ok (LineEvent.Letter Letter.Nine) }
+    ensures star { event_of (codes "D/*") ≡ Ok (LineEvent.Letter Letter.Star) }
+    ensures hash { event_of (codes "D/#") ≡ Ok (LineEvent.Letter Letter.Hash) }
+    ensures lower { event_of (codes "d/t") ≡ Ok (LineEvent.Letter Letter.Timer) }
+    ensures d { event_of (codes "D/d") ≡ Ok (LineEvent.Letter Letter.D) }
     ensures e { event_of (codes "D/E") ≡ Err 512 }
     ensures two { event_of (codes "D/12") ≡ Err 512 }
     ensures none { event_of (codes "D/") ≡ Err 512 }
@@ -82,7 +82,7 @@ pub fn names_have_a_package()
     ensures upper { signal_of (codes "l/DL") ≡ Ok Signal.DialTone }
     ensures generic { signal_of (codes "g/Rt") ≡ Ok Signal.Ringback }
     ensures line { signal_of (codes "dl") ≡ Ok Signal.DialTone }
-    ensures line_event { event_of (codes "OC") ≡ Ok Event.LineComplete }
+    ensures line_event { event_of (codes "OC") ≡ Ok LineEvent.LineComplete }
     // Only L is meant, though G or D has such a name.
     ensures not_generic { signal_of (codes "rt") ≡ Err 513 }
     ensures not_dtmf { event_of (codes "5") ≡ Err 512 }

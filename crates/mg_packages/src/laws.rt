@@ -1,6 +1,6 @@
 //! Laws of the tables. Each function has an empty body: its clauses are the theorems.
 ghost use Rattle.std.specs.Prelude.{◌≡◌, [], ◌∷◌, map, filter, Ok};
-ghost use Rattle.mg_packages.specs.declared.event.Event.{Event};
+ghost use Rattle.mg_packages.specs.declared.event.LineEvent.{LineEvent};
 ghost use Rattle.mg_packages.specs.declared.package.Package.{Package};
 ghost use Rattle.mg_packages.specs.declared.signal.Signal.{Signal};
 ghost use Rattle.mg_packages.specs.Tables.{package_rows, signal_rows, event_rows};
@@ -15,7 +15,7 @@ pub fn each_has_one_row()
         filter (λ row. is_same_package row.value within) package_rows ≡ package_row_of within ∷ [] }
     ensures signals { (signal : Signal) →
         filter (λ row. is_same_signal row.value signal) signal_rows ≡ row_of signal ∷ [] }
-    ensures events { (event : Event) →
+    ensures events { (event : LineEvent) →
         filter (λ row. is_same_event row.value event) event_rows ≡ event_row_of event ∷ [] }
 {}
 
@@ -23,7 +23,7 @@ pub fn each_has_one_row()
 pub fn rows_are_of_their_values()
     ensures packages { (within : Package) → (package_row_of within).value ≡ within }
     ensures signals { (signal : Signal) → (row_of signal).value ≡ signal }
-    ensures events { (event : Event) → (event_row_of event).value ≡ event }
+    ensures events { (event : LineEvent) → (event_row_of event).value ≡ event }
 {}
 
 /// `SIGNALS` has the order of the table.
@@ -34,5 +34,5 @@ pub fn signals_are_in_table_order()
 /// The written name of a signal or an event is read as it again.
 pub fn names_are_read_again()
     ensures signals { (signal : Signal) → signal_of (signal_name signal) ≡ Ok signal }
-    ensures events { (event : Event) → event_of (event_name event) ≡ Ok event }
+    ensures events { (event : LineEvent) → event_of (event_name event) ≡ Ok event }
 {}

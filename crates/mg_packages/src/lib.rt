@@ -12,7 +12,7 @@ mod naming;
 mod package;
 mod signal;
 
-pub use crate::event::{Event, completion_of, event_name, is_persistent};
+pub use crate::event::{LineEvent, completion_of, event_name, is_persistent};
 pub use crate::hook::Hook;
 pub use crate::naming::{event_in, event_of, signal_in, signal_of};
 pub use crate::package::{Package, in_package};

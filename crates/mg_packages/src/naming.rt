@@ -2,50 +2,50 @@
 ghost use Rattle.std.specs.Prelude.{◌≡◌};
 ghost use Rattle.mg_packages.specs.Looking.{event_named, signal_named, event_in, signal_in, event_of, signal_of};
 
-use crate::event::Event;
+use crate::event::LineEvent;
 use crate::package::{Package, in_package};
 use crate::signal::Signal;
 use mg_bytes::{ReturnCode, letter_of, same_no_case};
 
 #[tactic(auto, unfolding(crate::specs::Looking::event_named))]
-fn line_event(name: &[u8]) -> Option<Event>
+fn line_event(name: &[u8]) -> Option<LineEvent>
     ensures { result ≡ event_named Package.Line name.now }
 {
     if same_no_case(name, b"hd") {
-        Some(Event::OffHook)
+        Some(LineEvent::OffHook)
     } else if same_no_case(name, b"hu") {
-        Some(Event::OnHook)
+        Some(LineEvent::OnHook)
     } else if same_no_case(name, b"hf") {
-        Some(Event::Flash)
+        Some(LineEvent::Flash)
     } else if same_no_case(name, b"oc") {
-        Some(Event::LineComplete)
+        Some(LineEvent::LineComplete)
     } else {
         None
     }
 }
 
 #[tactic(auto, unfolding(crate::specs::Looking::event_named))]
-fn generic_event(name: &[u8]) -> Option<Event>
+fn generic_event(name: &[u8]) -> Option<LineEvent>
     ensures { result ≡ event_named Package.Generic name.now }
 {
     if same_no_case(name, b"oc") {
-        Some(Event::GenericComplete)
+        Some(LineEvent::GenericComplete)
     } else {
         None
     }
 }
 
 #[tactic(auto, using(crate::proofs::LetterLemmas::no_name, crate::proofs::LetterLemmas::one_byte, crate::proofs::LetterLemmas::long_name))]
-fn dtmf_event(name: &[u8]) -> Option<Event>
+fn dtmf_event(name: &[u8]) -> Option<LineEvent>
     ensures { result ≡ event_named Package.Dtmf name.now }
 {
     match name {
-        [byte] => Some(Event::Letter(letter_of(*byte)?)),
+        [byte] => Some(LineEvent::Letter(letter_of(*byte)?)),
         _ => None,
     }
 }
 
-fn event_named(within: Package, name: &[u8]) -> Option<Event>
+fn event_named(within: Package, name: &[u8]) -> Option<LineEvent>
     ensures { result ≡ event_named within name.now }
 {
     match within {
@@ -104,7 +104,7 @@ fn signal_named(within: Package, name: &[u8]) -> Option<Signal>
 
 /// The event that a name is in a package. A fault is a return code: 522 where the name is a signal there, else 512.
 #[tactic(auto, unfolding(crate::specs::Looking::event_in))]
-pub fn event_in(within: Package, name: &[u8]) -> Result<Event, u16>
+pub fn event_in(within: Package, name: &[u8]) -> Result<LineEvent, u16>
     ensures { result ≡ event_in within name.now }
 {
     if let Some(event) = event_named(within, name) {
@@ -134,7 +134,7 @@ pub fn signal_in(within: Package, name: &[u8]) -> Result<Signal, u16>
 /// The event that `[package/]name` names (RFC 3435, 2.1.7). A fault is a return code: 518 for a package that there
 /// isn't, else 522 or 512.
 #[tactic(auto, unfolding(crate::specs::Looking::event_of))]
-pub fn event_of(text: &[u8]) -> Result<Event, u16>
+pub fn event_of(text: &[u8]) -> Result<LineEvent, u16>
     ensures { result ≡ event_of text.now }
 {
     let (within, name) = in_package(text)?;

@@ -13,23 +13,23 @@ use std::marker::Model;
 
 /// An answer: its return code, parameters and description. It can be written.
 #[derive(Drop)]
-pub struct Answer {
+pub struct AnswerContent {
     code: u16,
     params: Params<'static>,
     body: Bytes<'static>,
 }
 
-impl Model for Answer {
-    ghost use Rattle.mgcp_text.specs.Answer.{Answer, IsAnswer};
+impl Model for AnswerContent {
+    ghost use Rattle.mgcp_text.specs.Answer.{AnswerContent, IsAnswer};
 
-    ghost Value = { Answer };
+    ghost Value = { AnswerContent };
 
     ghost view = { λ a. record { code = a.code; params = a.params; body = a.body } };
 
     ghost invariant = { λ a. IsAnswer (record { code = a.code; params = a.params; body = a.body }) };
 }
 
-impl Answer {
+impl AnswerContent {
     ghost use Rattle.mgcp_text.specs.Answer.{plain_code, response_of};
 
     /// An answer of a return code alone. This takes no memory yet.
@@ -38,7 +38,7 @@ impl Answer {
         requires { code ≤ 999 }
         ensures { result ≡ plain_code code }
     {
-        Answer {
+        AnswerContent {
             code,
             params: Sequence::new(alloc),
             body: Bytes::of(b""),
@@ -52,7 +52,7 @@ impl Answer {
         requires whole { is_writable_body body ≡ true }
         ensures { result ≡ record { code = code; params = params.entry; body = body.entry } }
     {
-        Answer { code, params, body }
+        AnswerContent { code, params, body }
     }
 
     /// Its return code.

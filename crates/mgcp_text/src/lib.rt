@@ -16,7 +16,7 @@ mod parameter;
 mod reading;
 mod writing;
 
-pub use crate::answer::Answer;
+pub use crate::answer::AnswerContent;
 pub use crate::bytes::Bytes;
 pub use crate::confirmation::{IdRange, IdRanges, KValue, read_k};
 pub use crate::id::TransactionId;

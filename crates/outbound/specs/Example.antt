@@ -29,20 +29,20 @@ abbrev pub since : ℕ → List Occasion → Sends
 since first occasions = record { first = first; since = occasions }
 
 -- what is done at a moment: the message goes out again, to this address, or it is given up
-pub data Told : Type 0 where
-  goes_to : (to : SocketAddrV4) (moment : ℕ) → Told
-  is_given_up : (moment : ℕ) → Told
+pub data Resending : Type 0 where
+  goes_to : (to : SocketAddrV4) (moment : ℕ) → Resending
+  is_given_up : (moment : ℕ) → Resending
 
 -- it goes out to the agent's one address
-abbrev pub goes_out : ℕ → Told
+abbrev pub goes_out : ℕ → Resending
 goes_out moment = goes_to agent moment
 
-abbrev pub told_as : Repeat → SocketAddrV4 → ℕ → List Told → List Told
+abbrev pub told_as : Repeat → SocketAddrV4 → ℕ → List Resending → List Resending
 told_as Sent to moment later = goes_to to moment ∷ later
 told_as GivenUp to moment later = is_given_up moment ∷ []
 
 -- what is done with a message to which no response comes, at its own due moments, at most so many
-unfoldable pub told : ℕ → InFlight → List Told
+unfoldable pub told : ℕ → InFlight → List Resending
 told zero message = []
 told (suc n) message =
     told_as (repeat_of message message.due) (sent_to (repeated message message.due)) message.due

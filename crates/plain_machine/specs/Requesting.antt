@@ -6,7 +6,7 @@ use Rattle.std.specs.Option.{unwrap_or}
 use Rattle.std.specs.Result.{result_err}
 use Rattle.mg_bytes.specs.Checks.{first_fault}
 use Rattle.mgcp_text.specs.declared.message.Param.{Param}
-use Rattle.mgcp_text.specs.Answer.{Answer, plain_code}
+use Rattle.mgcp_text.specs.Answer.{AnswerContent, plain_code}
 use Rattle.endpoint_names.specs.declared.entity.Entity.{Entity}
 use Rattle.connections.specs.declared.codec.Encoding.{Encoding}
 use Rattle.connections.specs.Places.{is_free}
@@ -99,7 +99,7 @@ shown_of endpoints All deed = nothing_shown
 shown_of endpoints Any deed = nothing_shown
 
 -- with these further parameters
-abbrev pub answer_with : List Param → Deed → Shown → Answer
+abbrev pub answer_with : List Param → Deed → Shown → AnswerContent
 answer_with more deed shown =
     record { code = done_code deed.connections; params = shown.params ++ more; body = shown.body }
 

@@ -1,16 +1,16 @@
 -- What is quarantined in the worked examples.
 use Rattle.std.specs.Prelude.{ℕ, List, map}
-use Rattle.mg_packages.specs.declared.event.Event.{Event}
+use Rattle.mg_packages.specs.declared.event.LineEvent.{LineEvent}
 use Rattle.event_values.specs.declared.observed.Observed.{Observed}
 use Rattle.event_values.specs.declared.observed.Observed.TheVariants.{Happened}
 use Rattle.quarantine.specs.Held.{Held, nothing_held}
 use Rattle.quarantine.specs.Given.{Happening, comes, held_after, given_back}
 
-abbrev pub happened : List Event → List Observed
+abbrev pub happened : List LineEvent → List Observed
 happened events = map Happened events
 
 -- these events come
-abbrev pub come : List Event → List Happening
+abbrev pub come : List LineEvent → List Happening
 come events = map (λ event. comes (Happened event)) events
 
 -- what is held of this, with room for so many
@@ -22,5 +22,5 @@ abbrev pub given_of : ℕ → List Happening → List Observed
 given_of room happenings = given_back (nothing_held room) happenings
 
 -- these events, with room for so many, and so many lost
-abbrev pub holds : ℕ → List Event → ℕ → Held
+abbrev pub holds : ℕ → List LineEvent → ℕ → Held
 holds room events lost = record { events = happened events; room = room; lost = lost }

@@ -18,7 +18,7 @@ use Rattle.gateway_core.specs.Stands.{Stands, Took}
 use Rattle.plain_machine.specs.Refusing.{tick_refusal, refusal_of, Ends}
 use Rattle.plain_machine.specs.Lists.{plain}
 use Rattle.plain_machine.proofs.EndLaws.{ends_fine, ends_cause}
-use Rattle.rgw_scripts.specs.declared.step.Step.{Step}
+use Rattle.rgw_scripts.specs.declared.step.ScriptStep.{ScriptStep}
 use Rattle.rgw_scripts.specs.Status.{LineStatus, status_of}
 use Rattle.rgw_scripts.specs.Moves.{Move, give, pass, ask, moves_of_wait, moves_of, all_moves, Shown, sends, refuses, tells, given, move_went, went, printed, is_refused}
 use Rattle.rgw_scripts.proofs.MoveLemmas.{went_more}
@@ -100,15 +100,15 @@ pub moved_again : (p q r : Player) (move : Move) (k : ℕ) → Moved p (replicat
 moved_again p q r move k first last =
     moved_along p r (replicate k move ++ move ∷ []) (replicate (k + 1) move) (replicate-append-replicate k 1 move) (moved_more p q r (replicate k move) (move ∷ []) first last)
 
-flat_moves : (xs ys : List Step) → all_moves (xs ++ ys) ≡ all_moves xs ++ all_moves ys
+flat_moves : (xs ys : List ScriptStep) → all_moves (xs ++ ys) ≡ all_moves xs ++ all_moves ys
 flat_moves [] ys = refl
 flat_moves (x ∷ xs) ys = ap (λ (s : List Move). moves_of x ++ s) (flat_moves xs ys) ∙ sym (append_assoc (moves_of x) (all_moves xs) (all_moves ys))
 
 -- the steps up to one place more
-pub moved_step : (p q r : Player) (steps : List Step) (i : ℕ) (step : Step) → i < length steps → step ≡ get_or steps i step
+pub moved_step : (p q r : Player) (steps : List ScriptStep) (i : ℕ) (step : ScriptStep) → i < length steps → step ≡ get_or steps i step
     → Moved p (all_moves (take i steps)) q → Moved q (moves_of step) r → Moved p (all_moves (take (i + 1) steps)) r
 moved_step p q r steps i step inside is first last =
-    let more : take (i + 1) steps ≡ take i steps ++ step ∷ [] = take_more steps i step inside ∙ ap (λ (s : Step). take i steps ++ s ∷ []) (sym is) in
+    let more : take (i + 1) steps ≡ take i steps ++ step ∷ [] = take_more steps i step inside ∙ ap (λ (s : ScriptStep). take i steps ++ s ∷ []) (sym is) in
     let all : all_moves (take i steps) ++ moves_of step ≡ all_moves (take (i + 1) steps) =
     ap (λ (m : List Move). all_moves (take i steps) ++ m) (sym (append-nil (moves_of step))) ∙ sym (flat_moves (take i steps) (step ∷ [])) ∙ sym (ap all_moves more) in
     moved_along p r (all_moves (take i steps) ++ moves_of step) (all_moves (take (i + 1) steps)) all (moved_more p q r (all_moves (take i steps)) (moves_of step) first last)

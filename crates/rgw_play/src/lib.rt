@@ -16,6 +16,6 @@ pub use crate::session::{carry, play};
 pub use crate::status::status_of;
 pub use crate::udp_wire::UdpWire;
 pub use rgw_scripts::{
-    Direct, LIMIT, LineStatus, Link, LinkFault, PlayFault, Played, ScriptLine, Step, StepFault,
-    line_in, name_of_config_fault, put_line, put_refusal, read_limited,
+    Direct, LIMIT, LineStatus, Link, LinkFault, PlayFault, Played, ScriptLine, ScriptStep,
+    StepFault, line_in, name_of_config_fault, put_line, put_refusal, read_limited,
 };

@@ -6,7 +6,7 @@ ghost use Rattle.rgw_scripts.specs.Moves.{give, pass, ask, sends, refuses, moves
 use crate::status::status_of;
 use gateway_core::{Event, Gateway, Outputs, Refusal};
 use mg_bytes::OutOfMemory;
-use rgw_scripts::{Link, Step, StepFault, put_datagrams, put_line, put_refusal};
+use rgw_scripts::{Link, ScriptStep, StepFault, put_datagrams, put_line, put_refusal};
 use std::alloc::Global;
 use std::net::SocketAddrV4;
 
@@ -152,27 +152,35 @@ impl Player {
 
     // Plays a step.
     #[tactic(auto, unfolding(rgw_scripts::specs::Moves::moves_of))]
-    fn step<L: Link>(&mut self, link: &mut L, step: &Step) -> Result<(), StepFault<L::Fault>>
+    fn step<L: Link>(&mut self, link: &mut L, step: &ScriptStep) -> Result<(), StepFault<L::Fault>>
         ensures { OnOk result (Moved self.old (moves_of step.now) self.new) }
     {
         match step {
-            Step::Datagram { source, bytes } => self.datagram(link, *source, bytes.as_bytes()),
-            Step::Phone { line, act } => self.event(
+            ScriptStep::Datagram { source, bytes } => self.datagram(
+                link,
+                *source,
+                bytes.as_bytes(),
+            ),
+            ScriptStep::Phone { line, act } => self.event(
                 link,
                 Event::Phone {
                     line: *line,
                     act: *act,
                 },
             ),
-            Step::Tick { by } => self.tick(link, *by),
-            Step::At { moment } => self.event(link, Event::Tick { moment: *moment }),
-            Step::Wait { by } => self.wait(link, *by),
-            Step::Show { line } => Ok(self.show(*line)?),
+            ScriptStep::Tick { by } => self.tick(link, *by),
+            ScriptStep::At { moment } => self.event(link, Event::Tick { moment: *moment }),
+            ScriptStep::Wait { by } => self.wait(link, *by),
+            ScriptStep::Show { line } => Ok(self.show(*line)?),
         }
     }
 
     /// Plays steps over a link, one after the other.
-    pub fn play<L: Link>(&mut self, link: &mut L, steps: &[Step]) -> Result<(), StepFault<L::Fault>>
+    pub fn play<L: Link>(
+        &mut self,
+        link: &mut L,
+        steps: &[ScriptStep],
+    ) -> Result<(), StepFault<L::Fault>>
         ensures { OnOk result (Moved self.old (all_moves steps.now) self.new) }
     {
         for step in steps {

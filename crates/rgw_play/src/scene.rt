@@ -1,14 +1,15 @@
 //! Judges an input: its gateway and its steps, or its first fault.
 ghost use Rattle.std.specs.Prelude.{◌≡◌, ◌≢◌, List, [], Ok, ℕ, Result, IfOk, IfErr};
 ghost use Rattle.gateway_core.specs.Stands.{Stands};
-ghost use Rattle.rgw_scripts.specs.declared.step.Step.{Step};
+ghost use Rattle.rgw_scripts.specs.declared.step.ScriptStep.{ScriptStep};
 ghost use Rattle.rgw_scripts.specs.Configuration.{config_in, key_in};
 ghost use Rattle.rgw_scripts.specs.Play.{scene_of, configured, judged, Explains};
 
 use gateway_core::{ConfigFault, ConfigKey, Gateway, key_at_fault};
 use mg_bytes::OutOfMemory;
 use rgw_scripts::{
-    PlayFault, ScriptFault, Step, is_too_long, parts_of, read_config, read_script, read_unread_key,
+    PlayFault, ScriptFault, ScriptStep, is_too_long, parts_of, read_config, read_script,
+    read_unread_key,
 };
 use std::alloc::Global;
 
@@ -19,17 +20,17 @@ const BAD_TOML: u8 = 7;
 #[derive(Drop)]
 pub struct Scene {
     pub gateway: Gateway,
-    pub steps: Vec<Step>,
+    pub steps: Vec<ScriptStep>,
 }
 
 /// The gateway of a configuration's text.
 pub fn gateway_of(alloc: Global, text: &[u8]) -> Result<Gateway, PlayFault>
     ensures ok { IfOk result
-        (λ gateway. (steps : Result (List Step) ℕ) →
+        (λ gateway. (steps : Result (List ScriptStep) ℕ) →
         configured (config_in text.now) steps ≡ scene_of gateway.setup steps) }
     ensures opened { IfOk result (λ gateway. Stands gateway []) }
     ensures err { IfErr result
-        (λ fault. (steps : Result (List Step) ℕ) →
+        (λ fault. (steps : Result (List ScriptStep) ℕ) →
         Explains fault (configured (config_in text.now) steps)) }
     ensures no_stream { IfErr result (λ fault. (fault ≢ PlayFault.Read) × (fault ≢ PlayFault.Write)) }
 {

@@ -4,18 +4,18 @@ use Rattle.std.specs.Prelude.{codes, Err}
 use Rattle.std.specs.List.{list_any, flat_map}
 use Rattle.std.specs.declared.net.socket_addr.SocketAddrV4.{SocketAddrV4}
 use Rattle.mg_bytes.specs.Lines.{ended}
-use Rattle.rgw_scripts.specs.declared.step.Step.{Step}
-use Rattle.rgw_scripts.specs.declared.step.Step.TheVariants.{Datagram}
+use Rattle.rgw_scripts.specs.declared.step.ScriptStep.{ScriptStep}
+use Rattle.rgw_scripts.specs.declared.step.ScriptStep.TheVariants.{Datagram}
 use Rattle.rgw_scripts.specs.Script.{Reading, is_end, read_from, steps_after}
 
 neither : (x y : Bool) → (x || y) ≡ false → (x ≡ false) × (y ≡ false)
 neither true y none = absurd cc
 neither false y none = (refl, none)
 
-abbrev open_from : List Step → ℕ → SocketAddrV4 → List ℕ → Reading
+abbrev open_from : List ScriptStep → ℕ → SocketAddrV4 → List ℕ → Reading
 open_from before line source text = record { steps = before; waiting = Some (record { line = line; source = source; text = text }) }
 
-pub ended_from : (number line : ℕ) (before : List Step) (source : SocketAddrV4) (text : List ℕ) (lines more : List (List ℕ)) → list_any is_end lines ≡ false
+pub ended_from : (number line : ℕ) (before : List ScriptStep) (source : SocketAddrV4) (text : List ℕ) (lines more : List (List ℕ)) → list_any is_end lines ≡ false
     → read_from number (open_from before line source text) (lines ++ codes "--" ∷ more)
     ≡ steps_after (number + length lines + 1) (before ++ Datagram source (text ++ flat_map ended lines) ∷ []) more
 unfolding read_from
@@ -31,7 +31,7 @@ ended_from number line before source text (l ∷ ls) more none =
     rw parts.0 (later ∙ ap (λ (n : ℕ). steps_after n (before ++ Datagram source ((text ++ ended l) ++ flat_map ended ls) ∷ []) more) far
     ∙ ap (λ (t : List ℕ). steps_after (number + length (l ∷ ls) + 1) (before ++ Datagram source t ∷ []) more) whole)
 
-pub unended_from : (number line : ℕ) (before : List Step) (source : SocketAddrV4) (text : List ℕ) (lines : List (List ℕ)) → list_any is_end lines ≡ false
+pub unended_from : (number line : ℕ) (before : List ScriptStep) (source : SocketAddrV4) (text : List ℕ) (lines : List (List ℕ)) → list_any is_end lines ≡ false
     → read_from number (open_from before line source text) lines ≡ Err line
 unfolding read_from
 unended_from number line before source text [] none = refl

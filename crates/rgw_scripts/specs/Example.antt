@@ -14,7 +14,7 @@ use Rattle.plain_machine.specs.declared.config.Config.{Config}
 use Rattle.transmission.specs.declared.output.OutDatagram.{OutDatagram}
 use Rattle.plain_machine.specs.Example.{configuration, example, ready, first_connection}
 use Rattle.plain_machine.specs.Event.{GatewayEvent, datagram}
-use Rattle.rgw_scripts.specs.declared.step.Step.{Step}
+use Rattle.rgw_scripts.specs.declared.step.ScriptStep.{ScriptStep}
 use Rattle.rgw_scripts.specs.declared.step.ScriptLine.{ScriptLine}
 use Rattle.rgw_scripts.specs.Script.{line_in, steps_of}
 use Rattle.rgw_scripts.specs.Status.{LineStatus}
@@ -32,7 +32,7 @@ abbrev pub line_says : List ℕ → Option ScriptLine
 line_says line = line_in (words line)
 
 -- the steps of a script
-abbrev pub script_says : List ℕ → Result (List Step) ℕ
+abbrev pub script_says : List ℕ → Result (List ScriptStep) ℕ
 script_says script = steps_of (lines_of script)
 
 -- what is printed where moves are made from the opening on

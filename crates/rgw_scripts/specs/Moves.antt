@@ -7,8 +7,8 @@ use Rattle.plain_machine.specs.declared.refusal.Refusal.TheVariants.{NoSuchLine}
 use Rattle.plain_machine.specs.declared.setup.Setup.{Setup}
 use Rattle.plain_machine.specs.Event.{GatewayEvent, datagram, phone, tick}
 use Rattle.plain_machine.specs.Lists.{plain, outputs_from, refusal_at}
-use Rattle.rgw_scripts.specs.declared.step.Step.{Step}
-use Rattle.rgw_scripts.specs.declared.step.Step.TheVariants.{Datagram, Phone, Tick, At, Wait, Show}
+use Rattle.rgw_scripts.specs.declared.step.ScriptStep.{ScriptStep}
+use Rattle.rgw_scripts.specs.declared.step.ScriptStep.TheVariants.{Datagram, Phone, Tick, At, Wait, Show}
 use Rattle.rgw_scripts.specs.Status.{LineStatus, status_of}
 use Rattle.rgw_scripts.specs.Printing.{printed_line, printed_datagram, refusal_line, shown_line}
 
@@ -30,7 +30,7 @@ last_of_wait rest = if rest == 0 then [] else pass rest ∷ []
 abbrev pub moves_of_wait : ℕ → List Move
 moves_of_wait by = replicate (by / 1000) (pass 1000) ++ last_of_wait (by % 1000)
 
-unfoldable pub moves_of : Step → List Move
+unfoldable pub moves_of : ScriptStep → List Move
 moves_of (Datagram source bytes) = give (datagram source bytes) ∷ []
 moves_of (Phone line act) = give (phone line act) ∷ []
 moves_of (Tick by) = pass by ∷ []
@@ -38,7 +38,7 @@ moves_of (At moment) = give (tick moment) ∷ []
 moves_of (Wait by) = moves_of_wait by
 moves_of (Show line) = ask line ∷ []
 
-abbrev pub all_moves : List Step → List Move
+abbrev pub all_moves : List ScriptStep → List Move
 all_moves steps = flat_map moves_of steps
 
 -- What they show

@@ -11,7 +11,7 @@ use Rattle.rgw_scripts.specs.declared.played.PlayFault.{PlayFault}
 use Rattle.rgw_scripts.specs.declared.played.PlayFault.TheVariants as play_fault
 use Rattle.rgw_scripts.specs.declared.played.LinkFault.{LinkFault}
 use Rattle.rgw_scripts.specs.declared.played.LinkFault.TheVariants as link_fault
-use Rattle.rgw_scripts.specs.declared.step.Step.{Step}
+use Rattle.rgw_scripts.specs.declared.step.ScriptStep.{ScriptStep}
 use Rattle.rgw_scripts.specs.Input.{config_text, script_lines}
 use Rattle.rgw_scripts.specs.Configuration.{config_in}
 use Rattle.rgw_scripts.specs.Script.{steps_of}
@@ -23,17 +23,17 @@ use Rattle.rgw_scripts.specs.Moves.{Shown, all_moves, went, printed, is_refused}
 -- what there is to play: a gateway's setup, and steps
 pub record Scene : Type 0 where
   pub setup : Setup
-  pub steps : List Step
+  pub steps : List ScriptStep
 
-abbrev pub scene_of : Setup → Result (List Step) ℕ → Result Scene PlayFault
+abbrev pub scene_of : Setup → Result (List ScriptStep) ℕ → Result Scene PlayFault
 scene_of setup (Ok steps) = Ok (record { setup = setup; steps = steps })
 scene_of setup (Err line) = Err (play_fault.Script line)
 
-abbrev pub scene_in : Result Setup ConfigFault → Result (List Step) ℕ → Result Scene PlayFault
+abbrev pub scene_in : Result Setup ConfigFault → Result (List ScriptStep) ℕ → Result Scene PlayFault
 scene_in (Ok setup) steps = scene_of setup steps
 scene_in (Err fault) steps = Err (play_fault.Config (config_fault_number fault))
 
-abbrev pub configured : Option Config → Result (List Step) ℕ → Result Scene PlayFault
+abbrev pub configured : Option Config → Result (List ScriptStep) ℕ → Result Scene PlayFault
 configured None steps = Err (play_fault.Config bad_toml)
 configured (Some config) steps = scene_in (setup_of config) steps
 

@@ -13,8 +13,8 @@ use Rattle.mg_line.specs.declared.phone.Act.TheVariants as acts
 use Rattle.mg_line.specs.declared.phone.Key.{Key}
 use Rattle.mg_line.specs.declared.phone.Key.TheVariants as keys
 use Rattle.mg_bytes.specs.Lines.{ended}
-use Rattle.rgw_scripts.specs.declared.step.Step.{Step}
-use Rattle.rgw_scripts.specs.declared.step.Step.TheVariants.{Datagram, Phone, Tick, At, Wait, Show}
+use Rattle.rgw_scripts.specs.declared.step.ScriptStep.{ScriptStep}
+use Rattle.rgw_scripts.specs.declared.step.ScriptStep.TheVariants.{Datagram, Phone, Tick, At, Wait, Show}
 use Rattle.rgw_scripts.specs.declared.step.ScriptLine.{ScriptLine}
 use Rattle.rgw_scripts.specs.declared.step.ScriptLine.TheVariants.{Empty, From, Whole}
 
@@ -138,10 +138,10 @@ pub record Waiting : Type 0 where
 
 -- what the lines so far were read as
 pub record Reading : Type 0 where
-  pub steps : List Step
+  pub steps : List ScriptStep
   pub waiting : Option Waiting
 
-abbrev pub begun : ℕ → List Step → Option ScriptLine → Option Reading
+abbrev pub begun : ℕ → List ScriptStep → Option ScriptLine → Option Reading
 begun number steps None = None
 begun number steps (Some Empty) = Some (record { steps = steps; waiting = None })
 begun number steps (Some (From source)) =
@@ -155,7 +155,7 @@ begun number steps (Some (Whole step)) = Some (record { steps = steps ++ step �
 abbrev pub is_end : List ℕ → Bool
 is_end line = bytes_eq line (codes "--")
 
-abbrev pub continued : List Step → Waiting → List ℕ → Reading
+abbrev pub continued : List ScriptStep → Waiting → List ℕ → Reading
 continued steps from line =
     if is_end line then record { steps = steps ++ Datagram from.source from.text ∷ []; waiting = None }
     else record {
@@ -163,7 +163,7 @@ continued steps from line =
       waiting = Some (record { line = from.line; source = from.source; text = from.text ++ ended line });
     }
 
-abbrev pub next_from : ℕ → List Step → List ℕ → Option Waiting → Option Reading
+abbrev pub next_from : ℕ → List ScriptStep → List ℕ → Option Waiting → Option Reading
 next_from number steps line None = begun number steps (line_in (words line))
 next_from number steps line (Some from) = Some (continued steps from line)
 
@@ -172,24 +172,24 @@ abbrev pub next_reading : ℕ → List ℕ → Reading → Option Reading
 next_reading number line reading = next_from number reading.steps line reading.waiting
 
 -- the steps, unless a `from` has no `--`
-abbrev pub closed : List Step → Option Waiting → Result (List Step) ℕ
+abbrev pub closed : List ScriptStep → Option Waiting → Result (List ScriptStep) ℕ
 closed steps None = Ok steps
 closed steps (Some from) = Err from.line
 
-abbrev pub unless_bad : ℕ → (Reading → Result (List Step) ℕ) → Option Reading → Result (List Step) ℕ
+abbrev pub unless_bad : ℕ → (Reading → Result (List ScriptStep) ℕ) → Option Reading → Result (List ScriptStep) ℕ
 unless_bad number next None = Err number
 unless_bad number next (Some reading) = next reading
 
 -- what the lines from this number on make of a reading
-unfoldable pub read_from : ℕ → Reading → List (List ℕ) → Result (List Step) ℕ
+unfoldable pub read_from : ℕ → Reading → List (List ℕ) → Result (List ScriptStep) ℕ
 read_from number reading [] = closed reading.steps reading.waiting
 read_from number reading (line ∷ lines) =
     unless_bad number (λ next. read_from (number + 1) next lines) (next_reading number line reading)
 
 -- what lines say from this number on, after these steps, where no `from` is open
-abbrev pub steps_after : ℕ → List Step → List (List ℕ) → Result (List Step) ℕ
+abbrev pub steps_after : ℕ → List ScriptStep → List (List ℕ) → Result (List ScriptStep) ℕ
 steps_after number steps lines = read_from number (record { steps = steps; waiting = None }) lines
 
 -- the steps of a script's lines, or the number of the first bad one
-abbrev pub steps_of : List (List ℕ) → Result (List Step) ℕ
+abbrev pub steps_of : List (List ℕ) → Result (List ScriptStep) ℕ
 steps_of lines = steps_after 1 [] lines

@@ -10,7 +10,7 @@ ghost use Rattle.mg_line.specs.declared.phone.Key.TheVariants as keys;
 ghost use Rattle.plain_machine.specs.declared.refusal.Refusal.TheVariants as refusals;
 ghost use Rattle.plain_machine.specs.Event.{datagram, phone, tick};
 ghost use Rattle.plain_machine.specs.Example.{local_host, other_host};
-ghost use Rattle.rgw_scripts.specs.declared.step.Step.TheVariants as steps;
+ghost use Rattle.rgw_scripts.specs.declared.step.ScriptStep.TheVariants as steps;
 ghost use Rattle.rgw_scripts.specs.declared.step.ScriptLine.TheVariants as lines;
 ghost use Rattle.rgw_scripts.specs.Input.{config_text, script_lines};
 ghost use Rattle.plain_machine.specs.declared.config.ConfigKey.TheVariants as keys_of_configurations;

@@ -10,8 +10,8 @@ ghost use Rattle.plain_machine.specs.ConfigFault.{config_fault_number};
 ghost use Rattle.plain_machine.specs.declared.setup.Setup.{Setup};
 ghost use Rattle.plain_machine.specs.Setup.{setup_of};
 ghost use Rattle.plain_machine.specs.Event.{GatewayEvent};
-ghost use Rattle.rgw_scripts.specs.declared.step.Step.{Step};
-ghost use Rattle.rgw_scripts.specs.declared.step.Step.TheVariants as steps;
+ghost use Rattle.rgw_scripts.specs.declared.step.ScriptStep.{ScriptStep};
+ghost use Rattle.rgw_scripts.specs.declared.step.ScriptStep.TheVariants as steps;
 ghost use Rattle.rgw_scripts.specs.declared.step.ScriptLine.TheVariants as lines;
 ghost use Rattle.rgw_scripts.specs.declared.played.PlayFault.{PlayFault};
 ghost use Rattle.rgw_scripts.specs.declared.played.PlayFault.TheVariants as faults;
@@ -24,28 +24,28 @@ ghost use Rattle.rgw_scripts.specs.Play.{Scene, configured, judged, shown, Plays
 /// A line outside a `from` is nothing, a whole step, or a fault of its number.
 #[tactic(auto, unfolding(crate::specs::Script::read_from))]
 pub fn lines_are_steps()
-    ensures end { (number : ℕ) (before : List Step) → steps_after number before [] ≡ Ok before }
-    ensures empty { (number : ℕ) (before : List Step) (line : List ℕ) (more : List (List ℕ)) →
+    ensures end { (number : ℕ) (before : List ScriptStep) → steps_after number before [] ≡ Ok before }
+    ensures empty { (number : ℕ) (before : List ScriptStep) (line : List ℕ) (more : List (List ℕ)) →
         line_in (words_of line) ≡ Some lines.Empty →
         steps_after number before (line ∷ more) ≡ steps_after (number + 1) before more }
-    ensures whole { (number : ℕ) (before : List Step) (line : List ℕ) (more : List (List ℕ))
-        (step : Step) →
+    ensures whole { (number : ℕ) (before : List ScriptStep) (line : List ℕ) (more : List (List ℕ))
+        (step : ScriptStep) →
         line_in (words_of line) ≡ Some (lines.Whole step) →
         steps_after number before (line ∷ more) ≡ steps_after (number + 1) (before ++ step ∷ []) more }
-    ensures bad { (number : ℕ) (before : List Step) (line : List ℕ) (more : List (List ℕ)) →
+    ensures bad { (number : ℕ) (before : List ScriptStep) (line : List ℕ) (more : List (List ℕ)) →
         line_in (words_of line) ≡ None →
         steps_after number before (line ∷ more) ≡ Err number }
 {}
 
 /// A `from` and its lines up to `--` are one step; without `--` it is a fault of the line that it began with.
 pub fn a_from_is_one_step()
-    ensures whole { (number : ℕ) (before : List Step) (line : List ℕ) (source : SocketAddrV4)
+    ensures whole { (number : ℕ) (before : List ScriptStep) (line : List ℕ) (source : SocketAddrV4)
         (text more : List (List ℕ)) →
         line_in (words_of line) ≡ Some (lines.From source) → list_any is_end text ≡ false →
         steps_after number before (line ∷ (text ++ codes "--" ∷ more))
         ≡ steps_after (number + length text + 2)
         (before ++ steps.Datagram source (flat_map ended text) ∷ []) more }
-    ensures open { (number : ℕ) (before : List Step) (line : List ℕ) (source : SocketAddrV4)
+    ensures open { (number : ℕ) (before : List ScriptStep) (line : List ℕ) (source : SocketAddrV4)
         (text : List (List ℕ)) →
         line_in (words_of line) ≡ Some (lines.From source) → list_any is_end text ≡ false →
         steps_after number before (line ∷ text) ≡ Err number }
@@ -65,14 +65,14 @@ pub fn faults_come_in_their_order()
     ensures long { (input : List ℕ) → 1048576 < length input → judged input ≡ Err (faults.Script 0) }
     ensures short { (input : List ℕ) → length input ≤ 1048576 →
         judged input ≡ configured (config_in (config_text input)) (steps_of (script_lines input)) }
-    ensures no_config { (script : Result (List Step) ℕ) →
+    ensures no_config { (script : Result (List ScriptStep) ℕ) →
         configured None script ≡ Err (faults.Config 7) }
-    ensures bad_config { (config : Config) (fault : ConfigFault) (script : Result (List Step) ℕ) →
+    ensures bad_config { (config : Config) (fault : ConfigFault) (script : Result (List ScriptStep) ℕ) →
         setup_of config ≡ Err fault →
         configured (Some config) script ≡ Err (faults.Config (config_fault_number fault)) }
     ensures bad_script { (config : Config) (setup : Setup) (line : ℕ) → setup_of config ≡ Ok setup →
         configured (Some config) (Err line) ≡ Err (faults.Script line) }
-    ensures fine { (config : Config) (setup : Setup) (script : List Step) → setup_of config ≡ Ok setup →
+    ensures fine { (config : Config) (setup : Setup) (script : List ScriptStep) → setup_of config ≡ Ok setup →
         configured (Some config) (Ok script) ≡ Ok (record { setup = setup; steps = script }) }
 {}
 

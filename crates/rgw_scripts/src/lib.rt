@@ -24,7 +24,7 @@ pub use crate::printing::{put_datagrams, put_line, put_refusal};
 pub use crate::script::{ScriptFault, read_script};
 pub use crate::settings::{read_config, read_unread_key};
 pub use crate::status::LineStatus;
-pub use crate::step::{ScriptLine, Step};
+pub use crate::step::{ScriptLine, ScriptStep};
 pub use crate::words::line_in;
 
 /// How many bytes of input are taken.

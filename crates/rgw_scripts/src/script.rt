@@ -6,7 +6,7 @@ ghost use Rattle.mg_bytes.specs.Words.{words as words_of};
 ghost use Rattle.rgw_scripts.specs.Script.{line_in, begun, continued, next_reading, closed, steps_of};
 
 use crate::LIMIT;
-use crate::step::{ScriptLine, Step};
+use crate::step::{ScriptLine, ScriptStep};
 use crate::words::line_in;
 use mg_bytes::{OutOfMemory, Text, lines};
 use std::alloc::Global;
@@ -32,7 +32,7 @@ impl Model for OpenFrom {
 // What the lines so far were read as.
 #[derive(Drop)]
 struct ScriptReader {
-    steps: Vec<Step>,
+    steps: Vec<ScriptStep>,
     waiting: Option<OpenFrom>,
 }
 
@@ -96,7 +96,7 @@ impl ScriptReader {
         } = from;
         if line == b"--".as_slice() {
             let bytes = Text::of(text);
-            self.steps.push(Step::Datagram { source, bytes })?;
+            self.steps.push(ScriptStep::Datagram { source, bytes })?;
             return Ok(());
         }
         text.extend_from_slice(line)?;
@@ -125,7 +125,7 @@ impl ScriptReader {
     }
 
     // The steps, unless a `from` has no `--`.
-    fn close(self) -> Result<Vec<Step>, u64>
+    fn close(self) -> Result<Vec<ScriptStep>, u64>
         ensures { MatchResult result (λ steps. closed self.steps self.waiting ≡ Ok steps.items)
             (λ line. closed self.steps self.waiting ≡ Err line) }
     {
@@ -139,7 +139,7 @@ impl ScriptReader {
 
 /// The steps of a script.
 #[tactic(auto, unfolding(crate::specs::Script::read_from))]
-pub fn read_script(alloc: Global, script: &[u8]) -> Result<Vec<Step>, ScriptFault>
+pub fn read_script(alloc: Global, script: &[u8]) -> Result<Vec<ScriptStep>, ScriptFault>
     requires { length script.now ≤ LIMIT }
     ensures ok { IfOk result (λ steps. steps_of (lines_of script.now) ≡ Ok steps.items) }
     ensures bad { IfErr result

@@ -5,7 +5,7 @@ use std::net::SocketAddrV4;
 
 /// A step of a script.
 #[derive(Drop)]
-pub enum Step {
+pub enum ScriptStep {
     /// A datagram comes to the gateway.
     Datagram { source: SocketAddrV4, bytes: Text },
     /// Something is done at the telephone of a line.
@@ -28,5 +28,5 @@ pub enum ScriptLine {
     /// That a datagram from this address begins.
     From { source: SocketAddrV4 },
     /// A whole step.
-    Whole { step: Step },
+    Whole { step: ScriptStep },
 }

@@ -5,7 +5,7 @@ ghost use Rattle.mg_bytes.specs.Numbers.{decimal_of};
 ghost use Rattle.rgw_scripts.specs.Script.{address_of, hex_digit, hex_byte, hex_bytes, raw_step, line_number, wait_of, line_of_two, phone_step, line_of_three, line_in};
 
 use crate::acts::act_of;
-use crate::step::{ScriptLine, Step};
+use crate::step::{ScriptLine, ScriptStep};
 use mg_bytes::{OutOfMemory, Text, decimal, ipv4_address, port_number, split_once, words};
 use std::alloc::Global;
 use std::net::SocketAddrV4;
@@ -76,7 +76,7 @@ fn raw_step(alloc: Global, address: &[u8], digits: &[u8]) -> Result<Option<Scrip
     };
     match hex_bytes(alloc, digits)? {
         Some(bytes) => Ok(Some(ScriptLine::Whole {
-            step: Step::Datagram { source, bytes },
+            step: ScriptStep::Datagram { source, bytes },
         })),
         None => Ok(None),
     }
@@ -110,38 +110,38 @@ fn wait_of(text: &[u8]) -> Option<u64>
 }
 
 fn tick_line(text: &[u8]) -> Option<ScriptLine>
-    ensures { result ≡ option_map (λ by. ScriptLine.Whole (Step.Tick by)) (decimal_of text.now) }
+    ensures { result ≡ option_map (λ by. ScriptLine.Whole (ScriptStep.Tick by)) (decimal_of text.now) }
 {
     let by = decimal(text)?;
     Some(ScriptLine::Whole {
-        step: Step::Tick { by },
+        step: ScriptStep::Tick { by },
     })
 }
 
 fn at_line(text: &[u8]) -> Option<ScriptLine>
-    ensures { result ≡ option_map (λ moment. ScriptLine.Whole (Step.At moment)) (decimal_of text.now) }
+    ensures { result ≡ option_map (λ moment. ScriptLine.Whole (ScriptStep.At moment)) (decimal_of text.now) }
 {
     let moment = decimal(text)?;
     Some(ScriptLine::Whole {
-        step: Step::At { moment },
+        step: ScriptStep::At { moment },
     })
 }
 
 fn wait_line(text: &[u8]) -> Option<ScriptLine>
-    ensures { result ≡ option_map (λ by. ScriptLine.Whole (Step.Wait by)) (wait_of text.now) }
+    ensures { result ≡ option_map (λ by. ScriptLine.Whole (ScriptStep.Wait by)) (wait_of text.now) }
 {
     let by = wait_of(text)?;
     Some(ScriptLine::Whole {
-        step: Step::Wait { by },
+        step: ScriptStep::Wait { by },
     })
 }
 
 fn show_line(text: &[u8]) -> Option<ScriptLine>
-    ensures { result ≡ option_map (λ line. ScriptLine.Whole (Step.Show line)) (line_number text.now) }
+    ensures { result ≡ option_map (λ line. ScriptLine.Whole (ScriptStep.Show line)) (line_number text.now) }
 {
     let line = line_number(text)?;
     Some(ScriptLine::Whole {
-        step: Step::Show { line },
+        step: ScriptStep::Show { line },
     })
 }
 
@@ -171,7 +171,7 @@ fn phone_step(line: &[u8], word: &[u8]) -> Option<ScriptLine>
     let line = line_number(line)?;
     let act = act_of(word)?;
     Some(ScriptLine::Whole {
-        step: Step::Phone { line, act },
+        step: ScriptStep::Phone { line, act },
     })
 }
 

@@ -7,7 +7,7 @@ use crate::output::OutDatagram;
 use crate::sending::send;
 use crate::transacting::Origin;
 use mg_bytes::{OutOfMemory, ReturnCode, Text};
-use mgcp_text::{Answer, KValue, Message, TransactionId, read_k};
+use mgcp_text::{AnswerContent, KValue, Message, TransactionId, read_k};
 use std::alloc::Global;
 
 fn is_empty_k(value: &KValue) -> bool
@@ -45,7 +45,7 @@ fn acknowledgement(
     if !asks_for_acknowledgement(alloc, code, said)? {
         return Ok(None);
     }
-    let answer = Answer::plain(alloc, ReturnCode::ResponseAcknowledgement.number());
+    let answer = AnswerContent::plain(alloc, ReturnCode::ResponseAcknowledgement.number());
     Ok(Some(answer.text(alloc, id)?))
 }
 

@@ -12,7 +12,7 @@ use crate::output::OutDatagram;
 use crate::transacting::{Origin, answer, is_new};
 use history::History;
 use mg_bytes::{OutOfMemory, ReturnCode, Sequence};
-use mgcp_text::{Answer, Message, TextFault};
+use mgcp_text::{AnswerContent, Message, TextFault};
 use piggyback::{Parts, parts};
 use std::alloc::{AllocError, Global};
 use std::net::SocketAddrV4;
@@ -47,7 +47,7 @@ fn refuse(
         return Ok(());
     }
     let confirms = Sequence::new(alloc);
-    let refusal = Answer::plain(alloc, code);
+    let refusal = AnswerContent::plain(alloc, code);
     answer(alloc, history, origin, now, confirms, &refusal, out)?;
     Ok(())
 }

@@ -10,7 +10,7 @@ use crate::output::OutDatagram;
 use crate::sending::send;
 use history::{History, IdSpan, Look};
 use mg_bytes::{OutOfMemory, Sequence, Text};
-use mgcp_text::{Answer, TransactionId};
+use mgcp_text::{AnswerContent, TransactionId};
 use std::alloc::Global;
 use std::net::SocketAddrV4;
 
@@ -58,7 +58,7 @@ pub fn answer(
     origin: Origin,
     now: u64,
     confirms: Sequence<IdSpan>,
-    answer: &Answer,
+    answer: &AnswerContent,
     out: &mut Vec<OutDatagram>,
 ) -> Result<(), OutOfMemory>
     ensures kept { OnOk result (history.new

@@ -10,7 +10,7 @@
 use crate::runs::runs_alike;
 use crate::twins::{Played, Twins, are_events, event_of, scene_again, scene_of};
 use gateway_core::Refusal;
-use rgw_play::Step;
+use rgw_play::ScriptStep;
 use scenario_files::{Count, Pieces, again, input_of, read_scenario};
 use std::alloc::Global;
 use std::io;
@@ -22,7 +22,7 @@ const UNPLAYED: &str = "it can't be played";
 #[derive(Clone, Copy)]
 enum Next<'s> {
     Again,
-    Otherwise(&'s [Step]),
+    Otherwise(&'s [ScriptStep]),
 }
 
 // The input that lines are; nothing where they say what is printed.
@@ -35,7 +35,7 @@ fn input_under(alloc: Global, lines: &str) -> io::Result<Option<String>> {
 }
 
 // The steps of `otherwise`; nothing where they can't be read.
-fn steps_of(alloc: Global, lines: &str) -> io::Result<Option<Vec<Step>>> {
+fn steps_of(alloc: Global, lines: &str) -> io::Result<Option<Vec<ScriptStep>>> {
     let mut scenario = read_scenario(alloc, lines, false)?;
     scenario.is_at_opening = true;
     let input = input_of(alloc, &scenario)?;
@@ -77,7 +77,7 @@ fn differing_at(
     alloc: Global,
     input: &[u8],
     twins: &mut Twins,
-    step: &Step,
+    step: &ScriptStep,
     next: Next<'_>,
     place: usize,
 ) -> io::Result<Option<&'static str>> {
@@ -102,7 +102,7 @@ fn differing_among(
     alloc: Global,
     input: &[u8],
     twins: &mut Twins,
-    steps: &[Step],
+    steps: &[ScriptStep],
     next: Next<'_>,
 ) -> io::Result<Option<(usize, &'static str)>> {
     for (place, step) in steps.iter().enumerate() {
@@ -117,7 +117,7 @@ fn differing_among(
 fn differing_twins(
     alloc: Global,
     input: &[u8],
-    steps: &[Step],
+    steps: &[ScriptStep],
     next: Next<'_>,
 ) -> io::Result<Option<(usize, &'static str)>> {
     match Twins::after(alloc, input, 0)? {
@@ -142,7 +142,7 @@ fn differing(
 fn differing_under(
     alloc: Global,
     input: &[u8],
-    otherwise: &[Step],
+    otherwise: &[ScriptStep],
 ) -> io::Result<Option<(usize, &'static str)>> {
     for next in [Next::Again, Next::Otherwise(otherwise)] {
         let found = differing(alloc, input, next)?;
@@ -161,7 +161,7 @@ fn is_told<R: AllocGlobal + Print>(
     rt: &R,
     title: &str,
     lines: &str,
-    otherwise: &[Step],
+    otherwise: &[ScriptStep],
 ) -> io::Result<bool> {
     let Some(input) = again!(input_under(rt.alloc(), lines))? else {
         println!(rt; "{title}\n  no script says what is printed")?;
@@ -180,7 +180,7 @@ fn is_told<R: AllocGlobal + Print>(
 fn takes_otherwise<R: AllocGlobal + Print>(
     rt: &R,
     lines: &str,
-    otherwise: &mut Vec<Step>,
+    otherwise: &mut Vec<ScriptStep>,
 ) -> io::Result<bool> {
     let Some(steps) = again!(steps_of(rt.alloc(), lines))? else {
         println!(rt; "otherwise\n  it isn't events alone")?;

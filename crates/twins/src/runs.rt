@@ -1,7 +1,7 @@
 //! All events of a script in one run, which goes on at its place where it was refused memory.
 use crate::twins::{are_same, event_of, is_same_datagram, scene_again, stepped};
 use gateway_core::{Event, Gateway, Outputs, Refusal};
-use rgw_play::Step;
+use rgw_play::ScriptStep;
 use scenario_files::{again, item_at};
 use std::alloc::Global;
 use std::io;
@@ -36,7 +36,7 @@ impl<'s> Given<'s> {
 fn one_by_one<'s>(
     alloc: Global,
     gateway: &mut Gateway,
-    steps: &'s [Step],
+    steps: &'s [ScriptStep],
 ) -> io::Result<Given<'s>> {
     let mut given = again!(room(alloc, steps.len()))?;
     for step in steps {
@@ -104,7 +104,7 @@ fn are_runs_alike(
     alloc: Global,
     gateway: &mut Gateway,
     twin: &mut Gateway,
-    steps: &[Step],
+    steps: &[ScriptStep],
 ) -> io::Result<bool> {
     let given = one_by_one(alloc, twin, steps)?;
     let outputs = in_one_run(alloc, gateway, &given.events)?;

@@ -4,7 +4,7 @@
 //! next, be that the same event or another.
 use connections::Connection;
 use gateway_core::{Event, Gateway, OutDatagram, Outputs, Refusal};
-use rgw_play::{PlayFault, Scene, Step, judge};
+use rgw_play::{PlayFault, Scene, ScriptStep, judge};
 use scenario_files::{again, refused};
 use std::alloc::Global;
 use std::io;
@@ -14,7 +14,7 @@ use std::io;
 #[derive(Drop)]
 pub struct Played {
     pub gateway: Box<Gateway>,
-    pub steps: Vec<Step>,
+    pub steps: Vec<ScriptStep>,
 }
 
 fn boxed(alloc: Global, scene: Scene) -> io::Result<Played> {
@@ -38,26 +38,26 @@ pub fn scene_again(alloc: Global, input: &[u8]) -> io::Result<Option<Played>> {
 }
 
 /// The event that a step is at this moment; nothing where it is none or several.
-pub fn event_of(step: &Step, now: u64) -> Option<Event<'_>> {
+pub fn event_of(step: &ScriptStep, now: u64) -> Option<Event<'_>> {
     match step {
-        Step::Datagram { source, bytes } => Some(Event::Datagram {
+        ScriptStep::Datagram { source, bytes } => Some(Event::Datagram {
             source: *source,
             bytes: bytes.as_bytes(),
         }),
-        Step::Phone { line, act } => Some(Event::Phone {
+        ScriptStep::Phone { line, act } => Some(Event::Phone {
             line: *line,
             act: *act,
         }),
-        Step::Tick { by } => Some(Event::Tick {
+        ScriptStep::Tick { by } => Some(Event::Tick {
             moment: now.saturating_add(*by),
         }),
-        Step::At { moment } => Some(Event::Tick { moment: *moment }),
-        Step::Wait { .. } | Step::Show { .. } => None,
+        ScriptStep::At { moment } => Some(Event::Tick { moment: *moment }),
+        ScriptStep::Wait { .. } | ScriptStep::Show { .. } => None,
     }
 }
 
 /// Whether each step is an event.
-pub fn are_events(steps: &[Step]) -> bool {
+pub fn are_events(steps: &[ScriptStep]) -> bool {
     for step in steps {
         if event_of(step, 0).is_none() {
             return false;
@@ -149,7 +149,7 @@ fn are_same_outcomes(one: &Result<Outputs, Refusal>, other: &Result<Outputs, Ref
 }
 
 // A gateway takes the first so many of these steps.
-fn advance(gateway: &mut Gateway, steps: &[Step], count: usize) {
+fn advance(gateway: &mut Gateway, steps: &[ScriptStep], count: usize) {
     for step in steps.iter().take(count) {
         if let Some(event) = event_of(step, gateway.now()) {
             let _ = stepped(gateway, event);
@@ -203,7 +203,7 @@ impl Twins {
     }
 
     /// Both take these steps in place of one that was refused, and eight ticks of a second: whether they stay alike.
-    pub fn go_otherwise(&mut self, steps: &[Step]) -> bool {
+    pub fn go_otherwise(&mut self, steps: &[ScriptStep]) -> bool {
         for step in steps {
             if let Some(event) = event_of(step, self.gateway.now()) {
                 if !self.take(event) {

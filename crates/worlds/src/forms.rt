@@ -3,7 +3,7 @@ use agent_core::Agent;
 use event_values::write_observed;
 use mg_bytes::Text;
 use mg_line::Act;
-use rgw_scripts::{ScriptLine, Step, line_in};
+use rgw_scripts::{ScriptLine, ScriptStep, line_in};
 use scenario_files::{bytes_of, no_such_row, unless_said, unless_told};
 use std::alloc::Global;
 use std::io;
@@ -69,7 +69,7 @@ pub fn act_in(alloc: Global, words: &str) -> io::Result<Option<(u16, Act)>> {
     match line_in(alloc, phone.as_bytes())? {
         Some(
             ScriptLine::Whole {
-                step: Step::Phone { line, act },
+                step: ScriptStep::Phone { line, act },
             },
         ) => Ok(Some((line, act))),
         _ => Ok(None),

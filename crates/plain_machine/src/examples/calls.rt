@@ -41,7 +41,8 @@ pub fn connections_are_created()
 pub fn any_one_line_is_the_least_with_a_place()
     ensures first { line_with_place (first_endpoints (ready_endpoint example 1 ∷ ready_endpoint example 2 ∷ [])) ≡ Some 1 }
     ensures last_place { line_with_place (first_endpoints (holding (replicate 3 (Some first_connection) ++ None ∷ []) ∷ [])) ≡ Some 1 }
-    ensures second { line_with_place (first_endpoints (holding (replicate 4 (Some first_connection)) ∷ ready_endpoint example 2 ∷ [])) ≡ Some 2 }
+    ensures second { line_with_place (first_endpoints (holding (replicate 4 (Some first_connection)) ∷ ready_endpoint example 2 ∷ []))
+        ≡ Some 2 }
     ensures none { line_with_place (first_endpoints (holding (replicate 4 (Some first_connection)) ∷ [])) ≡ None }
     ensures refuses { two_send (rqnt 1 (codes "aaln/1") (codes "X: 1\r\n") ∷ crcx 2 (codes "$") (codes "X: 1\r\nS: L/dl\r\n") ∷ [])
         ≡ says (codes "200 1 OK") ∷ says (codes "402 2") ∷ [] }

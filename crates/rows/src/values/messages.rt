@@ -1,8 +1,8 @@
 //! Calls about messages as text.
 use mg_bytes::{decimal, split_once};
 use mgcp_text::{
-    Answer, KValue, Message, TextFault, TransactionId, is_writable, param_at, read_k, read_message,
-    write_message,
+    AnswerContent, KValue, Message, TextFault, TransactionId, is_writable, param_at, read_k,
+    read_message, write_message,
 };
 use scenario_files::refused;
 use std::alloc::Global;
@@ -72,7 +72,7 @@ fn put_answered(alloc: Global, out: &mut Vec<u8>, value: &[u8]) -> io::Result<()
     if code > 999 || id < 1 || id > 999_999_999 {
         return out.write_all(b"no answer");
     }
-    let answer = Answer::plain(alloc, code as u16);
+    let answer = AnswerContent::plain(alloc, code as u16);
     let text = answer.text(alloc, TransactionId::of(id as u32))?;
     out.write_all(text.as_bytes())
 }

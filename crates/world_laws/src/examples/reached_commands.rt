@@ -2,7 +2,7 @@
 #![tactic(auto, unfolding(crate::proofs::Computing::on_examples))]
 
 ghost use Rattle.std.specs.Prelude.{◌≡◌, ◌++◌, codes, [], ◌∷◌, map, flat_map};
-ghost use Rattle.mg_packages.specs.declared.event.Event.TheVariants as events;
+ghost use Rattle.mg_packages.specs.declared.event.LineEvent.TheVariants as events;
 ghost use Rattle.mg_line.specs.declared.phone.Act.TheVariants as acts;
 ghost use Rattle.mgcp_text.specs.declared.message.Verb.TheVariants.{Auep};
 ghost use Rattle.mgcp_text.specs.declared.message.Message.TheVariants as messages;

@@ -2,7 +2,7 @@ use Rattle.std.proofs.Common.{◌≡◌, Ok, [], sym, ap, ◌∙◌}
 use Rattle.std.proofs.lemmas.Bool.{eqb-true}
 use Rattle.std.proofs.lemmas.List.{nil_from_length}
 use Rattle.event_syntax.specs.Requested.{requested_of}
-use Rattle.command_forms.specs.declared.refused.Place.TheVariants.{Value}
+use Rattle.command_forms.specs.declared.refused.FaultyPart.TheVariants.{Value}
 use Rattle.command_forms.specs.Refusing.{letter_r}
 use Rattle.command_forms.proofs.EventLemmas.{nothing_meanwhile, read_there}
 use Rattle.command_forms.proofs.deeds.events_of.Goals as goal

@@ -1,5 +1,5 @@
 use Rattle.std.proofs.Common.{◌≡◌, true, false, refl}
-use Rattle.mg_packages.specs.declared.event.Event.TheVariants as events
+use Rattle.mg_packages.specs.declared.event.LineEvent.TheVariants as events
 use Rattle.dialled_once.proofs.AskingLemmas.{notifies_each}
 use Rattle.dialled_once.proofs.Computing.{on_examples}
 use Rattle.dialled_once.proofs.examples.else_a_key_behind_an_embedded_request_is_skipped.Goals as goal

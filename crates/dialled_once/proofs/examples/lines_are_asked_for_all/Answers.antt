@@ -1,6 +1,6 @@
 use Rattle.std.proofs.Common.{◌≡◌, true, false, refl}
 use Rattle.mg_bytes.specs.declared.letter.Letter.TheVariants as letters
-use Rattle.mg_packages.specs.declared.event.Event.TheVariants as events
+use Rattle.mg_packages.specs.declared.event.LineEvent.TheVariants as events
 use Rattle.event_syntax.specs.declared.request.Action.TheVariants.{Notify, Dial, Ignore}
 use Rattle.event_syntax.specs.declared.request.Reaction.TheVariants.{Plain}
 use Rattle.event_values.specs.declared.handling.Quarantined.TheVariants.{Process, Discard}

@@ -21,5 +21,5 @@ returns-in_err-so_far c =
 
 pub returns : goal.returns
 returns c =
-    ap (λ deed. Ok (record { deed = deed; keep = c.loop-action.so_far.keep })) c.deed_or_notify.ensures
+    ap (λ joined. Ok (record { joined = joined; keep = c.loop-action.so_far.keep })) c.joined_or_notify.ensures
     ∙ behind_done _ _ _ c.in-None.ensures.steps.0 c.loop-action.invariant

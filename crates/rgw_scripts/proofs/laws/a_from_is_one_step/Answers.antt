@@ -1,7 +1,7 @@
 use Rattle.std.proofs.Common.{◌≡◌, ℕ, ◌+◌, ◌∷◌, [], ◌++◌, length, ap, ◌∙◌, arith}
 use Rattle.std.specs.List.{flat_map}
 use Rattle.mg_bytes.specs.Lines.{ended}
-use Rattle.rgw_scripts.specs.declared.step.Step.TheVariants as steps
+use Rattle.rgw_scripts.specs.declared.step.ScriptStep.TheVariants as steps
 use Rattle.rgw_scripts.specs.Script.{read_from, steps_after}
 use Rattle.rgw_scripts.proofs.ScriptLaws.{ended_from, unended_from}
 use Rattle.rgw_scripts.proofs.laws.a_from_is_one_step.Goals as goal
