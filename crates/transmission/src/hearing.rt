@@ -1,6 +1,6 @@
 //! What an end hears: the texts of a datagram, and of each what every end does at it, whether it is a gateway or a call agent
 //! (RFC 3435, 3.5).
-ghost use Rattle.std.specs.Prelude.{◌≡◌, ◌≤◌, ◌++◌, ℕ, nat_lt, if◌then◌else◌, List, [], length, Some, None, is_none, IfSome, MatchOption, IfOk, OnOk};
+ghost use Rattle.std.specs.Prelude.{◌≡◌, ◌≤◌, ◌++◌, ℕ, nat_lt, if◌then◌else◌, List, [], length, Some, None, is_none, IfSome, MatchOption, IfOk, OnOk, OnErr};
 ghost use Rattle.std.specs.Result.{result_ok};
 ghost use Rattle.mgcp_text.specs.Reading.{message, outcome_of, read_text};
 ghost use Rattle.transmission.specs.Texts.{largest_datagram, texts_of};
@@ -41,6 +41,8 @@ fn refuse(
     requires { code ≤ 999 }
     ensures kept { OnOk result (history.new ≡ (refused history.old origin.source now origin.id code).history) }
     ensures sent { OnOk result (out.new.items ≡ out.old.items ++ (refused history.old origin.source now origin.id code).sent) }
+    ensures err { OnErr result (history.new ≡ history.old) }
+    ensures unsent { OnErr result (out.new.items ≡ out.old.items) }
     ensures settled { history.new.settled ≡ history.old.settled }
 {
     if !is_new(alloc, history, origin, now, out)? {
@@ -65,6 +67,7 @@ fn is_left(
         ≡ if left then Some said.now else None) }
     ensures kept { (heard_at history.now source now (message said.now)).history ≡ history.now }
     ensures sent { OnOk result (out.new.items ≡ out.old.items ++ (heard_at history.now source now (message said.now)).sent) }
+    ensures err { OnErr result (out.new.items ≡ out.old.items) }
 {
     match said {
         Message::Command { id, .. } => {
@@ -80,7 +83,8 @@ fn is_left(
 /// Hears a text that came now (in ms) from this source, by what it was read as, and does what every end does at it (RFC 3435,
 /// 3.5): a command that can't be read is answered by 528 or 510, and kept, if it is new; a repeat gets its stored answer again,
 /// or silence once that is confirmed; a response is acknowledged. Whether a message is left to the end: a new command, which
-/// it executes and answers, or a response. After an error `undo` still leads to what the history was after the last purge.
+/// it executes and answers, or a response. After an error the history and the messages are as they were; and `undo` still leads
+/// to what the history was after the last purge.
 pub fn hear(
     alloc: Global,
     history: &mut History,
@@ -94,6 +98,8 @@ pub fn hear(
     ensures kept { OnOk result (history.new ≡ (heard_at history.old source now (outcome_in read.now)).history) }
     ensures sent { OnOk result (out.new.items
         ≡ out.old.items ++ (heard_at history.old source now (outcome_in read.now)).sent) }
+    ensures err { OnErr result (history.new ≡ history.old) }
+    ensures unsent { OnErr result (out.new.items ≡ out.old.items) }
     ensures settled { history.new.settled ≡ history.old.settled }
     // It was read, unless memory was refused, and then that is the error.
     ensures text { (text : List ℕ) → IfSome (outcome_of read.now) (λ outcome. outcome ≡ read_text text) →
