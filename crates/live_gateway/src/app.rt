@@ -14,7 +14,8 @@ use rgw_play::{LIMIT, PlayFault, gateway_of, read_key_at_fault, read_limited};
 use std::alloc::Global;
 use std::fs::File;
 use std::io::ErrorKind;
-use std::net::{Net, SocketAddrV4, UdpSocket};
+use mio::net::UdpSocket;
+use std::net::{Net, SocketAddr, SocketAddrV4};
 use std::rt::{Clock, Env, Files};
 use std::{env, io};
 
@@ -93,7 +94,7 @@ fn open_ends<'a, 'w, R: Net + Clock>(
 ) -> Result<Ends<'a, R>, Ending<'w>> {
     let listen = settings.listen;
     let phones = settings.phones;
-    let socket = match UdpSocket::bind(rt, listen) {
+    let socket = match UdpSocket::bind(rt, SocketAddr::V4(listen)) {
         Ok(socket) => socket,
         Err(e) => return Err(socket_ending("--listen", listen, &e)),
     };
@@ -104,7 +105,7 @@ fn open_ends<'a, 'w, R: Net + Clock>(
     let Ok(clock) = LiveClock::start(rt) else {
         return Err(Ending::Clock);
     };
-    match Ends::new(socket, telephones, clock, settings.stop_after) {
+    match Ends::new(rt, alloc, socket, telephones, clock, settings.stop_after) {
         Ok(ends) => Ok(ends),
         Err(e) => Err(socket_ending("--listen", listen, &e)),
     }

@@ -11,6 +11,7 @@ mod help;
 mod journal;
 mod live_wire;
 mod message_tally;
+mod readiness;
 mod recent;
 mod report;
 mod session;

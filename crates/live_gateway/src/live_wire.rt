@@ -4,17 +4,23 @@ ghost use Rattle.gateway_core.specs.Wire.{IsWithin};
 
 use crate::clock::{LONGEST_TICK, LiveClock};
 use crate::journal::Journal;
+use crate::readiness::Readiness;
 use crate::telephones::{TelephoneRequest, Telephones};
 use crate::trace::TraceEntry;
 use gateway_core::{DATAGRAM_ROOM, Input, Wire, WireFault};
+use mio::net::UdpSocket;
+use std::alloc::Global;
 use std::io;
 use std::io::ErrorKind;
-use std::net::{Net, SocketAddr, SocketAddrV4, UdpSocket};
+use std::net::{Net, SocketAddr, SocketAddrV4};
 use std::rt::Clock;
-use std::time::Duration;
 
-// How long a turn waits for a datagram, in ms. So late at most is what falls due, and what is done at a telephone.
-const LONGEST_WAIT: u64 = 4;
+// An idle gateway wakes so often, in ms, and what failed is tried again no sooner than that.
+const LONGEST_WAIT: u64 = 1000;
+const SHORTEST_WAIT: u64 = 1;
+
+// So many inputs are given before it is asked anew what has come.
+const BATCH: u8 = 64;
 
 /// Where inputs come from.
 #[derive(Drop)]
@@ -22,10 +28,17 @@ pub struct Ends<'a, R> {
     pub socket: UdpSocket,
     pub telephones: Telephones,
     pub clock: LiveClock<'a, R>,
+    /// The moment at which something falls due next at the gateway.
+    pub due: Option<u64>,
+    ready: Readiness,
+    // How many inputs were given since it was asked what has come.
+    given: u8,
     // The moment at which nothing comes any more.
     end: Option<u64>,
-    // Whether the telephones are to be looked at: once after each tick.
-    look: bool,
+    // Whether something else than a tick was looked for since the last one.
+    looked: bool,
+    // Whether the telephones came before datagrams when last something was looked for.
+    telephones_first: bool,
 }
 
 /// A wire over the machine's network and clock, which tells nothing but how often it failed.
@@ -37,30 +50,33 @@ pub struct LiveWire<'a, R> {
     send_faults: u64,
 }
 
-// Whether a socket says only that nothing came.
-fn is_nothing(fault: &io::Error) -> bool {
-    matches!(
-        fault.kind(),
-        ErrorKind::WouldBlock | ErrorKind::TimedOut | ErrorKind::Interrupted
-    )
-}
-
 impl<'a, R: Net + Clock> Ends<'a, R> {
     /// The ends of a wire, over a socket for datagrams.
     pub fn new(
-        socket: UdpSocket,
-        telephones: Telephones,
+        rt: &R,
+        alloc: Global,
+        mut socket: UdpSocket,
+        mut telephones: Telephones,
         clock: LiveClock<'a, R>,
         end: Option<u64>,
     ) -> io::Result<Ends<'a, R>> {
-        socket.set_read_timeout(Some(Duration::from_millis(LONGEST_WAIT)))?;
+        let ready = Readiness::watch(rt, alloc, &mut socket, &mut telephones.socket)?;
         Ok(Ends {
             socket,
             telephones,
             clock,
+            due: None,
+            ready,
+            given: 0,
             end,
-            look: true,
+            looked: false,
+            telephones_first: false,
         })
+    }
+
+    /// Nothing comes any more.
+    pub fn stop(&mut self) {
+        self.end = Some(0);
     }
 
     fn is_over(&self) -> bool {
@@ -70,15 +86,22 @@ impl<'a, R: Net + Clock> Ends<'a, R> {
         }
     }
 
-    // A datagram, where one comes in time. One without a port can't be answered, and doesn't count.
-    fn receive(&self, room: &mut [u8]) -> io::Result<Option<(SocketAddrV4, usize)>>
+    // A datagram, where one has come. One without a port can't be answered, and doesn't count.
+    fn receive(&mut self, room: &mut [u8]) -> io::Result<Option<(SocketAddrV4, usize)>>
         ensures length { length room.new ≡ length room.old }
         ensures within { IfOk result (λ found. IfSome found (λ p. p.1 ≤ length room.new)) }
     {
+        if !self.ready.socket {
+            return Ok(None);
+        }
         match self.socket.recv_from(room) {
             Ok((len, SocketAddr::V4(source))) if source.port() > 0 => Ok(Some((source, len))),
             Ok(_) => Ok(None),
-            Err(e) if is_nothing(&e) => Ok(None),
+            Err(e) if e.kind() == ErrorKind::WouldBlock => {
+                self.ready.socket = false;
+                Ok(None)
+            }
+            Err(e) if e.kind() == ErrorKind::Interrupted => Ok(None),
             Err(e) => Err(e),
         }
     }
@@ -88,7 +111,7 @@ impl<'a, R: Net + Clock> Ends<'a, R> {
         ensures { IfOk result (λ input. IsWithin input []) }
     {
         let moment = self.clock.moment()?;
-        self.look = true;
+        self.looked = false;
         Ok(Input::Tick { moment })
     }
 
@@ -96,13 +119,14 @@ impl<'a, R: Net + Clock> Ends<'a, R> {
     fn telephoned(&mut self) -> Option<Input>
         ensures { IfSome result (λ input. IsWithin input []) }
     {
-        if self.look {
-            self.look = false;
-            self.telephones.look();
+        if self.ready.telephones {
+            self.ready.telephones = self.telephones.look();
         }
         match self.telephones.request()? {
             TelephoneRequest::Act { line, act } => Some(Input::Phone { line, act }),
             TelephoneRequest::Show { .. }
+            | TelephoneRequest::Counts
+            | TelephoneRequest::Stop
             | TelephoneRequest::Unknown
             | TelephoneRequest::OutOfMemory => Some(Input::Tick {
                 moment: self.clock.ticked(),
@@ -113,11 +137,44 @@ impl<'a, R: Net + Clock> Ends<'a, R> {
     // Whether the clock is behind: by a longest tick, or at all, where something else was looked for since the last tick.
     fn is_tick_due(&self) -> io::Result<bool> {
         let behind = self.clock.moment()? - self.clock.ticked();
-        Ok(behind >= LONGEST_TICK || (behind > 0 && !self.look))
+        Ok(behind >= LONGEST_TICK || (behind > 0 && self.looked))
     }
 
-    // The next input. A tick that is due comes first, so that no flood holds up the clock, and then telephones. After a
-    // tick comes something else, where anything is there, so that a slow machine serves too.
+    // Asks what has come, and waits for it no longer than this, in ms.
+    fn wait(&mut self, longest: u64) -> io::Result<()> {
+        self.given = 0;
+        self.ready.wait(longest)
+    }
+
+    // How long nothing is to be done, in ms, if nothing comes.
+    fn idle_time(&self) -> io::Result<u64> {
+        let now = self.clock.moment()?;
+        let due = self.due.unwrap_or(u64::MAX);
+        let end = self.end.unwrap_or(u64::MAX);
+        let left = due.min(end).saturating_sub(now);
+        Ok(left.clamp(SHORTEST_WAIT, LONGEST_WAIT))
+    }
+
+    // What has come: of telephones and of datagrams by turns, so that none holds up the other.
+    fn arrived(&mut self, room: &mut [u8]) -> io::Result<Option<Input>>
+        ensures length { length room.new ≡ length room.old }
+        ensures within { IfOk result (λ found. IfSome found (λ input. IsWithin input room.new)) }
+    {
+        self.looked = true;
+        self.telephones_first = !self.telephones_first;
+        if self.telephones_first
+            && let Some(input) = self.telephoned()
+        {
+            return Ok(Some(input));
+        }
+        match self.receive(room)? {
+            Some((source, len)) => Ok(Some(Input::Datagram { source, len })),
+            None => Ok(self.telephoned()),
+        }
+    }
+
+    // The next input. A tick that is due comes first, so that no flood holds up the clock. After a tick comes something
+    // else, where anything is there, so that a slow machine serves too.
     fn input(&mut self, room: &mut [u8]) -> io::Result<Input>
         ensures length { length room.new ≡ length room.old }
         ensures within { IfOk result (λ input. IsWithin input room.new) }
@@ -128,13 +185,17 @@ impl<'a, R: Net + Clock> Ends<'a, R> {
         if self.is_tick_due()? {
             return self.tick();
         }
-        if let Some(input) = self.telephoned() {
+        if self.given >= BATCH {
+            self.wait(0)?;
+        }
+        if let Some(input) = self.arrived(room)? {
+            self.given = self.given.saturating_add(1);
             return Ok(input);
         }
-        match self.receive(room)? {
-            Some((source, len)) => Ok(Input::Datagram { source, len }),
-            None => self.tick(),
+        if !self.ready.is_any() {
+            self.wait(self.idle_time()?)?;
         }
+        self.tick()
     }
 }
 
@@ -203,7 +264,7 @@ impl<'a, R: Net + Clock> Wire for LiveWire<'a, R> {
     fn send(&mut self, to: SocketAddrV4, bytes: &[u8]) -> Result<(), WireFault> {
         let (_receive_faults, send_faults) = self.faults();
         self.journal.sent(self.ends.clock.ticked(), to, bytes);
-        match self.ends.socket.send_to(bytes, to) {
+        match self.ends.socket.send_to(bytes, SocketAddr::V4(to)) {
             Ok(len) if len == bytes.len() => Ok(()),
             Ok(_) | Err(_) => {
                 self.send_faults = send_faults.saturating_add(1);

@@ -1,8 +1,10 @@
 //! Serves a wire a turn at a time, and answers what is asked of the telephones between the turns.
 ghost use Rattle.std.specs.Prelude.{◌≤◌, ◌↔◌, IsTrue};
 
+use crate::journal::Journal;
 use crate::live_wire::LiveWire;
-use crate::report::Faults;
+use crate::message_tally::MessageTally;
+use crate::report::{Faults, report};
 use crate::telephones::{TelephoneRequest, Telephones};
 use crate::trace::{Trace, TraceEntry};
 use gateway_core::{Gateway, Input, Refusal};
@@ -18,7 +20,7 @@ use std::rt::Clock;
 const DONE: &[u8] = b"done\n";
 
 // The answer to a line that says nothing that can be done.
-const UNKNOWN: &[u8] = b"? phone LINE off|on|flash|KEY, or show LINE\n";
+const UNKNOWN: &[u8] = b"? phone LINE off|on|flash|KEY, show LINE, counts, or stop\n";
 
 // The answer where memory is refused for any other.
 const OUT_OF_MEMORY: &[u8] = b"! 1 OutOfMemory\n";
@@ -100,23 +102,46 @@ fn answer_question(
     }
 }
 
-// Answers what needs no turn, up to the next act.
+// Answers what was counted so far.
+fn answer_counts(
+    alloc: Global,
+    gateway: &Gateway,
+    telephones: &mut Telephones,
+    tally: &MessageTally,
+    faults: Faults,
+) {
+    match report(alloc, gateway, tally, faults) {
+        Ok(counts) => telephones.answer(counts.as_bytes()),
+        Err(_) => telephones.answer(OUT_OF_MEMORY),
+    }
+}
+
+// Answers what needs no turn, up to the next act: whether the gateway is to end.
 fn answer_questions(
     alloc: Global,
     gateway: &Gateway,
     telephones: &mut Telephones,
-    trace: &mut Trace,
-) {
+    journal: &mut Journal,
+    faults: Faults,
+) -> bool {
     for _ in 0..MOST_REQUESTS {
         match telephones.request() {
             Some(TelephoneRequest::Show { line }) => {
-                answer_question(alloc, gateway, telephones, trace, line);
+                answer_question(alloc, gateway, telephones, &mut journal.trace, line);
+            }
+            Some(TelephoneRequest::Counts) => {
+                answer_counts(alloc, gateway, telephones, &journal.tally, faults);
+            }
+            Some(TelephoneRequest::Stop) => {
+                telephones.answer(DONE);
+                return true;
             }
             Some(TelephoneRequest::Unknown) => telephones.answer(UNKNOWN),
             Some(TelephoneRequest::OutOfMemory) => telephones.answer(OUT_OF_MEMORY),
-            Some(TelephoneRequest::Act { .. }) | None => return,
+            Some(TelephoneRequest::Act { .. }) | None => return false,
         }
     }
+    false
 }
 
 impl<'a, R: Net + Clock> LiveWire<'a, R> {
@@ -148,15 +173,18 @@ pub fn serve<R: Net + Clock + Print>(
 ) -> Faults {
     let mut faults = Faults::NONE;
     for _ in 0..u64::MAX {
+        wire.ends.due = gateway.next_due();
         let served = gateway.serve(wire, 1);
         faults.add(served);
         if served.ended {
             return faults;
         }
         wire.settle(alloc, gateway, served.refused > 0);
-        let trace = &mut wire.journal.trace;
-        answer_questions(alloc, gateway, &mut wire.ends.telephones, trace);
-        trace.write(rt);
+        let ends = &mut wire.ends;
+        if answer_questions(alloc, gateway, &mut ends.telephones, &mut wire.journal, faults) {
+            ends.stop();
+        }
+        wire.journal.trace.write(rt);
     }
     faults
 }

@@ -1,10 +1,11 @@
 //! The telephones: a socket that takes lines of text, and answers each.
 use mg_bytes::lines;
 use mg_line::Act;
+use mio::net::UdpSocket;
 use rgw_play::{ScriptLine, ScriptStep, line_in};
 use std::alloc::Global;
 use std::io;
-use std::net::{Ipv4Addr, Net, SocketAddr, SocketAddrV4, UdpSocket};
+use std::net::{Ipv4Addr, Net, SocketAddr, SocketAddrV4};
 
 // The room for a datagram of lines. What is longer is cut off.
 const ROOM: usize = 4096;
@@ -16,6 +17,10 @@ pub enum TelephoneRequest {
     Act { line: u16, act: Act },
     /// What a line is, is asked.
     Show { line: u16 },
+    /// What was counted so far is asked.
+    Counts,
+    /// The gateway is to end.
+    Stop,
     /// The line says nothing that can be done.
     Unknown,
     /// Memory was refused while it was read.
@@ -26,7 +31,8 @@ pub enum TelephoneRequest {
 #[derive(Drop)]
 pub struct Telephones {
     alloc: Global,
-    socket: UdpSocket,
+    /// To be watched.
+    pub socket: UdpSocket,
     // Who sent the datagram, its bytes, and how many of them were read.
     sender: SocketAddr,
     text: Vec<u8>,
@@ -36,8 +42,17 @@ pub struct Telephones {
     request: Option<TelephoneRequest>,
 }
 
-// What a line asks for, if it isn't empty.
-fn request_in(alloc: Global, line: &[u8]) -> Option<TelephoneRequest> {
+// What a line asks for that is for the program itself.
+fn program_request(line: &[u8]) -> Option<TelephoneRequest> {
+    match line {
+        b"counts" => Some(TelephoneRequest::Counts),
+        b"stop" => Some(TelephoneRequest::Stop),
+        _ => None,
+    }
+}
+
+// What a line asks for of a telephone, if it isn't empty.
+fn telephone_request(alloc: Global, line: &[u8]) -> Option<TelephoneRequest> {
     let Ok(said) = line_in(alloc, line) else {
         return Some(TelephoneRequest::OutOfMemory);
     };
@@ -60,14 +75,20 @@ fn request_of(step: &ScriptStep) -> TelephoneRequest {
     }
 }
 
+// What a line asks for, if it isn't empty.
+fn request_in(alloc: Global, line: &[u8]) -> Option<TelephoneRequest> {
+    match program_request(line) {
+        Some(request) => Some(request),
+        None => telephone_request(alloc, line),
+    }
+}
+
 impl Telephones {
     /// A socket at this address.
     pub fn open<R: Net>(rt: &R, alloc: Global, address: SocketAddrV4) -> io::Result<Telephones> {
-        let socket = UdpSocket::bind(rt, address)?;
-        socket.set_nonblocking(true)?;
         Ok(Telephones {
             alloc,
-            socket,
+            socket: UdpSocket::bind(rt, SocketAddr::V4(address))?,
             sender: SocketAddr::V4(SocketAddrV4::new(Ipv4Addr::LOCALHOST, 0)),
             text: Vec::new(alloc),
             read: 0,
@@ -109,14 +130,14 @@ impl Telephones {
         }
     }
 
-    /// Takes a datagram, where one has come and nothing is left of the one before.
-    pub fn look(&mut self) {
+    /// Takes a datagram, where one has come and nothing is left of the one before: whether there was either.
+    pub fn look(&mut self) -> bool {
         if self.request.is_some() {
-            return;
+            return true;
         }
         let mut room = [0u8; ROOM];
         let Ok((len, sender)) = self.socket.recv_from(&mut room) else {
-            return;
+            return false;
         };
         self.sender = sender;
         self.text.clear();
@@ -125,6 +146,7 @@ impl Telephones {
             Ok(()) => self.advance(),
             Err(_) => self.request = Some(TelephoneRequest::OutOfMemory),
         }
+        true
     }
 
     /// Answers what is asked for, and goes on to the next. Where the answer can't be sent it is lost.
