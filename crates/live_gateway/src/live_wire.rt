@@ -17,6 +17,7 @@ use std::rt::Clock;
 
 // An idle gateway wakes so often, in ms, and what failed is tried again no sooner than that.
 const LONGEST_WAIT: u64 = 1000;
+
 const SHORTEST_WAIT: u64 = 1;
 
 // So many inputs are given before it is asked anew what has come.

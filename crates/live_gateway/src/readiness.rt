@@ -9,7 +9,9 @@ use std::time::Duration;
 
 // By these the system names the sockets.
 const SOCKET: Token = Token(0);
+
 const TELEPHONES: Token = Token(1);
+
 const SOCKETS: usize = 2;
 
 /// What is known of the gateway's socket and of the telephones': whether something may have come since it was last found

@@ -181,7 +181,13 @@ pub fn serve<R: Net + Clock + Print>(
         }
         wire.settle(alloc, gateway, served.refused > 0);
         let ends = &mut wire.ends;
-        if answer_questions(alloc, gateway, &mut ends.telephones, &mut wire.journal, faults) {
+        if answer_questions(
+            alloc,
+            gateway,
+            &mut ends.telephones,
+            &mut wire.journal,
+            faults,
+        ) {
             ends.stop();
         }
         wire.journal.trace.write(rt);
