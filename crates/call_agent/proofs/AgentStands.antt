@@ -21,7 +21,7 @@ use Rattle.call_agent.specs.AgentAlike.{AgentAlike, AgentGoesAlike, with_history
 use Rattle.call_agent.specs.declared.setup.AgentSetup.{AgentSetup}
 use Rattle.call_agent.specs.Agent.{AgentEffect, AgentMachine}
 use Rattle.call_agent.specs.Hearing.{AgentEvent, agent_effect, agent_refusal, handled, handled_as, hears, issues, took_all}
-use Rattle.call_agent.specs.Taking.{GatewayCommand, answer_to, command_of, transacted_by}
+use Rattle.call_agent.specs.Taking.{GatewayCommand, faulty_command, read_command, answer_to, command_of, transacted_by}
 use Rattle.call_agent.specs.Responding.{replied, responded, responded_to}
 use Rattle.call_agent.specs.Flying.{has_id}
 use Rattle.call_agent.proofs.EventLemmas.{forward, agent_clock}
@@ -79,9 +79,9 @@ responded_both k h source code id params text r = by_found (find (has_id id) k.f
 text_both : (setup : AgentSetup) (k : AgentMachine) (h : List Entry) (source : SocketAddrV4) (text : List ℕ) (outcome : Outcome) → Recalls k.history h k.now
     → Both k.now (handled_as (command_of setup outcome) outcome k source text) (handled_as (command_of setup outcome) outcome (with_history k h) source text)
 text_both setup k h source text no_header r = record { history = h; same = refl; recalls = r; time = refl }
-text_both setup k h source text (bad_version id) r = command_both k h source _ r
-text_both setup k h source text (bad_body id) r = command_both k h source _ r
-text_both setup k h source text (message (messages.Command verb id name params body)) r = command_both k h source _ r
+text_both setup k h source text (bad_version id) r = command_both k h source (faulty_command id 528) r
+text_both setup k h source text (bad_body id) r = command_both k h source (faulty_command id 510) r
+text_both setup k h source text (message (messages.Command verb id name params body)) r = command_both k h source (read_command setup verb id name params) r
 text_both setup k h source text (message (messages.Response code id params body)) r = responded_both k h source code id params text r
 
 texts_both : (setup : AgentSetup) (k : AgentMachine) (h : List Entry) (source : SocketAddrV4) (texts : List (List ℕ)) → Recalls k.history h k.now

@@ -22,7 +22,7 @@ use Rattle.call_agent.specs.Agent.{AgentMachine, AgentEffect}
 use Rattle.call_agent.specs.Flying.{has_id}
 use Rattle.call_agent.specs.Hearing.{after, handled, handled_as, left_done, took_all}
 use Rattle.call_agent.specs.Responding.{replied, responded, responded_to}
-use Rattle.call_agent.specs.Taking.{GatewayCommand, command_of, executed, transacted_by}
+use Rattle.call_agent.specs.Taking.{GatewayCommand, faulty_command, read_command, command_of, executed, transacted_by}
 use Rattle.call_agent.specs.State.{kept_in, found_in, Went}
 
 -- what is done at a text is what hearing it comes to, and then what is left
@@ -43,9 +43,9 @@ heard_done : (setup : AgentSetup) (was : State) (source : SocketAddrV4) (text : 
     → handled_as (command_of setup outcome) outcome (kept_in was) source text ≡ after_hearing setup was source text (heard_at was.history source was.clock outcome)
 unfolding responded
 heard_done setup was source text no_header = refl
-heard_done setup was source text (bad_version id) = looked_done (look_of most_firsts was.history.kept id was.clock) setup was source text _ _ refl
-heard_done setup was source text (bad_body id) = looked_done (look_of most_firsts was.history.kept id was.clock) setup was source text _ _ refl
-heard_done setup was source text (message (messages.Command verb id name params body)) = looked_done (look_of most_firsts was.history.kept id was.clock) setup was source text _ _ refl
+heard_done setup was source text (bad_version id) = looked_done (look_of most_firsts was.history.kept id was.clock) setup was source text (faulty_command id 528) _ refl
+heard_done setup was source text (bad_body id) = looked_done (look_of most_firsts was.history.kept id was.clock) setup was source text (faulty_command id 510) _ refl
+heard_done setup was source text (message (messages.Command verb id name params body)) = looked_done (look_of most_firsts was.history.kept id was.clock) setup was source text (read_command setup verb id name params) _ refl
 heard_done setup was source text (message (messages.Response code id params body)) =
     ap (λ (sent : List OutDatagram). let e : AgentEffect = record { machine = responded_to (find (has_id id) was.flights.is) (kept_in was) code id text; sent = sent } in e)
     (sym (append-nil (acknowledgements was.clock source code id params)))
@@ -120,9 +120,9 @@ responded_stays (Some flight) m code id text = replied_stays (reply_of flight id
 outcome_stays : (setup : AgentSetup) (m : AgentMachine) (source : SocketAddrV4) (text : List ℕ) (outcome : Outcome) → Stays m (handled_as (command_of setup outcome) outcome m source text).machine
 unfolding responded
 outcome_stays setup m source text no_header = still m
-outcome_stays setup m source text (bad_version id) = transacted_stays (look_of most_firsts m.history id m.now) m source _
-outcome_stays setup m source text (bad_body id) = transacted_stays (look_of most_firsts m.history id m.now) m source _
-outcome_stays setup m source text (message (messages.Command verb id name params body)) = transacted_stays (look_of most_firsts m.history id m.now) m source _
+outcome_stays setup m source text (bad_version id) = transacted_stays (look_of most_firsts m.history id m.now) m source (faulty_command id 528)
+outcome_stays setup m source text (bad_body id) = transacted_stays (look_of most_firsts m.history id m.now) m source (faulty_command id 510)
+outcome_stays setup m source text (message (messages.Command verb id name params body)) = transacted_stays (look_of most_firsts m.history id m.now) m source (read_command setup verb id name params)
 outcome_stays setup m source text (message (messages.Response code id params body)) = responded_stays (find (has_id id) m.flights) m code id text
 
 handled_stays : (setup : AgentSetup) (m : AgentMachine) (source : SocketAddrV4) (text : List ℕ) → Stays m (handled setup m source text).machine
