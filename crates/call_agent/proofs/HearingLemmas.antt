@@ -59,11 +59,11 @@ pub went_heard : (setup : AgentSetup) (source : SocketAddrV4) (text : List ℕ) 
     → out ≡ were ++ (heard_at was.history source was.clock outcome).sent
     → Went (left_done setup left (kept_in (with_heard was history)) source text) (with_heard was history) is out are → Went (handled setup (kept_in was) source text) was is were are
 unfolding handled
-went_heard setup source text was is history were out are outcome left read left_is kept committed sent went =
+went_heard setup source text was is history were out are outcome left read left_is kept settled sent went =
     let heard : Hearing = heard_at was.history source was.clock outcome in
     let done = heard_done setup was source text outcome in
     let next : AgentEffect = left_done setup heard.left (with_history (kept_in was) heard.history.kept) source text in
-    let found : found_in (with_heard was history) ≡ found_in was = rw committed refl in
+    let found : found_in (with_heard was history) ≡ found_in was = rw settled refl in
     let last : Went next (with_heard was history) is out are =
     subst (λ (h : HistoryState). Went (left_done setup heard.left (kept_in (with_heard was h)) source text) (with_heard was history) is out are) kept
     (subst (λ (some : Option Message). Went (left_done setup some (kept_in (with_heard was history)) source text) (with_heard was history) is out are) (sym left_is) went) in
