@@ -18,7 +18,7 @@ use Rattle.call_agent.specs.declared.setup.AgentSetup.{AgentSetup}
 use Rattle.call_agent.specs.Agent.{AgentMachine, FinalAnswer}
 use Rattle.call_agent.specs.Flying.{has_id}
 use Rattle.call_agent.specs.Responding.{final_answer, replied, responded, responded_to}
-use Rattle.call_agent.specs.Taking.{GatewayCommand, command_of, transacted_by}
+use Rattle.call_agent.specs.Taking.{GatewayCommand, command_of, transacted_by, faulty_command, read_command}
 use Rattle.call_agent.specs.Hearing.{handled, handled_as, took_all}
 use Rattle.world_laws.specs.Landing.{is_final}
 use Rattle.delivery_laws.proofs.FlightLemmas.{Among, found_among, among_with, among_without}
@@ -47,9 +47,9 @@ transacted_keeps P full m source command is = is
 text_keeps : (P : ℕ → List InFlight → List FinalAnswer → Type 0) → IsKeptAt P → (setup : AgentSetup) (m : AgentMachine) (source : SocketAddrV4) (text : List ℕ) (outcome : Outcome) → Of P m
     → Of P (handled_as (command_of setup outcome) outcome m source text).machine
 text_keeps P kept setup m source text no_header is = is
-text_keeps P kept setup m source text (bad_version id) is = transacted_keeps P (look_of most_firsts m.history id m.now) m source _ is
-text_keeps P kept setup m source text (bad_body id) is = transacted_keeps P (look_of most_firsts m.history id m.now) m source _ is
-text_keeps P kept setup m source text (message (messages.Command verb id name params body)) is = transacted_keeps P (look_of most_firsts m.history id m.now) m source _ is
+text_keeps P kept setup m source text (bad_version id) is = transacted_keeps P (look_of most_firsts m.history id m.now) m source (faulty_command id 528) is
+text_keeps P kept setup m source text (bad_body id) is = transacted_keeps P (look_of most_firsts m.history id m.now) m source (faulty_command id 510) is
+text_keeps P kept setup m source text (message (messages.Command verb id name params body)) is = transacted_keeps P (look_of most_firsts m.history id m.now) m source (read_command setup verb id name params) is
 text_keeps P kept setup m source text (message (messages.Response code id params body)) is = kept m source code id params text is
 
 handled_keeps : (P : ℕ → List InFlight → List FinalAnswer → Type 0) → IsKeptAt P → (setup : AgentSetup) (m : AgentMachine) (source : SocketAddrV4) (text : List ℕ) → Of P m

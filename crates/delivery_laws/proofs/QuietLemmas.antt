@@ -18,7 +18,7 @@ use Rattle.call_agent.specs.declared.setup.AgentSetup.{AgentSetup}
 use Rattle.call_agent.specs.Agent.{AgentMachine, FinalAnswer}
 use Rattle.call_agent.specs.Flying.{has_id}
 use Rattle.call_agent.specs.Responding.{final_answer, replied, responded, responded_to}
-use Rattle.call_agent.specs.Taking.{GatewayCommand, command_of, transacted_by}
+use Rattle.call_agent.specs.Taking.{GatewayCommand, command_of, transacted_by, faulty_command, read_command}
 use Rattle.call_agent.specs.Hearing.{handled, handled_as, took_all}
 use Rattle.world_laws.proofs.AgentLaws.{with_each, without_each}
 use Rattle.delivery_laws.proofs.FlightLemmas.{found_among, found_each, among_with, among_without}
@@ -118,9 +118,9 @@ module _ (to : SocketAddrV4) (b : Begun) (count now : ℕ) where
   text_stays : (setup : AgentSetup) (m : AgentMachine) (source : SocketAddrV4) (text : List ℕ) (outcome : Outcome) → IsStill to b count now m
       → Stays (IsProvisional b.id outcome) (handled_as (command_of setup outcome) outcome m source text).machine
   text_stays setup m source text no_header s = inr (inr s)
-  text_stays setup m source text (bad_version id) s = inr (inr (transacted_still (look_of most_firsts m.history id m.now) m source _ s))
-  text_stays setup m source text (bad_body id) s = inr (inr (transacted_still (look_of most_firsts m.history id m.now) m source _ s))
-  text_stays setup m source text (message (messages.Command verb id name params body)) s = inr (inr (transacted_still (look_of most_firsts m.history id m.now) m source _ s))
+  text_stays setup m source text (bad_version id) s = inr (inr (transacted_still (look_of most_firsts m.history id m.now) m source (faulty_command id 528) s))
+  text_stays setup m source text (bad_body id) s = inr (inr (transacted_still (look_of most_firsts m.history id m.now) m source (faulty_command id 510) s))
+  text_stays setup m source text (message (messages.Command verb id name params body)) s = inr (inr (transacted_still (look_of most_firsts m.history id m.now) m source (read_command setup verb id name params) s))
   text_stays setup m source text (message (messages.Response code id params body)) s = by_test (id == b.id) refl where
     by_test : (x : Bool) → (id == b.id) ≡ x → Stays (IsProvisional b.id (message (messages.Response code id params body))) (responded m source code id params text).machine
     by_test true same =

@@ -30,7 +30,7 @@ use Rattle.call_agent.specs.Hearing.{AgentEvent, agent_effect, handled, handled_
 use Rattle.call_agent.specs.declared.setup.AgentSetup.{AgentSetup}
 use Rattle.call_agent.specs.declared.taking.Taken.{Taken}
 use Rattle.call_agent.specs.Agent.{AgentMachine, nothing_taken}
-use Rattle.call_agent.specs.Taking.{GatewayCommand, answer_to, command_of, transacted_by, with_taken}
+use Rattle.call_agent.specs.Taking.{GatewayCommand, answer_to, command_of, transacted_by, with_taken, faulty_command, read_command}
 use Rattle.event_values.specs.declared.observed.Observed.{Observed}
 use Rattle.world_laws.specs.Reached.{Reached, added_by, as_arrival, executed_with, reached, reached_as, taken_with}
 use Rattle.call_agent.specs.Responding.{replied, responded, responded_to}
@@ -154,10 +154,10 @@ record TextKeeps (setup : AgentSetup) (m n : AgentMachine) (ones more : List Rea
 text_on : (setup : AgentSetup) (m : AgentMachine) (source : SocketAddrV4) (text : List ℕ) (ones : List Reached) (outcome : Outcome) → KeepsSo setup m ones
     → TextKeeps setup m (handled_as (command_of setup outcome) outcome m source text).machine ones (map (reached_as outcome) (asked_as source m.now outcome))
 text_on setup m source text ones no_header k = record { so = none_more setup m ones k; time = refl }
-text_on setup m source text ones (bad_version id) k = record { so = command_on setup m source _ ones _ k refl refl; time = transacted_time (look_of most_firsts m.history id m.now) m source _ }
-text_on setup m source text ones (bad_body id) k = record { so = command_on setup m source _ ones _ k refl refl; time = transacted_time (look_of most_firsts m.history id m.now) m source _ }
+text_on setup m source text ones (bad_version id) k = record { so = command_on setup m source _ ones _ k refl refl; time = transacted_time (look_of most_firsts m.history id m.now) m source (faulty_command id 528) }
+text_on setup m source text ones (bad_body id) k = record { so = command_on setup m source _ ones _ k refl refl; time = transacted_time (look_of most_firsts m.history id m.now) m source (faulty_command id 510) }
 text_on setup m source text ones (message (messages.Command verb id name params body)) k =
-    record { so = command_on setup m source _ ones _ k refl refl; time = transacted_time (look_of most_firsts m.history id m.now) m source _ }
+    record { so = command_on setup m source _ ones _ k refl refl; time = transacted_time (look_of most_firsts m.history id m.now) m source (read_command setup verb id name params) }
 text_on setup m source text ones (message (messages.Response code id params body)) k =
     let leaves = responded_leaves m source code id params text in
     record { so = none_more setup _ ones (same_machine setup m _ ones leaves.history leaves.taken k); time = leaves.time }

@@ -51,7 +51,7 @@ use Rattle.call_agent.specs.declared.setup.AgentSetup.{AgentSetup}
 use Rattle.call_agent.specs.Agent.{AgentEffect, AgentMachine, agent_opening}
 use Rattle.call_agent.specs.Hearing.{AgentEvent, agent_after, agent_effect, agent_refusal, event_refused, issue_refused, handled, handled_as, hears, issued_from, issued_with, issues, took_all}
 use Rattle.call_agent.specs.Flying.{Flown, first_flight, flown_on, fly_on, if_due, pass, passed, sooner, with_flight, without_flight}
-use Rattle.call_agent.specs.Taking.{GatewayCommand, answer_to, code_for, command_of, transacted_by}
+use Rattle.call_agent.specs.Taking.{GatewayCommand, answer_to, code_for, command_of, transacted_by, faulty_command, read_command}
 use Rattle.call_agent.specs.Issuing.{IssueRefusal, bad_command, command_text, greatest_id, is_good, issue_refusal, issued, no_more_ids}
 use Rattle.call_agent.specs.Responding.{replied, responded, responded_to}
 use Rattle.call_agent.specs.Flying.{has_id}
@@ -391,9 +391,9 @@ small_code Other = omega arith
 handled_by : (setup : AgentSetup) (all : List Begun) (m : AgentMachine) (source : SocketAddrV4) (text : List ℕ) (outcome : Outcome) → Holds all m → IfSome (id_in outcome) IsId
     → GoesOn all m (handled_as (command_of setup outcome) outcome m source text)
 handled_by setup all m source text no_header h has = record { holds = h; now = refl; more = []; grown = sym (append-nil (firsts_in m.history)); sent = tt }
-handled_by setup all m source text (bad_version id) h has = transacted_on all _ m source _ h has (omega arith) refl
-handled_by setup all m source text (bad_body id) h has = transacted_on all _ m source _ h has (omega arith) refl
-handled_by setup all m source text (message (messages.Command verb id name params body)) h has = transacted_on all _ m source _ h has (small_code verb) refl
+handled_by setup all m source text (bad_version id) h has = transacted_on all _ m source (faulty_command id 528) h has (omega arith) refl
+handled_by setup all m source text (bad_body id) h has = transacted_on all _ m source (faulty_command id 510) h has (omega arith) refl
+handled_by setup all m source text (message (messages.Command verb id name params body)) h has = transacted_on all _ m source (read_command setup verb id name params) h has (small_code verb) refl
 handled_by setup all m source text (message (messages.Response code id params body)) h has = responded_on all m source code id params text h has
 
 handled_on : (setup : AgentSetup) (all : List Begun) (m : AgentMachine) (source : SocketAddrV4) (text : List ℕ) → Holds all m → GoesOn all m (handled setup m source text)

@@ -22,7 +22,7 @@ use Rattle.machine_laws.proofs.EachLemmas.{Each, all_from_each, each_push, each_
 use Rattle.call_agent.specs.Hearing.{AgentEvent, agent_after, agent_effect, handled, handled_as, hears, issues, took_all}
 use Rattle.call_agent.specs.declared.setup.AgentSetup.{AgentSetup}
 use Rattle.call_agent.specs.Agent.{AgentMachine, FinalAnswer, agent_opening}
-use Rattle.call_agent.specs.Taking.{GatewayCommand, command_of, transacted_by}
+use Rattle.call_agent.specs.Taking.{GatewayCommand, command_of, transacted_by, faulty_command, read_command}
 use Rattle.call_agent.specs.Issuing.{command_text}
 use Rattle.call_agent.specs.Flying.{first_flight, flown_on, fly_on, if_due, pass, passed, with_flight, without_flight}
 use Rattle.call_agent.specs.Responding.{replied, responded, responded_to}
@@ -186,9 +186,9 @@ transacted_on full m source command s = record { single = s; more = []; grown = 
 
 text_on : (setup : AgentSetup) (m : AgentMachine) (source : SocketAddrV4) (text : List ℕ) (outcome : Outcome) → Single m → GoesOn m (handled_as (command_of setup outcome) outcome m source text).machine
 text_on setup m source text no_header s = record { single = s; more = []; grown = sym (append-nil m.answers) }
-text_on setup m source text (bad_version id) s = transacted_on (look_of most_firsts m.history id m.now) m source _ s
-text_on setup m source text (bad_body id) s = transacted_on (look_of most_firsts m.history id m.now) m source _ s
-text_on setup m source text (message (messages.Command verb id name params body)) s = transacted_on (look_of most_firsts m.history id m.now) m source _ s
+text_on setup m source text (bad_version id) s = transacted_on (look_of most_firsts m.history id m.now) m source (faulty_command id 528) s
+text_on setup m source text (bad_body id) s = transacted_on (look_of most_firsts m.history id m.now) m source (faulty_command id 510) s
+text_on setup m source text (message (messages.Command verb id name params body)) s = transacted_on (look_of most_firsts m.history id m.now) m source (read_command setup verb id name params) s
 text_on setup m source text (message (messages.Response code id params body)) s = responded_on m source code id params text s
 
 texts_on : (setup : AgentSetup) (m : AgentMachine) (source : SocketAddrV4) (texts : List (List ℕ)) → Single m → GoesOn m (took_all setup m source texts).machine
@@ -288,9 +288,9 @@ responded_same m source code id params text none = by_found (find (has_id id) m.
 outcome_same : (setup : AgentSetup) (m : AgentMachine) (source : SocketAddrV4) (text : List ℕ) (outcome : Outcome) → IsNoAnswer m outcome
     → (handled_as (command_of setup outcome) outcome m source text).machine.answers ≡ m.answers
 outcome_same setup m source text no_header none = refl
-outcome_same setup m source text (bad_version id) none = transacted_same (look_of most_firsts m.history id m.now) m source _
-outcome_same setup m source text (bad_body id) none = transacted_same (look_of most_firsts m.history id m.now) m source _
-outcome_same setup m source text (message (messages.Command verb id name params body)) none = transacted_same (look_of most_firsts m.history id m.now) m source _
+outcome_same setup m source text (bad_version id) none = transacted_same (look_of most_firsts m.history id m.now) m source (faulty_command id 528)
+outcome_same setup m source text (bad_body id) none = transacted_same (look_of most_firsts m.history id m.now) m source (faulty_command id 510)
+outcome_same setup m source text (message (messages.Command verb id name params body)) none = transacted_same (look_of most_firsts m.history id m.now) m source (read_command setup verb id name params)
 outcome_same setup m source text (message (messages.Response code id params body)) none = responded_same m source code id params text (λ flight at. none code id params body flight refl at)
 
 pub nothing_else : (setup : AgentSetup) (m : AgentMachine) (source : SocketAddrV4) (text : List ℕ) → IsNoAnswer m (read_text text) → (handled setup m source text).machine.answers ≡ m.answers

@@ -16,7 +16,7 @@ use Rattle.transmission.specs.Texts.{texts_of}
 use Rattle.call_agent.specs.declared.setup.AgentSetup.{AgentSetup}
 use Rattle.call_agent.specs.Agent.{AgentMachine, FinalAnswer, agent_opening, answer_for}
 use Rattle.call_agent.specs.Flying.{has_id}
-use Rattle.call_agent.specs.Taking.{GatewayCommand, command_of, transacted_by}
+use Rattle.call_agent.specs.Taking.{GatewayCommand, command_of, transacted_by, faulty_command, read_command}
 use Rattle.call_agent.specs.Responding.{replied, responded, responded_to}
 use Rattle.call_agent.specs.Hearing.{AgentEvent, agent_after, agent_effect, handled, handled_as, hears, issues, plain_agent, took_all}
 use Rattle.world_laws.specs.Landing.{is_final, landing_by, landing_as, landing_in, landing_with, landing_from}
@@ -69,9 +69,9 @@ transacted_answers full m source command = sym (append-nil m.answers)
 text_lands : (setup : AgentSetup) (m : AgentMachine) (source : SocketAddrV4) (text : List ℕ) (outcome : Outcome)
     → (handled_as (command_of setup outcome) outcome m source text).machine.answers ≡ m.answers ++ landing_as outcome m.flights text
 text_lands setup m source text no_header = sym (append-nil m.answers)
-text_lands setup m source text (bad_version id) = transacted_answers (look_of most_firsts m.history id m.now) m source _
-text_lands setup m source text (bad_body id) = transacted_answers (look_of most_firsts m.history id m.now) m source _
-text_lands setup m source text (message (messages.Command verb id name params body)) = transacted_answers (look_of most_firsts m.history id m.now) m source _
+text_lands setup m source text (bad_version id) = transacted_answers (look_of most_firsts m.history id m.now) m source (faulty_command id 528)
+text_lands setup m source text (bad_body id) = transacted_answers (look_of most_firsts m.history id m.now) m source (faulty_command id 510)
+text_lands setup m source text (message (messages.Command verb id name params body)) = transacted_answers (look_of most_firsts m.history id m.now) m source (read_command setup verb id name params)
 text_lands setup m source text (message (messages.Response code id params body)) = responded_answers m source code id params text
 
 texts_land : (setup : AgentSetup) (m : AgentMachine) (source : SocketAddrV4) (texts : List (List ℕ))

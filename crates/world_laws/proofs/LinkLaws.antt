@@ -47,7 +47,7 @@ use Rattle.agent_core.specs.declared.packet.Packet.{Packet}
 use Rattle.agent_core.specs.declared.packet.Posted.{Posted}
 use Rattle.agent_core.specs.declared.packet.End.TheVariants.{AgentEnd as agent_end, GatewayEnd as gateway_end}
 use Rattle.agent_core.specs.World.{World, WorldStep, agent_in, agent_of, delivered, is_among, delivered_from, delivering, delivery_refusal, dialling, gateway_address, gateway_in, issuing, now_in, plain_world, posted_as, step_refusal, steps_are_taken, ticking, to_agent, to_gateway, went, world_after, world_opening}
-use Rattle.call_agent.specs.Taking.{GatewayCommand, command_of, transacted_by}
+use Rattle.call_agent.specs.Taking.{GatewayCommand, command_of, transacted_by, faulty_command, read_command}
 use Rattle.world_laws.specs.Reached.{Reached, heard_in, issued_in, own_in, reached, taken_in}
 use Rattle.call_agent.specs.Responding.{replied, responded, responded_to}
 use Rattle.call_agent.specs.Flying.{has_id}
@@ -178,10 +178,10 @@ module _ (log : List Begun) (firsts : List KeptFirst) (moment : ℕ) (commands :
   handled_answers : (setup : AgentSetup) (m : AgentMachine) (source : SocketAddrV4) (text : List ℕ) (outcome : Outcome) → read_text text ≡ outcome → Each (HasAnswer firsts) m.answers
       → Tells log firsts text moment → Each (HasAnswer firsts) (handled_as (command_of setup outcome) outcome m source text).machine.answers
   handled_answers setup m source text no_header reads all tells = all
-  handled_answers setup m source text (bad_version id) reads all tells = subst (Each (HasAnswer firsts)) (sym (transacted_answers (look_of most_firsts m.history id m.now) m source _)) all
-  handled_answers setup m source text (bad_body id) reads all tells = subst (Each (HasAnswer firsts)) (sym (transacted_answers (look_of most_firsts m.history id m.now) m source _)) all
+  handled_answers setup m source text (bad_version id) reads all tells = subst (Each (HasAnswer firsts)) (sym (transacted_answers (look_of most_firsts m.history id m.now) m source (faulty_command id 528))) all
+  handled_answers setup m source text (bad_body id) reads all tells = subst (Each (HasAnswer firsts)) (sym (transacted_answers (look_of most_firsts m.history id m.now) m source (faulty_command id 510))) all
   handled_answers setup m source text (message (messages.Command verb id name params body)) reads all tells =
-      subst (Each (HasAnswer firsts)) (sym (transacted_answers (look_of most_firsts m.history id m.now) m source _)) all
+      subst (Each (HasAnswer firsts)) (sym (transacted_answers (look_of most_firsts m.history id m.now) m source (read_command setup verb id name params))) all
   handled_answers setup m source text (message (messages.Response code id params body)) reads all tells = responded_answers m source code id params body text all tells reads
 
   texts_answers : (setup : AgentSetup) (m : AgentMachine) (source : SocketAddrV4) (texts : List (List ℕ)) → Each (HasAnswer firsts) m.answers → Each (λ (text : List ℕ). Tells log firsts text moment) texts
