@@ -30,7 +30,7 @@ use Rattle.call_agent.specs.declared.setup.AgentSetup.{AgentSetup}
 use Rattle.call_agent.specs.Agent.{AgentMachine}
 use Rattle.call_agent.specs.Flying.{has_id}
 use Rattle.call_agent.specs.Responding.{replied, responded, responded_to}
-use Rattle.call_agent.specs.Taking.{GatewayCommand, answer_to, code_for, command_of, executed, taken_of, transacted_by}
+use Rattle.call_agent.specs.Taking.{GatewayCommand, answer_to, code_for, command_of, executed, taken_of, transacted_by, faulty_command, read_command}
 use Rattle.call_agent.specs.Hearing.{handled, handled_as, took_all}
 use Rattle.delivery_laws.specs.Taking.{IsConfirmedIn}
 use Rattle.delivery_laws.proofs.LookLemmas.{Stands, confirmed_more, latest_stands, stands_kept, young_more}
@@ -157,9 +157,9 @@ responded_grows m source code id params text = by_found (find (has_id id) m.flig
 
 text_grows : (setup : AgentSetup) (m : AgentMachine) (source : SocketAddrV4) (text : List ℕ) (outcome : Outcome) → Grows m (handled_as (command_of setup outcome) outcome m source text).machine
 text_grows setup m source text no_header = grows_not m m refl refl
-text_grows setup m source text (bad_version id) = transacted_grows (look_of most_firsts m.history id m.now) m source _
-text_grows setup m source text (bad_body id) = transacted_grows (look_of most_firsts m.history id m.now) m source _
-text_grows setup m source text (message (messages.Command verb id name params body)) = transacted_grows (look_of most_firsts m.history id m.now) m source _
+text_grows setup m source text (bad_version id) = transacted_grows (look_of most_firsts m.history id m.now) m source (faulty_command id 528)
+text_grows setup m source text (bad_body id) = transacted_grows (look_of most_firsts m.history id m.now) m source (faulty_command id 510)
+text_grows setup m source text (message (messages.Command verb id name params body)) = transacted_grows (look_of most_firsts m.history id m.now) m source (read_command setup verb id name params)
 text_grows setup m source text (message (messages.Response code id params body)) = responded_grows m source code id params text
 
 texts_grow : (setup : AgentSetup) (m : AgentMachine) (source : SocketAddrV4) (texts : List (List ℕ)) → Grows m (took_all setup m source texts).machine
