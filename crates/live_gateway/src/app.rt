@@ -1,13 +1,16 @@
 //! The program: reads its words and its configuration, opens its sockets, and serves.
+use crate::capture::Capture;
 use crate::clock::LiveClock;
 use crate::ending::Ending;
 use crate::journal::Journal;
 use crate::live_wire::{Ends, LiveWire};
+use crate::log::Log;
 use crate::message_tally::MessageTally;
+use crate::record::RecordState;
 use crate::report::report;
-use crate::session::serve;
+use crate::session::{serve, write_records};
 use crate::telephones::Telephones;
-use crate::trace::{Trace, TraceEntry, TraceState};
+use crate::trace::{Trace, TraceEntry};
 use crate::words::{Settings, WordFault, read_words};
 use gateway_core::Gateway;
 use mio::net::UdpSocket;
@@ -118,40 +121,78 @@ fn tell_addresses<R: Net + Clock + Eprint>(rt: &R, ends: &Ends<'_, R>) -> io::Re
     eprintln!(rt; "listen {listen} phones {phones}")
 }
 
-// Whether a trace that stands so was written to its end.
-fn trace_result<'a>(state: TraceState) -> Result<(), Ending<'a>> {
+// Whether a record that stands so was written to its end; else how the program ends where it couldn't be written.
+fn record_result<'a>(state: RecordState, unwritten: Ending<'a>) -> Result<(), Ending<'a>> {
     match state {
-        TraceState::Off | TraceState::On => Ok(()),
-        TraceState::OutOfMemory => Err(Ending::OutOfMemory),
-        TraceState::Write => Err(Ending::Write),
+        RecordState::Off | RecordState::On => Ok(()),
+        RecordState::OutOfMemory => Err(Ending::OutOfMemory),
+        RecordState::Write => Err(unwritten),
+    }
+}
+
+// Whether all records were written to their ends.
+fn records_result<'a>(journal: &Journal, capture: Option<&'a str>) -> Result<(), Ending<'a>> {
+    let file = capture.unwrap_or("");
+    record_result(journal.trace.state(), Ending::Write)?;
+    record_result(journal.log.record.state(), Ending::Write)?;
+    record_result(journal.capture.record.state(), Ending::Unwritable { file })
+}
+
+// The file for a capture, if one is asked for.
+fn open_capture<'w, R: Files>(
+    rt: &R,
+    settings: &Settings<'w>,
+) -> Result<Option<R::File>, Ending<'w>> {
+    let Some(file) = settings.capture else {
+        return Ok(None);
+    };
+    match File::create(rt, file) {
+        Ok(made) => Ok(Some(made)),
+        Err(e) if e.kind() == ErrorKind::OutOfMemory => Err(Ending::OutOfMemory),
+        Err(_) => Err(Ending::Unwritable { file }),
     }
 }
 
 // Serves until the end, and says on standard error what was counted.
-fn serve_wire<'w, R: Net + Clock + Print + Eprint>(
+fn serve_wire<'w, R: Files + Net + Clock + Print + Eprint>(
     rt: &R,
     alloc: Global,
+    settings: &Settings<'w>,
     gateway: &mut Gateway,
     wire: &mut LiveWire<'_, R>,
 ) -> Result<(), Ending<'w>> {
-    let faults = serve(rt, alloc, gateway, wire);
+    let mut capture = open_capture(rt, settings)?;
+    write_records(rt, &mut wire.journal, &mut capture);
+    let faults = serve(rt, alloc, gateway, wire, &mut capture);
     wire.journal.trace.tell(TraceEntry::End);
-    wire.journal.trace.write(rt);
+    write_records(rt, &mut wire.journal, &mut capture);
     let Ok(counts) = report(alloc, gateway, &wire.journal.tally, faults) else {
         return Err(Ending::OutOfMemory);
     };
     // Nobody is left who could be told that standard error failed.
     let _ = eprint!(rt; "{counts}");
-    trace_result(wire.journal.trace.state())
+    records_result(&wire.journal, settings.capture)
 }
 
-// The journal, whose trace has begun.
+// The address of the gateway's socket.
+fn here_of<R>(ends: &Ends<'_, R>, listen: SocketAddrV4) -> SocketAddrV4 {
+    match ends.socket.local_addr() {
+        Ok(SocketAddr::V4(here)) => here,
+        _ => listen,
+    }
+}
+
+// The journal of a gateway whose socket is here; its trace has begun.
 fn journal_of<'w>(
     alloc: Global,
     settings: &Settings<'w>,
     text: &[u8],
+    here: SocketAddrV4,
 ) -> Result<Journal, Ending<'w>> {
     let Ok(tally) = MessageTally::new(alloc) else {
+        return Err(Ending::OutOfMemory);
+    };
+    let Ok(log) = Log::new(alloc, settings.log) else {
         return Err(Ending::OutOfMemory);
     };
     let mut trace = Trace::new(alloc, settings.trace);
@@ -159,6 +200,8 @@ fn journal_of<'w>(
     Ok(Journal {
         tally,
         trace,
+        log,
+        capture: Capture::new(alloc, settings.capture.is_some(), here),
         given: None,
     })
 }
@@ -171,12 +214,12 @@ fn serve_with<'w, R: Files + Net + Clock + Print + Eprint>(
     text: &[u8],
     gateway: &mut Gateway,
 ) -> Result<(), Ending<'w>> {
-    let journal = journal_of(alloc, settings, text)?;
     let ends = open_ends(rt, alloc, settings)?;
+    let here = here_of(&ends, settings.listen);
+    let journal = journal_of(alloc, settings, text, here)?;
     let mut wire = LiveWire::new(ends, journal);
     let _ = tell_addresses(rt, &wire.ends);
-    wire.journal.trace.write(rt);
-    serve_wire(rt, alloc, gateway, &mut wire)
+    serve_wire(rt, alloc, settings, gateway, &mut wire)
 }
 
 // Does what the settings ask.

@@ -3,17 +3,39 @@ ghost use Rattle.std.specs.Prelude.{◌≡◌, ◌≤◌, ◌+◌, ◌*◌, IfOk
 
 use std::io;
 use std::rt::Clock;
-use std::time::Instant;
+use std::time::{Instant, SystemTime};
 
 /// The clock goes on by no more than this in one tick, in ms.
 pub const LONGEST_TICK: u64 = 1000;
+
+/// What clocks say.
+#[derive(Clone, Copy)]
+pub struct Now {
+    /// The moment of the gateway's clock, in ms.
+    pub clock: u64,
+    /// Microseconds since 1970 began, in UTC. A change of the time of day since the start isn't in it.
+    pub time: u64,
+}
 
 /// The machine's clock, whose moments are ms from the start, and the moment that the gateway's clock has.
 #[derive(Drop)]
 pub struct LiveClock<'a, R> {
     rt: &'a R,
     start: Instant,
+    // The time of day at the start, in microseconds since 1970.
+    opened: u64,
     ticked: u64,
+}
+
+// The time of day, in microseconds since 1970; 0 where the machine has none.
+fn time_of_day<R: Clock>(rt: &R) -> u64 {
+    let Ok(now) = SystemTime::now(rt) else {
+        return 0;
+    };
+    match now.duration_since(SystemTime::UNIX_EPOCH) {
+        Ok(passed) => u64::try_from(passed.as_micros()).unwrap_or(0),
+        Err(_) => 0,
+    }
 }
 
 // The moment to which a tick goes, where it is now so late: never back, and never too far.
@@ -31,6 +53,7 @@ impl<'a, R: Clock> LiveClock<'a, R> {
         Ok(LiveClock {
             rt,
             start: Instant::now(rt)?,
+            opened: time_of_day(rt),
             ticked: 0,
         })
     }
@@ -40,6 +63,18 @@ impl<'a, R: Clock> LiveClock<'a, R> {
         ensures { result ≡ self.now.ticked }
     {
         self.ticked
+    }
+
+    /// What it is now, for who records what happens.
+    pub fn now(&self) -> Now {
+        let passed = match self.start.elapsed(self.rt) {
+            Ok(passed) => u64::try_from(passed.as_micros()).unwrap_or(0),
+            Err(_) => 0,
+        };
+        Now {
+            clock: self.ticked,
+            time: self.opened.saturating_add(passed),
+        }
     }
 
     /// The gateway's clock has this moment.

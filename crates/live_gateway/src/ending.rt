@@ -31,6 +31,10 @@ pub enum Ending<'a> {
     Unreadable {
         file: &'a str,
     },
+    /// This file can't be written.
+    Unwritable {
+        file: &'a str,
+    },
     /// No socket can be had at the address that this word asks for.
     Unbound {
         word: &'static str,
@@ -52,6 +56,7 @@ impl<'a> Ending<'a> {
             Ending::Served | Ending::Help | Ending::Version => 0,
             Ending::Usage | Ending::BadAddress { .. } | Ending::Config { .. } => 2,
             Ending::Unreadable { .. }
+            | Ending::Unwritable { .. }
             | Ending::Unbound { .. }
             | Ending::Clock
             | Ending::Write
@@ -99,6 +104,7 @@ impl<'a> fmt::Display for Ending<'a> {
             Ending::BadAddress { word } => put_pieces(f, &[word, ": no address a.b.c.d:port\n"]),
             Ending::Config { file, number, key } => put_config(f, file, number, key),
             Ending::Unreadable { file } => put_pieces(f, &[file, ": read fault\n"]),
+            Ending::Unwritable { file } => put_pieces(f, &[file, ": write fault\n"]),
             Ending::Unbound { word, address } => writeln!(f, "{word} {address}: no socket"),
             Ending::Clock => f.write_str("clock fault\n"),
             Ending::Write => f.write_str("write fault\n"),

@@ -1,4 +1,7 @@
-//! What is kept of the turn under way, for its count and its trace.
+//! What is kept of the turn under way, for its count and its records.
+use crate::capture::Capture;
+use crate::clock::Now;
+use crate::log::Log;
 use crate::message_tally::MessageTally;
 use crate::trace::{Trace, TraceEntry};
 use gateway_core::Input;
@@ -9,20 +12,26 @@ use std::net::SocketAddrV4;
 pub struct Journal {
     pub tally: MessageTally,
     pub trace: Trace,
+    pub log: Log,
+    pub capture: Capture,
     /// What was given at this turn.
     pub given: Option<Input>,
 }
 
 impl Journal {
     /// A datagram is given to the gateway.
-    pub fn datagram(&mut self, source: SocketAddrV4, bytes: &[u8]) {
+    pub fn datagram(&mut self, now: Now, source: SocketAddrV4, bytes: &[u8]) {
         self.tally.received(bytes);
         self.trace.tell(TraceEntry::Datagram { source, bytes });
+        self.log.receive(now, source, bytes);
+        self.capture.came(now.time, source, bytes);
     }
 
-    /// A datagram is sent at this moment.
-    pub fn sent(&mut self, moment: u64, to: SocketAddrV4, bytes: &[u8]) {
-        self.tally.sent(moment, bytes);
+    /// A datagram is sent.
+    pub fn sent(&mut self, now: Now, to: SocketAddrV4, bytes: &[u8]) {
+        self.tally.sent(now.clock, bytes);
         self.trace.tell(TraceEntry::Sent { to, bytes });
+        self.log.send(now, to, bytes);
+        self.capture.sent(now.time, to, bytes);
     }
 }

@@ -5,14 +5,18 @@
 #![tactic(auto)]
 
 mod app;
+mod capture;
 mod clock;
 mod ending;
+mod explaining;
 mod help;
 mod journal;
 mod live_wire;
+mod log;
 mod message_tally;
 mod readiness;
 mod recent;
+mod record;
 mod report;
 mod session;
 mod telephones;

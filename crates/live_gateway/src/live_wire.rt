@@ -226,7 +226,10 @@ impl<'a, R: Net + Clock> LiveWire<'a, R> {
     {
         self.journal.given = Some(input);
         match input {
-            Input::Datagram { source, len } => self.journal.datagram(source, &room[..len]),
+            Input::Datagram { source, len } => {
+                let now = self.ends.clock.now();
+                self.journal.datagram(now, source, &room[..len]);
+            }
             Input::Phone { .. } => {
                 let line = self.ends.telephones.line();
                 self.journal.trace.tell(TraceEntry::Line { line });
@@ -264,7 +267,7 @@ impl<'a, R: Net + Clock> Wire for LiveWire<'a, R> {
 
     fn send(&mut self, to: SocketAddrV4, bytes: &[u8]) -> Result<(), WireFault> {
         let (_receive_faults, send_faults) = self.faults();
-        self.journal.sent(self.ends.clock.ticked(), to, bytes);
+        self.journal.sent(self.ends.clock.now(), to, bytes);
         match self.ends.socket.send_to(bytes, SocketAddr::V4(to)) {
             Ok(len) if len == bytes.len() => Ok(()),
             Ok(_) | Err(_) => {

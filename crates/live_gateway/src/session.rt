@@ -14,7 +14,7 @@ use mg_packages::Hook;
 use rgw_play::{put_line, put_refusal, status_of};
 use std::alloc::Global;
 use std::net::Net;
-use std::rt::Clock;
+use std::rt::{Clock, Files};
 
 // The answer to an act that was done.
 const DONE: &[u8] = b"done\n";
@@ -164,12 +164,26 @@ impl<'a, R: Net + Clock> LiveWire<'a, R> {
     }
 }
 
-/// Serves the wire until its end comes, and gives how often something failed.
-pub fn serve<R: Net + Clock + Print>(
+/// Writes what was recorded and isn't written yet.
+pub fn write_records<R: Files + Print + Eprint>(
+    rt: &R,
+    journal: &mut Journal,
+    capture: &mut Option<R::File>,
+) {
+    journal.trace.write(rt);
+    journal.log.write(rt);
+    if let Some(file) = capture {
+        journal.capture.record.write(file);
+    }
+}
+
+/// Serves the wire until its end comes, and gives how often something failed. The capture goes into this file.
+pub fn serve<R: Files + Net + Clock + Print + Eprint>(
     rt: &R,
     alloc: Global,
     gateway: &mut Gateway,
     wire: &mut LiveWire<'_, R>,
+    capture: &mut Option<R::File>,
 ) -> Faults {
     let mut faults = Faults::NONE;
     for _ in 0..u64::MAX {
@@ -190,7 +204,8 @@ pub fn serve<R: Net + Clock + Print>(
         ) {
             ends.stop();
         }
-        wire.journal.trace.write(rt);
+        wire.journal.log.explain(&gateway.setup().names);
+        write_records(rt, &mut wire.journal, capture);
     }
     faults
 }

@@ -5,10 +5,10 @@
 ghost use Rattle.std.specs.Prelude.{◌<◌};
 
 use crate::clock::LONGEST_TICK;
+use crate::record::{Record, RecordState};
 use mg_bytes::{OutOfMemory, lines, put_decimal};
 use std::alloc::Global;
 use std::io;
-use std::io::Write;
 use std::net::SocketAddrV4;
 
 const MARK: &[u8] = b"| ";
@@ -26,26 +26,11 @@ enum Pending {
     Lines,
 }
 
-/// How it stands with a trace.
-#[derive(Clone, Copy)]
-pub enum TraceState {
-    /// Nothing is told.
-    Off,
-    /// All is told.
-    On,
-    /// Memory was refused; nothing is told from then on.
-    OutOfMemory,
-    /// It couldn't be written; nothing is told from then on.
-    Write,
-}
-
 /// The trace of a gateway.
 #[derive(Drop)]
 pub struct Trace {
     alloc: Global,
-    state: TraceState,
-    // What isn't written yet.
-    out: Vec<u8>,
+    record: Record,
     pending: Pending,
     // The lines of the input that is pending.
     lines: Vec<u8>,
@@ -143,15 +128,9 @@ fn put_marked(out: &mut Vec<u8>, text: &[u8]) -> Result<(), OutOfMemory> {
 impl Trace {
     /// A trace of which nothing is told yet.
     pub fn new(alloc: Global, is_on: bool) -> Trace {
-        let state = if is_on {
-            TraceState::On
-        } else {
-            TraceState::Off
-        };
         Trace {
             alloc,
-            state,
-            out: Vec::new(alloc),
+            record: Record::new(alloc, is_on),
             pending: Pending::Nothing,
             lines: Vec::new(alloc),
             clock: 0,
@@ -160,12 +139,8 @@ impl Trace {
     }
 
     /// How it stands.
-    pub fn state(&self) -> TraceState {
-        self.state
-    }
-
-    fn is_on(&self) -> bool {
-        matches!(self.state, TraceState::On)
+    pub fn state(&self) -> RecordState {
+        self.record.state()
     }
 
     // The script's clock goes to the gateway's.
@@ -174,9 +149,9 @@ impl Trace {
             return Ok(());
         }
         self.told = self.clock;
-        self.out.extend_from_slice(b"at ")?;
-        put_decimal(self.alloc, &mut self.out, self.clock)?;
-        self.out.extend_from_slice(b"\n")
+        self.record.out.extend_from_slice(b"at ")?;
+        put_decimal(self.alloc, &mut self.record.out, self.clock)?;
+        self.record.out.extend_from_slice(b"\n")
     }
 
     // The gateway's clock goes to this moment.
@@ -200,17 +175,17 @@ impl Trace {
             }
             Pending::Lines => {
                 self.tell_clock()?;
-                self.out.extend_from_slice(self.lines.as_slice())
+                self.record.out.extend_from_slice(self.lines.as_slice())
             }
         }
     }
 
     fn begin(&mut self, config: &[u8]) -> Result<(), OutOfMemory> {
-        self.out.extend_from_slice(config)?;
+        self.record.out.extend_from_slice(config)?;
         if config.is_empty() || config.ends_with(b"\n") {
-            self.out.extend_from_slice(b"%%\n")
+            self.record.out.extend_from_slice(b"%%\n")
         } else {
-            self.out.extend_from_slice(b"\n%%\n")
+            self.record.out.extend_from_slice(b"\n%%\n")
         }
     }
 
@@ -231,14 +206,14 @@ impl Trace {
 
     fn send(&mut self, to: SocketAddrV4, bytes: &[u8]) -> Result<(), OutOfMemory> {
         self.tell_input()?;
-        put_address(self.alloc, &mut self.out, b"| > ", to, b"\n")?;
-        put_marked(&mut self.out, bytes)?;
-        self.out.extend_from_slice(b"| --\n")
+        put_address(self.alloc, &mut self.record.out, b"| > ", to, b"\n")?;
+        put_marked(&mut self.record.out, bytes)?;
+        self.record.out.extend_from_slice(b"| --\n")
     }
 
     fn show(&mut self, text: &[u8]) -> Result<(), OutOfMemory> {
         self.tell_input()?;
-        put_marked(&mut self.out, text)
+        put_marked(&mut self.record.out, text)
     }
 
     fn try_tell(&mut self, told: TraceEntry<'_>) -> Result<(), OutOfMemory> {
@@ -261,9 +236,8 @@ impl Trace {
 
     /// Tells this. Where memory was refused nothing is told from then on.
     pub fn tell(&mut self, told: TraceEntry<'_>) {
-        if self.is_on() && self.try_tell(told).is_err() {
-            self.state = TraceState::OutOfMemory;
-            self.out.clear();
+        if self.record.is_on() && self.try_tell(told).is_err() {
+            self.record.refuse();
         }
     }
 
@@ -279,11 +253,6 @@ impl Trace {
 
     /// Writes what isn't written yet.
     pub fn write<R: Print>(&mut self, rt: &R) {
-        if self.is_on() && !self.out.is_empty() {
-            if io::writer(rt).write_all(self.out.as_slice()).is_err() {
-                self.state = TraceState::Write;
-            }
-            self.out.clear();
-        }
+        self.record.write(&mut io::writer(rt));
     }
 }

@@ -16,6 +16,10 @@ pub struct Settings<'a> {
     pub phones: SocketAddrV4,
     /// Whether what happens is written to standard output.
     pub trace: bool,
+    /// Whether what is said is written to standard error, for people.
+    pub log: bool,
+    /// The file that datagrams are captured into.
+    pub capture: Option<&'a str>,
     /// The moment at which it ends, in ms.
     pub stop_after: Option<u64>,
 }
@@ -48,19 +52,27 @@ enum Word {
     Listen,
     Phones,
     Trace,
+    Log,
+    Capture,
     StopAfter,
 }
 
-const WORDS: [Word; 5] = [
+const WORDS: [Word; 7] = [
     Word::Config,
     Word::Listen,
     Word::Phones,
     Word::Trace,
+    Word::Log,
+    Word::Capture,
     Word::StopAfter,
 ];
 
 fn address_word<'a>(alloc: Global, name: &'a str, value: &'a str) -> Arg<'a> {
     Arg::new(alloc, name).long(name).default_value(value)
+}
+
+fn flag_word<'a>(alloc: Global, name: &'a str) -> Arg<'a> {
+    Arg::new(alloc, name).long(name).action(ArgAction::SetTrue)
 }
 
 // What clap is told of a word.
@@ -69,9 +81,9 @@ fn arg_of<'a>(alloc: Global, word: Word) -> Arg<'a> {
         Word::Config => Arg::new(alloc, "config").required(true),
         Word::Listen => address_word(alloc, "listen", LISTEN),
         Word::Phones => address_word(alloc, "phones", PHONES),
-        Word::Trace => Arg::new(alloc, "trace")
-            .long("trace")
-            .action(ArgAction::SetTrue),
+        Word::Trace => flag_word(alloc, "trace"),
+        Word::Log => flag_word(alloc, "log"),
+        Word::Capture => Arg::new(alloc, "capture").long("capture"),
         Word::StopAfter => Arg::new(alloc, "stop-after")
             .long("stop-after")
             .value_parser(clap::value_parser!(u64)),
@@ -120,6 +132,8 @@ fn settings_in<'a>(matches: &ArgMatches<'a>) -> Result<Settings<'a>, WordFault> 
         listen: address_in(matches, "listen", "--listen")?,
         phones: address_in(matches, "phones", "--phones")?,
         trace: matches.get_flag("trace"),
+        log: matches.get_flag("log"),
+        capture: matches.get_str("capture"),
         stop_after: matches.get_one::<u64>("stop-after"),
     })
 }

@@ -1,0 +1,54 @@
+//! The capture of a gateway: each datagram that comes or is sent, as tshark and Wireshark read it.
+use crate::record::Record;
+use captures::{Packet, put_head, put_packet};
+use std::alloc::Global;
+use std::net::SocketAddrV4;
+
+/// The capture of a gateway's datagrams.
+#[derive(Drop)]
+pub struct Capture {
+    alloc: Global,
+    // The address of the gateway's socket.
+    here: SocketAddrV4,
+    pub record: Record,
+}
+
+impl Capture {
+    /// A capture that has its head.
+    pub fn new(alloc: Global, is_on: bool, here: SocketAddrV4) -> Capture {
+        let mut record = Record::new(alloc, is_on);
+        if is_on && put_head(&mut record.out).is_err() {
+            record.refuse();
+        }
+        Capture {
+            alloc,
+            here,
+            record,
+        }
+    }
+
+    fn put(&mut self, moment: u64, from: SocketAddrV4, to: SocketAddrV4, bytes: &[u8]) {
+        if !self.record.is_on() {
+            return;
+        }
+        let packet = Packet {
+            moment,
+            from,
+            to,
+            bytes,
+        };
+        if put_packet(self.alloc, &mut self.record.out, &packet).is_err() {
+            self.record.refuse();
+        }
+    }
+
+    /// A datagram came at this moment, in microseconds since 1970.
+    pub fn came(&mut self, moment: u64, source: SocketAddrV4, bytes: &[u8]) {
+        self.put(moment, source, self.here, bytes);
+    }
+
+    /// A datagram is sent at this moment, in microseconds since 1970.
+    pub fn sent(&mut self, moment: u64, to: SocketAddrV4, bytes: &[u8]) {
+        self.put(moment, self.here, to, bytes);
+    }
+}

@@ -1,0 +1,243 @@
+//! The log, for people, on standard error: a line a message, and a line for what is to be noted beside it.
+use crate::clock::Now;
+use crate::recent::Recent;
+use crate::record::Record;
+use exchange_log::{Note, Stamp, Way, put_given_up, put_message, put_note};
+use mg_bytes::OutOfMemory;
+use mgcp_text::{Message, TextFault, TransactionId, read_message};
+use piggyback::parts;
+use plain_machine::line_of_id;
+use std::alloc::{AllocError, Global};
+use std::collections::BTreeMap;
+use std::net::{Ipv4Addr, SocketAddrV4};
+use transmission::texts;
+
+// The least return code that ends a transaction or puts its end off (RFC 3435, 2.4); 000 acknowledges.
+const LEAST_ANSWER: u16 = 100;
+
+// The least one that ends a transaction, and the least one that refuses a command (RFC 3435, 2.4).
+const LEAST_FINAL: u16 = 200;
+
+const LEAST_REFUSAL: u16 = 400;
+
+const MICROSECONDS: u64 = 1000;
+
+// A command of the gateway's own that was sent.
+#[derive(Drop)]
+struct OwnCommand {
+    id: u32,
+    // When it was first sent, in microseconds since 1970.
+    first: u64,
+    is_answered: bool,
+    text: Vec<u8>,
+}
+
+/// A command that was refused at this turn, and its code.
+#[derive(Clone, Copy)]
+pub struct Refusal {
+    pub id: TransactionId,
+    pub code: u16,
+}
+
+/// The log of a gateway.
+#[derive(Drop)]
+pub struct Log {
+    pub alloc: Global,
+    pub record: Record,
+    answered: Recent,
+    // What each line sent last; line 0 is the gateway itself.
+    own: BTreeMap<u16, OwnCommand>,
+    /// When the datagram of this turn came, and from where; its bytes; and what of it was refused.
+    pub came: Stamp,
+    pub bytes: Vec<u8>,
+    pub refused: Vec<Refusal>,
+}
+
+impl Log {
+    /// A log of which nothing is told yet.
+    pub fn new(alloc: Global, is_on: bool) -> Result<Log, OutOfMemory> {
+        Ok(Log {
+            alloc,
+            record: Record::new(alloc, is_on),
+            answered: Recent::new(alloc)?,
+            own: BTreeMap::new(alloc),
+            came: Stamp {
+                moment: 0,
+                peer: SocketAddrV4::new(Ipv4Addr::UNSPECIFIED, 0),
+            },
+            bytes: Vec::new(alloc),
+            refused: Vec::new(alloc),
+        })
+    }
+
+    // A response to the gateway's own command came at this time: how long that waited for it, in ms.
+    fn hear(&mut self, time: u64, id: TransactionId, code: u16) -> Option<u64> {
+        let own = self.own.get_mut(&line_of_id(id))?;
+        if own.id != id.number() {
+            return None;
+        }
+        if code >= LEAST_FINAL {
+            own.is_answered = true;
+        }
+        Some(time.saturating_sub(own.first) / MICROSECONDS)
+    }
+
+    fn text_came(&mut self, now: Now, text: &[u8]) -> Result<(), OutOfMemory> {
+        let waited = match read_message(self.alloc, text) {
+            Ok(Message::Response { code, id, .. }) => self.hear(now.time, id, code),
+            Err(TextFault::NoHeader) => {
+                return put_note(
+                    self.alloc,
+                    &mut self.record.out,
+                    self.came,
+                    Note::Unreadable,
+                );
+            }
+            Ok(Message::Command { .. }) | Err(_) => None,
+        };
+        put_message(
+            self.alloc,
+            &mut self.record.out,
+            self.came,
+            Way::Came,
+            text,
+            waited,
+        )
+    }
+
+    fn datagram_came(&mut self, now: Now, bytes: &[u8]) -> Result<(), OutOfMemory> {
+        self.bytes.clear();
+        self.refused.clear();
+        let Some(mut rest) = texts(bytes) else {
+            let note = Note::TooLong {
+                length: bytes.len(),
+            };
+            return put_note(self.alloc, &mut self.record.out, self.came, note);
+        };
+        self.bytes.extend_from_slice(bytes)?;
+        while let Some(text) = rest.next() {
+            self.text_came(now, text)?;
+        }
+        Ok(())
+    }
+
+    /// A datagram came.
+    pub fn receive(&mut self, now: Now, source: SocketAddrV4, bytes: &[u8]) {
+        if !self.record.is_on() {
+            return;
+        }
+        self.came = Stamp {
+            moment: now.time,
+            peer: source,
+        };
+        if self.datagram_came(now, bytes).is_err() {
+            self.record.refuse();
+        }
+    }
+
+    // A response to a command that came is sent.
+    fn answer_sent(
+        &mut self,
+        now: Now,
+        to: Stamp,
+        refusal: Refusal,
+        text: &[u8],
+    ) -> Result<(), OutOfMemory> {
+        let Refusal { id, code } = refusal;
+        if code < LEAST_ANSWER {
+            return put_message(self.alloc, &mut self.record.out, to, Way::Sent, text, None);
+        }
+        if self.answered.is_repeat(now.clock, id.number()) {
+            return put_note(
+                self.alloc,
+                &mut self.record.out,
+                to,
+                Note::AnsweredAgain(id),
+            );
+        }
+        if code >= LEAST_REFUSAL {
+            self.refused.push(refusal)?;
+        }
+        let waited = Some(now.time.saturating_sub(self.came.moment) / MICROSECONDS);
+        put_message(
+            self.alloc,
+            &mut self.record.out,
+            to,
+            Way::Sent,
+            text,
+            waited,
+        )
+    }
+
+    // What the line of this command sent before it was given up, where it wasn't answered.
+    fn give_up(&mut self, to: Stamp, line: u16) -> Result<(), OutOfMemory> {
+        match self.own.get(&line) {
+            Some(own) if !own.is_answered => {
+                put_given_up(self.alloc, &mut self.record.out, to, own.text.as_slice())
+            }
+            _ => Ok(()),
+        }
+    }
+
+    fn is_sent_again(&self, line: u16, id: TransactionId) -> bool {
+        match self.own.get(&line) {
+            Some(own) => own.id == id.number(),
+            None => false,
+        }
+    }
+
+    // A command of the gateway's own is sent.
+    fn own_sent(
+        &mut self,
+        now: Now,
+        to: Stamp,
+        id: TransactionId,
+        text: &[u8],
+    ) -> Result<(), OutOfMemory> {
+        let line = line_of_id(id);
+        if self.is_sent_again(line, id) {
+            return put_note(self.alloc, &mut self.record.out, to, Note::SentAgain(id));
+        }
+        self.give_up(to, line)?;
+        put_message(self.alloc, &mut self.record.out, to, Way::Sent, text, None)?;
+        let own = OwnCommand {
+            id: id.number(),
+            first: now.time,
+            is_answered: false,
+            text: Vec::from_slice(self.alloc, text)?,
+        };
+        let _ = self.own.insert(line, own)?;
+        Ok(())
+    }
+
+    fn text_sent(&mut self, now: Now, to: Stamp, text: &[u8]) -> Result<(), OutOfMemory> {
+        match read_message(self.alloc, text) {
+            Ok(Message::Response { code, id, .. }) => {
+                self.answer_sent(now, to, Refusal { id, code }, text)
+            }
+            Ok(Message::Command { id, .. }) => self.own_sent(now, to, id, text),
+            Err(_) => Err(AllocError),
+        }
+    }
+
+    fn datagram_sent(&mut self, now: Now, to: Stamp, bytes: &[u8]) -> Result<(), OutOfMemory> {
+        for text in parts(bytes) {
+            self.text_sent(now, to, text)?;
+        }
+        Ok(())
+    }
+
+    /// A datagram is sent.
+    pub fn send(&mut self, now: Now, to: SocketAddrV4, bytes: &[u8]) {
+        if !self.record.is_on() {
+            return;
+        }
+        let to = Stamp {
+            moment: now.time,
+            peer: to,
+        };
+        if self.datagram_sent(now, to, bytes).is_err() {
+            self.record.refuse();
+        }
+    }
+}
