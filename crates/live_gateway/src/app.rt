@@ -1,18 +1,12 @@
 //! The program: reads its words and its configuration, opens its sockets, and serves.
-use crate::capture::Capture;
 use crate::clock::LiveClock;
 use crate::ending::Ending;
-use crate::journal::Journal;
 use crate::live_wire::{Ends, LiveWire};
-use crate::log::Log;
-use crate::message_tally::MessageTally;
-use crate::record::RecordState;
-use crate::report::report;
 use crate::session::{serve, write_records};
 use crate::telephones::Telephones;
-use crate::trace::{Trace, TraceEntry};
 use crate::words::{Settings, WordFault, read_words};
 use gateway_core::Gateway;
+use live_journal::{Capture, Journal, Log, MessageTally, RecordState, Trace, TraceEntry, report};
 use mio::net::UdpSocket;
 use rgw_play::{LIMIT, PlayFault, gateway_of, read_key_at_fault, read_limited};
 use std::alloc::Global;

@@ -1,21 +1,10 @@
 //! The gateway's clock over the machine's.
 ghost use Rattle.std.specs.Prelude.{◌≡◌, ◌≤◌, ◌+◌, ◌*◌, IfOk, min, max};
 
+use live_journal::{LONGEST_TICK, Now};
 use std::io;
 use std::rt::Clock;
 use std::time::{Instant, SystemTime};
-
-/// The clock goes on by no more than this in one tick, in ms.
-pub const LONGEST_TICK: u64 = 1000;
-
-/// What clocks say.
-#[derive(Clone, Copy)]
-pub struct Now {
-    /// The moment of the gateway's clock, in ms.
-    pub clock: u64,
-    /// Microseconds since 1970 began, in UTC. A change of the time of day since the start isn't in it.
-    pub time: u64,
-}
 
 /// The machine's clock, whose moments are ms from the start, and the moment that the gateway's clock has.
 #[derive(Drop)]

@@ -2,12 +2,11 @@
 ghost use Rattle.std.specs.Prelude.{◌≡◌, ◌≤◌, [], length, IfOk, IfSome, None};
 ghost use Rattle.gateway_core.specs.Wire.{IsWithin};
 
-use crate::clock::{LONGEST_TICK, LiveClock};
-use crate::journal::Journal;
+use crate::clock::LiveClock;
 use crate::readiness::Readiness;
 use crate::telephones::{TelephoneRequest, Telephones};
-use crate::trace::TraceEntry;
 use gateway_core::{DATAGRAM_ROOM, Input, Wire, WireFault};
+use live_journal::{Journal, LONGEST_TICK, TraceEntry};
 use mio::net::UdpSocket;
 use std::alloc::Global;
 use std::io;

@@ -1,13 +1,10 @@
 //! Serves a wire a turn at a time, and answers what is asked of the telephones between the turns.
 ghost use Rattle.std.specs.Prelude.{◌≤◌, ◌↔◌, IsTrue};
 
-use crate::journal::Journal;
 use crate::live_wire::LiveWire;
-use crate::message_tally::MessageTally;
-use crate::report::{Faults, report};
 use crate::telephones::{TelephoneRequest, Telephones};
-use crate::trace::{Trace, TraceEntry};
 use gateway_core::{Gateway, Input, Refusal};
+use live_journal::{Faults, Journal, MessageTally, Trace, TraceEntry, report};
 use mg_bytes::OutOfMemory;
 use mg_line::Act;
 use mg_packages::Hook;

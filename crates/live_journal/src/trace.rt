@@ -4,7 +4,7 @@
 //! Ticks at which nothing was sent are told together.
 ghost use Rattle.std.specs.Prelude.{◌<◌};
 
-use crate::clock::LONGEST_TICK;
+use crate::now::LONGEST_TICK;
 use crate::record::{Record, RecordState};
 use mg_bytes::{OutOfMemory, lines, put_decimal};
 use std::alloc::Global;

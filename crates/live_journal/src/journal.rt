@@ -1,8 +1,8 @@
 //! What is kept of the turn under way, for its count and its records.
 use crate::capture::Capture;
-use crate::clock::Now;
 use crate::log::Log;
 use crate::message_tally::MessageTally;
+use crate::now::Now;
 use crate::trace::{Trace, TraceEntry};
 use gateway_core::Input;
 use std::net::SocketAddrV4;

@@ -1,5 +1,5 @@
 //! The log, for people, on standard error: a line a message, and a line for what is to be noted beside it.
-use crate::clock::Now;
+use crate::now::Now;
 use crate::recent::Recent;
 use crate::record::Record;
 use exchange_log::{Note, Stamp, Way, put_given_up, put_message, put_note};

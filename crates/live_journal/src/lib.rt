@@ -1,0 +1,23 @@
+//! What is kept and told of a gateway on a live network: its counts, its trace, the log for people, and a
+//! capture. It opens no socket and no file; whoever serves tells it what goes over the wire, and writes what it has put.
+#![tactic(auto)]
+
+mod capture;
+mod explaining;
+mod journal;
+mod log;
+mod message_tally;
+mod now;
+mod recent;
+mod record;
+mod reporting;
+mod trace;
+
+pub use crate::capture::Capture;
+pub use crate::journal::Journal;
+pub use crate::log::Log;
+pub use crate::message_tally::MessageTally;
+pub use crate::now::{LONGEST_TICK, Now};
+pub use crate::record::{Record, RecordState};
+pub use crate::reporting::{Faults, report};
+pub use crate::trace::{Trace, TraceEntry};
