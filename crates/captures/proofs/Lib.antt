@@ -1,0 +1,3 @@
+pub mod ChecksumLaws
+pub mod PacketLaws
+pub mod Computing

@@ -1,0 +1,5 @@
+pub mod Octets
+pub mod Checksum
+pub mod Packet
+pub mod File
+pub mod Example
