@@ -1,0 +1,3 @@
+pub mod EscapingLaws
+pub mod LineLaws
+pub mod Computing

@@ -1,0 +1,43 @@
+-- The lines of the log: each begins with the time of day and the other end's address, and then says what happened: `>` it
+-- sent, `<` it was sent, and `!` what is noted.
+use Rattle.std.specs.Prelude.{ℕ, codes, decimal, List, [], ◌∷◌, ◌++◌, Option, Some, None}
+use Rattle.std.specs.Net.Text.{socket_v4_text}
+use Rattle.exchange_log.specs.declared.stamp.Stamp.{Stamp}
+use Rattle.exchange_log.specs.declared.stamp.Way.{Way}
+use Rattle.exchange_log.specs.declared.stamp.Way.TheVariants.{Came, Sent}
+use Rattle.exchange_log.specs.declared.note.Note.{Note}
+use Rattle.exchange_log.specs.Escaping.{escaped}
+use Rattle.exchange_log.specs.TimeOfDay.{time_of_day}
+use Rattle.exchange_log.specs.Messages.{message_shown, header_of}
+use Rattle.exchange_log.specs.Notes.{note_text}
+
+-- what each line begins with, as `12:03:07.123 10.0.0.7:2727`
+unfoldable pub stamp_text : Stamp → List ℕ
+stamp_text stamp = time_of_day stamp.moment ++ codes " " ++ socket_v4_text stamp.peer
+
+abbrev pub mark_of : Way → List ℕ
+mark_of Came = codes " >"
+mark_of Sent = codes " <"
+
+-- how long the command had been waiting for this answer, in ms
+abbrev pub waited_text : Option ℕ → List ℕ
+waited_text None = []
+waited_text (Some ms) = codes " +" ++ decimal ms ++ codes " ms"
+
+-- a message
+unfoldable pub message_line : Stamp → Way → List ℕ → Option ℕ → List ℕ
+message_line stamp way text waited =
+    stamp_text stamp ++ mark_of way ++ message_shown text ++ waited_text waited ++ 10 ∷ []
+
+-- a note
+unfoldable pub note_line : Stamp → Note → List ℕ
+note_line stamp note = stamp_text stamp ++ codes " ! " ++ note_text note ++ 10 ∷ []
+
+-- a command of the gateway's own is given up
+unfoldable pub given_up_line : Stamp → List ℕ → List ℕ
+given_up_line stamp text = stamp_text stamp ++ codes " ! given up:" ++ header_of text ++ 10 ∷ []
+
+-- a command is refused, with what is at fault
+unfoldable pub refused_line : Stamp → ℕ → List ℕ → List ℕ
+refused_line stamp id why =
+    stamp_text stamp ++ codes " ! refused " ++ decimal id ++ codes ": " ++ escaped why ++ 10 ∷ []

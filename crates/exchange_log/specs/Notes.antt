@@ -1,0 +1,22 @@
+-- What is noted beside messages (this gateway's profile).
+use Rattle.std.specs.Prelude.{ℕ, codes, decimal, List, [], ◌++◌, Option, Some, None}
+use Rattle.mg_bytes.specs.declared.return_code.ReturnCode.{ReturnCode}
+use Rattle.mg_bytes.specs.ReturnCode.{words_of, code_with}
+use Rattle.exchange_log.specs.declared.note.Note.{Note}
+use Rattle.exchange_log.specs.declared.note.Note.TheVariants.{AnsweredAgain, Unanswered, SentAgain, Refused, Unreadable, TooLong, OutOfMemory}
+
+-- what the standard says of a return code, if it is one of this gateway's
+abbrev pub words_from : Option ReturnCode → List ℕ
+words_from None = []
+words_from (Some code) = codes " " ++ words_of code
+
+-- what a note says
+unfoldable pub note_text : Note → List ℕ
+note_text (AnsweredAgain id) = codes "repeat of " ++ decimal id ++ codes ", answered again"
+note_text (Unanswered id) = codes "repeat of " ++ decimal id ++ codes ", confirmed, not answered"
+note_text (SentAgain id) = codes "repeat of " ++ decimal id ++ codes ", no answer yet"
+note_text (Refused id code) =
+    codes "refused " ++ decimal id ++ codes ": " ++ decimal code ++ words_from (code_with code)
+note_text Unreadable = codes "no message"
+note_text (TooLong length) = codes "too long: " ++ decimal length ++ codes " bytes"
+note_text OutOfMemory = codes "out of memory, nothing was done"

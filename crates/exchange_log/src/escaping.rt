@@ -1,0 +1,65 @@
+//! How bytes of a datagram are shown.
+ghost use Rattle.std.specs.Prelude.{◌≡◌, ◌<◌, ◌++◌, length, take, OnOk};
+ghost use Rattle.exchange_log.specs.Escaping.{is_plain, hex_digit, shown_byte, escaped, shown};
+
+use mg_bytes::OutOfMemory;
+
+// So many bytes of a value are shown.
+const LONGEST_VALUE: usize = 64;
+
+fn is_plain(byte: u8) -> bool
+    ensures { result ≡ is_plain byte }
+{
+    byte >= b' ' && byte <= b'~' && byte != b'\\'
+}
+
+fn hex_digit(value: u8) -> u8
+    requires { value < 16 }
+    ensures { result ≡ hex_digit value }
+{
+    if value < 10 { b'0' + value } else { 87 + value }
+}
+
+fn put_byte(out: &mut Vec<u8>, byte: u8) -> Result<(), OutOfMemory>
+    ensures { OnOk result (out.new.items ≡ out.old.items ++ shown_byte byte) }
+{
+    if is_plain(byte) {
+        out.push(byte)?;
+    } else {
+        let digits = [hex_digit(byte / 16 % 16), hex_digit(byte % 16)];
+        out.extend_from_slice(b"\\x")?;
+        out.extend_from_slice(&digits)?;
+    }
+    Ok(())
+}
+
+/// Puts bytes as printable ASCII: each that is none, and the backslash, as `\x` and two hexadecimal digits.
+pub(crate) fn put_escaped(out: &mut Vec<u8>, bytes: &[u8]) -> Result<(), OutOfMemory>
+    ensures { OnOk result (out.new.items ≡ out.old.items ++ escaped bytes.now) }
+{
+    for byte in bytes {
+        put_byte(out, *byte)?;
+    }
+    Ok(())
+}
+
+// What is shown of a longer value.
+fn front_of(value: &[u8]) -> &[u8]
+    requires { 64 < length value.now }
+    ensures { result.now ≡ take 64 value.now }
+{
+    &value[..LONGEST_VALUE]
+}
+
+/// Puts a value so: its first 64 bytes and `..` where it is longer.
+#[tactic(auto, unfolding(crate::specs::Escaping::shown))]
+pub(crate) fn put_shown(out: &mut Vec<u8>, value: &[u8]) -> Result<(), OutOfMemory>
+    ensures { OnOk result (out.new.items ≡ out.old.items ++ shown value.now) }
+{
+    if value.len() <= LONGEST_VALUE {
+        return put_escaped(out, value);
+    }
+    put_escaped(out, front_of(value))?;
+    out.extend_from_slice(b"..")?;
+    Ok(())
+}

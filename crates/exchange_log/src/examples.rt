@@ -1,0 +1,104 @@
+//! Worked examples of the definitions, as theorems: each sentence of a definition has one that a slip in it breaks.
+#![tactic(auto, unfolding(crate::proofs::Computing::on_examples))]
+
+ghost use Rattle.std.specs.Prelude.{◌≡◌, ◌++◌, codes, [], ◌∷◌, None, Some};
+ghost use Rattle.exchange_log.specs.declared.note.Note.TheVariants as notes;
+ghost use Rattle.exchange_log.specs.declared.stamp.Way.TheVariants.{Came, Sent};
+ghost use Rattle.exchange_log.specs.Escaping.{escaped, shown};
+ghost use Rattle.exchange_log.specs.TimeOfDay.{time_of_day};
+ghost use Rattle.exchange_log.specs.Messages.{message_shown, header_of};
+ghost use Rattle.exchange_log.specs.Notes.{note_text};
+ghost use Rattle.exchange_log.specs.Lines.{message_line, note_line, given_up_line, refused_line};
+ghost use Rattle.exchange_log.specs.Example.{stamp_at, noon};
+
+/// A day has 24 hours of 60 minutes of 60 seconds of 1,000 milliseconds; what is below a millisecond isn't shown.
+pub fn a_moment_has_a_time_of_day()
+    ensures begins { time_of_day 0 ≡ codes "00:00:00.000" }
+    ensures millisecond { time_of_day 1999 ≡ codes "00:00:00.001" }
+    ensures second { time_of_day 59999999 ≡ codes "00:00:59.999" }
+    ensures minute { time_of_day 60000000 ≡ codes "00:01:00.000" }
+    ensures hour { time_of_day 3600000000 ≡ codes "01:00:00.000" }
+    ensures last { time_of_day 86399999999 ≡ codes "23:59:59.999" }
+    ensures next_day { time_of_day 86400000000 ≡ codes "00:00:00.000" }
+    ensures noon { time_of_day noon ≡ codes "12:03:07.123" }
+    // 1,234,567,890 seconds after 1970 began it was 23:31:30 on 13 February 2009.
+    ensures later { time_of_day 1234567890450000 ≡ codes "23:31:30.450" }
+{}
+
+/// From the blank to the tilde each byte is shown as it is, but the backslash; any other by two hexadecimal digits.
+pub fn what_is_not_printable_is_escaped()
+    ensures plain { escaped (codes " L/hd(N), ~!") ≡ codes " L/hd(N), ~!" }
+    ensures ends { escaped (13 ∷ 10 ∷ []) ≡ (92 ∷ codes "x0d") ++ (92 ∷ codes "x0a") }
+    ensures sequence { escaped (27 ∷ codes "[2J") ≡ 92 ∷ codes "x1b[2J" }
+    ensures backslash { escaped (92 ∷ codes "x41") ≡ 92 ∷ codes "x5cx41" }
+    ensures below { escaped (31 ∷ 32 ∷ []) ≡ 92 ∷ codes "x1f " }
+    ensures above { escaped (126 ∷ 127 ∷ []) ≡ 126 ∷ 92 ∷ codes "x7f" }
+    ensures high { escaped (195 ∷ 169 ∷ 255 ∷ []) ≡ (92 ∷ codes "xc3") ++ (92 ∷ codes "xa9") ++ (92 ∷ codes "xff") }
+    ensures nothing { escaped (0 ∷ []) ≡ 92 ∷ codes "x00" }
+{}
+
+/// A value of 64 bytes is shown whole, and of a longer one the first 64, whatever their escapes take.
+pub fn long_values_are_cut()
+    ensures whole { shown (codes "0123456789012345678901234567890123456789012345678901234567890123")
+        ≡ codes "0123456789012345678901234567890123456789012345678901234567890123" }
+    ensures cut { shown (codes "01234567890123456789012345678901234567890123456789012345678901234")
+        ≡ codes "0123456789012345678901234567890123456789012345678901234567890123.." }
+    ensures escapes { shown (10 ∷ codes "123456789012345678901234567890123456789012345678901234567890123")
+        ≡ 92 ∷ codes "x0a123456789012345678901234567890123456789012345678901234567890123" }
+    ensures empty { shown [] ≡ [] }
+{}
+
+/// Of a header the first three words are shown, of the endpoint's name what stands before the first `@`.
+pub fn a_header_is_shown_without_the_domain()
+    ensures command { header_of (codes "NTFY 10000003 aaln/1@rgw.example.net MGCP 1.0\r\nX: A1\r\n")
+        ≡ codes " NTFY 10000003 aaln/1" }
+    ensures two { header_of (codes "AUEP 1 a@b@c MGCP 1.0\r\n") ≡ codes " AUEP 1 a" }
+    ensures no_domain { header_of (codes "AUEP 1 * MGCP 1.0\r\n") ≡ codes " AUEP 1 *" }
+    ensures blanks { header_of (codes "AUEP \t1  a ") ≡ codes " AUEP 1 a" }
+    ensures short { header_of (codes "200 1207\r\n") ≡ codes " 200 1207" }
+    ensures word { header_of (codes "hello@x") ≡ codes " hello@x" }
+    ensures nothing { header_of [] ≡ [] }
+{}
+
+/// Behind it come the further lines that aren't empty, in their order.
+pub fn a_message_is_shown_in_one_line()
+    ensures command { message_shown (codes "RQNT 1207 aaln/1@rgw.example.net MGCP 1.0\r\nX: A1\r\nR: L/hd(N), L/hf\r\nS: L/rg\r\n")
+        ≡ codes " RQNT 1207 aaln/1 X: A1 R: L/hd(N), L/hf S: L/rg" }
+    ensures response { message_shown (codes "200 1207 OK\r\n") ≡ codes " 200 1207 OK" }
+    ensures description { message_shown (codes "200 7 OK\r\nI: 1\r\n\r\nv=0\r\nt=0 0\r\n") ≡ codes " 200 7 OK I: 1 v=0 t=0 0" }
+    ensures late { message_shown (codes "\r\nAUEP 1 a@b MGCP 1.0\r\n") ≡ codes " AUEP 1 a@b MGCP 1.0" }
+    ensures stray { message_shown (codes "AUEP 1 a\n" ++ 27 ∷ codes "c\n") ≡ codes " AUEP 1 a " ++ 92 ∷ codes "x1bc" }
+    ensures nothing { message_shown [] ≡ [] }
+{}
+
+/// What is noted, of each kind.
+pub fn notes_say_what_happened()
+    ensures again { note_text (notes.AnsweredAgain 1205) ≡ codes "repeat of 1205, answered again" }
+    ensures unanswered { note_text (notes.Unanswered 1205) ≡ codes "repeat of 1205, confirmed, not answered" }
+    ensures sent_again { note_text (notes.SentAgain 10000003) ≡ codes "repeat of 10000003, no answer yet" }
+    ensures refused { note_text (notes.Refused 1207 401) ≡ codes "refused 1207: 401 the phone is already off hook" }
+    ensures other_code { note_text (notes.Refused 1207 599) ≡ codes "refused 1207: 599" }
+    ensures unreadable { note_text notes.Unreadable ≡ codes "no message" }
+    ensures too_long { note_text (notes.TooLong 4001) ≡ codes "too long: 4001 bytes" }
+    ensures memory { note_text notes.OutOfMemory ≡ codes "out of memory, nothing was done" }
+{}
+
+/// Each line begins with the time of day and the other end, and says by a sign what it is.
+pub fn lines_have_their_forms()
+    ensures came { message_line (stamp_at noon) Came (codes "RQNT 1207 aaln/1@rgw.example.net MGCP 1.0\r\nS: L/rg\r\n") None
+        ≡ codes "12:03:07.123 10.0.0.7:2727 > RQNT 1207 aaln/1 S: L/rg\n" }
+    ensures answered { message_line (stamp_at noon) Sent (codes "200 1207 OK\r\n") (Some 0)
+        ≡ codes "12:03:07.123 10.0.0.7:2727 < 200 1207 OK +0 ms\n" }
+    ensures waited { message_line (stamp_at 0) Came (codes "200 10000003\r\n") (Some 512)
+        ≡ codes "00:00:00.000 10.0.0.7:2727 > 200 10000003 +512 ms\n" }
+    ensures empty { message_line (stamp_at 0) Came [] None ≡ codes "00:00:00.000 10.0.0.7:2727 >\n" }
+    ensures noted { note_line (stamp_at noon) (notes.AnsweredAgain 1205)
+        ≡ codes "12:03:07.123 10.0.0.7:2727 ! repeat of 1205, answered again\n" }
+    ensures given_up { given_up_line (stamp_at noon) (codes "NTFY 10000003 aaln/1@rgw.example.net MGCP 1.0\r\nX: A1\r\n")
+        ≡ codes "12:03:07.123 10.0.0.7:2727 ! given up: NTFY 10000003 aaln/1\n" }
+    ensures refused { refused_line (stamp_at noon) 1207 (codes "518 unsupported or unknown package: value of parameter R")
+        ≡ codes "12:03:07.123 10.0.0.7:2727 ! refused 1207: 518 unsupported or unknown package: value of parameter R\n" }
+    // What is at fault may be a byte that isn't printable.
+    ensures refused_byte { refused_line (stamp_at 0) 1 (codes "510 protocol error: missing parameter " ++ 7 ∷ [])
+        ≡ codes "00:00:00.000 10.0.0.7:2727 ! refused 1: 510 protocol error: missing parameter " ++ 92 ∷ codes "x07\n" }
+{}

@@ -1,0 +1,185 @@
+//! The lines of the log.
+ghost use Rattle.std.specs.Prelude.{◌≡◌, ◌++◌, string_bytes, IfOk, OnOk, OnErr};
+ghost use Rattle.std.specs.Net.Text.{socket_v4_text};
+ghost use Rattle.exchange_log.specs.Lines.{stamp_text, mark_of, waited_text, message_line, note_line, given_up_line, refused_line};
+
+use crate::escaping::put_escaped;
+use crate::messages::{put_header, put_text};
+use crate::note::{Note, put_note_text};
+use crate::stamp::{Stamp, Way};
+use crate::time::put_time;
+use mg_bytes::{OutOfMemory, put_decimal};
+use mgcp_text::TransactionId;
+use std::alloc::Global;
+use std::net::SocketAddrV4;
+
+fn peer_text(alloc: Global, peer: SocketAddrV4) -> Result<String, OutOfMemory>
+    ensures { IfOk result (λ text. string_bytes text ≡ socket_v4_text peer) }
+{
+    let mut text = String::new(alloc);
+    write!(text, "{peer}")?;
+    Ok(text)
+}
+
+// A line that has begun.
+#[tactic(auto, unfolding(crate::specs::Lines::stamp_text))]
+fn begun(alloc: Global, stamp: Stamp) -> Result<Vec<u8>, OutOfMemory>
+    ensures { IfOk result (λ line. line.items ≡ stamp_text stamp) }
+{
+    let peer = peer_text(alloc, stamp.peer)?;
+    let mut line = Vec::new(alloc);
+    put_time(&mut line, stamp.moment)?;
+    line.push(b' ')?;
+    line.extend_from_slice(peer.as_bytes())?;
+    Ok(line)
+}
+
+fn mark_of(way: Way) -> &'static [u8]
+    ensures { result.now ≡ mark_of way }
+{
+    match way {
+        Way::Came => b" >",
+        Way::Sent => b" <",
+    }
+}
+
+fn put_waited(alloc: Global, out: &mut Vec<u8>, waited: Option<u64>) -> Result<(), OutOfMemory>
+    ensures { OnOk result (out.new.items ≡ out.old.items ++ waited_text waited) }
+{
+    if let Some(ms) = waited {
+        out.extend_from_slice(b" +")?;
+        put_decimal(alloc, out, ms)?;
+        out.extend_from_slice(b" ms")?;
+    }
+    Ok(())
+}
+
+#[tactic(auto, unfolding(crate::specs::Lines::message_line))]
+fn message_line(
+    alloc: Global,
+    stamp: Stamp,
+    way: Way,
+    text: &[u8],
+    waited: Option<u64>,
+) -> Result<Vec<u8>, OutOfMemory>
+    ensures { IfOk result (λ line. line.items ≡ message_line stamp way text.now waited) }
+{
+    let mut line = begun(alloc, stamp)?;
+    line.extend_from_slice(mark_of(way))?;
+    put_text(&mut line, text)?;
+    put_waited(alloc, &mut line, waited)?;
+    line.push(b'\n')?;
+    Ok(line)
+}
+
+/// Puts a message that came or is sent, in one line, as `12:03:07.123 10.0.0.7:2727 > RQNT 1207 aaln/1 S: L/rg`: of its
+/// header the verb or return code, the transaction id, and the endpoint's name without its domain or the comment; then its
+/// parameters in their order and the lines of its description. `waited` is how long the command had been waiting for this
+/// answer, in ms, and is shown behind it, as ` +12 ms`. Of a value of more than 64 bytes the front is shown, and `..`; each
+/// byte that isn't printable ASCII, and the backslash, as `\x1b`. After an error, which is for want of memory only, `out` is
+/// as it was.
+pub fn put_message(
+    alloc: Global,
+    out: &mut Vec<u8>,
+    stamp: Stamp,
+    way: Way,
+    text: &[u8],
+    waited: Option<u64>,
+) -> Result<(), OutOfMemory>
+    ensures ok { OnOk result (out.new.items ≡ out.old.items ++ message_line stamp way text.now waited) }
+    ensures err { OnErr result (out.new.items ≡ out.old.items) }
+{
+    let line = message_line(alloc, stamp, way, text, waited)?;
+    out.extend_from_slice(&line)?;
+    Ok(())
+}
+
+#[tactic(auto, unfolding(crate::specs::Lines::note_line))]
+fn note_line(alloc: Global, stamp: Stamp, note: Note) -> Result<Vec<u8>, OutOfMemory>
+    ensures { IfOk result (λ line. line.items ≡ note_line stamp note) }
+{
+    let mut line = begun(alloc, stamp)?;
+    line.extend_from_slice(b" ! ")?;
+    put_note_text(alloc, &mut line, note)?;
+    line.push(b'\n')?;
+    Ok(line)
+}
+
+/// Puts a note in one line, as `12:03:07.123 10.0.0.7:2727 ! repeat of 1205, answered again`. After an error, which is for
+/// want of memory only, `out` is as it was.
+pub fn put_note(
+    alloc: Global,
+    out: &mut Vec<u8>,
+    stamp: Stamp,
+    note: Note,
+) -> Result<(), OutOfMemory>
+    ensures ok { OnOk result (out.new.items ≡ out.old.items ++ note_line stamp note) }
+    ensures err { OnErr result (out.new.items ≡ out.old.items) }
+{
+    let line = note_line(alloc, stamp, note)?;
+    out.extend_from_slice(&line)?;
+    Ok(())
+}
+
+#[tactic(auto, unfolding(crate::specs::Lines::given_up_line))]
+fn given_up_line(alloc: Global, stamp: Stamp, text: &[u8]) -> Result<Vec<u8>, OutOfMemory>
+    ensures { IfOk result (λ line. line.items ≡ given_up_line stamp text.now) }
+{
+    let mut line = begun(alloc, stamp)?;
+    line.extend_from_slice(b" ! given up:")?;
+    put_header(&mut line, text)?;
+    line.push(b'\n')?;
+    Ok(line)
+}
+
+/// Puts that the gateway's own command of this text is given up (RFC 3435, 4.3), as `12:03:27.123 10.0.0.7:2727 ! given up:
+/// NTFY 10000003 aaln/1`. After an error, which is for want of memory only, `out` is as it was.
+pub fn put_given_up(
+    alloc: Global,
+    out: &mut Vec<u8>,
+    stamp: Stamp,
+    text: &[u8],
+) -> Result<(), OutOfMemory>
+    ensures ok { OnOk result (out.new.items ≡ out.old.items ++ given_up_line stamp text.now) }
+    ensures err { OnErr result (out.new.items ≡ out.old.items) }
+{
+    let line = given_up_line(alloc, stamp, text)?;
+    out.extend_from_slice(&line)?;
+    Ok(())
+}
+
+#[tactic(auto, unfolding(crate::specs::Lines::refused_line))]
+fn refused_line(
+    alloc: Global,
+    stamp: Stamp,
+    id: TransactionId,
+    why: &[u8],
+) -> Result<Vec<u8>, OutOfMemory>
+    ensures { IfOk result (λ line. line.items ≡ refused_line stamp id why.now) }
+{
+    let mut line = begun(alloc, stamp)?;
+    line.extend_from_slice(b" ! refused ")?;
+    put_decimal(alloc, &mut line, u64::from(id.number()))?;
+    line.extend_from_slice(b": ")?;
+    put_escaped(&mut line, why)?;
+    line.push(b'\n')?;
+    Ok(line)
+}
+
+/// Puts that the command with this id is refused, and what is at fault, as `explain` of `command_forms` says it:
+/// `12:03:07.123 10.0.0.7:2727 ! refused 1207: 518 unsupported or unknown package: value of parameter R`. Where nothing is
+/// known but the code, `Note::Refused` says it. After an error, which is for want of memory only, `out` is as it was.
+pub fn put_refused(
+    alloc: Global,
+    out: &mut Vec<u8>,
+    stamp: Stamp,
+    id: TransactionId,
+    why: &[u8],
+) -> Result<(), OutOfMemory>
+    ensures ok { OnOk result (out.new.items ≡ out.old.items ++ refused_line stamp id why.now) }
+    ensures err { OnErr result (out.new.items ≡ out.old.items) }
+{
+    let line = refused_line(alloc, stamp, id, why)?;
+    out.extend_from_slice(&line)?;
+    Ok(())
+}

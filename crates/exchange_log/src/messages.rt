@@ -1,0 +1,86 @@
+//! How a message is shown in one line.
+ghost use Rattle.std.specs.Prelude.{◌≡◌, ◌++◌, OnOk};
+ghost use Rattle.std.specs.List.{flat_map};
+ghost use Rattle.mg_bytes.specs.Lines.{lines_of};
+ghost use Rattle.mg_bytes.specs.Words.{words as words_of};
+ghost use Rattle.exchange_log.specs.Messages.{set_off, local_name, header_shown, line_shown, message_shown, header_of};
+
+use crate::escaping::put_shown;
+use mg_bytes::{OutOfMemory, lines, split_once, words};
+
+// A value, behind a blank.
+fn put_set_off(out: &mut Vec<u8>, value: &[u8]) -> Result<(), OutOfMemory>
+    ensures { OnOk result (out.new.items ≡ out.old.items ++ set_off value.now) }
+{
+    out.push(b' ')?;
+    put_shown(out, value)
+}
+
+// An endpoint's name without its domain.
+#[tactic(auto, unfolding(crate::specs::Messages::local_name))]
+fn local_name(name: &[u8]) -> &[u8]
+    ensures { result.now ≡ local_name name.now }
+{
+    match split_once(name, b'@') {
+        Some((local, _domain)) => local,
+        None => name,
+    }
+}
+
+// The first words of a header.
+#[tactic(auto, unfolding(crate::specs::Messages::header_shown))]
+fn put_words(out: &mut Vec<u8>, header: &[u8]) -> Result<(), OutOfMemory>
+    ensures { OnOk result (out.new.items ≡ out.old.items ++ header_shown (words_of header.now)) }
+{
+    let mut left = words(header);
+    let Some(kind) = left.next() else {
+        return Ok(());
+    };
+    put_set_off(out, kind)?;
+    let Some(id) = left.next() else {
+        return Ok(());
+    };
+    put_set_off(out, id)?;
+    let Some(name) = left.next() else {
+        return Ok(());
+    };
+    put_set_off(out, local_name(name))
+}
+
+// The lines of a text that aren't empty, each behind a blank.
+fn put_lines(out: &mut Vec<u8>, text: &[u8]) -> Result<(), OutOfMemory>
+    ensures { OnOk result (out.new.items ≡ out.old.items ++ flat_map line_shown (lines_of text.now)) }
+{
+    for line in lines(text) {
+        if !line.is_empty() {
+            put_set_off(out, line)?;
+        }
+    }
+    Ok(())
+}
+
+/// Puts a message: the verb or return code, the transaction id, and the endpoint's local name or the comment, and then its
+/// further lines, the parameters in their order and the description, each behind a blank.
+#[tactic(auto, unfolding(crate::specs::Messages::message_shown))]
+pub(crate) fn put_text(out: &mut Vec<u8>, text: &[u8]) -> Result<(), OutOfMemory>
+    ensures { OnOk result (out.new.items ≡ out.old.items ++ message_shown text.now) }
+{
+    let mut left = lines(text);
+    let Some(header) = left.next() else {
+        return Ok(());
+    };
+    put_words(out, header)?;
+    put_lines(out, left.rest())
+}
+
+/// Puts what is first of a message alone: the verb, the transaction id and the endpoint's local name.
+#[tactic(auto, unfolding(crate::specs::Messages::header_of))]
+pub(crate) fn put_header(out: &mut Vec<u8>, text: &[u8]) -> Result<(), OutOfMemory>
+    ensures { OnOk result (out.new.items ≡ out.old.items ++ header_of text.now) }
+{
+    let mut left = lines(text);
+    let Some(header) = left.next() else {
+        return Ok(());
+    };
+    put_words(out, header)
+}

@@ -1,0 +1,112 @@
+//! What is noted beside messages.
+ghost use Rattle.std.specs.Prelude.{◌≡◌, ◌++◌, codes, decimal, OnOk};
+ghost use Rattle.mg_bytes.specs.ReturnCode.{code_with};
+ghost use Rattle.exchange_log.specs.Notes.{words_from, note_text};
+
+use mg_bytes::{OutOfMemory, ReturnCode, put_decimal};
+use mgcp_text::TransactionId;
+use std::alloc::Global;
+
+/// What is noted of what came or went.
+#[derive(Clone, Copy)]
+pub enum Note {
+    /// The command with this id is a repeat, and its answer went out again (RFC 3435, 3.5.1).
+    AnsweredAgain(TransactionId),
+    /// The command with this id is a repeat whose answer was confirmed, so nothing goes out (RFC 3435, 3.5.1).
+    Unanswered(TransactionId),
+    /// The gateway's own command with this id wasn't answered in time, and went out again (RFC 3435, 3.5.3).
+    SentAgain(TransactionId),
+    /// The command with this id is refused with this return code (RFC 3435, 2.4).
+    Refused { id: TransactionId, code: u16 },
+    /// What came is no message.
+    Unreadable,
+    /// What came is longer than any datagram that is taken: so many bytes (RFC 3435, 3.5.4).
+    TooLong { length: usize },
+    /// Memory was refused, and nothing was done.
+    OutOfMemory,
+}
+
+// Pieces around a number.
+fn put_around(
+    alloc: Global,
+    out: &mut Vec<u8>,
+    before: &[u8],
+    number: u64,
+    after: &[u8],
+) -> Result<(), OutOfMemory>
+    ensures { OnOk result (out.new.items ≡ out.old.items ++ (before.now ++ decimal number ++ after.now)) }
+{
+    out.extend_from_slice(before)?;
+    put_decimal(alloc, out, number)?;
+    out.extend_from_slice(after)?;
+    Ok(())
+}
+
+// What the standard says of a return code, behind a blank, where it is one of this gateway's.
+fn put_words(out: &mut Vec<u8>, code: u16) -> Result<(), OutOfMemory>
+    ensures { OnOk result (out.new.items ≡ out.old.items ++ words_from (code_with code)) }
+{
+    if let Some(code) = ReturnCode::with_number(code) {
+        out.push(b' ')?;
+        out.extend_from_slice(code.words().as_bytes())?;
+    }
+    Ok(())
+}
+
+// Why a command is refused, by the code alone.
+fn put_refusal(
+    alloc: Global,
+    out: &mut Vec<u8>,
+    id: TransactionId,
+    code: u16,
+) -> Result<(), OutOfMemory>
+    ensures { OnOk result (out.new.items ≡ out.old.items
+        ++ (codes "refused " ++ decimal id ++ codes ": " ++ decimal code ++ words_from (code_with code))) }
+{
+    put_around(alloc, out, b"refused ", number_of(id), b": ")?;
+    put_decimal(alloc, out, u64::from(code))?;
+    put_words(out, code)
+}
+
+// The number that an id is.
+fn number_of(id: TransactionId) -> u64
+    ensures { result ≡ id }
+{
+    u64::from(id.number())
+}
+
+/// Puts what a note says.
+#[tactic(auto, unfolding(crate::specs::Notes::note_text))]
+pub(crate) fn put_note_text(alloc: Global, out: &mut Vec<u8>, note: Note) -> Result<(), OutOfMemory>
+    ensures { OnOk result (out.new.items ≡ out.old.items ++ note_text note) }
+{
+    match note {
+        Note::AnsweredAgain(id) => {
+            put_around(
+                alloc,
+                out,
+                b"repeat of ",
+                number_of(id),
+                b", answered again",
+            )
+        }
+        Note::Unanswered(id) => {
+            put_around(
+                alloc,
+                out,
+                b"repeat of ",
+                number_of(id),
+                b", confirmed, not answered",
+            )
+        }
+        Note::SentAgain(id) => {
+            put_around(alloc, out, b"repeat of ", number_of(id), b", no answer yet")
+        }
+        Note::Refused { id, code } => put_refusal(alloc, out, id, code),
+        Note::Unreadable => out.extend_from_slice(b"no message"),
+        Note::TooLong { length } => {
+            put_around(alloc, out, b"too long: ", length as u64, b" bytes")
+        }
+        Note::OutOfMemory => out.extend_from_slice(b"out of memory, nothing was done"),
+    }
+}
