@@ -18,5 +18,5 @@ note_text (SentAgain id) = codes "repeat of " ++ decimal id ++ codes ", no answe
 note_text (Refused id code) =
     codes "refused " ++ decimal id ++ codes ": " ++ decimal code ++ words_from (code_with code)
 note_text Unreadable = codes "no message"
-note_text (TooLong length) = codes "too long: " ++ decimal length ++ codes " bytes"
+note_text (TooLong length) = codes "too long: " ++ decimal length ++ codes " bytes or more"
 note_text OutOfMemory = codes "out of memory, nothing was done"

@@ -79,7 +79,7 @@ pub fn notes_say_what_happened()
     ensures refused { note_text (notes.Refused 1207 401) ≡ codes "refused 1207: 401 the phone is already off hook" }
     ensures other_code { note_text (notes.Refused 1207 599) ≡ codes "refused 1207: 599" }
     ensures unreadable { note_text notes.Unreadable ≡ codes "no message" }
-    ensures too_long { note_text (notes.TooLong 4001) ≡ codes "too long: 4001 bytes" }
+    ensures too_long { note_text (notes.TooLong 4001) ≡ codes "too long: 4001 bytes or more" }
     ensures memory { note_text notes.OutOfMemory ≡ codes "out of memory, nothing was done" }
 {}
 

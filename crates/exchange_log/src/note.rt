@@ -20,7 +20,7 @@ pub enum Note {
     Refused { id: TransactionId, code: u16 },
     /// What came is no message.
     Unreadable,
-    /// What came is longer than any datagram that is taken: so many bytes (RFC 3435, 3.5.4).
+    /// What came is longer than any datagram that is taken: so many bytes of it were seen (RFC 3435, 3.5.4).
     TooLong { length: usize },
     /// Memory was refused, and nothing was done.
     OutOfMemory,
@@ -105,7 +105,7 @@ pub(crate) fn put_note_text(alloc: Global, out: &mut Vec<u8>, note: Note) -> Res
         Note::Refused { id, code } => put_refusal(alloc, out, id, code),
         Note::Unreadable => out.extend_from_slice(b"no message"),
         Note::TooLong { length } => {
-            put_around(alloc, out, b"too long: ", length as u64, b" bytes")
+            put_around(alloc, out, b"too long: ", length as u64, b" bytes or more")
         }
         Note::OutOfMemory => out.extend_from_slice(b"out of memory, nothing was done"),
     }
