@@ -2,6 +2,7 @@
 use Rattle.std.proofs.Common.{◌≡◌, ◌≢◌, ℕ, suc, ◌+◌, ◌<◌, ◌≤◌, Bool, true, false, not, ◌==◌, if◌then◌else◌, List, [], ◌∷◌, ◌++◌, length, Option, Some, inl, inr, refl, sym, ap, ◌∙◌, subst, arith}
 use Rattle.std.specs.Prelude.{◌⊎◌, All, Any, filter, slice_get, unwrap_or}
 use Rattle.std.proofs.lemmas.Bool.{eqb-true, eqb-false}
+use Rattle.outbound.specs.Sends.{most_repeats}
 use Rattle.plain_machine.specs.declared.setup.Setup.{Setup}
 use Rattle.plain_machine.specs.Setup.{IsSetUp}
 use Rattle.machine_laws.specs.Saying.{Begun, OneOf}
@@ -10,7 +11,7 @@ use Rattle.agent_core.specs.declared.packet.Posted.{Posted}
 use Rattle.agent_core.specs.declared.packet.End.TheVariants.{AgentEnd as agent_end}
 use Rattle.agent_core.specs.World.{World, WorldStep, agent_in, delivering, now_in, plain_world, steps_are_taken, world_opening}
 use Rattle.delivery_laws.specs.Copies.{IsCopy, IsIssued, HasAnswer}
-use Rattle.delivery_laws.specs.Chances.{chances, IsSentAfter, IsCarried}
+use Rattle.delivery_laws.specs.Chances.{chances, last_chance, IsSentAfter, IsCarried}
 use Rattle.delivery_laws.proofs.PlaceLemmas.{each_two}
 use Rattle.delivery_laws.proofs.StepLemmas.{taken_front}
 use Rattle.delivery_laws.proofs.ChanceLaws.{sent_eight_times}
@@ -115,9 +116,9 @@ far : (a b : ℕ) → a < b → a ≢ b
 far a b less same = absurd (omega (arith, less, same))
 
 chances_apart : AreApart chances
-chances_apart = ((far 0 500 (omega arith), (far 0 1500 (omega arith), (far 0 3500 (omega arith), (far 0 7500 (omega arith), (far 0 11500 (omega arith), (far 0 15500 (omega arith), (far 0 19500 (omega arith), tt))))))), ((far 500 1500 (omega arith), (far 500 3500 (omega arith), (far 500 7500 (omega arith), (far 500 11500 (omega arith), (far 500 15500 (omega arith), (far 500 19500 (omega arith), tt)))))), ((far 1500 3500 (omega arith), (far 1500 7500 (omega arith), (far 1500 11500 (omega arith), (far 1500 15500 (omega arith), (far 1500 19500 (omega arith), tt))))), ((far 3500 7500 (omega arith), (far 3500 11500 (omega arith), (far 3500 15500 (omega arith), (far 3500 19500 (omega arith), tt)))), ((far 7500 11500 (omega arith), (far 7500 15500 (omega arith), (far 7500 19500 (omega arith), tt))), ((far 11500 15500 (omega arith), (far 11500 19500 (omega arith), tt)), ((far 15500 19500 (omega arith), tt), (tt, tt))))))))
+chances_apart = ((far 0 500 (omega arith), (far 0 1500 (omega arith), (far 0 3500 (omega arith), (far 0 7500 (omega arith), (far 0 11500 (omega arith), (far 0 15500 (omega arith), (far 0 last_chance (omega arith), tt))))))), ((far 500 1500 (omega arith), (far 500 3500 (omega arith), (far 500 7500 (omega arith), (far 500 11500 (omega arith), (far 500 15500 (omega arith), (far 500 last_chance (omega arith), tt)))))), ((far 1500 3500 (omega arith), (far 1500 7500 (omega arith), (far 1500 11500 (omega arith), (far 1500 15500 (omega arith), (far 1500 last_chance (omega arith), tt))))), ((far 3500 7500 (omega arith), (far 3500 11500 (omega arith), (far 3500 15500 (omega arith), (far 3500 last_chance (omega arith), tt)))), ((far 7500 11500 (omega arith), (far 7500 15500 (omega arith), (far 7500 last_chance (omega arith), tt))), ((far 11500 15500 (omega arith), (far 11500 last_chance (omega arith), tt)), ((far 15500 last_chance (omega arith), tt), (tt, tt))))))))
 
-chances_low : Each (λ (wait : ℕ). wait ≤ 19500) chances
+chances_low : Each (λ (wait : ℕ). wait ≤ last_chance) chances
 chances_low = (omega arith, (omega arith, (omega arith, (omega arith, (omega arith, (omega arith, (omega arith, (omega arith, tt))))))))
 
 -- A carried copy is answered
@@ -134,22 +135,22 @@ carried_has setup steps b number set_up taken c =
     (served_by setup first b c.answer.number c.answer.text set_up start c.issued c.answer.copy c.answer.stored c.between c.later all c.soon)
 
 pub one_is_enough : (setup : Setup) (steps : List WorldStep) (b : Begun) (lost : List ℕ) → IsSetUp setup → steps_are_taken setup world_opening steps ≡ true
-    → let w = plain_world setup steps in IsIssued setup w b → b.moment + 19500 ≤ now_in setup w → length lost ≤ 7
+    → let w = plain_world setup steps in IsIssued setup w b → b.moment + last_chance ≤ now_in setup w → length lost ≤ most_repeats
     → ((number : ℕ) → IsCopy setup w agent_end b.text number → (Any (λ (n : ℕ). n ≡ number) lost → ⊥) → IsCarried setup steps b number) → HasAnswer b.id (agent_in setup w)
 one_is_enough setup steps b lost set_up taken issued late few carries = by_case (sent_eight_times setup steps b set_up taken issued) where
   w : World
   w = plain_world setup steps
 
-  soon_enough : (waits : List ℕ) → Each (λ (wait : ℕ). wait ≤ 19500) waits → Each (λ (wait : ℕ). b.moment + wait ≤ now_in setup w → IsSentAfter setup w b wait) waits
+  soon_enough : (waits : List ℕ) → Each (λ (wait : ℕ). wait ≤ last_chance) waits → Each (λ (wait : ℕ). b.moment + wait ≤ now_in setup w → IsSentAfter setup w b wait) waits
       → Each (IsSentAfter setup w b) waits
-  soon_enough waits low sent = each_weaker (λ (wait : ℕ). (wait ≤ 19500) × (b.moment + wait ≤ now_in setup w → IsSentAfter setup w b wait)) (IsSentAfter setup w b)
-      (λ wait both. both.1 (omega (arith, late, both.0))) waits (each_two (λ (wait : ℕ). wait ≤ 19500) (λ (wait : ℕ). b.moment + wait ≤ now_in setup w → IsSentAfter setup w b wait) waits low sent)
+  soon_enough waits low sent = each_weaker (λ (wait : ℕ). (wait ≤ last_chance) × (b.moment + wait ≤ now_in setup w → IsSentAfter setup w b wait)) (IsSentAfter setup w b)
+      (λ wait both. both.1 (omega (arith, late, both.0))) waits (each_two (λ (wait : ℕ). wait ≤ last_chance) (λ (wait : ℕ). b.moment + wait ≤ now_in setup w → IsSentAfter setup w b wait) waits low sent)
 
   by_case : HasAnswer b.id (agent_in setup w) ⊎ All (λ (wait : ℕ). b.moment + wait ≤ now_in setup w → IsSentAfter setup w b wait) chances → HasAnswer b.id (agent_in setup w)
   by_case (inl has) = has
   by_case (inr sent) =
       let all = soon_enough chances chances_low (each_from_all (λ (wait : ℕ). b.moment + wait ≤ now_in setup w → IsSentAfter setup w b wait) chances sent) in
-      let many : length (numbers setup w b chances all) ≡ 8 = as_many setup w b chances all in
+      let many : length (numbers setup w b chances all) ≡ most_repeats + 1 = as_many setup w b chances all in
       let spared = one_spared (IsCopy setup w agent_end b.text) lost (numbers setup w b chances all) (all_apart setup w b chances all chances_apart) (omega (arith, few, many)) (all_copies setup w b chances all) in
       carried_has setup steps b spared.0 set_up taken
       (carries spared.0 spared.1 (λ any. spared.2 (one_from_any (λ (n : ℕ). n ≡ spared.0) lost any)))

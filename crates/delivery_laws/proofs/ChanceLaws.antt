@@ -4,6 +4,7 @@ use Rattle.std.specs.Prelude.{◌⊎◌, All, slice_get, nat_le, is_none}
 use Rattle.std.proofs.lemmas.Bool.{and_parts, leb-true, leb-false}
 use Rattle.std.specs.declared.net.socket_addr.SocketAddrV4.{SocketAddrV4}
 use Rattle.mgcp_text.specs.Reading.{read_text}
+use Rattle.outbound.specs.Sends.{most_repeats}
 use Rattle.outbound.specs.Flight.{InFlight}
 use Rattle.transmission.specs.declared.output.OutDatagram.{OutDatagram}
 use Rattle.transmission.specs.Packing.{packed, same_address}
@@ -37,11 +38,11 @@ use Rattle.world_laws.proofs.AnswersOnce.{Apart, events_on, opening_single}
 use Rattle.world_laws.proofs.LinkLaws.{agent_arrivals, arrives_with, clock_from}
 use Rattle.world_laws.proofs.PassLaws.{none_is_due}
 use Rattle.world_laws.proofs.WorldLaws.{Sound, agent_taken, gateway_taken, opening_sound, step_sound, tick_is, world_sound}
-use Rattle.delivery_laws.specs.Copies.{IsIssued, HasAnswer}
+use Rattle.delivery_laws.specs.Copies.{IsIssued, HasAnswer, answer_wait}
 use Rattle.delivery_laws.specs.Chances.{chances, IsSentAfter}
 use Rattle.delivery_laws.proofs.PlaceLemmas.{each_two, one_beyond}
 use Rattle.delivery_laws.proofs.PacketLemmas.{HasMessage, packed_has}
-use Rattle.delivery_laws.proofs.WaitLemmas.{offset, offset_first, offset_none, offset_rises}
+use Rattle.delivery_laws.proofs.WaitLemmas.{at_once, offset, offset_first, offset_rises}
 use Rattle.delivery_laws.proofs.StepLemmas.{Grows, agent_more, gateway_grows, agent_grows, copy_stays, has_answer}
 use Rattle.delivery_laws.proofs.SenderLemmas.{address_itself}
 use Rattle.delivery_laws.proofs.ChanceLemmas.{FliesAt, FliesOn, GoesOut, GoOut, IsAt, flies_later, pass_flies}
@@ -59,7 +60,7 @@ Copies setup w b until = (number : ℕ) → number ≤ until → IsSentAfter set
 abbrev SentSo : Setup → World → AgentMachine → Begun → Type 0
 SentSo setup w m b =
     ((count : ℕ) × FliesAt (gateway_address setup) b count m.flights × (m.now < b.moment + offset (count + 1)) × Copies setup w b count)
-    ⊎ (Copies setup w b 7 × (b.moment + 23500 ≤ m.now))
+    ⊎ (Copies setup w b most_repeats × (b.moment + answer_wait ≤ m.now))
 
 sent_stays : (setup : Setup) (w next : World) (b : Begun) (wait : ℕ) → Grows setup b.id w next → IsSentAfter setup w b wait → IsSentAfter setup next b wait
 unfolding copy_stays
@@ -145,7 +146,7 @@ tick_so setup w moment b goes past (inl on) = by_flies (pass_flies (gateway_addr
         flies_later (gateway_address setup) b later.0 moment (pass (agent_in setup w).flights moment).flights (none_is_due (agent_of setup) w.agent_took moment) later.1,
         copies_on setup w moment b on.0 later.0 goes on.3 later.2,
       )
-  by_flies (inr all) = inr (copies_on setup w moment b on.0 7 goes on.3 all.0, all.1)
+  by_flies (inr all) = inr (copies_on setup w moment b on.0 most_repeats goes on.3 all.0, all.1)
 
 issue_so : (setup : Setup) (w : World) (verb name rest : List ℕ) (b : Begun) → b.id < (agent_in setup w).next → SentSo setup w (agent_in setup w) b
     → SentSo setup w (agent_effect (agent_of setup) (agent_in setup w) (issues verb name rest)).machine b
@@ -217,12 +218,6 @@ ids_below all m h =
     (λ f flies. one_to (λ (b : Begun). WasIssued m.now m.next b × IsSame f b) (f.id < m.next)
     (λ b both. let below : b.id < m.next = both.0.below in let same : b.id ≡ f.id = both.1.id in omega (arith, below, same)) all
     (one_of_each (WasIssued m.now m.next) (IsSame f) all h.issued flies.known)) m.flights h.flights
-
-at_once : (first number : ℕ) → number ≤ 0 → first ≡ first + offset number
-at_once first number less =
-    let none : number ≡ 0 = omega (arith, less) in
-    let at : offset number ≡ 0 = ap offset none ∙ offset_none in
-    omega (arith, at)
 
 new_so : (setup : Setup) (w : World) (verb name rest : List ℕ) → Holds (issued_in setup w) (agent_in setup w) → agent_refusal (agent_in setup w) (issues verb name rest) ≡ None
     → let m = agent_in setup w in let b : Begun = record { id = m.next; moment = m.now; text = command_text verb m.next name rest } in
@@ -348,7 +343,7 @@ world_sent setup steps taken = steps_sent setup world_opening steps (opening_sou
 abbrev SentBy : Setup → World → Begun → ℕ → Type 0
 SentBy setup w b wait = b.moment + wait ≤ now_in setup w → IsSentAfter setup w b wait
 
-sent_by : (setup : Setup) (w : World) (b : Begun) (now : ℕ) → now ≡ now_in setup w → (m : AgentMachine) → m.now ≡ now → SentSo setup w m b → (number : ℕ) → number ≤ 7
+sent_by : (setup : Setup) (w : World) (b : Begun) (now : ℕ) → now ≡ now_in setup w → (m : AgentMachine) → m.now ≡ now → SentSo setup w m b → (number : ℕ) → number ≤ most_repeats
     → SentBy setup w b (offset number)
 sent_by setup w b now at m clock (inr gone) number few past = gone.0 number few
 sent_by setup w b now at m clock (inl on) number few past = by_test (nat_le number on.0) refl where
@@ -361,7 +356,7 @@ sent_by setup w b now at m clock (inl on) number few past = by_test (nat_le numb
       let soon : m.now < b.moment + offset (on.0 + 1) = on.2 in
       omega (arith, later, soon, clock, at, past))
 
-eight : (P : ℕ → Type 0) → ((number : ℕ) → number ≤ 7 → P (offset number)) → Each P chances
+pub eight : (P : ℕ → Type 0) → ((number : ℕ) → number ≤ most_repeats → P (offset number)) → Each P chances
 unfolding offset
 eight P at = (at 0 (omega arith), (at 1 (omega arith), (at 2 (omega arith), (at 3 (omega arith), (at 4 (omega arith), (at 5 (omega arith), (at 6 (omega arith), (at 7 (omega arith), tt))))))))
 
@@ -394,9 +389,9 @@ sent_eight_times setup steps b set_up taken issued = by_case (one_in setup steps
       inr (all_from_each (SentBy setup w b) chances (eight (SentBy setup w b)
       (sent_by setup w b (now_in setup w) refl (agent_in setup w) (world_sound setup steps taken).clock so)))
 
--- less than 23,500 ms after it was issued a command is in flight or answered
+-- less than `answer_wait` ms after it was issued a command is in flight or answered
 pub is_up : (setup : Setup) (steps : List WorldStep) (b : Begun) → IsSetUp setup → steps_are_taken setup world_opening steps ≡ true
-    → let w = plain_world setup steps in IsIssued setup w b → now_in setup w < b.moment + 23500 → Of (IsUp b.id) (agent_in setup w)
+    → let w = plain_world setup steps in IsIssued setup w b → now_in setup w < b.moment + answer_wait → Of (IsUp b.id) (agent_in setup w)
 is_up setup steps b set_up taken issued soon = by_case (one_in setup steps b taken issued) where
   w : World
   w = plain_world setup steps

@@ -9,7 +9,7 @@ use Rattle.routes.specs.declared.route.Route.TheVariants.{One}
 use Rattle.routes.specs.Route.{at}
 use Rattle.outbound.specs.declared.repeat.Repeat.{Repeat}
 use Rattle.outbound.specs.declared.repeat.Repeat.TheVariants.{Sent as SentAgain, GivenUp}
-use Rattle.outbound.specs.Sends.{wait_after}
+use Rattle.outbound.specs.Sends.{most_repeats, sending_time, wait_after}
 use Rattle.outbound.specs.Flight.{InFlight, sent_to, repeat_of, repeated}
 use Rattle.outbound.proofs.LifeLaws.{repeat_same}
 use Rattle.transmission.specs.declared.output.OutDatagram.{OutDatagram}
@@ -19,6 +19,8 @@ use Rattle.machine_laws.proofs.EachLemmas.{Each, each_weaker, one_behind, one_of
 use Rattle.call_agent.specs.Flying.{Flown, afterwards, first_flight, flown_on, fly_on, if_due, pass, passed, sooner, with_flight, without_flight}
 use Rattle.world_laws.proofs.AgentLaws.{due_is, first_is, with_each, without_each}
 use Rattle.world_laws.proofs.AnswersOnce.{Apart, apart_with, apart_without}
+use Rattle.delivery_laws.specs.Copies.{answer_wait}
+use Rattle.delivery_laws.specs.Chances.{last_chance}
 use Rattle.delivery_laws.proofs.PlaceLemmas.{each_two}
 use Rattle.delivery_laws.proofs.FlightLemmas.{Among, among_with, among_without}
 use Rattle.delivery_laws.proofs.WaitLemmas.{offset, offset_next, offset_last, again_few, again_is, given_up}
@@ -49,7 +51,7 @@ pub record IsAt (to : SocketAddrV4) (b : Begun) (count : ℕ) (flight : InFlight
   pub often : flight.repeats ≡ count
   pub next : flight.due ≡ b.moment + offset (count + 1)
 
-next_at : (first due one wait two : ℕ) → two ≡ one + wait → due ≡ first + one → due + wait ≡ first + two
+pub next_at : (first due one wait two : ℕ) → two ≡ one + wait → due ≡ first + one → due + wait ≡ first + two
 next_at first due one wait two is at = omega (arith, is, at)
 
 again_at : (to : SocketAddrV4) (b : Begun) (count : ℕ) (flight : InFlight) → IsAt to b count flight → repeat_of flight flight.due ≡ SentAgain
@@ -65,8 +67,8 @@ again_at to b count flight is sent =
           ∙ next_at b.moment flight.due (offset (count + 1)) (wait_after (count + 1)) (offset (count + 1 + 1)) (offset_next (count + 1)) is.next;
     })
 
--- with seven repeats the last of its moments is behind it
-offset_low : (count : ℕ) → count < 7 → offset (count + 1) ≤ 19500
+-- with all its repeats the last of its moments is behind it
+pub offset_low : (count : ℕ) → count < most_repeats → offset (count + 1) ≤ last_chance
 unfolding offset
 offset_low zero few = omega arith
 offset_low (suc zero) few = omega arith
@@ -77,29 +79,29 @@ offset_low (suc (suc (suc (suc (suc zero))))) few = omega arith
 offset_low (suc (suc (suc (suc (suc (suc zero)))))) few = omega arith
 offset_low (suc (suc (suc (suc (suc (suc (suc n))))))) few = absurd (omega (arith, few))
 
--- one that is given up was repeated seven times
-given_up_at : (to : SocketAddrV4) (b : Begun) (count : ℕ) (flight : InFlight) → IsAt to b count flight → count ≤ 7 → repeat_of flight flight.due ≡ GivenUp → count ≡ 7
+-- one that is given up was repeated as often as it may be
+given_up_at : (to : SocketAddrV4) (b : Begun) (count : ℕ) (flight : InFlight) → IsAt to b count flight → count ≤ most_repeats → repeat_of flight flight.due ≡ GivenUp → count ≡ most_repeats
 given_up_at to b count flight is few up = by_case (given_up flight flight.due up) where
-  by_few : (x : Bool) → nat_le 7 count ≡ x → 20000 ≤ flight.due - flight.first → count ≡ 7
-  by_few true many late = let most : 7 ≤ count = leb-true 7 count many in omega (arith, most, few)
+  by_few : (x : Bool) → nat_le most_repeats count ≡ x → sending_time ≤ flight.due - flight.first → count ≡ most_repeats
+  by_few true many late = let most : most_repeats ≤ count = leb-true most_repeats count many in omega (arith, most, few)
   by_few false fewer late =
       absurd (
-      let less : count < 7 = leb-false 7 count fewer in
-      let low : offset (count + 1) ≤ 19500 = offset_low count less in
+      let less : count < most_repeats = leb-false most_repeats count fewer in
+      let low : offset (count + 1) ≤ last_chance = offset_low count less in
       let due : flight.due ≡ b.moment + offset (count + 1) = is.next in
       let first : flight.first ≡ b.moment = is.begins in
       omega (arith, late, low, due, first))
 
-  by_case : (7 ≤ flight.repeats) ⊎ (20000 ≤ flight.due - flight.first) → count ≡ 7
+  by_case : (most_repeats ≤ flight.repeats) ⊎ (sending_time ≤ flight.due - flight.first) → count ≡ most_repeats
   by_case (inl many) = let often : flight.repeats ≡ count = is.often in omega (arith, many, often, few)
-  by_case (inr late) = by_few (nat_le 7 count) refl late
+  by_case (inr late) = by_few (nat_le most_repeats count) refl late
 
 -- Flights of which this command is one
 
 pub record FliesAt (to : SocketAddrV4) (b : Begun) (count : ℕ) (flights : List InFlight) : Type 0 where
   pub each : Each (λ (flight : InFlight). flight.id ≡ b.id → IsAt to b count flight) flights
   pub among : Among b.id flights
-  pub few : count ≤ 7
+  pub few : count ≤ most_repeats
 
 -- where each has its own id, one that is replaced is the only one with that id
 with_apart : (P : InFlight → Type 0) (id : ℕ) (now : InFlight) (flights : List InFlight) → Apart flights → now.id ≡ id → P now
@@ -128,7 +130,7 @@ GoOut to b from until sent = (number : ℕ) → from < number → number ≤ unt
 abbrev pub FliesOn : SocketAddrV4 → Begun → ℕ → ℕ → Flown → Type 0
 FliesOn to b count moment done =
     ((later : ℕ) × FliesAt to b later done.flights × GoOut to b count later done.sent)
-    ⊎ (GoOut to b count 7 done.sent × (b.moment + 23500 ≤ moment))
+    ⊎ (GoOut to b count most_repeats done.sent × (b.moment + answer_wait ≤ moment))
 
 none_out : (to : SocketAddrV4) (b : Begun) (count until : ℕ) (sent : List OutDatagram) → until ≤ count → GoOut to b count until sent
 none_out to b count until sent none = λ number more less. absurd (omega (arith, none, more, less))
@@ -148,13 +150,13 @@ one_more_out to b count until one sent is out = λ number more less. by_test num
 other_flies : (to : SocketAddrV4) (b : Begun) (count moment : ℕ) (first : List OutDatagram) (flights : List InFlight) (sent : List OutDatagram)
     → FliesOn to b count moment (record { flights = flights; sent = sent }) → FliesOn to b count moment (record { flights = flights; sent = first ++ sent })
 other_flies to b count moment first flights sent (inl on) = inl (on.0, on.1, behind_out to b count on.0 first sent on.2)
-other_flies to b count moment first flights sent (inr gone) = inr (behind_out to b count 7 first sent gone.0, gone.1)
+other_flies to b count moment first flights sent (inr gone) = inr (behind_out to b count most_repeats first sent gone.0, gone.1)
 
 own_flies : (to : SocketAddrV4) (b : Begun) (count moment : ℕ) (one : OutDatagram) (flights : List InFlight) (sent : List OutDatagram)
     → one ≡ message_to to (b.moment + offset (count + 1)) b.text
     → FliesOn to b (count + 1) moment (record { flights = flights; sent = sent }) → FliesOn to b count moment (record { flights = flights; sent = one ∷ sent })
 own_flies to b count moment one flights sent is (inl on) = inl (on.0, on.1, one_more_out to b count on.0 one sent is on.2)
-own_flies to b count moment one flights sent is (inr gone) = inr (one_more_out to b count 7 one sent is gone.0, gone.1)
+own_flies to b count moment one flights sent is (inr gone) = inr (one_more_out to b count most_repeats one sent is gone.0, gone.1)
 
 -- from where a flight was repeated so often, whatever else falls due
 abbrev pub FlyOn : SocketAddrV4 → Begun → ℕ → ℕ → List InFlight → Type 0
@@ -177,7 +179,7 @@ module _ (to : SocketAddrV4) (b : Begun) (moment n count : ℕ) (flights : List 
     by_test true same =
         let ours = is (eqb-true flight.id b.id same) in
         let again = again_at to b count flight ours sent in
-        let few : flight.repeats < 7 = again_few flight flight.due sent in
+        let few : flight.repeats < most_repeats = again_few flight flight.due sent in
         let often : flight.repeats ≡ count = ours.often in
         own_flies to b count moment (message_to (sent_to now) flight.due flight.text) (passed n next moment).flights (passed n next moment).sent
         (ap (λ (a : SocketAddrV4). message_to a flight.due flight.text) (sent_there to now again.goes)
@@ -204,9 +206,9 @@ module _ (to : SocketAddrV4) (b : Begun) (moment n count : ℕ) (flights : List 
     by_test : (x : Bool) → (flight.id == b.id) ≡ x → FliesOn to b count moment (afterwards (flown_on GivenUp flights flight) (λ next. passed n next moment))
     by_test true same =
         let ours = is (eqb-true flight.id b.id same) in
-        let all : count ≡ 7 = given_up_at to b count flight ours f.few up in
-        let last : flight.due ≡ b.moment + 23500 = ours.next ∙ ap (λ (c : ℕ). b.moment + offset (c + 1)) all ∙ ap (λ (o : ℕ). b.moment + o) offset_last in
-        inr (none_out to b count 7 (passed n next moment).sent (omega (arith, all)), omega (arith, last, due))
+        let all : count ≡ most_repeats = given_up_at to b count flight ours f.few up in
+        let last : flight.due ≡ b.moment + answer_wait = ours.next ∙ ap (λ (c : ℕ). b.moment + offset (c + 1)) all ∙ ap (λ (o : ℕ). b.moment + o) offset_last in
+        inr (none_out to b count most_repeats (passed n next moment).sent (omega (arith, all)), omega (arith, last, due))
     by_test false far = on next count (apart_without flight.id flights apart) (record {
       each = without_each (λ (g : InFlight). g.id ≡ b.id → IsAt to b count g) flight.id flights f.each;
       among = among_without b.id flight.id flights (eqb-false flight.id b.id far) f.among;

@@ -19,11 +19,11 @@ use Rattle.call_agent.specs.Agent.{AgentMachine}
 use Rattle.agent_core.specs.declared.packet.Posted.{Posted}
 use Rattle.agent_core.specs.declared.packet.End.{End}
 use Rattle.agent_core.specs.declared.packet.End.TheVariants.{AgentEnd as agent_end, GatewayEnd as gateway_end}
-use Rattle.agent_core.specs.World.{World, WorldStep, agent_in, delivering, now_in, plain_world, steps_are_taken, world_opening}
+use Rattle.agent_core.specs.World.{World, WorldStep, agent_in, delivering, now_in, oldest_packet, plain_world, steps_are_taken, world_opening}
 use Rattle.world_laws.specs.Reached.{issued_in}
 use Rattle.world_laws.proofs.AgentLaws.{WasIssued}
 use Rattle.world_laws.proofs.WorldLaws.{Posts, Sends, Sound, agent_answers, gateway_clock, world_sound}
-use Rattle.delivery_laws.specs.Copies.{IsCopy, IsIssued, IsAnswered, IsConfirmedAmong, HasAnswer, gateway_firsts}
+use Rattle.delivery_laws.specs.Copies.{IsCopy, IsIssued, IsAnswered, IsConfirmedAmong, HasAnswer, answer_wait, gateway_firsts}
 use Rattle.delivery_laws.specs.Chances.{IsSentAfter, chances}
 use Rattle.delivery_laws.specs.Fairness.{IsHandedOver, IsFair, AlwaysHasRoom, IsNeverConfirmed}
 use Rattle.delivery_laws.proofs.StepLemmas.{HasIn, handed_to_gateway, has_answer, plain_grows, step_more, taken_front}
@@ -200,7 +200,7 @@ there_soon issued within sent now back is soon at = omega (arith, is, soon, at)
 back_late : (issued within sent now : ℕ) → sent ≤ issued + within → issued + 2 * within ≤ now → sent + within ≤ now
 back_late issued within sent now soon late = omega (arith, soon, late)
 
-back_soon : (issued within sent now : ℕ) → within ≤ 10000 → sent ≤ issued + within → now ≤ sent + within → now < issued + 23500
+back_soon : (issued within sent now : ℕ) → within ≤ oldest_packet → sent ≤ issued + within → now ≤ sent + within → now < issued + answer_wait
 back_soon issued within sent now short soon back = omega (arith, short, soon, back)
 
 -- what is found is found later too
@@ -210,7 +210,7 @@ stays_found setup id steps more number post found =
     let grows = plain_grows setup id steps more in
     subst (λ (posted : List Posted). slice_get posted number ≡ Some post) (sym grows.posted) (found_before (plain_world setup steps).posted grows.more number post found)
 
-module _ (setup : Setup) (steps : List WorldStep) (within : ℕ) (b : Begun) (set_up : IsSetUp setup) (taken : steps_are_taken setup world_opening steps ≡ true) (short : within ≤ 10000)
+module _ (setup : Setup) (steps : List WorldStep) (within : ℕ) (b : Begun) (set_up : IsSetUp setup) (taken : steps_are_taken setup world_opening steps ≡ true) (short : within ≤ oldest_packet)
     (fair : IsFair setup steps within) (roomy : AlwaysHasRoom setup steps) (unconfirmed : IsNeverConfirmed setup steps b.id) (issued : IsIssued setup (plain_world setup steps) b)
     (late : b.moment + 2 * within ≤ now_in setup (plain_world setup steps)) where
   taken_to : (front more : List WorldStep) → steps ≡ front ++ more → steps_are_taken setup world_opening front ≡ true
@@ -295,7 +295,7 @@ module _ (setup : Setup) (steps : List WorldStep) (within : ℕ) (b : Begun) (se
         (there_soon b.moment within sent.copy.post.packet.moment (now_in setup (plain_world setup there.before)) answer.copy.post.packet.moment sent.moment there.soon
         (answer.moment ∙ handed_now setup there.before b.text sent.number copy))
 
-pub answered_in_time : (setup : Setup) (steps : List WorldStep) (within : ℕ) (b : Begun) → IsSetUp setup → steps_are_taken setup world_opening steps ≡ true → within ≤ 10000
+pub answered_in_time : (setup : Setup) (steps : List WorldStep) (within : ℕ) (b : Begun) → IsSetUp setup → steps_are_taken setup world_opening steps ≡ true → within ≤ oldest_packet
     → IsFair setup steps within → AlwaysHasRoom setup steps → IsNeverConfirmed setup steps b.id → let w = plain_world setup steps in IsIssued setup w b
     → b.moment + 2 * within ≤ now_in setup w → HasAnswer b.id (agent_in setup w)
 answered_in_time setup steps within b set_up taken short fair roomy unconfirmed issued late = by_case (sent_eight_times setup steps b set_up taken issued) where

@@ -43,7 +43,7 @@ use Rattle.world_laws.specs.Reached.{issued_in}
 use Rattle.world_laws.proofs.AgentLaws.{WasIssued}
 use Rattle.world_laws.proofs.WorldLaws.{gateway_clock, world_sound}
 use Rattle.world_laws.proofs.LinkLaws.{world_linked}
-use Rattle.delivery_laws.specs.Copies.{IsCopy, IsIssued, gateway_firsts, IsStored, IsConfirmedAmong, HasRoom, IsAnswered, IsFinal, HasAnswer, IsServed}
+use Rattle.delivery_laws.specs.Copies.{IsCopy, IsIssued, answer_wait, gateway_firsts, IsStored, IsConfirmedAmong, HasRoom, IsAnswered, IsFinal, HasAnswer, IsServed}
 use Rattle.delivery_laws.proofs.PlaceLemmas.{one_beyond}
 use Rattle.delivery_laws.proofs.PacketLemmas.{HasMessage, packed_has}
 use Rattle.delivery_laws.proofs.StoredLemmas.{IsStoredAs, Answers, AnswersIn, texts_answer}
@@ -184,7 +184,7 @@ datagram_takes setup m source bytes = refl
 
 pub had_in : (setup : Setup) (steps : List WorldStep) (number : ℕ) (b : Begun) (text : List ℕ) (code : ℕ) (params : List Param) (body : List ℕ)
     → IsSetUp setup → steps_are_taken setup world_opening (steps ++ delivering number ∷ []) ≡ true → let w = plain_world setup steps in IsIssued setup w b
-    → now_in setup w < b.moment + 23500 → IsCopy setup w gateway_end text number → read_text text ≡ message (messages.Response code b.id params body) → is_final code ≡ true
+    → now_in setup w < b.moment + answer_wait → IsCopy setup w gateway_end text number → read_text text ≡ message (messages.Response code b.id params body) → is_final code ≡ true
     → HasIn b.id setup (plain_world setup (steps ++ delivering number ∷ []))
 had_in setup steps number b text code params body set_up taken issued soon copy reads final =
     let w = plain_world setup steps in
@@ -198,7 +198,7 @@ had_in setup steps number b text code params body set_up taken issued soon copy 
 
 pub had_in_time : (setup : Setup) (steps : List WorldStep) (number : ℕ) (b : Begun) (text : List ℕ) (code : ℕ) (params : List Param) (body : List ℕ)
     → IsSetUp setup → steps_are_taken setup world_opening (steps ++ delivering number ∷ []) ≡ true → let w = plain_world setup steps in IsIssued setup w b
-    → now_in setup w < b.moment + 23500 → IsCopy setup w gateway_end text number → read_text text ≡ message (messages.Response code b.id params body) → is_final code ≡ true
+    → now_in setup w < b.moment + answer_wait → IsCopy setup w gateway_end text number → read_text text ≡ message (messages.Response code b.id params body) → is_final code ≡ true
     → HasAnswer b.id (agent_in setup (plain_world setup (steps ++ delivering number ∷ [])))
 had_in_time setup steps number b text code params body set_up taken issued soon copy reads final =
     has_answer b.id setup (plain_world setup (steps ++ delivering number ∷ [])) (had_in setup steps number b text code params body set_up taken issued soon copy reads final)

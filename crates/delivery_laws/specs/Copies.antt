@@ -63,6 +63,11 @@ HasRoom now firsts = length (young_of now firsts) < most_firsts
 
 -- The answer
 
+-- so many ms after it was issued a command is given up where it has no answer: 4,000 ms behind the last of its sends (RFC 3435, 4.3;
+-- the number is this gateway's profile)
+abbrev pub answer_wait : ℕ
+answer_wait = 23500
+
 -- between these two worlds the gateway sent the stored answer to the command with this id, at the moment of the later one
 pub record IsAnswered (setup : Setup) (before after : World) (id : ℕ) : Type 0 where
   pub text : List ℕ
@@ -82,10 +87,10 @@ IsFinal text =
 abbrev pub HasAnswer : ℕ → AgentMachine → Type 0
 HasAnswer id m = (one : FinalAnswer) × (answer_for id m ≡ Some one)
 
--- Whatever comes between and behind: where this packet, with this answer, is handed over less than 23,500 ms after the command
--- was issued, the agent has an answer to the command.
+-- Whatever comes between and behind: where this packet, with this answer, is handed over less than `answer_wait` ms after the
+-- command was issued, the agent has an answer to the command.
 abbrev pub IsServed : Setup → List WorldStep → Begun → ℕ → Type 0
 IsServed setup first b number =
     (between later : List WorldStep) → let before = first ++ between in let all = (before ++ delivering number ∷ []) ++ later in
-    steps_are_taken setup world_opening all ≡ true → now_in setup (plain_world setup before) < b.moment + 23500
+    steps_are_taken setup world_opening all ≡ true → now_in setup (plain_world setup before) < b.moment + answer_wait
     → HasAnswer b.id (agent_in setup (plain_world setup all))

@@ -6,6 +6,7 @@ ghost use Rattle.mgcp_text.specs.Reading.{message, read_text};
 ghost use Rattle.history.specs.Arrival.{Arrival};
 ghost use Rattle.history.specs.Memory.{most_firsts};
 ghost use Rattle.history.specs.Firsts.{firsts_of};
+ghost use Rattle.outbound.specs.Sends.{most_repeats};
 ghost use Rattle.outbound.specs.Flight.{InFlight};
 ghost use Rattle.transmission.specs.Texts.{texts_of};
 ghost use Rattle.plain_machine.specs.declared.setup.Setup.{Setup};
@@ -16,14 +17,14 @@ ghost use Rattle.plain_machine.specs.Event.{GatewayEvent};
 ghost use Rattle.plain_machine.specs.Transactions.{commands_of};
 ghost use Rattle.machine_laws.specs.Saying.{Begun};
 ghost use Rattle.agent_core.specs.declared.packet.End.TheVariants.{GatewayEnd, AgentEnd};
-ghost use Rattle.agent_core.specs.World.{WorldStep, agent_in, delivering, gateway_in, now_in, plain_world, steps_are_taken, world_opening};
+ghost use Rattle.agent_core.specs.World.{WorldStep, agent_in, delivering, gateway_in, now_in, oldest_packet, plain_world, steps_are_taken, world_opening};
 ghost use Rattle.world_laws.specs.Landing.{is_final};
-ghost use Rattle.delivery_laws.specs.Copies.{IsCopy, IsIssued, gateway_firsts, IsConfirmedAmong, HasRoom, IsAnswered, IsFinal, HasAnswer, IsServed};
+ghost use Rattle.delivery_laws.specs.Copies.{IsCopy, IsIssued, answer_wait, gateway_firsts, IsConfirmedAmong, HasRoom, IsAnswered, IsFinal, HasAnswer, IsServed};
 ghost use Rattle.delivery_laws.specs.Taking.{AgentHasRoom, IsConfirmedIn, IsOwn, IsTaken, agent_history};
 ghost use Rattle.delivery_laws.specs.Asking.{KeepsAsking};
 ghost use Rattle.delivery_laws.specs.Fairness.{IsFair, AlwaysHasRoom, IsNeverConfirmed};
 ghost use Rattle.delivery_laws.specs.GoingOn.{GoesOn};
-ghost use Rattle.delivery_laws.specs.Chances.{chances, IsSentAfter, IsCarried};
+ghost use Rattle.delivery_laws.specs.Chances.{chances, last_chance, IsSentAfter, IsCarried};
 
 /// A copy of a command that is handed to the gateway is answered at once: a packet with the stored answer goes to the agent,
 /// unless a K of a later command confirmed it, or as many firsts are young as there may be (RFC 3435, 3.5.1).
@@ -46,7 +47,7 @@ pub fn stored_answers_are_final()
 pub fn an_answer_that_comes_in_time_is_had()
     ensures { (setup : Setup) (steps : List WorldStep) (number : ℕ) (b : Begun) (text : List ℕ) (code : ℕ) (params : List Param)
         (body : List ℕ) → IsSetUp setup → steps_are_taken setup world_opening (steps ++ delivering number ∷ []) ≡ true →
-        let w = plain_world setup steps in IsIssued setup w b → now_in setup w < b.moment + 23500 →
+        let w = plain_world setup steps in IsIssued setup w b → now_in setup w < b.moment + answer_wait →
         IsCopy setup w GatewayEnd text number → read_text text ≡ message (messages.Response code b.id params body) →
         is_final code ≡ true → HasAnswer b.id (agent_in setup (plain_world setup (steps ++ delivering number ∷ []))) }
 {}
@@ -75,7 +76,7 @@ pub fn a_command_is_sent_eight_times()
 pub fn one_copy_of_eight_is_enough()
     ensures { (setup : Setup) (steps : List WorldStep) (b : Begun) (lost : List ℕ) → IsSetUp setup →
         steps_are_taken setup world_opening steps ≡ true → let w = plain_world setup steps in IsIssued setup w b →
-        b.moment + 19500 ≤ now_in setup w → length lost ≤ 7 → ((number : ℕ) → IsCopy setup w AgentEnd b.text number →
+        b.moment + last_chance ≤ now_in setup w → length lost ≤ most_repeats → ((number : ℕ) → IsCopy setup w AgentEnd b.text number →
         ¬ Any (λ (n : ℕ). n ≡ number) lost → IsCarried setup steps b number) → HasAnswer b.id (agent_in setup w) }
 {}
 
@@ -83,7 +84,7 @@ pub fn one_copy_of_eight_is_enough()
 /// K confirms it and where room is never wanting.
 pub fn a_fair_network_answers_each_command()
     ensures { (setup : Setup) (steps : List WorldStep) (within : ℕ) (b : Begun) → IsSetUp setup →
-        steps_are_taken setup world_opening steps ≡ true → within ≤ 10000 → IsFair setup steps within → AlwaysHasRoom setup steps →
+        steps_are_taken setup world_opening steps ≡ true → within ≤ oldest_packet → IsFair setup steps within → AlwaysHasRoom setup steps →
         IsNeverConfirmed setup steps b.id → let w = plain_world setup steps in IsIssued setup w b →
         b.moment + 2 * within ≤ now_in setup w → HasAnswer b.id (agent_in setup w) }
 {}
