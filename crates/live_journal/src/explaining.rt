@@ -55,12 +55,22 @@ impl Log {
         }
     }
 
-    fn explain_text(&mut self, names: &Names, text: &[u8]) -> Result<(), OutOfMemory> {
-        match read_message(self.alloc, text) {
-            Ok(said) => self.explain_command(names, &said),
-            Err(TextFault::BadVersion { id } | TextFault::BadBody { id }) => self.note_refused(id),
+    fn explain_read(
+        &mut self,
+        names: &Names,
+        read: &Result<Message<'_>, TextFault>,
+    ) -> Result<(), OutOfMemory> {
+        match read {
+            Ok(said) => self.explain_command(names, said),
+            Err(TextFault::BadVersion { id }) => self.note_refused(*id),
+            Err(TextFault::BadBody { id }) => self.note_refused(*id),
             Err(_) => Ok(()),
         }
+    }
+
+    fn explain_text(&mut self, names: &Names, text: &[u8]) -> Result<(), OutOfMemory> {
+        let read = read_message(self.alloc, text);
+        self.explain_read(names, &read)
     }
 
     fn explain_all(&mut self, names: &Names, bytes: &[u8]) -> Result<(), OutOfMemory> {

@@ -53,6 +53,11 @@ pub struct Log {
     pub refused: Vec<Refusal>,
 }
 
+// Whether what was read is no message.
+fn is_unreadable(read: &Result<Message<'_>, TextFault>) -> bool {
+    matches!(read, Err(TextFault::NoHeader))
+}
+
 impl Log {
     /// A log of which nothing is told yet.
     pub fn new(alloc: Global, is_on: bool) -> Result<Log, OutOfMemory> {
@@ -82,19 +87,25 @@ impl Log {
         Some(time.saturating_sub(own.first) / MICROSECONDS)
     }
 
-    fn text_came(&mut self, now: Now, text: &[u8]) -> Result<(), OutOfMemory> {
-        let waited = match read_message(self.alloc, text) {
-            Ok(Message::Response { code, id, .. }) => self.hear(now.time, id, code),
-            Err(TextFault::NoHeader) => {
-                return put_note(
-                    self.alloc,
-                    &mut self.record.out,
-                    self.came,
-                    Note::Unreadable,
-                );
-            }
+    // How long the gateway's own command waited that this answers, if it answers one, in ms.
+    fn waited(&mut self, now: Now, read: &Result<Message<'_>, TextFault>) -> Option<u64> {
+        match read {
+            Ok(Message::Response { code, id, .. }) => self.hear(now.time, *id, *code),
             Ok(Message::Command { .. }) | Err(_) => None,
-        };
+        }
+    }
+
+    fn text_came(&mut self, now: Now, text: &[u8]) -> Result<(), OutOfMemory> {
+        let read = read_message(self.alloc, text);
+        if is_unreadable(&read) {
+            return put_note(
+                self.alloc,
+                &mut self.record.out,
+                self.came,
+                Note::Unreadable,
+            );
+        }
+        let waited = self.waited(now, &read);
         put_message(
             self.alloc,
             &mut self.record.out,
@@ -210,14 +221,29 @@ impl Log {
         Ok(())
     }
 
-    fn text_sent(&mut self, now: Now, to: Stamp, text: &[u8]) -> Result<(), OutOfMemory> {
-        match read_message(self.alloc, text) {
+    fn message_sent(
+        &mut self,
+        now: Now,
+        to: Stamp,
+        read: &Result<Message<'_>, TextFault>,
+        text: &[u8],
+    ) -> Result<(), OutOfMemory> {
+        match read {
             Ok(Message::Response { code, id, .. }) => {
-                self.answer_sent(now, to, Refusal { id, code }, text)
+                let refusal = Refusal {
+                    id: *id,
+                    code: *code,
+                };
+                self.answer_sent(now, to, refusal, text)
             }
-            Ok(Message::Command { id, .. }) => self.own_sent(now, to, id, text),
+            Ok(Message::Command { id, .. }) => self.own_sent(now, to, *id, text),
             Err(_) => Err(AllocError),
         }
+    }
+
+    fn text_sent(&mut self, now: Now, to: Stamp, text: &[u8]) -> Result<(), OutOfMemory> {
+        let read = read_message(self.alloc, text);
+        self.message_sent(now, to, &read, text)
     }
 
     fn datagram_sent(&mut self, now: Now, to: Stamp, bytes: &[u8]) -> Result<(), OutOfMemory> {
