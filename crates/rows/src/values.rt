@@ -4,8 +4,10 @@
 //! value of the row gets the answer; `ok` stands for any that is no refusal. Some calls take all values of a row at once.
 
 mod bytes;
+mod capturing;
 mod commands;
 mod descriptions;
+mod logged;
 mod maps;
 mod messages;
 mod names;
@@ -53,6 +55,12 @@ fn put_answer(alloc: Global, out: &mut Vec<u8>, call: &str, value: &[u8]) -> io:
         return done;
     }
     if let Some(done) = packing::put_answer(alloc, out, call, value) {
+        return done;
+    }
+    if let Some(done) = capturing::put_answer(alloc, out, call, value) {
+        return done;
+    }
+    if let Some(done) = logged::put_answer(alloc, out, call, value) {
         return done;
     }
     messages::put_answer(alloc, out, call, value).unwrap_or(Err(unread()))
