@@ -134,7 +134,7 @@ noted_text (Refused id code) =
     (around (codes "refused ") (decimal id) (codes ": ") refl (decimal_text id) refl)
     (decimal_text code) (from_text (code_with code))
 noted_text Unreadable = refl
-noted_text (TooLong length) = around (codes "too long: ") (decimal length) (codes " bytes") refl (decimal_text length) refl
+noted_text (TooLong length) = around (codes "too long: ") (decimal length) (codes " bytes or more") refl (decimal_text length) refl
 noted_text OutOfMemory = refl
 
 -- the lines
