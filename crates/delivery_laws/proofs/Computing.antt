@@ -1,7 +1,7 @@
 -- The definitions opened, so that worked examples compute.
 use Rattle.std.specs.Prelude.{⊤}
-use Rattle.world_laws.proofs.Computing.{on_examples as world_examples}
+use Rattle.dialled_end_to_end.proofs.Computing.{on_examples as end_examples}
 
 unfoldable pub on_examples : ⊤
-unfolding world_examples
+unfolding end_examples
 on_examples = tt

@@ -1,6 +1,7 @@
 -- What is a copy in the worlds of the worked examples.
-use Rattle.std.proofs.Common.{◌≡◌, ℕ, true, List, [], ◌∷◌, Option, Some, None, inl, inr, refl, sym, ap, ◌∙◌, subst}
+use Rattle.std.proofs.Common.{◌≡◌, ℕ, Bool, true, false, ◌||◌, ◌==◌, List, [], ◌∷◌, ◌++◌, Option, Some, None, inl, inr, refl, sym, ap, ◌∙◌, subst}
 use Rattle.std.specs.Prelude.{slice_get, unwrap_or}
+use Rattle.std.proofs.lemmas.Bool.Decides.{Decides-eqb}
 use Rattle.std.proofs.lemmas.Option.{none-some}
 use Rattle.transmission.specs.Texts.{texts_of}
 use Rattle.plain_machine.specs.declared.setup.Setup.{Setup}
@@ -8,8 +9,9 @@ use Rattle.machine_laws.specs.Saying.{OneOf}
 use Rattle.machine_laws.proofs.EachLemmas.{any_from_one, one_from_any}
 use Rattle.agent_core.specs.declared.packet.End.{End}
 use Rattle.agent_core.specs.declared.packet.Posted.{Posted}
-use Rattle.agent_core.specs.World.{World}
+use Rattle.agent_core.specs.World.{World, WorldStep, delivering, dialling, issuing, ticking}
 use Rattle.delivery_laws.specs.Copies.{arrives, IsCopy}
+use Rattle.delivery_laws.specs.Fairness.{IsHandedOver}
 
 -- a packet with this text alone
 unfoldable pub copy_here : (setup : Setup) (w : World) (post : Posted) (number : ℕ) (text : List ℕ) → slice_get w.posted number ≡ Some post → arrives post.end setup post.packet ≡ true
@@ -43,3 +45,29 @@ text_is setup w end text only number post found texts copy =
       by_one : OneOf (λ (one : List ℕ). one ≡ text) (only ∷ []) → only ≡ text
       by_one (inl is) = is
       by_one (inr none) = absurd none
+
+-- What isn't handed over
+
+abbrev hands : ℕ → WorldStep → Bool
+hands number (issuing verb name rest) = false
+hands number (dialling line act) = false
+hands number (ticking moment) = false
+hands number (delivering other) = other == number
+
+-- these steps hand the packet with this number over
+unfoldable pub hand_over : ℕ → List WorldStep → Bool
+hand_over number [] = false
+hand_over number (step ∷ steps) = hands number step || hand_over number steps
+
+either_holds : (a b : Bool) → b ≡ true → (a || b) ≡ true
+either_holds true b is = refl
+either_holds false b is = is
+
+handed_there : (number : ℕ) (before later : List WorldStep) → hand_over number ((before ++ delivering number ∷ []) ++ later) ≡ true
+unfolding hand_over
+handed_there number [] later = ap (λ (b : Bool). b || hand_over number later) ((Decides-eqb number number).1 refl)
+handed_there number (step ∷ before) later = either_holds (hands number step) (hand_over number ((before ++ delivering number ∷ []) ++ later)) (handed_there number before later)
+
+pub none_handed : (setup : Setup) (steps : List WorldStep) (within number : ℕ) (post : Posted) → hand_over number steps ≡ false → IsHandedOver setup steps within number post → ⊥
+none_handed setup steps within number post none handed =
+    absurd (let e : false ≡ true = sym none ∙ ap (hand_over number) handed.order ∙ handed_there number handed.before handed.later in cc)

@@ -204,7 +204,7 @@ back_soon : (issued within sent now : ℕ) → within ≤ oldest_packet → sent
 back_soon issued within sent now short soon back = omega (arith, short, soon, back)
 
 -- what is found is found later too
-stays_found : (setup : Setup) (id : ℕ) (steps more : List WorldStep) (number : ℕ) (post : Posted) → slice_get (plain_world setup steps).posted number ≡ Some post
+pub stays_found : (setup : Setup) (id : ℕ) (steps more : List WorldStep) (number : ℕ) (post : Posted) → slice_get (plain_world setup steps).posted number ≡ Some post
     → slice_get (plain_world setup (steps ++ more)).posted number ≡ Some post
 stays_found setup id steps more number post found =
     let grows = plain_grows setup id steps more in

@@ -48,7 +48,7 @@ use Rattle.delivery_laws.proofs.StepLemmas.{handed_to_gateway, step_more}
 -- What the answer is
 
 -- any answer but 521
-abbrev IsAnswered : Heard → Type 0
+abbrev pub IsAnswered : Heard → Type 0
 IsAnswered heard = (agent : Option Entity) × (heard ≡ Answered agent)
 
 answered_by : (restart : Restart) (code : ℕ) (entity : Option Entity) → code ≢ 521 → IsAnswered (answer_of restart code entity)
@@ -60,7 +60,7 @@ answered_by Announced code (Some entity) other = by_code (code == 521) refl wher
   by_code true same = absurd (other (eqb-true code 521 same))
   by_code false far = (Some entity, refl)
 
-heard_is : (post : Post) (response : Response) (flight : InFlight) → post.pending ≡ Some flight → flight.id ≡ response.id → is_final response.code ≡ true → response.code ≢ 521
+pub heard_is : (post : Post) (response : Response) (flight : InFlight) → post.pending ≡ Some flight → flight.id ≡ response.id → is_final response.code ≡ true → response.code ≢ 521
     → IsAnswered (heard_on post response)
 heard_is post response flight flies same final other =
     subst (λ (pending : Option InFlight). IsAnswered (heard_by pending post.restart response)) (sym flies)
@@ -81,7 +81,7 @@ noted_goes_on setup line now was endpoint done serving none number is = by_notic
   }
   by_notice (Some notice) = record { serves = serving; answered_line = ap (λ (d : LineDone). d.line) is; flies = (ap (id_on line) number, refl) }
 
-answered_goes_on : (setup : Setup) (line now : ℕ) (response : Response) (endpoint : Endpoint) (agent : Option Entity) → heard_on endpoint.post response ≡ Answered agent
+pub answered_goes_on : (setup : Setup) (line now : ℕ) (response : Response) (endpoint : Endpoint) (agent : Option Entity) → heard_on endpoint.post response ≡ Answered agent
     → GoesOn line now endpoint (responded_on setup line now response endpoint).value
 unfolding responded_on replied
 answered_goes_on setup line now response endpoint agent is =
@@ -116,7 +116,7 @@ no_own endpoints line endpoint at = by_zero (line == 0) at where
   by_zero true at = absurd (none-some endpoint at)
   by_zero false at = refl
 
-responded_at : (setup : Setup) (endpoints : Endpoints) (now : ℕ) (response : Response) (line : ℕ) (endpoint : Endpoint) → line_of_id response.id ≡ line → endpoint_at endpoints line ≡ Some endpoint
+pub responded_at : (setup : Setup) (endpoints : Endpoints) (now : ℕ) (response : Response) (line : ℕ) (endpoint : Endpoint) → line_of_id response.id ≡ line → endpoint_at endpoints line ≡ Some endpoint
     → endpoint_at (responded setup endpoints now response).value line ≡ Some (responded_on setup line now response endpoint).value
 responded_at setup endpoints now response line endpoint of at =
     let mine : (line_of_id response.id == 0) ≡ false = ap (λ (n : ℕ). n == 0) of ∙ no_own endpoints line endpoint at in

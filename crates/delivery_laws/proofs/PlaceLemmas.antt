@@ -2,7 +2,7 @@
 use Rattle.std.proofs.Common.{◌≡◌, ℕ, zero, suc, ◌≤◌, List, [], ◌∷◌, ◌++◌, length, Some, inl, inr, refl, arith}
 use Rattle.std.specs.Prelude.{◌⊎◌, flat_map, slice_get}
 use Rattle.machine_laws.specs.Saying.{OneOf}
-use Rattle.machine_laws.proofs.EachLemmas.{Each}
+use Rattle.machine_laws.proofs.EachLemmas.{Each, each_weaker}
 
 -- where one stands
 pub one_at : {X : Type 0} (P : X → Type 0) (xs : List X) → OneOf P xs → (place : ℕ) × (x : X) × (slice_get xs place ≡ Some x) × P x
@@ -45,3 +45,9 @@ one_unflat P f (x ∷ xs) one = by_part (one_parted P (f x) (flat_map f xs) one)
 pub each_two : {X : Type 0} (P Q : X → Type 0) (xs : List X) → Each P xs → Each Q xs → Each (λ (x : X). P x × Q x) xs
 each_two P Q [] all both = tt
 each_two P Q (x ∷ xs) all both = ((all.0, both.0), each_two P Q xs all.1 both.1)
+
+-- each is one of them
+pub each_member : {X : Type 0} (xs : List X) → Each (λ (x : X). OneOf (λ (y : X). y ≡ x) xs) xs
+each_member [] = tt
+each_member {X} (x ∷ xs) =
+    (inl refl, each_weaker (λ (z : X). OneOf (λ (y : X). y ≡ z) xs) (λ (z : X). OneOf (λ (y : X). y ≡ z) (x ∷ xs)) (λ z is. inr is) xs (each_member xs))

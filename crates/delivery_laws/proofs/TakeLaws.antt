@@ -70,7 +70,7 @@ kept_taken id text firsts ones same one =
     (subst (OneOf (λ (key : ℕ × ℕ). key.0 ≡ id)) same
     (one_mapped (λ (key : ℕ × ℕ). key.0 ≡ id) key_kept firsts (one_weaker (IsAnsweredBy id text) (λ (first : KeptFirst). first.id ≡ id) (λ first is. is.0) firsts one)))
 
-agent_takes : (setup : Setup) (steps : List WorldStep) (number : ℕ) (b : Begun) (name : List ℕ) → IsSetUp setup → steps_are_taken setup world_opening (steps ++ delivering number ∷ []) ≡ true
+pub agent_takes : (setup : Setup) (steps : List WorldStep) (number : ℕ) (b : Begun) (name : List ℕ) → IsSetUp setup → steps_are_taken setup world_opening (steps ++ delivering number ∷ []) ≡ true
     → is_command_as b.id name (read_text b.text) ≡ true → (copy : IsCopy setup (plain_world setup steps) gateway_end b.text number)
     → let w = plain_world setup steps in let after = plain_world setup (steps ++ delivering number ∷ []) in after ≡ to_agent setup w (hears (datagram copy.post.packet.sender copy.post.packet.bytes))
     → AgentHasRoom setup after → IsConfirmedIn b.id (agent_history setup after) ⊎ IsTaken setup w after b.id

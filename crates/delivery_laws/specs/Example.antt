@@ -8,6 +8,7 @@ use Rattle.machine_laws.specs.Saying.{Begun}
 use Rattle.mg_line.specs.declared.phone.Act.TheVariants.{OffHook}
 use Rattle.agent_core.specs.World.{WorldStep, gateway_in, delivering, dialling, issuing, ticking}
 use Rattle.world_laws.specs.Example.{world, announced, audits}
+use Rattle.dialled_end_to_end.specs.Example as both_ends
 use Rattle.delivery_laws.specs.Copies.{gateway_firsts}
 
 -- the audit as it is issued, in packet 2
@@ -37,15 +38,34 @@ notified = announced ++ dialling 1 OffHook ∷ []
 abbrev pub notification : List ℕ
 notification = codes "NTFY 10000000 aaln/1@rgw.example.net MGCP 1.0\r\nX: 0\r\nO: L/hd\r\n"
 
+-- as it began
+abbrev pub lifted : Begun
+lifted = record { id = 10000000; moment = 1; text = notification }
+
+-- the id of a command and the moment at which it began
+abbrev pub key_begun : Begun → ℕ × ℕ
+key_begun b = (b.id, b.moment)
+
+-- the notification is handed over at once, and so is its answer
+abbrev pub brought : List WorldStep
+brought = notified ++ delivering 2 ∷ delivering 3 ∷ []
+
+-- both lines are lifted, what goes out of them again at 501 is packet 4, and the agent answers it in one, packet 5
+abbrev pub both_lifted : List WorldStep
+both_lifted = announced ++ dialling 1 OffHook ∷ dialling 2 OffHook ∷ ticking 501 ∷ delivering 4 ∷ []
+
 -- the id of the command of line 1 that is in flight, if there is one
 abbrev pub flying_after : List WorldStep → Option ℕ
 flying_after steps =
     option_map (λ flight. flight.id)
     (option_and_then (λ endpoint. endpoint.post.pending) (endpoint_at (gateway_in two_lines (world steps)).endpoints 1))
 
--- the state of line 1
+-- the state of a line, and of line 1
+abbrev pub state_on : ℕ → List WorldStep → Option State
+state_on line steps = option_map (λ endpoint. endpoint.line.state) (endpoint_at (gateway_in two_lines (world steps)).endpoints line)
+
 abbrev pub state_after : List WorldStep → Option State
-state_after steps = option_map (λ endpoint. endpoint.line.state) (endpoint_at (gateway_in two_lines (world steps)).endpoints 1)
+state_after steps = state_on 1 steps
 
 -- line 1 reports to an address that isn't the agent's, and its notification is packet 4
 abbrev pub redirected : List WorldStep
@@ -64,3 +84,11 @@ up_to last = map (λ second. ticking (second * 1000 + 1)) (range_with_len 1 last
 -- of the eight copies, packets 2 to 9, the last comes alone, at 20,001; its answer is packet 10
 abbrev pub last_copy : List WorldStep
 last_copy = asked ++ up_to 20 ++ delivering 9 ∷ ticking 21001 ∷ ticking 22001 ∷ ticking 23001 ∷ []
+
+-- line 1, which was asked for all that its telephone does, is lifted: its notification, packet 4, is kept back
+abbrev pub kept_back : List WorldStep
+kept_back = both_ends.asked ++ dialling 1 OffHook ∷ []
+
+-- it is handed over, and so is its answer
+abbrev pub rested : List WorldStep
+rested = kept_back ++ delivering 4 ∷ delivering 5 ∷ []

@@ -1,5 +1,6 @@
 pub mod Copies
 pub mod Chances
+pub mod OwnChances
 pub mod Taking
 pub mod GoingOn
 pub mod Asking

@@ -12,15 +12,19 @@ ghost use Rattle.plain_machine.specs.Machine.{serves};
 ghost use Rattle.plain_machine.specs.Example.{two_lines, other_agent, agent};
 ghost use Rattle.agent_core.specs.declared.packet.End.TheVariants.{GatewayEnd, AgentEnd};
 ghost use Rattle.agent_core.specs.World.{delivering, gateway_address, gateway_in, steps_are_taken, ticking, world_opening};
-ghost use Rattle.world_laws.specs.Reached.{issued_in, key_reached, taken_in};
+ghost use Rattle.world_laws.specs.Reached.{issued_in, key_reached, own_in, taken_in};
 ghost use Rattle.world_laws.specs.Example.{world, texts_in, moments_in, code_in, announced, audits, seconds};
+ghost use Rattle.dialled_once.specs.Example.{lifted as off_hook};
+ghost use Rattle.dialled_end_to_end.specs.Example.{done_then, left_then, told_then};
 ghost use Rattle.delivery_laws.specs.Copies.{arrives, IsCopy, IsConfirmedAmong, gateway_firsts};
 ghost use Rattle.delivery_laws.specs.Chances.{IsSentAfter, IsCarried};
-ghost use Rattle.delivery_laws.specs.Fairness.{IsFair};
+ghost use Rattle.delivery_laws.specs.OwnChances.{HasCome, IsOfLine, IsToldAfter};
+ghost use Rattle.delivery_laws.specs.Fairness.{GoesToAgent, IsFair};
+ghost use Rattle.delivery_laws.specs.GoingOn.{IsPlainAnswer};
 ghost use Rattle.delivery_laws.specs.Taking.{IsConfirmedIn, agent_history};
 ghost use Rattle.delivery_laws.specs.Asking.{AsksBy};
 ghost use Rattle.delivery_laws.specs.Example.{audit, asked, audits_with, stored_in, answered, confirmed, up_to, last_copy};
-ghost use Rattle.delivery_laws.specs.Example.{notified, notification, redirected, flying_after, state_after};
+ghost use Rattle.delivery_laws.specs.Example.{both_lifted, brought, kept_back, key_begun, lifted, rested, notified, notification, redirected, flying_after, state_after, state_on};
 
 /// An audit is handed over once, and so is its answer: it has its answer. Without the one or the other it has none.
 pub fn an_audit_is_served()
@@ -84,6 +88,38 @@ pub fn a_notification_is_taken()
     ensures confirmed { IsConfirmedIn 7 (first_entry 7 0 [] ∷ Confirmation ((record { first = 5; last = 9 }) ∷ []) ∷ []) }
 {}
 
+/// It is brought where the network is fair and where it goes to the agent; one that goes elsewhere needn't be.
+pub fn a_notification_is_brought()
+    ensures own { map key_begun (own_in two_lines (world brought)) ≡ (1, 1) ∷ (10000000, 1) ∷ [] }
+    ensures fair { IsFair two_lines brought 0 }
+    ensures goes { GoesToAgent two_lines (world brought) notification }
+    ensures took { map key_reached (taken_in (world brought)) ≡ (1, 1) ∷ (10000000, 1) ∷ [] }
+    ensures goes_not { ¬ GoesToAgent two_lines (world redirected) (codes "NTFY 10000000 aaln/1@rgw.example.net MGCP 1.0\r\nX: A0\r\nO: L/hd\r\n") }
+{}
+
+/// Where the network is fair and the telephone rests the agent was told all that it did; while a notification is kept back it wasn't.
+pub fn what_rests_is_taken()
+    ensures steps { steps_are_taken two_lines world_opening rested ≡ true }
+    ensures fair { IsFair two_lines rested 0 }
+    ensures left { left_then rested ≡ [] }
+    ensures told { told_then rested ≡ done_then rested }
+    ensures done { done_then rested ≡ off_hook ∷ [] }
+    ensures not_fair { ¬ IsFair two_lines kept_back 0 }
+    ensures none_left { left_then kept_back ≡ [] }
+    ensures none_told { told_then kept_back ≡ [] }
+    ensures done_too { done_then kept_back ≡ off_hook ∷ [] }
+{}
+
+/// It goes out again at its moments, but not once a response to it came.
+pub fn a_notification_goes_out_again()
+    ensures of_line { IsOfLine two_lines (world notified) 1 lifted }
+    ensures told { IsToldAfter two_lines (world notified) lifted 0 }
+    ensures again { moments_in (notified ++ up_to 2) ≡ 1 ∷ 1 ∷ 1 ∷ 501 ∷ 1501 ∷ [] }
+    ensures not_yet { ¬ HasCome (world notified) 10000000 }
+    ensures came { HasCome (world brought) 10000000 }
+    ensures no_more { moments_in (brought ++ up_to 2) ≡ 1 ∷ 1 ∷ 1 ∷ 1 ∷ [] }
+{}
+
 /// Its answer lets the line go on: it waits for a request, and nothing of it is in flight any more. The gateway serves once its
 /// announcement is answered.
 pub fn an_answer_lets_line_1_go_on()
@@ -93,6 +129,18 @@ pub fn an_answer_lets_line_1_go_on()
     ensures goes_on { state_after (notified ++ delivering 2 ∷ delivering 3 ∷ []) ≡ Some Lockstep }
     ensures serves { serves (gateway_in two_lines (world announced)).endpoints ≡ true }
     ensures serves_not { serves (gateway_in two_lines (world (ticking 1 ∷ delivering 0 ∷ []))).endpoints ≡ false }
+{}
+
+/// Two answers in one packet let both lines go on. A provisional response is no answer, and 521 none that lets a line go on.
+pub fn two_answers_share_a_packet()
+    ensures first { IsCopy two_lines (world both_lifted) AgentEnd (codes "200 10000000 OK\r\n") 5 }
+    ensures second { IsCopy two_lines (world both_lifted) AgentEnd (codes "200 20000000 OK\r\n") 5 }
+    ensures waits { state_on 2 both_lifted ≡ Some Notification }
+    ensures goes_on { state_on 1 (both_lifted ++ delivering 5 ∷ []) ≡ Some Lockstep }
+    ensures goes_on_too { state_on 2 (both_lifted ++ delivering 5 ∷ []) ≡ Some Lockstep }
+    ensures plain { IsPlainAnswer 20000000 (codes "200 20000000 OK\r\n") }
+    ensures provisional { ¬ IsPlainAnswer 7 (codes "100 7 Pending\r\n") }
+    ensures elsewhere { ¬ IsPlainAnswer 7 (codes "521 7 Redirected\r\n") }
 {}
 
 /// A gateway that nobody answers gives its announcement up after 23,500 ms, and begins anew 1 ms later; a line does so after 5,000.

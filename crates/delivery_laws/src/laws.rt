@@ -1,5 +1,5 @@
 //! Laws of delivery, in a world of two ends over a bad network.
-ghost use Rattle.std.specs.Prelude.{◌≡◌, ◌≢◌, ◌⊎◌, ◌≤◌, ◌<◌, ◌+◌, ◌*◌, ℕ, List, ◌++◌, ◌∷◌, [], All, Any, Some, length, true};
+ghost use Rattle.std.specs.Prelude.{◌≡◌, ◌≢◌, ◌⊎◌, ◌≤◌, ◌<◌, ◌+◌, ◌*◌, ℕ, List, ◌++◌, ◌∷◌, [], All, Any, Some, length, true, false};
 ghost use Rattle.mgcp_text.specs.declared.message.Message.TheVariants as messages;
 ghost use Rattle.mgcp_text.specs.declared.message.Param.{Param};
 ghost use Rattle.mgcp_text.specs.Reading.{message, read_text};
@@ -11,20 +11,30 @@ ghost use Rattle.outbound.specs.Flight.{InFlight};
 ghost use Rattle.transmission.specs.Texts.{texts_of};
 ghost use Rattle.plain_machine.specs.declared.setup.Setup.{Setup};
 ghost use Rattle.plain_machine.specs.declared.endpoint.Endpoint.{Endpoint};
+ghost use Rattle.plain_machine.specs.Answering.{took_all};
 ghost use Rattle.plain_machine.specs.Machine.{serves, endpoint_at};
 ghost use Rattle.plain_machine.specs.Setup.{IsSetUp};
 ghost use Rattle.plain_machine.specs.Event.{GatewayEvent};
 ghost use Rattle.plain_machine.specs.Transactions.{commands_of};
-ghost use Rattle.machine_laws.specs.Saying.{Begun};
+ghost use Rattle.plain_machine.specs.Lists.{plain, sent_of};
+ghost use Rattle.machine_laws.specs.Saying.{Begun, HasNumbersLeft};
+ghost use Rattle.line_isolation.specs.Belonging.{of_line};
+ghost use Rattle.dialled_once.specs.Course.{course_from, course_of};
+ghost use Rattle.dialled_once.specs.Dialled.{IsAskedForAll, done_in};
+ghost use Rattle.dialled_once.specs.Keeping.{happened_in};
+ghost use Rattle.call_agent.specs.Agent.{observed_on};
 ghost use Rattle.agent_core.specs.declared.packet.End.TheVariants.{GatewayEnd, AgentEnd};
 ghost use Rattle.agent_core.specs.World.{WorldStep, agent_in, delivering, gateway_in, now_in, oldest_packet, plain_world, steps_are_taken, world_opening};
 ghost use Rattle.world_laws.specs.Landing.{is_final};
+ghost use Rattle.world_laws.specs.Reached.{Reached, own_in, taken_in};
+ghost use Rattle.dialled_end_to_end.specs.GivenUp.{has_given_up};
 ghost use Rattle.delivery_laws.specs.Copies.{IsCopy, IsIssued, answer_wait, gateway_firsts, IsConfirmedAmong, HasRoom, IsAnswered, IsFinal, HasAnswer, IsServed};
 ghost use Rattle.delivery_laws.specs.Taking.{AgentHasRoom, IsConfirmedIn, IsOwn, IsTaken, agent_history};
 ghost use Rattle.delivery_laws.specs.Asking.{KeepsAsking};
-ghost use Rattle.delivery_laws.specs.Fairness.{IsFair, AlwaysHasRoom, IsNeverConfirmed};
-ghost use Rattle.delivery_laws.specs.GoingOn.{GoesOn};
+ghost use Rattle.delivery_laws.specs.Fairness.{IsFair, AlwaysHasRoom, IsNeverConfirmed, AgentAlwaysHasRoom, IsNeverConfirmedIn, GoesToAgent, HadItsTime};
+ghost use Rattle.delivery_laws.specs.GoingOn.{GoesOn, GoesOnAmid, IsPlainAnswer};
 ghost use Rattle.delivery_laws.specs.Chances.{chances, last_chance, IsSentAfter, IsCarried};
+ghost use Rattle.delivery_laws.specs.OwnChances.{HasCome, IsOfLine, IsResponse, IsToldAfter};
 
 /// A copy of a command that is handed to the gateway is answered at once: a packet with the stored answer goes to the agent,
 /// unless a K of a later command confirmed it, or as many firsts are young as there may be (RFC 3435, 3.5.1).
@@ -99,6 +109,57 @@ pub fn a_delivered_notification_is_taken_at_once()
         AgentHasRoom setup after → IsConfirmedIn b.id (agent_history setup after) ⊎ IsTaken setup w after b.id }
 {}
 
+/// A network that hands each packet over at most so many ms after it was sent brings each notification and announcement that
+/// goes to the agent there in that time, and the agent takes it; and a response to it comes back in twice the time: where no K
+/// confirms it and where room is never wanting (RFC 3435, 2.3.4 and 2.3.12).
+pub fn a_fair_network_brings_each_notification()
+    ensures taken { (setup : Setup) (steps : List WorldStep) (within : ℕ) (b : Begun) → IsSetUp setup →
+        steps_are_taken setup world_opening steps ≡ true → IsFair setup steps within → AgentAlwaysHasRoom setup steps →
+        IsNeverConfirmedIn setup steps b.id → let w = plain_world setup steps in IsOwn setup w b → GoesToAgent setup w b.text →
+        b.moment + within ≤ now_in setup w → Any (λ (one : Reached). one.asked.id ≡ b.id) (taken_in w) }
+    ensures answered { (setup : Setup) (steps : List WorldStep) (within : ℕ) (b : Begun) → IsSetUp setup →
+        steps_are_taken setup world_opening steps ≡ true → IsFair setup steps within → AgentAlwaysHasRoom setup steps →
+        IsNeverConfirmedIn setup steps b.id → let w = plain_world setup steps in IsOwn setup w b → GoesToAgent setup w b.text →
+        b.moment + 2 * within ≤ now_in setup w → HasCome w b.id }
+{}
+
+/// So over such a network what a telephone did is what the agent was told of its line, joined, and then what is quarantined, once what
+/// the line has in flight is so old; and where nothing is quarantined it is all that the agent was told. It is so where the law of both
+/// ends, `what_is_dialled_reaches_the_agent_once`, says that it reaches the agent once (RFC 3435, 4.4.1).
+pub fn what_is_dialled_is_taken_in_time()
+    ensures taken { (setup : Setup) (steps : List WorldStep) (within line : ℕ) (before after : List GatewayEvent)
+        (endpoint : Endpoint) → IsSetUp setup → steps_are_taken setup world_opening steps ≡ true → let w = plain_world setup steps in
+        HasNumbersLeft (own_in setup w) → w.gateway_took ≡ before ++ after →
+        endpoint_at (gateway_in setup w).endpoints line ≡ Some endpoint →
+        IsAskedForAll (course_of setup line before) (course_from setup (plain setup before) line after) endpoint.line →
+        has_given_up (of_line line (sent_of setup w.gateway_took)) endpoint.post ≡ false → IsFair setup steps within →
+        AgentAlwaysHasRoom setup steps → HadItsTime setup steps within endpoint.post.pending →
+        done_in (course_of setup line w.gateway_took)
+        ≡ happened_in (observed_on line (agent_in setup w)) ++ happened_in endpoint.line.quarantined.events }
+    ensures whole { (setup : Setup) (steps : List WorldStep) (within line : ℕ) (before after : List GatewayEvent)
+        (endpoint : Endpoint) → IsSetUp setup → steps_are_taken setup world_opening steps ≡ true → let w = plain_world setup steps in
+        HasNumbersLeft (own_in setup w) → w.gateway_took ≡ before ++ after →
+        endpoint_at (gateway_in setup w).endpoints line ≡ Some endpoint →
+        IsAskedForAll (course_of setup line before) (course_from setup (plain setup before) line after) endpoint.line →
+        has_given_up (of_line line (sent_of setup w.gateway_took)) endpoint.post ≡ false → IsFair setup steps within →
+        AgentAlwaysHasRoom setup steps → HadItsTime setup steps within endpoint.post.pending →
+        happened_in endpoint.line.quarantined.events ≡ [] →
+        done_in (course_of setup line w.gateway_took) ≡ happened_in (observed_on line (agent_in setup w)) }
+{}
+
+/// Until a response to it comes, a command of a line's own, a notification or its announcement, and an announcement of the gateway
+/// itself go out 0, 500, 1,500, 3,500, 7,500, 11,500, 15,500 and 19,500 ms after their first send, each once the clock is so late
+/// (RFC 3435, 3.5.3).
+pub fn a_notification_is_sent_eight_times()
+    ensures line { (setup : Setup) (steps : List WorldStep) (line : ℕ) (endpoint : Endpoint) (b : Begun) → IsSetUp setup →
+        steps_are_taken setup world_opening steps ≡ true → let w = plain_world setup steps in
+        endpoint_at (gateway_in setup w).endpoints line ≡ Some endpoint → IsOfLine setup w line b →
+        HasCome w b.id ⊎ All (λ (wait : ℕ). b.moment + wait ≤ now_in setup w → IsToldAfter setup w b wait) chances }
+    ensures own { (setup : Setup) (steps : List WorldStep) (b : Begun) → IsSetUp setup →
+        steps_are_taken setup world_opening steps ≡ true → let w = plain_world setup steps in IsOfLine setup w 0 b →
+        HasCome w b.id ⊎ All (λ (wait : ℕ). b.moment + wait ≤ now_in setup w → IsToldAfter setup w b wait) chances }
+{}
+
 /// Until it is answered the gateway keeps asking: its announcement is in flight, or it waits for `restart_wait` ms at most from now
 /// on; and so does each line whose command was given up, for `disconnected_wait` ms (RFC 3435, 4.4.6 and 4.4.7).
 pub fn who_is_unanswered_keeps_asking()
@@ -111,8 +172,9 @@ pub fn who_is_unanswered_keeps_asking()
         KeepsAsking setup.disconnected_wait (now_in setup w) endpoint.post }
 {}
 
-/// The answer to the command in flight of a line, handed to the gateway in a packet of its own, lets the line go on; and that to the
-/// announcement of the gateway itself makes it serve. The answer 521, which may name another agent, does neither (RFC 3435, 2.4).
+/// The answer to the command in flight of a line, handed to the gateway, lets the line go on: in a packet of its own, and amid other
+/// texts, from what those before it made of the line. That to the announcement of the gateway itself, in a packet of its own, makes it
+/// serve. The answer 521, which may name another agent, does neither (RFC 3435, 2.4 and 3.5.5).
 pub fn an_answer_lets_its_line_go_on()
     ensures line { (setup : Setup) (steps : List WorldStep) (number : ℕ) (text : List ℕ) (code id : ℕ) (params : List Param)
         (body : List ℕ) (line : ℕ) (endpoint : Endpoint) (flight : InFlight) → let w = plain_world setup steps in
@@ -127,4 +189,11 @@ pub fn an_answer_lets_its_line_go_on()
         texts_of copy.post.packet.bytes ≡ text ∷ [] → read_text text ≡ message (messages.Response code id params body) →
         is_final code ≡ true → code ≢ 521 → (gateway_in setup w).endpoints.own.pending ≡ Some flight → flight.id ≡ id →
         serves (gateway_in setup after).endpoints ≡ true }
+    ensures amid { (setup : Setup) (steps : List WorldStep) (number : ℕ) (text : List ℕ) (id line : ℕ) (endpoint : Endpoint)
+        (flight : InFlight) → let w = plain_world setup steps in let after = plain_world setup (steps ++ delivering number ∷ []) in
+        (copy : IsCopy setup w AgentEnd text number) → let source = copy.post.packet.sender in
+        let texts = texts_of copy.post.packet.bytes in IsResponse id (read_text text) → All (IsPlainAnswer id) texts →
+        endpoint_at (gateway_in setup w).endpoints line ≡ Some endpoint → endpoint.post.pending ≡ Some flight → flight.id ≡ id →
+        (gateway_in setup after ≡ (took_all setup (gateway_in setup w) source texts).value)
+        × GoesOnAmid setup (gateway_in setup w) source texts line id }
 {}

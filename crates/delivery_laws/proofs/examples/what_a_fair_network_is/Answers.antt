@@ -1,14 +1,15 @@
-use Rattle.std.proofs.Common.{◌≡◌, ℕ, zero, suc, ◌+◌, ◌≤◌, Bool, true, false, ◌||◌, ◌==◌, List, [], ◌∷◌, ◌++◌, Option, Some, codes, refl, sym, ap, ◌∙◌, arith}
+use Rattle.std.proofs.Common.{◌≡◌, ℕ, zero, suc, ◌+◌, ◌≤◌, [], ◌∷◌, ◌++◌, Option, Some, codes, refl, sym, ap, ◌∙◌, arith}
 use Rattle.std.specs.Prelude.{slice_get, unwrap_or}
 use Rattle.std.proofs.lemmas.Option.{none-some}
 use Rattle.plain_machine.specs.Example.{two_lines, agent}
 use Rattle.agent_core.specs.declared.packet.End.TheVariants.{GatewayEnd}
 use Rattle.agent_core.specs.declared.packet.Posted.{Posted}
-use Rattle.agent_core.specs.World.{WorldStep, delivering, dialling, gateway_address, issuing, plain_world, ticking}
+use Rattle.agent_core.specs.World.{delivering, gateway_address, plain_world, ticking}
 use Rattle.world_laws.specs.Example.{audits}
 use Rattle.delivery_laws.specs.Fairness.{IsHandedOver}
 use Rattle.delivery_laws.specs.Example.{answered, asked}
 use Rattle.delivery_laws.proofs.Computing.{on_examples}
+use Rattle.delivery_laws.proofs.ExampleLemmas.{hand_over, none_handed}
 use Rattle.delivery_laws.proofs.examples.what_a_fair_network_is.Goals as goal
 
 -- all packets were sent at 1
@@ -32,29 +33,8 @@ fair_at (suc (suc (suc (suc n)))) post found = absurd (none-some post found)
 pub returns-clause-fair : goal.returns-clause-fair
 returns-clause-fair c = λ number post found late. fair_at number post found
 
--- a list that hands packet 3 over
-hands : WorldStep → Bool
-hands (issuing verb name rest) = false
-hands (dialling line act) = false
-hands (ticking moment) = false
-hands (delivering number) = number == 3
-
-one_hands : List WorldStep → Bool
-one_hands [] = false
-one_hands (step ∷ steps) = hands step || one_hands steps
-
-either_holds : (a b : Bool) → b ≡ true → (a || b) ≡ true
-either_holds true b is = refl
-either_holds false b is = is
-
-hands_there : (before later : List WorldStep) → one_hands ((before ++ delivering 3 ∷ []) ++ later) ≡ true
-unfolding one_hands hands
-hands_there [] later = refl
-hands_there (step ∷ before) later = either_holds (hands step) (one_hands ((before ++ delivering 3 ∷ []) ++ later)) (hands_there before later)
-
 pub returns-clause-lost : goal.returns-clause-lost
-unfolding on_examples one_hands hands
+unfolding on_examples hand_over
 returns-clause-lost c = λ fair.
-    let handed =
-    fair 3 (record { end = GatewayEnd; packet = record { moment = 1; sender = gateway_address two_lines; to = agent; bytes = codes "200 1 OK\r\n" } }) refl (omega arith) in
-    absurd (let e : one_hands (asked ++ delivering 2 ∷ []) ≡ true = ap one_hands handed.order ∙ hands_there handed.before handed.later in cc)
+    let post : Posted = record { end = GatewayEnd; packet = record { moment = 1; sender = gateway_address two_lines; to = agent; bytes = codes "200 1 OK\r\n" } } in
+    none_handed two_lines (asked ++ delivering 2 ∷ []) 0 3 post refl (fair 3 post refl (omega arith))

@@ -1,3 +1,4 @@
+use Rattle.delivery_laws.proofs.AmidLaws.{line_goes_on_amid}
 use Rattle.delivery_laws.proofs.LineLaws.{line_goes_on, gateway_goes_on}
 use Rattle.delivery_laws.proofs.laws.an_answer_lets_its_line_go_on.Goals as goal
 
@@ -6,3 +7,6 @@ returns-clause-line c = line_goes_on
 
 pub returns-clause-own : goal.returns-clause-own
 returns-clause-own c = gateway_goes_on
+
+pub returns-clause-amid : goal.returns-clause-amid
+returns-clause-amid c = line_goes_on_amid

@@ -1,0 +1,157 @@
+-- A network that hands each packet over in time brings a response to each command of the gateway's own in twice the time.
+use Rattle.std.proofs.Common.{◌≡◌, ℕ, ◌+◌, ◌*◌, ◌≤◌, Bool, true, false, if◌then◌else◌, List, [], ◌∷◌, ◌++◌, map, Option, Some, None, refl, sym, ap, ◌∙◌, subst, arith, append_assoc}
+use Rattle.std.specs.Prelude.{slice_get}
+use Rattle.history.specs.declared.entry.KeptFirst.{KeptFirst}
+use Rattle.history.specs.Kept.{firsts_in}
+use Rattle.mgcp_text.specs.Reading.{read_text}
+use Rattle.transmission.specs.Packing.{same_address}
+use Rattle.transmission.specs.Texts.{texts_of}
+use Rattle.plain_machine.specs.declared.setup.Setup.{Setup}
+use Rattle.plain_machine.specs.Arriving.{TextArrival, arrival, arrivals_at, arrivals_of}
+use Rattle.plain_machine.specs.Event.{GatewayEvent, datagram, phone, tick}
+use Rattle.plain_machine.specs.Machine.{opening}
+use Rattle.plain_machine.specs.Setup.{IsSetUp}
+use Rattle.plain_machine.proofs.ListLaws.{arrivals_on}
+use Rattle.machine_laws.specs.Saying.{Begun, IsAnswerTo, OneOf}
+use Rattle.machine_laws.proofs.EachLemmas.{any_from_one, one_before, one_behind, one_from_any, one_mapped, one_of_each, one_to, one_weaker}
+use Rattle.call_agent.specs.Hearing.{AgentEvent, hears, issues}
+use Rattle.agent_core.specs.declared.packet.End.{End}
+use Rattle.agent_core.specs.declared.packet.End.TheVariants.{AgentEnd as agent_end, GatewayEnd as gateway_end}
+use Rattle.agent_core.specs.declared.packet.Packet.{Packet}
+use Rattle.agent_core.specs.declared.packet.Posted.{Posted}
+use Rattle.agent_core.specs.World.{World, WorldStep, agent_in, delivered, delivered_from, delivering, dialling, gateway_address, gateway_in, is_among, issuing, now_in, plain_world, steps_are_taken, ticking, to_agent, to_gateway, went, world_after, world_opening}
+use Rattle.world_laws.specs.Reached.{issued_in}
+use Rattle.world_laws.proofs.WorldLaws.{agent_answers, world_sound}
+use Rattle.delivery_laws.specs.Copies.{IsCopy}
+use Rattle.delivery_laws.specs.Taking.{IsOwn, IsTaken, agent_history}
+use Rattle.delivery_laws.specs.Fairness.{AgentAlwaysHasRoom, GoesToAgent, IsFair, IsHandedOver, IsNeverConfirmedIn}
+use Rattle.delivery_laws.specs.OwnChances.{HasCome, IsResponse}
+use Rattle.delivery_laws.proofs.StepLemmas.{handed_to_agent, handed_to_gateway, step_more, steps_more, taken_front}
+use Rattle.delivery_laws.proofs.FairLaws.{stays_found}
+use Rattle.delivery_laws.proofs.BroughtLaws.{IsBrought, is_brought}
+
+-- What came stays come
+
+module _ (P : TextArrival → Type 0) (setup : Setup) where
+  abbrev pub HasOne : World → Type 0
+  HasOne w = OneOf P (arrivals_of w.gateway_took)
+
+  gateway_stays : (w : World) (event : GatewayEvent) → HasOne w → HasOne (to_gateway setup w event)
+  gateway_stays w event is =
+      subst (OneOf P) (sym (arrivals_on setup (opening setup) w.gateway_took event))
+      (one_before P (arrivals_of w.gateway_took) (arrivals_at (gateway_in setup w).now event) is)
+
+  pub gateway_comes : (w : World) (event : GatewayEvent) → OneOf P (arrivals_at (gateway_in setup w).now event) → HasOne (to_gateway setup w event)
+  gateway_comes w event is =
+      subst (OneOf P) (sym (arrivals_on setup (opening setup) w.gateway_took event))
+      (one_behind P (arrivals_of w.gateway_took) (arrivals_at (gateway_in setup w).now event) is)
+
+  agent_stays : (w : World) (event : AgentEvent) → HasOne w → HasOne (to_agent setup w event)
+  agent_stays w event is = is
+
+  delivered_stays : (w : World) (end : End) (packet : Packet) → HasOne w → HasOne (delivered_from end setup w packet)
+  delivered_stays w agent_end packet is = by_test (same_address packet.to (gateway_address setup)) where
+    by_test : (x : Bool) → HasOne (if x then to_gateway setup w (datagram packet.sender packet.bytes) else w)
+    by_test true = gateway_stays w (datagram packet.sender packet.bytes) is
+    by_test false = is
+  delivered_stays w gateway_end packet is = by_test (is_among setup.agent.route packet.to) where
+    by_test : (x : Bool) → HasOne (if x then to_agent setup w (hears (datagram packet.sender packet.bytes)) else w)
+    by_test true = agent_stays w (hears (datagram packet.sender packet.bytes)) is
+    by_test false = is
+
+  step_stays : (w : World) (step : WorldStep) → HasOne w → HasOne (went setup w step)
+  unfolding went
+  step_stays w (issuing verb name rest) is = agent_stays w (issues verb name rest) is
+  step_stays w (dialling line act) is = gateway_stays w (phone line act) is
+  step_stays w (ticking moment) is = agent_stays (to_gateway setup w (tick moment)) (hears (tick moment)) (gateway_stays w (tick moment) is)
+  step_stays w (delivering number) is = by_post (slice_get w.posted number) where
+    by_post : (found : Option Posted) → HasOne (delivered found setup w)
+    by_post None = is
+    by_post (Some post) = delivered_stays w post.end post.packet is
+
+  steps_stay : (w : World) (steps : List WorldStep) → HasOne w → HasOne (world_after setup w steps)
+  unfolding world_after
+  steps_stay w [] is = is
+  steps_stay w (step ∷ steps) is = steps_stay (went setup w step) steps (step_stays w step is)
+
+  pub arrivals_stay : (steps more : List WorldStep) → HasOne (plain_world setup steps) → HasOne (plain_world setup (steps ++ more))
+  arrivals_stay steps more is = subst HasOne (sym (steps_more setup world_opening steps more)) (steps_stay (plain_world setup steps) more is)
+
+-- The way back
+
+back_late : (issued within sent now : ℕ) → sent ≤ issued + within → issued + 2 * within ≤ now → sent + within ≤ now
+back_late issued within sent now soon late = omega (arith, soon, late)
+
+there_late : (issued within now : ℕ) → issued + 2 * within ≤ now → issued + within ≤ now
+there_late issued within now late = omega (arith, late)
+
+-- the stored answer is a response to it
+reads_so : (setup : Setup) (first : List WorldStep) (id : ℕ) (text : List ℕ) → steps_are_taken setup world_opening first ≡ true
+    → OneOf (λ (one : KeptFirst). (one.id ≡ id) × (one.answer ≡ text)) (firsts_in (agent_history setup (plain_world setup first))) → IsAnswerTo id text
+reads_so setup first id text taken stored =
+    let after = plain_world setup first in
+    let firsts = firsts_in (agent_history setup after) in
+    one_to (λ (one : KeptFirst). IsAnswerTo one.id one.answer × ((one.id ≡ id) × (one.answer ≡ text))) (IsAnswerTo id text)
+    (λ one both. subst (λ (i : ℕ). IsAnswerTo i text) both.1.0 (subst (IsAnswerTo one.id) both.1.1 both.0)) firsts
+    (one_of_each (λ (one : KeptFirst). IsAnswerTo one.id one.answer) (λ (one : KeptFirst). (one.id ≡ id) × (one.answer ≡ text)) firsts
+    (agent_answers (issued_in setup after) (agent_in setup after) (world_sound setup first taken).agrees.agent) stored)
+
+module _ (setup : Setup) (steps : List WorldStep) (within : ℕ) (b : Begun) (taken : steps_are_taken setup world_opening steps ≡ true) (fair : IsFair setup steps within)
+    (late : b.moment + 2 * within ≤ now_in setup (plain_world setup steps)) (is : IsBrought setup steps within b) where
+  abbrev before : List WorldStep
+  before = is.there.before
+
+  abbrev first : List WorldStep
+  first = before ++ delivering is.number ∷ []
+
+  front : steps_are_taken setup world_opening first ≡ true
+  front = taken_front setup world_opening first is.there.later (subst (λ (s : List WorldStep). steps_are_taken setup world_opening s ≡ true) is.there.order taken)
+
+  abbrev took : IsTaken setup (plain_world setup before) (plain_world setup first) b.id
+  took = is.took
+
+  abbrev post : Posted
+  post = took.copy.post
+
+  reads : IsAnswerTo b.id took.text
+  reads = reads_so setup first b.id took.text front (one_from_any (λ (one : KeptFirst). (one.id ≡ b.id) × (one.answer ≡ took.text)) (firsts_in (agent_history setup (plain_world setup first))) took.stored)
+
+  -- the answer goes out in time
+  soon : now_in setup (plain_world setup first) ≡ now_in setup (plain_world setup before) → post.packet.moment ≤ b.moment + within
+  soon same =
+      let sent : post.packet.moment ≡ now_in setup (plain_world setup first) = took.moment in
+      let handed : now_in setup (plain_world setup before) ≤ is.post.packet.moment + within = is.there.soon in
+      let moment : is.post.packet.moment ≡ b.moment = is.moment in
+      omega (arith, sent, same, handed, moment)
+
+  found : slice_get (plain_world setup steps).posted took.number ≡ Some post
+  found =
+      subst (λ (s : List WorldStep). slice_get (plain_world setup s).posted took.number ≡ Some post) (sym is.there.order)
+      (stays_found setup b.id first is.there.later took.number post took.copy.found)
+
+  abbrev Comes : TextArrival → Type 0
+  Comes a = IsResponse b.id a.outcome
+
+  -- where it is handed over it comes
+  returned : IsHandedOver setup steps within took.number post → HasCome (plain_world setup steps) b.id
+  returned back =
+      any_from_one Comes (arrivals_of (plain_world setup steps).gateway_took)
+      (subst (λ (s : List WorldStep). HasOne Comes setup (plain_world setup s)) (sym back.order)
+      (arrivals_stay Comes setup (back.before ++ delivering took.number ∷ []) back.later
+      (subst (HasOne Comes setup) (sym (step_more setup back.before (delivering took.number) ∙ handed_to_gateway setup (plain_world setup back.before) took.text took.number copy))
+      (gateway_comes Comes setup (plain_world setup back.before) (datagram post.packet.sender post.packet.bytes)
+      (one_mapped Comes (arrival (gateway_in setup (plain_world setup back.before)).now post.packet.sender) (texts_of post.packet.bytes)
+      (one_weaker (λ (one : List ℕ). one ≡ took.text) (λ (one : List ℕ). IsResponse b.id (read_text one)) (λ one same. (reads.code, reads.params, reads.body, ap read_text same ∙ reads.reads))
+      (texts_of post.packet.bytes) (one_from_any (λ (one : List ℕ). one ≡ took.text) (texts_of post.packet.bytes) took.copy.inside))))))) where
+        copy : IsCopy setup (plain_world setup back.before) agent_end took.text took.number
+        copy = record { post = post; found = back.sent; sender = took.copy.sender; goes = took.copy.goes; inside = took.copy.inside }
+
+  comes_back : now_in setup (plain_world setup first) ≡ now_in setup (plain_world setup before) → HasCome (plain_world setup steps) b.id
+  comes_back same = returned (fair took.number post found (back_late b.moment within post.packet.moment (now_in setup (plain_world setup steps)) (soon same) late))
+
+pub returned_in_time : (setup : Setup) (steps : List WorldStep) (within : ℕ) (b : Begun) → IsSetUp setup → steps_are_taken setup world_opening steps ≡ true → IsFair setup steps within
+    → AgentAlwaysHasRoom setup steps → IsNeverConfirmedIn setup steps b.id → let w = plain_world setup steps in IsOwn setup w b → GoesToAgent setup w b.text
+    → b.moment + 2 * within ≤ now_in setup w → HasCome w b.id
+returned_in_time setup steps within b set_up taken fair roomy unconfirmed own goes late =
+    let is = is_brought setup steps within b set_up taken fair roomy unconfirmed own goes (there_late b.moment within (now_in setup (plain_world setup steps)) late) in
+    comes_back setup steps within b taken fair late is (ap (now_in setup) is.step)
