@@ -1,4 +1,6 @@
-// The page of rgwd: shows its telephones, does what is done at them, and draws its conversation as a ladder.
+// What the page of rgwd does.
+//
+// It shows the telephones, does what is done at them, and draws the conversation as a ladder.
 //
 // It asks the program what happened since the last answer, ten times a second while it can be seen: the program's answers are
 // whole as they are given, so none can wait for something to happen. All that comes from outside becomes text nodes alone.
@@ -259,7 +261,9 @@ class Ladder {
 
   addCommand(row, message, direction) {
     const key = `${direction} ${message.id}`;
-    if (this.isAgain(`${direction} ${row.peer} ${message.verb} ${message.id}`, row.at)) {
+    // The gateway may send a repeat to another address of its agent.
+    const peer = direction === "in" ? row.peer : "";
+    if (this.isAgain(`${direction} ${peer} ${message.verb} ${message.id}`, row.at)) {
       this.mark(row, "again", "repeat");
       this.open.get(key)?.rows.push(row);
       return;
@@ -651,7 +655,7 @@ async function ask(path) {
 // A refusal of what was done last is told beside the telephones too.
 function tellRefusal(happened) {
   if (happened.kind === "told" && happened.text.startsWith("!")) {
-    setText(byId("refused"), happened.text.trim());
+    setText(byId("refused"), `refused: ${happened.text.trim().replace(/^! \d+ /, "")}`);
   }
 }
 

@@ -1,0 +1,52 @@
+//! The page itself: the file page/index.html, written by `tools/page_files`.
+
+/// The page itself.
+pub const PAGE: &str = r##"<!doctype html>
+<html lang="en">
+<head>
+<meta charset="utf-8">
+<meta name="viewport" content="width=device-width, initial-scale=1">
+<meta name="color-scheme" content="light dark">
+<title>rgwd</title>
+<link rel="stylesheet" href="page.css">
+<link rel="icon" href="data:,">
+</head>
+<body>
+<header>
+  <h1>rgwd</h1>
+  <p id="standing" role="status">not connected</p>
+  <p id="numbers"></p>
+  <p id="clock" aria-label="The clock of the gateway"></p>
+  <div class="tools">
+    <label>Show <select id="shown-line"><option value="0">all lines</option></select></label>
+    <label><input type="checkbox" id="following" checked> Follow</label>
+    <label class="file">Open a trace .. <input type="file" id="file"></label>
+    <button type="button" id="live" hidden>Back to the gateway</button>
+  </div>
+</header>
+<main>
+  <section id="telephones" aria-labelledby="telephones-title">
+    <h2 id="telephones-title">Telephones</h2>
+    <p class="hint">Arrows choose a telephone. On it: <kbd>0</kbd>-<kbd>9</kbd> <kbd>*</kbd> <kbd>#</kbd>
+      <kbd>a</kbd>-<kbd>d</kbd> are its keys, <kbd>h</kbd> is its hook, <kbd>f</kbd> a flash, <kbd>Enter</kbd> opens and closes its keypad.</p>
+    <p id="refused" role="alert"></p>
+    <div id="phones" role="group" aria-label="Telephones"></div>
+  </section>
+  <section id="conversation" aria-labelledby="conversation-title">
+    <h2 id="conversation-title">Conversation</h2>
+    <div id="lanes" aria-hidden="true"></div>
+    <ol id="ladder" tabindex="-1" aria-label="What happened, oldest first"></ol>
+    <div id="message" hidden>
+      <div class="message-head">
+        <p id="message-title"></p>
+        <button type="button" id="message-close" aria-label="Close the message">Close</button>
+      </div>
+      <pre id="message-text" tabindex="0"></pre>
+    </div>
+  </section>
+</main>
+<noscript><p>This page needs JavaScript.</p></noscript>
+<script src="page.js"></script>
+</body>
+</html>
+"##;
