@@ -2,17 +2,21 @@
 use crate::clock::LiveClock;
 use crate::ending::Ending;
 use crate::live_wire::{Ends, LiveWire};
+use crate::outlets::Outlets;
 use crate::session::{serve, write_records};
+use crate::site::Site;
 use crate::telephones::Telephones;
 use crate::words::{Settings, WordFault, read_words};
 use gateway_core::Gateway;
 use live_journal::{Capture, Journal, Log, MessageTally, RecordState, Trace, TraceEntry, report};
+use live_page::Desk;
 use mio::net::UdpSocket;
 use rgw_play::{LIMIT, PlayFault, gateway_of, read_key_at_fault, read_limited};
 use std::alloc::Global;
 use std::fs::File;
 use std::io::ErrorKind;
 use std::net::{Net, SocketAddr, SocketAddrV4};
+use std::random::RandomSource;
 use std::rt::{Clock, Env, Files};
 use std::{env, io};
 
@@ -109,10 +113,47 @@ fn open_ends<'a, 'w, R: Net + Clock>(
 }
 
 // Says on standard error where the sockets are.
-fn tell_addresses<R: Net + Clock + Eprint>(rt: &R, ends: &Ends<'_, R>) -> io::Result<()> {
+fn tell_addresses<R: Net + Clock + Eprint>(
+    rt: &R,
+    ends: &Ends<'_, R>,
+    site: &Option<Site>,
+) -> io::Result<()> {
     let listen = ends.socket.local_addr()?;
     let phones = ends.telephones.address()?;
-    eprintln!(rt; "listen {listen} phones {phones}")
+    match site {
+        Some(site) => {
+            let http = site.address()?;
+            eprintln!(rt; "listen {listen} phones {phones} http {http}")
+        }
+        None => eprintln!(rt; "listen {listen} phones {phones}"),
+    }
+}
+
+// The site, if one is asked for.
+fn open_site<'w, R: Net + Clock>(
+    rt: &R,
+    alloc: Global,
+    settings: &Settings<'w>,
+    ends: &Ends<'_, R>,
+) -> Result<Option<Site>, Ending<'w>> {
+    let Some(address) = settings.http else {
+        return Ok(None);
+    };
+    match Site::open(rt, alloc, address, &ends.ready) {
+        Ok(site) => Ok(Some(site)),
+        Err(e) => Err(socket_ending("--http", address, &e)),
+    }
+}
+
+// What the page of a site is shown; its address counts.
+fn desk_of(alloc: Global, site: &Option<Site>) -> Option<Desk> {
+    let Some(site) = site else {
+        return None;
+    };
+    match site.address() {
+        Ok(SocketAddr::V4(address)) => Some(Desk::new(alloc, address)),
+        _ => None,
+    }
 }
 
 // Whether a record that stands so was written to its end; else how the program ends where it couldn't be written.
@@ -148,18 +189,18 @@ fn open_capture<'w, R: Files>(
 }
 
 // Serves until the end, and says on standard error what was counted.
-fn serve_wire<'w, R: Files + Net + Clock + Print + Eprint>(
+fn serve_wire<'w, R: Files + Net + Clock + RandomSource + Print + Eprint>(
     rt: &R,
     alloc: Global,
     settings: &Settings<'w>,
     gateway: &mut Gateway,
     wire: &mut LiveWire<'_, R>,
+    outlets: &mut Outlets<R::File>,
 ) -> Result<(), Ending<'w>> {
-    let mut capture = open_capture(rt, settings)?;
-    write_records(rt, &mut wire.journal, &mut capture);
-    let faults = serve(rt, alloc, gateway, wire, &mut capture);
+    write_records(rt, &mut wire.journal, &mut outlets.capture);
+    let faults = serve(rt, alloc, gateway, wire, outlets);
     wire.journal.trace.tell(TraceEntry::End);
-    write_records(rt, &mut wire.journal, &mut capture);
+    write_records(rt, &mut wire.journal, &mut outlets.capture);
     let Ok(counts) = report(alloc, gateway, &wire.journal.tally, faults) else {
         return Err(Ending::OutOfMemory);
     };
@@ -182,6 +223,7 @@ fn journal_of<'w>(
     settings: &Settings<'w>,
     text: &[u8],
     here: SocketAddrV4,
+    desk: Option<Desk>,
 ) -> Result<Journal, Ending<'w>> {
     let Ok(tally) = MessageTally::new(alloc) else {
         return Err(Ending::OutOfMemory);
@@ -196,12 +238,13 @@ fn journal_of<'w>(
         trace,
         log,
         capture: Capture::new(alloc, settings.capture.is_some(), here),
+        desk,
         given: None,
     })
 }
 
 // Serves with a gateway over the sockets that were asked for.
-fn serve_with<'w, R: Files + Net + Clock + Print + Eprint>(
+fn serve_with<'w, R: Files + Net + Clock + RandomSource + Print + Eprint>(
     rt: &R,
     alloc: Global,
     settings: &Settings<'w>,
@@ -210,14 +253,19 @@ fn serve_with<'w, R: Files + Net + Clock + Print + Eprint>(
 ) -> Result<(), Ending<'w>> {
     let ends = open_ends(rt, alloc, settings)?;
     let here = here_of(&ends, settings.listen);
-    let journal = journal_of(alloc, settings, text, here)?;
+    let mut outlets = Outlets {
+        capture: open_capture(rt, settings)?,
+        site: open_site(rt, alloc, settings, &ends)?,
+    };
+    let desk = desk_of(alloc, &outlets.site);
+    let journal = journal_of(alloc, settings, text, here, desk)?;
     let mut wire = LiveWire::new(ends, journal);
-    let _ = tell_addresses(rt, &wire.ends);
-    serve_wire(rt, alloc, settings, gateway, &mut wire)
+    let _ = tell_addresses(rt, &wire.ends, &outlets.site);
+    serve_wire(rt, alloc, settings, gateway, &mut wire, &mut outlets)
 }
 
 // Does what the settings ask.
-fn perform<'w, R: Files + Net + Clock + Print + Eprint>(
+fn perform<'w, R: Files + Net + Clock + RandomSource + Print + Eprint>(
     rt: &R,
     alloc: Global,
     settings: &Settings<'w>,
@@ -233,7 +281,7 @@ fn perform<'w, R: Files + Net + Clock + Print + Eprint>(
 }
 
 // How the program with these words ends.
-fn ending_of<'w, R: AllocGlobal + Files + Net + Clock + Print + Eprint>(
+fn ending_of<'w, R: AllocGlobal + Files + Net + Clock + RandomSource + Print + Eprint>(
     rt: &R,
     words: &'w [String],
 ) -> Ending<'w> {
@@ -266,7 +314,9 @@ fn tell<R: Print + Eprint>(rt: &R, ending: Ending<'_>) -> u8 {
 }
 
 /// Runs the program, and gives its exit status.
-pub fn run<R: AllocGlobal + Env + Files + Net + Clock + Print + Eprint>(rt: &R) -> u8 {
+pub fn run<R: AllocGlobal + Env + Files + Net + Clock + RandomSource + Print + Eprint>(
+    rt: &R,
+) -> u8 {
     match words_of(rt) {
         Ok(words) => tell(rt, ending_of(rt, words.as_slice())),
         Err(fault) => tell(rt, Ending::from(fault)),

@@ -14,7 +14,7 @@ pub const PHONES: &str = "127.0.0.1:2428";
 
 /// The words of the command line, in a line.
 pub const USAGE: &str =
-    "usage: rgwd CONFIG [--listen ADDRESS] [--phones ADDRESS] [--log] [--capture FILE] [--trace] [--stop-after MS]";
+    "usage: rgwd CONFIG [--listen ADDRESS] [--phones ADDRESS] [--http ADDRESS] [--log] [--capture FILE] [--trace] [--stop-after MS]";
 
 // What the words say, from the end of the first line on. The places of the defaults are left open.
 const ABOVE: &str = "
@@ -28,13 +28,14 @@ const BETWEEN: &str = "
   --phones ADDRESS    of its telephones' socket; else ";
 
 const BELOW: &str = "
+  --http ADDRESS      of its page for browsers; else there is none
   --log               what is said is written to standard error, a line a message
   --capture FILE      datagrams are written into this file, for tshark and Wireshark
   --trace             all that happens is written to standard output; else nothing is
   --stop-after MS     it ends at this moment of its clock, in ms; else it goes on
   --help, --version   this, or the version, on standard output
 
-ADDRESS is a.b.c.d:port, and port 0 any free one. Both sockets take datagrams (UDP).
+ADDRESS is a.b.c.d:port, and port 0 any free one. The first two sockets take datagrams (UDP).
 More: the manual page rgwd(8), and docs/OPERATING.md.
 ";
 

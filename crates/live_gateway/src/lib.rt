@@ -1,7 +1,7 @@
 //! The gateway on a live network: what the program `rgwd` does.
 //!
 //! A wire of two sockets and the machine's clock gives the gateway its inputs, a turn at a time, and takes its datagrams.
-//! What goes over it is told to a journal.
+//! What goes over it is told to a journal, and shown on a page where that is asked for.
 #![tactic(auto)]
 
 mod app;
@@ -9,8 +9,10 @@ mod clock;
 mod ending;
 mod help;
 mod live_wire;
+mod outlets;
 mod readiness;
 mod session;
+mod site;
 mod telephones;
 mod words;
 

@@ -6,7 +6,7 @@ use crate::clock::LiveClock;
 use crate::readiness::Readiness;
 use crate::telephones::{TelephoneRequest, Telephones};
 use gateway_core::{DATAGRAM_ROOM, Input, Wire, WireFault};
-use live_journal::{Journal, LONGEST_TICK, TraceEntry};
+use live_journal::{Journal, LONGEST_TICK};
 use mio::net::UdpSocket;
 use std::alloc::Global;
 use std::io;
@@ -28,9 +28,11 @@ pub struct Ends<'a, R> {
     pub socket: UdpSocket,
     pub telephones: Telephones,
     pub clock: LiveClock<'a, R>,
-    /// The moment at which something falls due next at the gateway.
+    /// The moment at which something falls due next, at the gateway or its site.
     pub due: Option<u64>,
-    ready: Readiness,
+    /// Whether its site has more to do at once.
+    pub is_busy: bool,
+    pub ready: Readiness,
     // How many inputs were given since it was asked what has come.
     given: u8,
     // The moment at which nothing comes any more.
@@ -66,6 +68,7 @@ impl<'a, R: Net + Clock> Ends<'a, R> {
             telephones,
             clock,
             due: None,
+            is_busy: false,
             ready,
             given: 0,
             end,
@@ -148,6 +151,9 @@ impl<'a, R: Net + Clock> Ends<'a, R> {
 
     // How long nothing is to be done, in ms, if nothing comes.
     fn idle_time(&self) -> io::Result<u64> {
+        if self.is_busy {
+            return Ok(0);
+        }
         let now = self.clock.moment()?;
         let due = self.due.unwrap_or(u64::MAX);
         let end = self.end.unwrap_or(u64::MAX);
@@ -230,8 +236,8 @@ impl<'a, R: Net + Clock> LiveWire<'a, R> {
                 self.journal.datagram(now, source, &room[..len]);
             }
             Input::Phone { .. } => {
-                let line = self.ends.telephones.line();
-                self.journal.trace.tell(TraceEntry::Line { line });
+                let now = self.ends.clock.now();
+                self.journal.act(now, self.ends.telephones.line());
             }
             Input::Tick { moment } => self.journal.trace.tick(moment),
             Input::End => {}

@@ -1,5 +1,7 @@
 //! Which sockets may have something, as the system tells it.
-use mio::net::UdpSocket;
+use live_page::MOST_VISITORS;
+use mio::event::Event;
+use mio::net::{TcpListener, TcpStream, UdpSocket};
 use mio::{Events, Interest, Poll, Token};
 use std::alloc::Global;
 use std::io;
@@ -8,20 +10,44 @@ use std::net::Net;
 use std::time::Duration;
 
 // By these the system names the sockets.
-const SOCKET: Token = Token(0);
+const SOCKET: usize = 0;
 
-const TELEPHONES: Token = Token(1);
+const TELEPHONES: usize = 1;
 
-const SOCKETS: usize = 2;
+const LISTENER: usize = 2;
 
-/// What is known of the gateway's socket and of the telephones': whether something may have come since it was last found
-/// empty.
+const FIRST_VISITOR: usize = 3;
+
+const SOCKETS: usize = FIRST_VISITOR + MOST_VISITORS;
+
+/// What was told of a visitor's socket.
+#[derive(Clone, Copy)]
+pub struct Visit {
+    pub is_readable: bool,
+    pub is_writable: bool,
+}
+
+const NO_VISIT: Visit = Visit {
+    is_readable: false,
+    is_writable: false,
+};
+
+/// What is known of the sockets: of the gateway's and of the telephones' whether something may have come since it was last
+/// found empty; of the site's what was told since it was forgotten.
 #[derive(Drop)]
 pub struct Readiness {
     poll: Poll,
     events: Events,
     pub socket: bool,
     pub telephones: bool,
+    pub listener: bool,
+    pub visits: [Visit; MOST_VISITORS],
+}
+
+// What an event tells of a visitor's socket.
+fn note_visit(visit: &mut Visit, event: &Event) {
+    visit.is_readable = visit.is_readable || event.is_readable() || event.is_read_closed();
+    visit.is_writable = visit.is_writable || event.is_writable();
 }
 
 impl Readiness {
@@ -37,15 +63,36 @@ impl Readiness {
         };
         let poll = Poll::new(rt)?;
         poll.registry()
-            .register(socket, SOCKET, Interest::READABLE)?;
+            .register(socket, Token(SOCKET), Interest::READABLE)?;
         poll.registry()
-            .register(telephones, TELEPHONES, Interest::READABLE)?;
+            .register(telephones, Token(TELEPHONES), Interest::READABLE)?;
         Ok(Readiness {
             poll,
             events,
             socket: true,
             telephones: true,
+            listener: false,
+            visits: [NO_VISIT; MOST_VISITORS],
         })
+    }
+
+    /// Watches the site's socket too.
+    pub fn watch_listener(&self, listener: &mut TcpListener) -> io::Result<()> {
+        self.poll
+            .registry()
+            .register(listener, Token(LISTENER), Interest::READABLE)
+    }
+
+    /// Watches the socket of the visitor at this place too.
+    pub fn watch_visitor(&self, stream: &mut TcpStream, place: usize) -> io::Result<()> {
+        let both = Interest::READABLE | Interest::WRITABLE;
+        let token = Token(FIRST_VISITOR.saturating_add(place));
+        self.poll.registry().register(stream, token, both)
+    }
+
+    /// Nothing was told of the site's visitors.
+    pub fn forget_visits(&mut self) {
+        self.visits = [NO_VISIT; MOST_VISITORS];
     }
 
     /// Whether something may have come.
@@ -58,10 +105,15 @@ impl Readiness {
         self.poll
             .poll(&mut self.events, Some(Duration::from_millis(longest)))?;
         for event in self.events.iter() {
-            if event.token() == SOCKET {
-                self.socket = true;
-            } else {
-                self.telephones = true;
+            match usize::from(event.token()) {
+                SOCKET => self.socket = true,
+                TELEPHONES => self.telephones = true,
+                LISTENER => self.listener = true,
+                token => {
+                    if let Some(visit) = self.visits.get_mut(token.saturating_sub(FIRST_VISITOR)) {
+                        note_visit(visit, event);
+                    }
+                }
             }
         }
         Ok(())

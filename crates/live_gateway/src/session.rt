@@ -2,6 +2,8 @@
 ghost use Rattle.std.specs.Prelude.{◌≤◌, ◌↔◌, IsTrue};
 
 use crate::live_wire::LiveWire;
+use crate::outlets::{Outlets, earlier, serve_site};
+use crate::site::Site;
 use crate::telephones::{TelephoneRequest, Telephones};
 use gateway_core::{Gateway, Input, Refusal};
 use live_journal::{Faults, Journal, MessageTally, Trace, TraceEntry, report};
@@ -11,6 +13,7 @@ use mg_packages::Hook;
 use rgw_play::{put_line, put_refusal, status_of};
 use std::alloc::Global;
 use std::net::Net;
+use std::random::RandomSource;
 use std::rt::{Clock, Files};
 
 // The answer to an act that was done.
@@ -61,20 +64,29 @@ fn refusal_text(alloc: Global, refusal: Refusal) -> Result<Vec<u8>, OutOfMemory>
 }
 
 // The gateway refused an act: the telephone is told why.
-fn refuse_act(alloc: Global, telephones: &mut Telephones, trace: &mut Trace, refusal: Refusal) {
+fn refuse_act(
+    alloc: Global,
+    telephones: &mut Telephones,
+    journal: &mut Journal,
+    moment: u64,
+    refusal: Refusal,
+) {
     if refusal == Refusal::OutOfMemory {
-        trace.refused();
+        journal.trace.refused();
+        journal.answered(moment, OUT_OF_MEMORY);
         telephones.answer(OUT_OF_MEMORY);
         return;
     }
     match refusal_text(alloc, refusal) {
         Ok(text) => {
             let text = text.as_slice();
-            trace.tell(TraceEntry::Shown { text });
+            journal.trace.tell(TraceEntry::Shown { text });
+            journal.answered(moment, text);
             telephones.answer(text);
         }
         Err(_) => {
-            trace.tell(TraceEntry::Taken);
+            journal.trace.tell(TraceEntry::Taken);
+            journal.answered(moment, OUT_OF_MEMORY);
             telephones.answer(OUT_OF_MEMORY);
         }
     }
@@ -149,10 +161,11 @@ impl<'a, R: Net + Clock> LiveWire<'a, R> {
             (Some(Input::Phone { line, act }), true) => {
                 let refusal = refusal_of(gateway, line, act);
                 let telephones = &mut self.ends.telephones;
-                refuse_act(alloc, telephones, &mut self.journal.trace, refusal);
+                refuse_act(alloc, telephones, &mut self.journal, gateway.now(), refusal);
             }
             (Some(Input::Phone { .. }), false) => {
                 self.journal.trace.tell(TraceEntry::Taken);
+                self.journal.answered(gateway.now(), DONE);
                 self.ends.telephones.answer(DONE);
             }
             (_, true) => self.journal.trace.refused(),
@@ -174,17 +187,25 @@ pub fn write_records<R: Files + Print + Eprint>(
     }
 }
 
-/// Serves the wire until its end comes, and gives how often something failed. The capture goes into this file.
-pub fn serve<R: Files + Net + Clock + Print + Eprint>(
+// The moment at which something falls due next, at the gateway or its site.
+fn next_due(gateway: &Gateway, site: &Option<Site>) -> Option<u64> {
+    match site {
+        Some(site) => earlier(gateway.next_due(), site.next_deadline()),
+        None => gateway.next_due(),
+    }
+}
+
+/// Serves the wire until its end comes, and gives how often something failed. What happens is told by these outlets too.
+pub fn serve<R: Files + Net + Clock + RandomSource + Print + Eprint>(
     rt: &R,
     alloc: Global,
     gateway: &mut Gateway,
     wire: &mut LiveWire<'_, R>,
-    capture: &mut Option<R::File>,
+    outlets: &mut Outlets<R::File>,
 ) -> Faults {
     let mut faults = Faults::NONE;
     for _ in 0..u64::MAX {
-        wire.ends.due = gateway.next_due();
+        wire.ends.due = next_due(gateway, &outlets.site);
         let served = gateway.serve(wire, 1);
         faults.add(served);
         if served.ended {
@@ -202,7 +223,10 @@ pub fn serve<R: Files + Net + Clock + Print + Eprint>(
             ends.stop();
         }
         wire.journal.log.explain(&gateway.setup().names);
-        write_records(rt, &mut wire.journal, capture);
+        if let Some(site) = &mut outlets.site {
+            serve_site(rt, alloc, gateway, wire, site, faults);
+        }
+        write_records(rt, &mut wire.journal, &mut outlets.capture);
     }
     faults
 }

@@ -5,7 +5,7 @@ use mio::net::UdpSocket;
 use rgw_play::{ScriptLine, ScriptStep, line_in};
 use std::alloc::Global;
 use std::io;
-use std::net::{Ipv4Addr, Net, SocketAddr, SocketAddrV4};
+use std::net::{Net, SocketAddr, SocketAddrV4};
 
 // The room for a datagram of lines. What is longer is cut off.
 const ROOM: usize = 4096;
@@ -33,8 +33,8 @@ pub struct Telephones {
     alloc: Global,
     /// To be watched.
     pub socket: UdpSocket,
-    // Who sent the datagram, its bytes, and how many of them were read.
-    sender: SocketAddr,
+    // Who sent the datagram, if one did, its bytes, and how many of them were read.
+    sender: Option<SocketAddr>,
     text: Vec<u8>,
     read: usize,
     // The line that is answered next: its bytes, and what it asks for.
@@ -89,7 +89,7 @@ impl Telephones {
         Ok(Telephones {
             alloc,
             socket: UdpSocket::bind(rt, SocketAddr::V4(address))?,
-            sender: SocketAddr::V4(SocketAddrV4::new(Ipv4Addr::LOCALHOST, 0)),
+            sender: None,
             text: Vec::new(alloc),
             read: 0,
             line: Vec::new(alloc),
@@ -139,7 +139,7 @@ impl Telephones {
         let Ok((len, sender)) = self.socket.recv_from(&mut room) else {
             return false;
         };
-        self.sender = sender;
+        self.sender = Some(sender);
         self.text.clear();
         self.read = 0;
         match self.text.extend_from_slice(&room[..len]) {
@@ -151,7 +151,25 @@ impl Telephones {
 
     /// Answers what is asked for, and goes on to the next. Where the answer can't be sent it is lost.
     pub fn answer(&mut self, answer: &[u8]) {
-        let _ = self.socket.send_to(answer, self.sender);
+        if let Some(sender) = self.sender {
+            let _ = self.socket.send_to(answer, sender);
+        }
         self.advance();
+    }
+
+    /// Whether no line waits to be asked.
+    pub fn is_idle(&self) -> bool {
+        self.request.is_none()
+    }
+
+    /// Takes a line that came another way, where none waits; nobody is answered.
+    pub fn take(&mut self, line: &[u8]) {
+        self.sender = None;
+        self.text.clear();
+        self.read = 0;
+        match self.text.extend_from_slice(line) {
+            Ok(()) => self.advance(),
+            Err(_) => self.request = Some(TelephoneRequest::OutOfMemory),
+        }
     }
 }

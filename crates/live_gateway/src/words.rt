@@ -18,6 +18,8 @@ pub struct Settings<'a> {
     pub trace: bool,
     /// Whether what is said is written to standard error, for people.
     pub log: bool,
+    /// The address of its site, where it has one; port 0 is any free one.
+    pub http: Option<SocketAddrV4>,
     /// The file that datagrams are captured into.
     pub capture: Option<&'a str>,
     /// The moment at which it ends, in ms.
@@ -51,16 +53,18 @@ enum Word {
     Config,
     Listen,
     Phones,
+    Http,
     Trace,
     Log,
     Capture,
     StopAfter,
 }
 
-const WORDS: [Word; 7] = [
+const WORDS: [Word; 8] = [
     Word::Config,
     Word::Listen,
     Word::Phones,
+    Word::Http,
     Word::Trace,
     Word::Log,
     Word::Capture,
@@ -81,6 +85,7 @@ fn arg_of<'a>(alloc: Global, word: Word) -> Arg<'a> {
         Word::Config => Arg::new(alloc, "config").required(true),
         Word::Listen => address_word(alloc, "listen", LISTEN),
         Word::Phones => address_word(alloc, "phones", PHONES),
+        Word::Http => Arg::new(alloc, "http").long("http"),
         Word::Trace => flag_word(alloc, "trace"),
         Word::Log => flag_word(alloc, "log"),
         Word::Capture => Arg::new(alloc, "capture").long("capture"),
@@ -98,18 +103,30 @@ fn command<'a>(alloc: Global) -> Result<Command<'a>, AllocError> {
     Ok(command)
 }
 
-// The address behind a word.
+// The address behind a word, if that stands there.
+fn address_behind(
+    matches: &ArgMatches<'_>,
+    name: &str,
+    word: &'static str,
+) -> Result<Option<SocketAddrV4>, WordFault> {
+    let Some(text) = matches.get_str(name) else {
+        return Ok(None);
+    };
+    match text.parse::<SocketAddrV4>() {
+        Ok(address) => Ok(Some(address)),
+        Err(_) => Err(WordFault::BadAddress { word }),
+    }
+}
+
+// The address behind a word that has a default.
 fn address_in(
     matches: &ArgMatches<'_>,
     name: &str,
     word: &'static str,
 ) -> Result<SocketAddrV4, WordFault> {
-    let Some(text) = matches.get_str(name) else {
-        return Err(WordFault::Usage);
-    };
-    match text.parse::<SocketAddrV4>() {
-        Ok(address) => Ok(address),
-        Err(_) => Err(WordFault::BadAddress { word }),
+    match address_behind(matches, name, word)? {
+        Some(address) => Ok(address),
+        None => Err(WordFault::Usage),
     }
 }
 
@@ -131,6 +148,7 @@ fn settings_in<'a>(matches: &ArgMatches<'a>) -> Result<Settings<'a>, WordFault> 
         config,
         listen: address_in(matches, "listen", "--listen")?,
         phones: address_in(matches, "phones", "--phones")?,
+        http: address_behind(matches, "http", "--http")?,
         trace: matches.get_flag("trace"),
         log: matches.get_flag("log"),
         capture: matches.get_str("capture"),

@@ -1,5 +1,5 @@
-//! What is kept and told of a gateway on a live network: its counts, its trace, the log for people, and a
-//! capture. It opens no socket and no file; whoever serves tells it what goes over the wire, and writes what it has put.
+//! What is kept and told of a gateway on a live network: its counts, its trace, the log for people, a capture, and what the page
+//! is shown. It opens no socket and no file; whoever serves tells it what goes over the wire, and writes what it has put.
 #![tactic(auto)]
 
 mod capture;
@@ -8,6 +8,7 @@ mod journal;
 mod log;
 mod message_tally;
 mod now;
+mod picture;
 mod recent;
 mod record;
 mod reporting;
@@ -18,6 +19,7 @@ pub use crate::journal::Journal;
 pub use crate::log::Log;
 pub use crate::message_tally::MessageTally;
 pub use crate::now::{LONGEST_TICK, Now};
+pub use crate::picture::picture_of;
 pub use crate::record::{Record, RecordState};
 pub use crate::reporting::{Faults, report};
 pub use crate::trace::{Trace, TraceEntry};

@@ -100,6 +100,11 @@ impl MessageTally {
         })
     }
 
+    /// How many transactions are younger than half a minute.
+    pub fn transactions(&self, moment: u64) -> u64 {
+        self.answered.held(moment)
+    }
+
     // Counts a text that came. Where memory is refused it counts as none.
     fn count_received(&mut self, text: &[u8]) {
         match read_message(self.alloc, text) {

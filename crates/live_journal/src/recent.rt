@@ -24,6 +24,17 @@ impl Recent {
         })
     }
 
+    /// How many are remembered that were sent first less than half a minute before this moment.
+    pub fn held(&self, moment: u64) -> u64 {
+        let mut number: u64 = 0;
+        for (_, first) in self.firsts.iter() {
+            if moment.saturating_sub(*first) < REPEAT_TIME {
+                number = number.saturating_add(1);
+            }
+        }
+        number
+    }
+
     /// Something is sent with this id: whether it is a repeat. Where memory is refused it isn't remembered.
     pub fn is_repeat(&mut self, moment: u64, id: u32) -> bool {
         if let Some(first) = self.firsts.peek(&id) {

@@ -1,0 +1,114 @@
+//! What the page is shown of the gateway.
+ghost use Rattle.std.specs.Prelude.{◌≤◌};
+
+use crate::message_tally::MessageTally;
+use crate::reporting::Faults;
+use connections::{Connection, mode_text};
+use gateway_core::Gateway;
+use live_page::{CodeCount, ConnectionView, LineView, Picture, SignalView, VerbCount};
+use mg_packages::{Hook, signal_name};
+use std::alloc::{AllocError, Global};
+
+fn signals_of(alloc: Global, gateway: &Gateway, line: u16) -> Result<Vec<SignalView>, AllocError>
+    requires low { 1 ≤ line }
+    requires high { line ≤ gateway.now.setup.names.lines }
+{
+    let mut views = Vec::new(alloc);
+    for active in gateway.signals(line).iter() {
+        views.push(SignalView {
+            name: signal_name(active.signal),
+            end: active.end,
+        })?;
+    }
+    Ok(views)
+}
+
+fn connections_of(
+    alloc: Global,
+    connections: &[Option<Connection>],
+) -> Result<Vec<ConnectionView>, AllocError> {
+    let mut views = Vec::new(alloc);
+    for place in connections {
+        if let Some(connection) = place {
+            views.push(ConnectionView {
+                number: connection.number,
+                mode: mode_text(connection.mode),
+            })?;
+        }
+    }
+    Ok(views)
+}
+
+fn line_view(alloc: Global, gateway: &Gateway, line: u16) -> Result<LineView, AllocError>
+    requires low { 1 ≤ line }
+    requires high { line ≤ gateway.now.setup.names.lines }
+{
+    Ok(LineView {
+        is_off_hook: gateway.hook(line) == Hook::OffHook,
+        signals: signals_of(alloc, gateway, line)?,
+        connections: connections_of(alloc, gateway.connections(line))?,
+        lost: gateway.lost(line),
+    })
+}
+
+fn put_commands(views: &mut Vec<VerbCount>, tally: &MessageTally) -> Result<(), AllocError> {
+    for (place, number) in tally.commands.iter().enumerate() {
+        views.push(VerbCount {
+            verb: place as u8,
+            number: *number,
+        })?;
+    }
+    Ok(())
+}
+
+fn put_answers(views: &mut Vec<CodeCount>, tally: &MessageTally) -> Result<(), AllocError> {
+    for (code, number) in tally.answers.iter() {
+        views.push(CodeCount {
+            code: *code,
+            number: *number,
+        })?;
+    }
+    Ok(())
+}
+
+// What was counted.
+fn put_counts(
+    picture: &mut Picture,
+    tally: &MessageTally,
+    faults: Faults,
+) -> Result<(), AllocError> {
+    let counts = &mut picture.counts;
+    put_commands(&mut counts.commands, tally)?;
+    put_answers(&mut counts.answers, tally)?;
+    counts.datagrams_in = tally.datagrams_in;
+    counts.datagrams_out = tally.datagrams_out;
+    counts.responses = tally.responses;
+    counts.unreadable = tally.others;
+    counts.answers_again = tally.answers_again;
+    counts.notifications = tally.notifications;
+    counts.notifications_again = tally.notifications_again;
+    counts.announcements = tally.announcements;
+    counts.announcements_again = tally.announcements_again;
+    counts.given_up = tally.given_up;
+    counts.transactions = tally.transactions(picture.clock);
+    counts.refused = faults.refused;
+    counts.receive_faults = faults.receive;
+    counts.send_faults = faults.send;
+    Ok(())
+}
+
+/// The gateway as it is now.
+pub fn picture_of(
+    alloc: Global,
+    gateway: &Gateway,
+    tally: &MessageTally,
+    faults: Faults,
+) -> Result<Picture, AllocError> {
+    let mut picture = Picture::new(alloc);
+    picture.clock = gateway.now();
+    for before in 0..gateway.lines() {
+        picture.lines.push(line_view(alloc, gateway, before + 1)?)?;
+    }
+    put_counts(&mut picture, tally, faults)?;
+    Ok(picture)
+}

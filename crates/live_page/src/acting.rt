@@ -1,0 +1,49 @@
+//! Reads what the page asks to be done.
+ghost use Rattle.std.specs.Prelude.{◌≡◌, IfOk, IfSome, Some};
+ghost use Rattle.serde_json.specs.Data.{Data};
+ghost use Rattle.serde_json.specs.Read.{read};
+ghost use Rattle.serde_json.specs.View.{view};
+ghost use Rattle.live_page.specs.Acting.{line_in as line_of, act_in as act_of, queued_in as queued_of};
+
+use crate::act::{PhoneAct, QueuedAct, act_named};
+use mg_bytes::OutOfMemory;
+use serde_json::Value;
+use std::alloc::{AllocError, Global};
+
+fn line_in(value: &Value) -> Option<u16>
+    ensures { result ≡ line_of (view value.now) }
+{
+    let number = value.get("line").and_then(Value::as_u64)?;
+    if number < 1 || number > 65535 {
+        return None;
+    }
+    Some(number as u16)
+}
+
+fn act_in(value: &Value) -> Option<PhoneAct>
+    ensures { result ≡ act_of (view value.now) }
+{
+    let word = value.get("act").and_then(Value::as_str)?;
+    act_named(word.as_bytes())
+}
+
+#[tactic(auto, unfolding(crate::specs::Acting::queued_in))]
+fn queued_in(value: &Value) -> Option<QueuedAct>
+    ensures { result ≡ queued_of (view value.now) }
+{
+    let line = line_in(value)?;
+    let act = act_in(value)?;
+    Some(QueuedAct { line, act })
+}
+
+/// What a body asks to be done: an object of JSON with a number `line` and a text `act`; `None` for any other.
+pub(crate) fn read_act(alloc: Global, body: &[u8]) -> Result<Option<QueuedAct>, OutOfMemory>
+    ensures { IfOk result (λ found. IfSome found (λ queued.
+        (d : Data) × (read body.now ≡ Some d) × (queued_of d ≡ Some queued))) }
+{
+    match Value::from_slice(alloc, body) {
+        Ok(value) => Ok(queued_in(&value)),
+        Err(fault) if fault.is_memory() => Err(AllocError),
+        Err(_) => Ok(None),
+    }
+}

@@ -1,0 +1,66 @@
+//! What was counted.
+ghost use Rattle.std.specs.Prelude.{◌≡◌};
+ghost use Rattle.live_page.specs.Verbs.{verb_word as word_of_verb};
+
+/// How many commands of a verb came.
+#[derive(Clone, Copy)]
+pub struct VerbCount {
+    /// The verb's place: EPCF, RQNT, NTFY, CRCX, MDCX, DLCX, AUEP, AUCX and RSIP are 0 to 8; what is more is any other.
+    pub verb: u8,
+    pub number: u64,
+}
+
+/// How many answers with a code went out.
+#[derive(Clone, Copy)]
+pub struct CodeCount {
+    pub code: u16,
+    pub number: u64,
+}
+
+/// What was counted since the start, and how much is held now.
+#[derive(Drop)]
+pub struct Counts {
+    pub datagrams_in: u64,
+    pub datagrams_out: u64,
+    /// Commands that came, by verb.
+    pub commands: Vec<VerbCount>,
+    /// Responses that came.
+    pub responses: u64,
+    /// Texts that came and are no message.
+    pub unreadable: u64,
+    /// Responses that were sent, by code.
+    pub answers: Vec<CodeCount>,
+    /// Of these, those that were sent before.
+    pub answers_again: u64,
+    pub notifications: u64,
+    pub notifications_again: u64,
+    pub announcements: u64,
+    pub announcements_again: u64,
+    /// Announcements of lines whose command nobody had answered.
+    pub given_up: u64,
+    /// Inputs that the gateway refused.
+    pub refused: u64,
+    pub receive_faults: u64,
+    pub send_faults: u64,
+    /// Transactions that are held now.
+    pub transactions: u64,
+}
+
+/// The word of the verb at a place (RFC 3435, 3.2.1.1).
+#[tactic(auto, unfolding(crate::specs::Verbs::verb_word))]
+pub(crate) fn verb_word(place: u8) -> &'static [u8]
+    ensures { result.now ≡ word_of_verb place }
+{
+    match place {
+        0 => b"EPCF",
+        1 => b"RQNT",
+        2 => b"NTFY",
+        3 => b"CRCX",
+        4 => b"MDCX",
+        5 => b"DLCX",
+        6 => b"AUEP",
+        7 => b"AUCX",
+        8 => b"RSIP",
+        _ => b"other",
+    }
+}

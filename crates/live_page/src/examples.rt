@@ -1,0 +1,169 @@
+//! Worked examples of the definitions, as theorems: each sentence of a definition has one that a slip in it breaks.
+#![tactic(auto, unfolding(crate::proofs::Computing::on_examples))]
+
+ghost use Rattle.std.specs.Prelude.{◌≡◌, codes, true, false, [], ◌∷◌, Some, None};
+ghost use Rattle.serde_json.specs.Data.{object, no_members, null};
+ghost use Rattle.live_page.specs.Access.{only, is_known_host, is_same_origin, is_json};
+ghost use Rattle.live_page.specs.Asking.{route_of};
+ghost use Rattle.live_page.specs.Acting.{act_named, act_line, queued_in};
+ghost use Rattle.live_page.specs.Keeping.{kept_with};
+ghost use Rattle.live_page.specs.Verbs.{verb_word};
+ghost use Rattle.live_page.specs.Metrics.{escaped, labelled_sample, code_text, single};
+ghost use Rattle.live_page.specs.Example.{here, at_port, elsewhere, once, asks, queued};
+ghost use Rattle.live_page.specs.declared.route.Route.TheVariants.{Page, Style, Script, State, Metrics, Events, Phone, Nothing};
+ghost use Rattle.live_page.specs.declared.act.PhoneAct.TheVariants.{Off, On, Flash, Key};
+
+/// A host is known by the address and the port that the page listens at, and on the loopback by the name localhost.
+pub fn a_host_is_known_by_its_address()
+    ensures address { is_known_host here (codes "127.0.0.1:8080") ≡ true }
+    ensures name { is_known_host here (codes "localhost:8080") ≡ true }
+    ensures other_address { is_known_host here (codes "127.0.0.2:8080") ≡ false }
+    ensures other_port { is_known_host here (codes "127.0.0.1:8081") ≡ false }
+    ensures no_port { is_known_host here (codes "127.0.0.1") ≡ false }
+    ensures empty_port { is_known_host here (codes "127.0.0.1:") ≡ false }
+    ensures other_name { is_known_host here (codes "rgw.example.net:8080") ≡ false }
+    ensures within_a_name { is_known_host here (codes "127.0.0.1.example.net:8080") ≡ false }
+    ensures within_localhost { is_known_host here (codes "localhost.example.net:8080") ≡ false }
+    ensures nothing { is_known_host here [] ≡ false }
+    ensures another { is_known_host elsewhere (codes "192.168.1.5:8080") ≡ true }
+    ensures not_its_loopback { is_known_host elsewhere (codes "localhost:8080") ≡ false }
+{}
+
+/// Where no port stands it is 80.
+pub fn the_port_is_80_where_none_stands()
+    ensures address { is_known_host (at_port 80) (codes "127.0.0.1") ≡ true }
+    ensures name { is_known_host (at_port 80) (codes "localhost") ≡ true }
+    ensures both { is_known_host (at_port 80) (codes "127.0.0.1:80") ≡ true }
+    ensures other { is_known_host (at_port 81) (codes "127.0.0.1") ≡ false }
+{}
+
+/// An origin is that of a page at this address, where it is the known host's own.
+pub fn an_origin_is_the_known_hosts_own()
+    ensures address { is_same_origin here (once (codes "127.0.0.1:8080")) (once (codes "http://127.0.0.1:8080")) ≡ true }
+    ensures name { is_same_origin here (once (codes "localhost:8080")) (once (codes "http://localhost:8080")) ≡ true }
+    ensures of_another_name { is_same_origin here (once (codes "127.0.0.1:8080")) (once (codes "http://localhost:8080")) ≡ false }
+    ensures of_another_page { is_same_origin here (once (codes "127.0.0.1:8080")) (once (codes "http://evil.example")) ≡ false }
+    ensures of_another_port { is_same_origin here (once (codes "127.0.0.1:8080")) (once (codes "http://127.0.0.1:80801")) ≡ false }
+    ensures of_a_path { is_same_origin here (once (codes "127.0.0.1:8080")) (once (codes "http://127.0.0.1:8080/")) ≡ false }
+    ensures of_another_scheme { is_same_origin here (once (codes "127.0.0.1:8080")) (once (codes "https://127.0.0.1:8080")) ≡ false }
+    ensures without_a_scheme { is_same_origin here (once (codes "127.0.0.1:8080")) (once (codes "127.0.0.1:8080")) ≡ false }
+    ensures hidden { is_same_origin here (once (codes "127.0.0.1:8080")) (once (codes "null")) ≡ false }
+    ensures none { is_same_origin here (once (codes "127.0.0.1:8080")) None ≡ false }
+    ensures no_host { is_same_origin here None (once (codes "http://127.0.0.1:8080")) ≡ false }
+    ensures rebound { is_same_origin here (once (codes "evil.example:8080")) (once (codes "http://evil.example:8080")) ≡ false }
+{}
+
+/// A field counts where it stands there once.
+pub fn a_field_counts_where_it_stands_once()
+    ensures none { only (codes "") ≡ None }
+    ensures one { only (codes "a") ≡ Some 97 }
+    ensures two { only (codes "aa") ≡ None }
+{}
+
+/// Content is JSON where it says just so.
+pub fn content_is_json_where_it_says_so()
+    ensures json { is_json (once (codes "application/json")) ≡ true }
+    ensures form { is_json (once (codes "application/x-www-form-urlencoded")) ≡ false }
+    ensures parts { is_json (once (codes "multipart/form-data")) ≡ false }
+    ensures text { is_json (once (codes "text/plain")) ≡ false }
+    ensures more { is_json (once (codes "application/json; charset=utf-8")) ≡ false }
+    ensures none { is_json None ≡ false }
+{}
+
+/// What stands at each path.
+pub fn paths_lead_somewhere()
+    ensures page { route_of (codes "/") None ≡ Page }
+    ensures style { route_of (codes "/page.css") None ≡ Style }
+    ensures script { route_of (codes "/page.js") None ≡ Script }
+    ensures state { route_of (codes "/state") None ≡ State }
+    ensures metrics { route_of (codes "/metrics") None ≡ Metrics }
+    ensures phone { route_of (codes "/phone") None ≡ Phone }
+    ensures all { route_of (codes "/events") None ≡ Events 0 }
+    ensures some { route_of (codes "/events") (Some (codes "after=12")) ≡ Events 12 }
+    ensures no_number { route_of (codes "/events") (Some (codes "after=")) ≡ Nothing }
+    ensures no_digit { route_of (codes "/events") (Some (codes "after=x")) ≡ Nothing }
+    ensures other { route_of (codes "/events") (Some (codes "before=1")) ≡ Nothing }
+    ensures below { route_of (codes "/page.js/") None ≡ Nothing }
+    ensures nothing { route_of [] None ≡ Nothing }
+{}
+
+/// An act is `off`, `on`, `flash` or a key.
+pub fn acts_have_words()
+    ensures off { act_named (codes "off") ≡ Some Off }
+    ensures on { act_named (codes "on") ≡ Some On }
+    ensures flash { act_named (codes "flash") ≡ Some Flash }
+    ensures zero { act_named (codes "0") ≡ Some (Key 48) }
+    ensures nine { act_named (codes "9") ≡ Some (Key 57) }
+    ensures star { act_named (codes "*") ≡ Some (Key 42) }
+    ensures hash { act_named (codes "#") ≡ Some (Key 35) }
+    ensures first { act_named (codes "A") ≡ Some (Key 65) }
+    ensures last { act_named (codes "D") ≡ Some (Key 68) }
+    ensures below_zero { act_named (codes "/") ≡ None }
+    ensures above_nine { act_named (codes ":") ≡ None }
+    ensures below_a { act_named (codes "@") ≡ None }
+    ensures above_d { act_named (codes "E") ≡ None }
+    ensures small { act_named (codes "a") ≡ None }
+    ensures two { act_named (codes "12") ≡ None }
+    ensures none { act_named [] ≡ None }
+{}
+
+/// An act is done as a line of the telephones' socket does it.
+pub fn an_act_is_a_line()
+    ensures off { act_line (queued 1 Off) ≡ codes "phone 1 off" }
+    ensures on { act_line (queued 96 On) ≡ codes "phone 96 on" }
+    ensures flash { act_line (queued 2 Flash) ≡ codes "phone 2 flash" }
+    ensures key { act_line (queued 10 (Key 35)) ≡ codes "phone 10 #" }
+{}
+
+/// A body asks for an act by a line from 1 to 65,535, and a word.
+pub fn a_body_asks_by_line_and_word()
+    ensures some { queued_in (asks (codes "off") 1) ≡ Some (queued 1 Off) }
+    ensures last { queued_in (asks (codes "5") 65535) ≡ Some (queued 65535 (Key 53)) }
+    ensures zero { queued_in (asks (codes "off") 0) ≡ None }
+    ensures too_many { queued_in (asks (codes "off") 65536) ≡ None }
+    ensures no_word { queued_in (asks (codes "ring") 1) ≡ None }
+    ensures empty { queued_in (object no_members) ≡ None }
+    ensures no_object { queued_in null ≡ None }
+{}
+
+/// The oldest gives way where no more are kept.
+pub fn the_oldest_gives_way()
+    ensures room { kept_with 3 (codes "ab") 99 ≡ codes "abc" }
+    ensures full { kept_with 2 (codes "ab") 99 ≡ codes "bc" }
+    ensures first { kept_with 2 [] 99 ≡ codes "c" }
+{}
+
+/// Samples are lines, and a label's value hides its backslashes, quotes and line ends.
+pub fn samples_are_lines()
+    ensures labelled { labelled_sample (codes "rgw_commands_total") (codes "verb") (codes "RQNT") 12
+        ≡ codes "rgw_commands_total{verb=\"RQNT\"} 12\n" }
+    ensures plain { single (codes "rgw_lines") (codes "gauge") (codes "Lines.") 96
+        ≡ codes "# HELP rgw_lines Lines.\n# TYPE rgw_lines gauge\nrgw_lines 96\n" }
+    ensures quote { escaped (codes "a\"b") ≡ codes "a\\\"b" }
+    ensures backslash { escaped (codes "a\\b") ≡ codes "a\\\\b" }
+    ensures line_end { escaped (codes "a\nb") ≡ codes "a\\nb" }
+{}
+
+/// Verbs have their places.
+pub fn verbs_have_places()
+    ensures first { verb_word 0 ≡ codes "EPCF" }
+    ensures request { verb_word 1 ≡ codes "RQNT" }
+    ensures notification { verb_word 2 ≡ codes "NTFY" }
+    ensures creation { verb_word 3 ≡ codes "CRCX" }
+    ensures modification { verb_word 4 ≡ codes "MDCX" }
+    ensures deletion { verb_word 5 ≡ codes "DLCX" }
+    ensures audit { verb_word 6 ≡ codes "AUEP" }
+    ensures audit_of_connection { verb_word 7 ≡ codes "AUCX" }
+    ensures announcement { verb_word 8 ≡ codes "RSIP" }
+    ensures other { verb_word 9 ≡ codes "other" }
+{}
+
+/// A code is told in three digits.
+pub fn codes_have_three_digits()
+    ensures acknowledgement { code_text 0 ≡ codes "000" }
+    ensures nine { code_text 9 ≡ codes "009" }
+    ensures ten { code_text 10 ≡ codes "010" }
+    ensures ninety_nine { code_text 99 ≡ codes "099" }
+    ensures hundred { code_text 100 ≡ codes "100" }
+    ensures fault { code_text 510 ≡ codes "510" }
+{}

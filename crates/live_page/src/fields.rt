@@ -1,0 +1,63 @@
+//! The fields that answers go with.
+ghost use Rattle.std.specs.Prelude.{◌≡◌, ◌++◌, OnOk};
+
+use bytes::Bytes;
+use http::{HeaderName, HeaderValue, header};
+use http_server::Response;
+use std::alloc::AllocError;
+
+// What the page may do: its own style, script and questions, and stand in no other's frame (Content Security Policy, 3).
+const POLICY: &str =
+    "default-src 'none'; style-src 'self'; script-src 'self'; connect-src 'self'; img-src data:; base-uri 'none'; form-action 'none'; frame-ancestors 'none'";
+
+fn put_field(
+    response: &mut Response,
+    name: HeaderName,
+    value: HeaderValue,
+) -> Result<(), AllocError>
+    ensures status { response.new.status ≡ response.old.status }
+    ensures body { response.new.body ≡ response.old.body }
+{
+    response.add_header(name, value)
+}
+
+/// Puts what this kind of content goes with: no browser keeps it, guesses another kind, or shows it in another's frame.
+pub(crate) fn put_kind(response: &mut Response, kind: HeaderValue) -> Result<(), AllocError>
+    ensures status { response.new.status ≡ response.old.status }
+    ensures body { response.new.body ≡ response.old.body }
+{
+    put_field(response, header::CONTENT_TYPE, kind)?;
+    put_field(
+        response,
+        header::CACHE_CONTROL,
+        HeaderValue::from_static("no-store"),
+    )?;
+    put_field(
+        response,
+        header::X_CONTENT_TYPE_OPTIONS,
+        HeaderValue::from_static("nosniff"),
+    )?;
+    put_field(
+        response,
+        header::X_FRAME_OPTIONS,
+        HeaderValue::from_static("DENY"),
+    )?;
+    put_field(
+        response,
+        header::REFERRER_POLICY,
+        HeaderValue::from_static("no-referrer"),
+    )?;
+    put_field(
+        response,
+        header::CONTENT_SECURITY_POLICY,
+        HeaderValue::from_static(POLICY),
+    )
+}
+
+/// Puts a body behind what there is.
+pub(crate) fn put_body(response: &mut Response, body: Bytes) -> Result<(), AllocError>
+    ensures status { response.new.status ≡ response.old.status }
+    ensures body { OnOk result (response.new.body.items ≡ response.old.body.items ++ body) }
+{
+    response.body.push(body)
+}

@@ -1,0 +1,25 @@
+//! Laws of what requests may do, for every request and every address.
+ghost use Rattle.std.specs.Prelude.{◌≡◌, ◌≢◌, ℕ, List, codes, IsTrue, Some, false};
+ghost use Rattle.std.specs.declared.net.socket_addr.SocketAddrV4.{SocketAddrV4};
+ghost use Rattle.http.specs.declared.request.Parts.{Parts};
+ghost use Rattle.live_page.specs.Access.{is_known_host, is_same_origin, is_origin_at};
+ghost use Rattle.live_page.specs.Asking.{asked_of, is_at_home, may_change, field};
+ghost use Rattle.live_page.specs.declared.asked.Asked.TheVariants.{Acting, Strange};
+
+/// Who works a telephone is a page of this site: the request is for this page, and its Host, its Origin and its content say so.
+pub fn strangers_work_no_telephone()
+    ensures home { (site : SocketAddrV4) (head : Parts) → asked_of site head ≡ Acting → IsTrue (is_at_home site head) }
+    ensures origin { (site : SocketAddrV4) (head : Parts) → asked_of site head ≡ Acting → IsTrue (may_change site head) }
+    ensures method { (site : SocketAddrV4) (head : Parts) → asked_of site head ≡ Acting → head.method ≡ codes "POST" }
+{}
+
+/// Who asks another host is told nothing.
+pub fn another_host_is_told_nothing()
+    ensures { (site : SocketAddrV4) (head : Parts) → is_at_home site head ≡ false → asked_of site head ≡ Strange }
+{}
+
+/// What has another Host than the page's address has another origin too, whatever it says of itself.
+pub fn a_strange_host_has_no_origin_here()
+    ensures { (site : SocketAddrV4) (host origin : List ℕ) → IsTrue (is_same_origin site (Some host) (Some origin))
+        → IsTrue (is_known_host site host) × IsTrue (is_origin_at host origin) }
+{}

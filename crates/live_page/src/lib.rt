@@ -1,0 +1,33 @@
+//! The page of a live gateway: what a browser asks for and is answered, over the kit's server of steps over bytes.
+//!
+//! It opens no socket and reads no clock: whoever runs it moves the bytes, says what time it is, and tells what the gateway is
+//! and what happened. What is asked of the telephones waits until it is taken.
+#![tactic(auto)]
+
+mod access;
+mod act;
+mod acting;
+mod asked;
+mod asking;
+mod counts;
+mod desk;
+pub mod examples;
+mod fields;
+mod laws;
+mod metrics;
+mod picture;
+mod ring;
+mod route;
+mod state;
+mod telling;
+mod visitors;
+
+pub use crate::access::{is_known_host, is_same_origin};
+pub use crate::act::{PhoneAct, QueuedAct};
+pub use crate::asked::Asked;
+pub use crate::counts::{CodeCount, Counts, VerbCount};
+pub use crate::desk::{Desk, MOST_ACTS};
+pub use crate::picture::{ConnectionView, LineView, Picture, SignalView};
+pub use crate::ring::{Happening, Kind, Ring};
+pub use crate::route::Route;
+pub use crate::visitors::{MOST_VISITORS, Standing, Visitors};

@@ -1,0 +1,95 @@
+//! What the gateway is now, as it is shown.
+use crate::counts::Counts;
+use std::alloc::Global;
+
+/// A signal that is heard at a telephone.
+#[derive(Clone, Copy, PartialEq)]
+pub struct SignalView {
+    /// As it is written, with its package: `L/dl`.
+    pub name: &'static [u8],
+    /// The moment of its end, in ms; `None` where no time ends it.
+    pub end: Option<u64>,
+}
+
+/// A connection of a line.
+#[derive(Clone, Copy, PartialEq)]
+pub struct ConnectionView {
+    /// Its number, which is its identifier in hexadecimal digits.
+    pub number: u32,
+    /// As it is written: `sendrecv`.
+    pub mode: &'static [u8],
+}
+
+/// A line: its hook, what is heard, its connections, and how many of its events were lost.
+#[derive(PartialEq, Drop)]
+pub struct LineView {
+    pub is_off_hook: bool,
+    pub signals: Vec<SignalView>,
+    pub connections: Vec<ConnectionView>,
+    pub lost: u64,
+}
+
+/// What is shown of a gateway: its clock in ms, its lines from the first, and what was counted.
+#[derive(Drop)]
+pub struct Picture {
+    pub clock: u64,
+    pub lines: Vec<LineView>,
+    pub counts: Counts,
+}
+
+impl Picture {
+    /// A gateway without lines, of which nothing was counted.
+    pub fn new(alloc: Global) -> Picture {
+        Picture {
+            clock: 0,
+            lines: Vec::new(alloc),
+            counts: Counts {
+                datagrams_in: 0,
+                datagrams_out: 0,
+                commands: Vec::new(alloc),
+                responses: 0,
+                unreadable: 0,
+                answers: Vec::new(alloc),
+                answers_again: 0,
+                notifications: 0,
+                notifications_again: 0,
+                announcements: 0,
+                announcements_again: 0,
+                given_up: 0,
+                refused: 0,
+                receive_faults: 0,
+                send_faults: 0,
+                transactions: 0,
+            },
+        }
+    }
+
+    /// How many lines are off hook.
+    pub(crate) fn off_hook(&self) -> u64 {
+        let mut number: u64 = 0;
+        for line in self.lines.iter() {
+            if line.is_off_hook {
+                number = number.saturating_add(1);
+            }
+        }
+        number
+    }
+
+    /// How many connections there are.
+    pub(crate) fn connections(&self) -> u64 {
+        let mut number: u64 = 0;
+        for line in self.lines.iter() {
+            number = number.saturating_add(line.connections.len() as u64);
+        }
+        number
+    }
+
+    /// How many events of all lines were lost.
+    pub(crate) fn lost(&self) -> u64 {
+        let mut number: u64 = 0;
+        for line in self.lines.iter() {
+            number = number.saturating_add(line.lost);
+        }
+        number
+    }
+}

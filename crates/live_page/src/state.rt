@@ -1,0 +1,135 @@
+//! What the gateway is, as JSON.
+ghost use Rattle.std.specs.Prelude.{◌≡◌, codes, IfOk};
+ghost use Rattle.serde_json.specs.Data.{number, unsigned, string, object, member, no_members};
+ghost use Rattle.serde_json.specs.View.{view};
+
+use crate::counts::{CodeCount, Counts, VerbCount, verb_word};
+use crate::picture::{ConnectionView, LineView, Picture, SignalView};
+use serde_json::{Map, Value, json};
+use std::alloc::{AllocError, Global};
+use std::str;
+
+// A name as text. Those of signals, modes and verbs are ASCII.
+fn name_text(name: &[u8]) -> &str {
+    match str::from_utf8(name) {
+        Ok(text) => text,
+        Err(_) => "?",
+    }
+}
+
+// The end of a signal, where it has one.
+fn end_value(end: Option<u64>) -> Value {
+    match end {
+        Some(end) => Value::from(end),
+        None => Value::Null,
+    }
+}
+
+fn signal_value(alloc: Global, signal: SignalView) -> Result<Value, AllocError> {
+    let name = name_text(signal.name);
+    let end = end_value(signal.end);
+    json!(in alloc; {"name": name, "end": end})
+}
+
+fn connection_value(alloc: Global, connection: ConnectionView) -> Result<Value, AllocError> {
+    let mode = name_text(connection.mode);
+    json!(in alloc; {"number": connection.number, "mode": mode})
+}
+
+fn signals_value(alloc: Global, signals: &[SignalView]) -> Result<Value, AllocError> {
+    let mut list = Vec::new(alloc);
+    for signal in signals {
+        list.push(signal_value(alloc, *signal)?)?;
+    }
+    Ok(Value::Array(list))
+}
+
+fn connections_value(alloc: Global, connections: &[ConnectionView]) -> Result<Value, AllocError> {
+    let mut list = Vec::new(alloc);
+    for connection in connections {
+        list.push(connection_value(alloc, *connection)?)?;
+    }
+    Ok(Value::Array(list))
+}
+
+fn hook_word(is_off_hook: bool) -> &'static str {
+    if is_off_hook { "off" } else { "on" }
+}
+
+fn line_value(alloc: Global, line: &LineView) -> Result<Value, AllocError> {
+    let signals = signals_value(alloc, line.signals.as_slice())?;
+    let connections = connections_value(alloc, line.connections.as_slice())?;
+    json!(in alloc; {
+        "hook": hook_word(line.is_off_hook),
+        "signals": signals,
+        "connections": connections,
+        "lost": line.lost
+    })
+}
+
+fn lines_value(alloc: Global, lines: &[LineView]) -> Result<Value, AllocError> {
+    let mut list = Vec::new(alloc);
+    for line in lines {
+        list.push(line_value(alloc, line)?)?;
+    }
+    Ok(Value::Array(list))
+}
+
+fn commands_value(alloc: Global, commands: &[VerbCount]) -> Result<Value, AllocError> {
+    let mut map = Map::new(alloc);
+    for count in commands {
+        let verb = String::from_str(alloc, name_text(verb_word(count.verb)))?;
+        map.insert(verb, Value::from(count.number))?;
+    }
+    Ok(Value::Object(map))
+}
+
+fn answers_value(alloc: Global, answers: &[CodeCount]) -> Result<Value, AllocError> {
+    let mut map = Map::new(alloc);
+    for count in answers {
+        let code = format!(in alloc; "{:03}", count.code)?;
+        map.insert(code, Value::from(count.number))?;
+    }
+    Ok(Value::Object(map))
+}
+
+fn counts_value(alloc: Global, counts: &Counts) -> Result<Value, AllocError> {
+    let commands = commands_value(alloc, counts.commands.as_slice())?;
+    let answers = answers_value(alloc, counts.answers.as_slice())?;
+    json!(in alloc; {
+        "datagrams_in": counts.datagrams_in,
+        "datagrams_out": counts.datagrams_out,
+        "commands": commands,
+        "responses": counts.responses,
+        "unreadable": counts.unreadable,
+        "answers": answers,
+        "answers_again": counts.answers_again,
+        "notifications": counts.notifications,
+        "notifications_again": counts.notifications_again,
+        "announcements": counts.announcements,
+        "announcements_again": counts.announcements_again,
+        "given_up": counts.given_up,
+        "refused": counts.refused,
+        "receive_faults": counts.receive_faults,
+        "send_faults": counts.send_faults,
+        "transactions": counts.transactions
+    })
+}
+
+/// What the gateway is: its clock in ms, its lines from the first, and what was counted. `version` says which state is shown.
+pub(crate) fn state_text(
+    alloc: Global,
+    picture: &Picture,
+    version: u64,
+) -> Result<String, AllocError> {
+    let lines = lines_value(alloc, picture.lines.as_slice())?;
+    let counts = counts_value(alloc, &picture.counts)?;
+    let value = json!(in alloc; {
+        "version": version,
+        "clock": picture.clock,
+        "lost": picture.lost(),
+        "lines": lines,
+        "counts": counts
+    })?;
+    value.to_string(alloc)
+}
