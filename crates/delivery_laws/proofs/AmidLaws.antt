@@ -55,14 +55,14 @@ use Rattle.delivery_laws.proofs.StepLemmas.{handed_to_gateway, step_more}
 
 -- The first answer among texts
 
-abbrev responds : ℕ → Outcome → Bool
+abbrev pub responds : ℕ → Outcome → Bool
 responds id no_header = false
 responds id (bad_version other) = false
 responds id (bad_body other) = false
 responds id (message (messages.Command verb other name params body)) = false
 responds id (message (messages.Response code other params body)) = other == id
 
-response_is : (id : ℕ) (outcome : Outcome) → responds id outcome ≡ true → IsResponse id outcome
+pub response_is : (id : ℕ) (outcome : Outcome) → responds id outcome ≡ true → IsResponse id outcome
 response_is id no_header is = absurd cc
 response_is id (bad_version other) is = absurd cc
 response_is id (bad_body other) is = absurd cc
@@ -70,20 +70,20 @@ response_is id (message (messages.Command verb other name params body)) is = abs
 response_is id (message (messages.Response code other params body)) is =
     (code, params, body, ap (λ (i : ℕ). message (messages.Response code i params body)) (eqb-true other id is))
 
-it_responds : (id : ℕ) (outcome : Outcome) → IsResponse id outcome → responds id outcome ≡ true
+pub it_responds : (id : ℕ) (outcome : Outcome) → IsResponse id outcome → responds id outcome ≡ true
 it_responds id outcome is = ap (responds id) is.3 ∙ (Decides-eqb id id).1 refl
 
 -- one that responds to it, behind texts of which none does
-record FirstOf (id : ℕ) (texts : List (List ℕ)) : Type 0 where
-  before : List (List ℕ)
-  answer : List ℕ
-  later : List (List ℕ)
-  order : texts ≡ before ++ answer ∷ later
-  none : Each (λ (text : List ℕ). responds id (read_text text) ≡ false) before
-  is : responds id (read_text answer) ≡ true
-  among : OneOf (λ (text : List ℕ). text ≡ answer) texts
+pub record FirstOf (id : ℕ) (texts : List (List ℕ)) : Type 0 where
+  pub before : List (List ℕ)
+  pub answer : List ℕ
+  pub later : List (List ℕ)
+  pub order : texts ≡ before ++ answer ∷ later
+  pub none : Each (λ (text : List ℕ). responds id (read_text text) ≡ false) before
+  pub is : responds id (read_text answer) ≡ true
+  pub among : OneOf (λ (text : List ℕ). text ≡ answer) texts
 
-first_of : (id : ℕ) (texts : List (List ℕ)) → OneOf (λ (text : List ℕ). responds id (read_text text) ≡ true) texts → FirstOf id texts
+pub first_of : (id : ℕ) (texts : List (List ℕ)) → OneOf (λ (text : List ℕ). responds id (read_text text) ≡ true) texts → FirstOf id texts
 first_of id [] one = absurd one
 first_of id (text ∷ texts) one = by_test (responds id (read_text text)) refl one (first_of id texts) where
   behind : responds id (read_text text) ≡ false → FirstOf id texts → FirstOf id (text ∷ texts)
@@ -229,7 +229,7 @@ one_answers : (setup : Setup) (m : Machine) (source : SocketAddrV4) (before : Li
 unfolding took_all
 one_answers setup m source before answer = ap (λ (t : Effect Machine). t.value) (texts_at setup m source before [] answer)
 
-response_does : (setup : Setup) (m : Machine) (source : SocketAddrV4) (code id : ℕ) (params : List Param) (body : List ℕ) (outcome : Outcome) → outcome ≡ message (messages.Response code id params body)
+pub response_does : (setup : Setup) (m : Machine) (source : SocketAddrV4) (code id : ℕ) (params : List Param) (body : List ℕ) (outcome : Outcome) → outcome ≡ message (messages.Response code id params body)
     → (handled setup m source outcome).value.endpoints ≡ (responded setup m.endpoints m.now (response_with setup id code params)).value
 unfolding handled
 response_does setup m source code id params body outcome reads = ap (λ (o : Outcome). (handled setup m source o).value.endpoints) reads
@@ -287,7 +287,7 @@ goes_on_amid setup m source texts line id order s plain f = record {
 
 -- In a world
 
-takes_texts : (setup : Setup) (steps : List WorldStep) (number : ℕ) (text : List ℕ) → let w = plain_world setup steps in (copy : IsCopy setup w agent_end text number)
+pub takes_texts : (setup : Setup) (steps : List WorldStep) (number : ℕ) (text : List ℕ) → let w = plain_world setup steps in (copy : IsCopy setup w agent_end text number)
     → gateway_in setup (plain_world setup (steps ++ delivering number ∷ [])) ≡ (took_all setup (gateway_in setup w) copy.post.packet.sender (texts_of copy.post.packet.bytes)).value
 takes_texts setup steps number text copy =
     let w = plain_world setup steps in

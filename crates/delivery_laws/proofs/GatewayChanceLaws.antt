@@ -1,10 +1,9 @@
 -- An announcement of the gateway itself goes out at its moments until a response to it comes.
-use Rattle.std.proofs.Common.{◌≡◌, ◌≢◌, ℕ, ◌+◌, ◌-◌, ◌<◌, ◌≤◌, Bool, true, false, ◌==◌, if◌then◌else◌, List, [], ◌∷◌, ◌++◌, map, Option, Some, None, Result, Ok, Err, inl, inr, refl, sym, ap, ◌∙◌, subst, arith, append-nil, append_assoc}
-use Rattle.std.specs.Prelude.{◌⊎◌, All, IfSome, nat_le, option_map}
+use Rattle.std.proofs.Common.{◌≡◌, ◌≢◌, ℕ, ◌+◌, ◌<◌, ◌≤◌, Bool, true, false, ◌==◌, if◌then◌else◌, List, [], ◌∷◌, ◌++◌, map, Option, Some, None, Result, Ok, Err, inl, inr, refl, sym, ap, ◌∙◌, subst, arith, append_assoc}
+use Rattle.std.specs.Prelude.{◌⊎◌, All, nat_le, option_map}
 use Rattle.std.specs.Option.{unwrap_or}
 use Rattle.std.proofs.lemmas.Option.{none-some}
 use Rattle.std.specs.declared.net.socket_addr.SocketAddrV4.{SocketAddrV4}
-use Rattle.endpoint_names.specs.declared.entity.Entity.{Entity}
 use Rattle.mgcp_text.specs.declared.message.Message.TheVariants as messages
 use Rattle.mgcp_text.specs.declared.message.Param.{Param}
 use Rattle.mgcp_text.specs.Confirmation.{k_of}
@@ -34,28 +33,28 @@ use Rattle.plain_machine.specs.declared.post.Post.{Post}
 use Rattle.plain_machine.specs.declared.response.Response.{Response}
 use Rattle.plain_machine.specs.declared.setup.Setup.{Setup}
 use Rattle.plain_machine.specs.declared.endpoint.Endpoint.{Endpoint}
-use Rattle.plain_machine.specs.Acting.{acted, acted_on}
+use Rattle.plain_machine.specs.Acting.{acted_on}
 use Rattle.plain_machine.specs.Announcing.{announcement, announced, announced_by, announced_on, heard_on, replied, replied_on}
 use Rattle.plain_machine.specs.Answering.{Transaction, executed, handled, reply, response_to, took_all, transacted_by}
 use Rattle.plain_machine.specs.Arriving.{TextArrival, arrival, arrivals_at, arrivals_from, arrivals_of, clock_after}
-use Rattle.plain_machine.specs.Commanding.{commanded, done_by}
+use Rattle.plain_machine.specs.Commanding.{done_by}
 use Rattle.plain_machine.specs.Done.{Done}
 use Rattle.plain_machine.specs.Effect.{Effect, silently}
 use Rattle.plain_machine.specs.Event.{GatewayEvent, datagram, phone, tick}
-use Rattle.plain_machine.specs.Falling.{due_by, happened_under, if_by, pass, post_due}
+use Rattle.plain_machine.specs.Falling.{happened_under, if_by, pass, post_due}
 use Rattle.plain_machine.specs.Happening.{effect}
-use Rattle.plain_machine.specs.Lists.{machine_after, plain, sent_from, sent_of}
-use Rattle.plain_machine.specs.Machine.{Endpoints, Machine, endpoint_at, on_line, on_own, opening, serves}
-use Rattle.plain_machine.specs.Message.{Owner, answer_of, own_of, answer, again, Sent, is_answer}
+use Rattle.plain_machine.specs.Lists.{machine_after, plain, sent_from}
+use Rattle.plain_machine.specs.Machine.{Endpoints, Machine, on_line, on_own, opening, serves}
+use Rattle.plain_machine.specs.Message.{answer_of, answer, again, Sent, is_answer}
 use Rattle.plain_machine.specs.Posting.{id_on, line_of_id, repeated_as, resent_by, resent_on}
-use Rattle.plain_machine.specs.Requesting.{deed_done, deed_on, deed_on_all, done_for, done_there, line_with_place, lines_meant, refused_by, unless_refused}
-use Rattle.plain_machine.specs.Responding.{acknowledged, heard_from, lines_told, on_all, opened_on, own_heard, redirected_on, responded, responded_on, response_with}
+use Rattle.plain_machine.specs.Requesting.{deed_done, deed_on, done_for, done_there, line_with_place, lines_meant, refused_by, unless_refused}
+use Rattle.plain_machine.specs.Responding.{lines_told, opened_on, own_heard, redirected_on, responded, responded_on, response_with}
 use Rattle.plain_machine.specs.Setup.{IsSetUp}
 use Rattle.plain_machine.proofs.EffectLaws.{effect_now, handled_now}
 use Rattle.plain_machine.proofs.FallingLaws.{nothing_left}
 use Rattle.plain_machine.proofs.FirstLemmas.{FirstBy, OfItsAnnouncement, OfItsCommand, command_by, none_by, post_cases}
-use Rattle.machine_laws.specs.Saying.{Begun, begun_in}
-use Rattle.machine_laws.proofs.EachLemmas.{Each, each_back, each_front}
+use Rattle.machine_laws.specs.Saying.{Begun}
+use Rattle.machine_laws.proofs.EachLemmas.{each_back, each_front}
 use Rattle.machine_laws.proofs.LineLemmas.{own_stays, own_stays_on}
 use Rattle.line_isolation.specs.Belonging.{is_of, of_line}
 use Rattle.line_isolation.specs.Passing.{PassesAlone, goes_on, own_happens, rests}
@@ -63,7 +62,7 @@ use Rattle.line_isolation.proofs.AlikeLemmas.{behind_acknowledged}
 use Rattle.line_isolation.proofs.OwningLemmas.{OwnedBy, acted_owned, deed_owned, of_both, on_many_lines, on_one_line, opened_owned, own_responded_owned, owned_here, redirected_owned, responded_owned}
 use Rattle.line_isolation.proofs.PassLemmas.{own_passes}
 use Rattle.dialled_once.proofs.CourseLemmas.{AllHear, Hears}
-use Rattle.agent_core.specs.World.{World, WorldStep, now_in, plain_world, steps_are_taken, world_opening}
+use Rattle.agent_core.specs.World.{WorldStep, now_in, plain_world, steps_are_taken, world_opening}
 use Rattle.delivery_laws.specs.Chances.{chances}
 use Rattle.delivery_laws.specs.OwnChances.{HasCome, IsOfLine, IsToldAfter}
 use Rattle.delivery_laws.proofs.OnTurns.{IsOn, Sends, again_sends, all_out, answer_begins, begin_sends, heard_id, over_sends, put_off_sends, still_sends, WentOut}

@@ -32,6 +32,7 @@ pub mod OwnChanceLaws
 pub mod GatewayChanceLaws
 pub mod LineLaws
 pub mod AmidLaws
+pub mod ServingLaws
 pub mod SoonTurns
 pub mod AskingLaws
 pub mod Computing

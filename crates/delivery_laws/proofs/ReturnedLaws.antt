@@ -1,5 +1,5 @@
 -- A network that hands each packet over in time brings a response to each command of the gateway's own in twice the time.
-use Rattle.std.proofs.Common.{◌≡◌, ℕ, ◌+◌, ◌*◌, ◌≤◌, Bool, true, false, if◌then◌else◌, List, [], ◌∷◌, ◌++◌, map, Option, Some, None, refl, sym, ap, ◌∙◌, subst, arith, append_assoc}
+use Rattle.std.proofs.Common.{◌≡◌, ℕ, ◌+◌, ◌*◌, ◌≤◌, Bool, true, false, if◌then◌else◌, List, [], ◌∷◌, ◌++◌, Option, Some, None, sym, ap, ◌∙◌, subst, arith}
 use Rattle.std.specs.Prelude.{slice_get}
 use Rattle.history.specs.declared.entry.KeptFirst.{KeptFirst}
 use Rattle.history.specs.Kept.{firsts_in}
@@ -26,7 +26,7 @@ use Rattle.delivery_laws.specs.Copies.{IsCopy}
 use Rattle.delivery_laws.specs.Taking.{IsOwn, IsTaken, agent_history}
 use Rattle.delivery_laws.specs.Fairness.{AgentAlwaysHasRoom, GoesToAgent, IsFair, IsHandedOver, IsNeverConfirmedIn}
 use Rattle.delivery_laws.specs.OwnChances.{HasCome, IsResponse}
-use Rattle.delivery_laws.proofs.StepLemmas.{handed_to_agent, handed_to_gateway, step_more, steps_more, taken_front}
+use Rattle.delivery_laws.proofs.StepLemmas.{handed_to_gateway, step_more, steps_more, taken_front}
 use Rattle.delivery_laws.proofs.FairLaws.{stays_found}
 use Rattle.delivery_laws.proofs.BroughtLaws.{IsBrought, is_brought}
 

@@ -173,8 +173,8 @@ pub fn who_is_unanswered_keeps_asking()
 {}
 
 /// The answer to the command in flight of a line, handed to the gateway, lets the line go on: in a packet of its own, and amid other
-/// texts, from what those before it made of the line. That to the announcement of the gateway itself, in a packet of its own, makes it
-/// serve. The answer 521, which may name another agent, does neither (RFC 3435, 2.4 and 3.5.5).
+/// texts, from what those before it made of the line. That to the announcement of the gateway itself makes it serve. The answer 521,
+/// which may name another agent, does neither (RFC 3435, 2.4 and 3.5.5).
 pub fn an_answer_lets_its_line_go_on()
     ensures line { (setup : Setup) (steps : List WorldStep) (number : ℕ) (text : List ℕ) (code id : ℕ) (params : List Param)
         (body : List ℕ) (line : ℕ) (endpoint : Endpoint) (flight : InFlight) → let w = plain_world setup steps in
@@ -196,4 +196,9 @@ pub fn an_answer_lets_its_line_go_on()
         endpoint_at (gateway_in setup w).endpoints line ≡ Some endpoint → endpoint.post.pending ≡ Some flight → flight.id ≡ id →
         (gateway_in setup after ≡ (took_all setup (gateway_in setup w) source texts).value)
         × GoesOnAmid setup (gateway_in setup w) source texts line id }
+    ensures own_amid { (setup : Setup) (steps : List WorldStep) (number : ℕ) (text : List ℕ) (id : ℕ) (flight : InFlight) →
+        let w = plain_world setup steps in let after = plain_world setup (steps ++ delivering number ∷ []) in
+        (copy : IsCopy setup w AgentEnd text number) → let texts = texts_of copy.post.packet.bytes in IsResponse id (read_text text) →
+        All (IsPlainAnswer id) texts → (gateway_in setup w).endpoints.own.pending ≡ Some flight → flight.id ≡ id →
+        serves (gateway_in setup after).endpoints ≡ true }
 {}

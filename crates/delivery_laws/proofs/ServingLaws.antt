@@ -1,0 +1,200 @@
+-- The answer to its announcement makes the gateway serve amid other texts of its packet.
+use Rattle.std.proofs.Common.{◌≡◌, ◌≢◌, ℕ, Bool, true, false, ◌==◌, List, [], ◌∷◌, ◌++◌, Option, Some, None, Result, Ok, Err, refl, sym, ap, ◌∙◌, subst}
+use Rattle.std.specs.Prelude.{All, IfSome}
+use Rattle.std.specs.Option.{unwrap_or}
+use Rattle.std.proofs.lemmas.Bool.{eqb-true, eqb-false}
+use Rattle.std.proofs.lemmas.Option.{none-some}
+use Rattle.std.specs.declared.net.socket_addr.SocketAddrV4.{SocketAddrV4}
+use Rattle.mgcp_text.specs.declared.message.Message.TheVariants as messages
+use Rattle.mgcp_text.specs.declared.message.Param.{Param}
+use Rattle.mgcp_text.specs.Confirmation.{k_of}
+use Rattle.mgcp_text.specs.Reading.{Outcome, message, no_header, bad_version, bad_body, read_text}
+use Rattle.history.specs.Looking.{Looked, new, repeat, confirmed, full, look_of}
+use Rattle.history.specs.Memory.{most_firsts}
+use Rattle.transmission.specs.Texts.{texts_of}
+use Rattle.command_forms.specs.Command.{Command}
+use Rattle.command_forms.specs.Order.{form_while}
+use Rattle.command_forms.specs.declared.forms.Asks.{Asks}
+use Rattle.command_forms.specs.declared.forms.Asks.TheVariants.{Reports, Does}
+use Rattle.command_forms.specs.declared.forms.Deed.{Deed}
+use Rattle.command_forms.specs.declared.forms.Target.{Target}
+use Rattle.command_forms.specs.declared.forms.Target.TheVariants.{One, All as AllLines, Any}
+use Rattle.outbound.specs.Flight.{InFlight}
+use Rattle.restart.specs.declared.restart.Restart.{Restart}
+use Rattle.restart.specs.declared.restart.Restart.TheVariants.{Waiting, Announced, Serving}
+use Rattle.restart.specs.Restarting.{is_serving}
+use Rattle.plain_machine.specs.declared.post.Post.{Post}
+use Rattle.plain_machine.specs.declared.response.Response.{Response}
+use Rattle.plain_machine.specs.declared.setup.Setup.{Setup}
+use Rattle.plain_machine.specs.Announcing.{heard_on}
+use Rattle.plain_machine.specs.Answering.{Transaction, executed, handled, took_all, transacted_by}
+use Rattle.plain_machine.specs.Commanding.{done_by}
+use Rattle.plain_machine.specs.Done.{Done}
+use Rattle.plain_machine.specs.Effect.{Effect}
+use Rattle.plain_machine.specs.Flights.{OwnInOrderBy}
+use Rattle.plain_machine.specs.Machine.{Endpoints, Machine, serves}
+use Rattle.plain_machine.specs.Posting.{line_of_id}
+use Rattle.plain_machine.specs.Requesting.{deed_done, deed_on, done_for, done_there, line_with_place, lines_meant, refused_by, unless_refused}
+use Rattle.plain_machine.specs.Responding.{responded, response_with}
+use Rattle.gateway_laws.proofs.AnnouncementLaws.{answer_serves}
+use Rattle.gateway_laws.proofs.FlightLaws.{a_served_gateway_hears_nothing, a_stranger_to_itself, own_stays as own_stays_at}
+use Rattle.machine_laws.specs.Waiting.{KeepOrder}
+use Rattle.machine_laws.proofs.EachLemmas.{Each, each_from_all, one_from_any, one_of_each, one_to, one_weaker}
+use Rattle.machine_laws.proofs.LineLemmas.{own_stays}
+use Rattle.machine_laws.proofs.TextLaws.{texts_at}
+use Rattle.machine_laws.proofs.WaitLaws.{events_wait, text_waits, texts_wait}
+use Rattle.agent_core.specs.declared.packet.End.TheVariants.{AgentEnd as agent_end}
+use Rattle.agent_core.specs.World.{WorldStep, delivering, gateway_in, plain_world}
+use Rattle.delivery_laws.specs.Copies.{IsCopy}
+use Rattle.delivery_laws.specs.GoingOn.{IsPlainAnswer}
+use Rattle.delivery_laws.specs.OwnChances.{IsResponse}
+use Rattle.delivery_laws.proofs.AmidLaws.{FirstOf, first_of, it_responds, responds, response_does, response_is, takes_texts}
+use Rattle.delivery_laws.proofs.LineLaws.{IsAnswered, heard_is}
+
+-- A command leaves the gateway's own post
+
+unless_own : (refusal : Option ℕ) (endpoints : Endpoints) (done : Done) → done.told.value.own ≡ endpoints.own → (unless_refused refusal endpoints done).told.value.own ≡ endpoints.own
+unless_own None endpoints done same = same
+unless_own (Some code) endpoints done same = refl
+
+deed_own : (setup : Setup) (endpoints : Endpoints) (target : Target) (more : List Param) (deed : Deed) (moment : ℕ) → (deed_done setup endpoints target more deed moment).told.value.own ≡ endpoints.own
+deed_own setup endpoints target more deed moment =
+    unless_own (refused_by endpoints target deed) endpoints _ (own_stays (lines_meant endpoints target) endpoints (deed_on setup deed moment))
+
+target_own : (setup : Setup) (endpoints : Endpoints) (target : Target) (deed : Deed) (moment : ℕ) → (done_for setup endpoints target deed moment).told.value.own ≡ endpoints.own
+target_own setup endpoints (One n) deed moment = deed_own setup endpoints (One n) [] deed moment
+target_own setup endpoints AllLines deed moment = deed_own setup endpoints AllLines [] deed moment
+target_own setup endpoints Any deed moment = by_place (line_with_place endpoints) where
+  by_place : (found : Option ℕ) → (done_there found setup endpoints deed moment).told.value.own ≡ endpoints.own
+  by_place None = refl
+  by_place (Some n) = deed_own setup endpoints (One n) _ deed moment
+
+asks_own : (asks : Result Asks ℕ) (setup : Setup) (endpoints : Endpoints) (moment id : ℕ) → (done_by asks setup endpoints moment id).told.value.own ≡ endpoints.own
+asks_own (Err code) setup endpoints moment id = refl
+asks_own (Ok (Reports target audit)) setup endpoints moment id = refl
+asks_own (Ok (Does target deed)) setup endpoints moment id = target_own setup endpoints target deed moment
+
+transacted_own : (looked : Looked) (m : Machine) (source : SocketAddrV4) (t : Transaction) → t.done.told.value.own ≡ m.endpoints.own → (transacted_by looked m source t).value.endpoints.own ≡ m.endpoints.own
+unfolding executed
+transacted_own new m source t same = same
+transacted_own (repeat text) m source t same = refl
+transacted_own confirmed m source t same = refl
+transacted_own full m source t same = refl
+
+-- what holds of that post stays, where it does at each response
+text_keeps : (setup : Setup) (P : Post → Type 0) (m : Machine) (source : SocketAddrV4) (outcome : Outcome)
+    → ((code id : ℕ) (params : List Param) (body : List ℕ) → outcome ≡ message (messages.Response code id params body)
+    → P (responded setup m.endpoints m.now (response_with setup id code params)).value.own) → P m.endpoints.own → P (handled setup m source outcome).value.endpoints.own
+unfolding handled
+text_keeps setup P m source no_header hears is = is
+text_keeps setup P m source (bad_version id) hears is = subst P (sym (transacted_own (look_of most_firsts m.history id m.now) m source _ refl)) is
+text_keeps setup P m source (bad_body id) hears is = subst P (sym (transacted_own (look_of most_firsts m.history id m.now) m source _ refl)) is
+text_keeps setup P m source (message (messages.Command verb id name params body)) hears is =
+    let said : Command = record { verb = verb; name = name; params = params; body = body } in
+    subst P (sym (transacted_own (look_of most_firsts m.history id m.now) m source _ (asks_own (form_while (serves m.endpoints) said (k_of params) setup.names) setup m.endpoints m.now id))) is
+text_keeps setup P m source (message (messages.Response code id params body)) hears is = hears code id params body refl
+
+-- Before its answer the announcement stays in flight
+
+abbrev OwnFlies : ℕ → Post → Type 0
+OwnFlies id own = (flight : InFlight) × (own.pending ≡ Some flight) × (flight.id ≡ id)
+
+response_stays : (setup : Setup) (endpoints : Endpoints) (moment : ℕ) (response : Response) (id : ℕ) → response.id ≢ id → OwnFlies id endpoints.own
+    → OwnFlies id (responded setup endpoints moment response).value.own
+response_stays setup endpoints moment response id apart s = by_own (line_of_id response.id == 0) refl where
+  strange : IfSome endpoints.own.pending (λ message. message.id ≢ response.id)
+  strange = subst (λ (pending : Option InFlight). IfSome pending (λ message. message.id ≢ response.id)) (sym s.1) (λ same. apart (sym same ∙ s.2))
+
+  by_own : (b : Bool) → (line_of_id response.id == 0) ≡ b → OwnFlies id (responded setup endpoints moment response).value.own
+  by_own true own =
+      subst (λ (t : Effect Endpoints). OwnFlies id t.value.own) (sym (a_stranger_to_itself setup endpoints moment response (eqb-true (line_of_id response.id) 0 own) strange)) s
+  by_own false some = subst (OwnFlies id) (sym (own_stays_at setup endpoints moment response (eqb-false (line_of_id response.id) 0 some))) s
+
+texts_fly : (setup : Setup) (m : Machine) (source : SocketAddrV4) (texts : List (List ℕ)) (id : ℕ) → Each (λ (text : List ℕ). responds id (read_text text) ≡ false) texts
+    → OwnFlies id m.endpoints.own → OwnFlies id (took_all setup m source texts).value.endpoints.own
+unfolding took_all
+texts_fly setup m source [] id none s = s
+texts_fly setup m source (text ∷ texts) id none s =
+    texts_fly setup (handled setup m source (read_text text)).value source texts id none.1
+    (text_keeps setup (OwnFlies id) m source (read_text text)
+    (λ code other params body reads. response_stays setup m.endpoints m.now (response_with setup other code params) id
+    (eqb-false other id (sym (ap (responds id) reads) ∙ none.0)) s) s)
+
+-- Once the gateway serves it goes on to
+
+response_serves : (setup : Setup) (endpoints : Endpoints) (moment : ℕ) (response : Response) → KeepOrder endpoints → serves endpoints ≡ true → serves (responded setup endpoints moment response).value ≡ true
+response_serves setup endpoints moment response order served = by_own (line_of_id response.id == 0) refl where
+  by_own : (b : Bool) → (line_of_id response.id == 0) ≡ b → serves (responded setup endpoints moment response).value ≡ true
+  by_own true own =
+      ap (λ (t : Effect Endpoints). serves t.value) (a_served_gateway_hears_nothing setup endpoints moment response (eqb-true (line_of_id response.id) 0 own) order.order served) ∙ served
+  by_own false some = ap (λ (own : Post). is_serving own.restart) (own_stays_at setup endpoints moment response (eqb-false (line_of_id response.id) 0 some)) ∙ served
+
+texts_serve : (setup : Setup) (m : Machine) (source : SocketAddrV4) (texts : List (List ℕ)) → KeepOrder m.endpoints → serves m.endpoints ≡ true
+    → serves (took_all setup m source texts).value.endpoints ≡ true
+unfolding took_all
+texts_serve setup m source [] order served = served
+texts_serve setup m source (text ∷ texts) order served =
+    texts_serve setup (handled setup m source (read_text text)).value source texts (text_waits setup m source (read_text text) order)
+    (text_keeps setup (λ (own : Post). is_serving own.restart ≡ true) m source (read_text text)
+    (λ code id params body reads. response_serves setup m.endpoints m.now (response_with setup id code params) order served) served)
+
+-- The answer comes
+
+own_line : (restart : Restart) (pending : Option InFlight) (flight : InFlight) → OwnInOrderBy restart pending → pending ≡ Some flight → line_of_id flight.id ≡ 0
+own_line (Waiting until) pending flight order flies = absurd (none-some flight (sym order ∙ flies))
+own_line Announced pending flight order flies =
+    ap (λ (o : Option InFlight). line_of_id (unwrap_or o flight).id) (sym flies ∙ order.flies) ∙ order.own
+own_line Serving pending flight order flies = absurd (none-some flight (sym order ∙ flies))
+
+serves_amid : (setup : Setup) (m : Machine) (source : SocketAddrV4) (texts : List (List ℕ)) (id : ℕ) → KeepOrder m.endpoints → OwnFlies id m.endpoints.own → Each (IsPlainAnswer id) texts
+    → FirstOf id texts → serves (took_all setup m source texts).value.endpoints ≡ true
+unfolding took_all
+serves_amid setup m source texts id order s plain f =
+    ap (λ (x : List (List ℕ)). serves (took_all setup m source x).value.endpoints) f.order
+    ∙ ap (λ (t : Effect Machine). serves t.value.endpoints) (texts_at setup m source f.before f.later f.answer)
+    ∙ texts_serve setup (handled setup now source (read_text f.answer)).value source f.later (text_waits setup now source (read_text f.answer) kept) served where
+      now : Machine
+      now = (took_all setup m source f.before).value
+
+      kept : KeepOrder now.endpoints
+      kept = texts_wait setup m source f.before order
+
+      still : OwnFlies id now.endpoints.own
+      still = texts_fly setup m source f.before id f.none s
+
+      reads : IsResponse id (read_text f.answer)
+      reads = response_is id (read_text f.answer) f.is
+
+      response : Response
+      response = response_with setup id reads.0 reads.1
+
+      one_plain : IsPlainAnswer id f.answer
+      one_plain =
+          one_to (λ (text : List ℕ). IsPlainAnswer id text × (text ≡ f.answer)) (IsPlainAnswer id f.answer) (λ text both. subst (IsPlainAnswer id) both.1 both.0) texts
+          (one_of_each (IsPlainAnswer id) (λ (text : List ℕ). text ≡ f.answer) texts plain f.among)
+
+      heard : IsAnswered (heard_on now.endpoints.own response)
+      heard =
+          let both = one_plain reads.0 reads.1 reads.2 reads.3 in
+          heard_is now.endpoints.own response still.0 still.1 still.2 both.0 both.1
+
+      of : line_of_id response.id ≡ 0
+      of = ap line_of_id (sym still.2) ∙ own_line now.endpoints.own.restart now.endpoints.own.pending still.0 kept.order.own still.1
+
+      served : serves (handled setup now source (read_text f.answer)).value.endpoints ≡ true
+      served =
+          ap serves (response_does setup now source reads.0 id reads.1 reads.2 (read_text f.answer) reads.3)
+          ∙ answer_serves setup now.endpoints now.now response heard.0 of heard.1
+
+pub gateway_goes_on_amid : (setup : Setup) (steps : List WorldStep) (number : ℕ) (text : List ℕ) (id : ℕ) (flight : InFlight)
+    → let w = plain_world setup steps in let after = plain_world setup (steps ++ delivering number ∷ []) in (copy : IsCopy setup w agent_end text number)
+    → let texts = texts_of copy.post.packet.bytes in IsResponse id (read_text text) → All (IsPlainAnswer id) texts → (gateway_in setup w).endpoints.own.pending ≡ Some flight → flight.id ≡ id
+    → serves (gateway_in setup after).endpoints ≡ true
+gateway_goes_on_amid setup steps number text id flight copy is plain flies same =
+    let w = plain_world setup steps in
+    let texts = texts_of copy.post.packet.bytes in
+    ap (λ (m : Machine). serves m.endpoints) (takes_texts setup steps number text copy)
+    ∙ serves_amid setup (gateway_in setup w) copy.post.packet.sender texts id (events_wait setup w.gateway_took) (flight, flies, same) (each_from_all (IsPlainAnswer id) texts plain)
+    (first_of id texts (one_weaker (λ (one : List ℕ). one ≡ text) (λ (one : List ℕ). responds id (read_text one) ≡ true)
+    (λ one here. ap (λ (t : List ℕ). responds id (read_text t)) here ∙ it_responds id (read_text text) is) texts
+    (one_from_any (λ (one : List ℕ). one ≡ text) texts copy.inside)))
