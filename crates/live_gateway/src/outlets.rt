@@ -3,7 +3,7 @@ use crate::live_wire::LiveWire;
 use crate::site::Site;
 use crate::telephones::Telephones;
 use gateway_core::Gateway;
-use live_journal::{Faults, picture_of};
+use live_journal::{Faults, Journal, picture_of};
 use live_page::Desk;
 use std::alloc::Global;
 use std::net::Net;
@@ -39,6 +39,16 @@ fn ask(alloc: Global, desk: &mut Desk, telephones: &mut Telephones) {
     }
 }
 
+// The page is shown the gateway as it is now.
+fn show(alloc: Global, gateway: &Gateway, journal: &mut Journal, faults: Faults) {
+    let Ok(picture) = picture_of(alloc, gateway, &journal.tally, faults) else {
+        return;
+    };
+    if let Some(desk) = &mut journal.desk {
+        desk.show(picture);
+    }
+}
+
 /// A turn of the site: somebody is let in, one visitor is answered, and what the page asks for is asked.
 pub fn serve_site<R: Net + Clock + RandomSource>(
     rt: &R,
@@ -49,18 +59,15 @@ pub fn serve_site<R: Net + Clock + RandomSource>(
     faults: Faults,
 ) {
     let now = wire.ends.clock.ticked();
-    let Some(desk) = &mut wire.journal.desk else {
-        return;
-    };
     site.close_late(now);
     site.look(&mut wire.ends.ready);
     site.accept(rt, &wire.ends.ready, now);
     if site.has_turn() {
-        if let Ok(picture) = picture_of(alloc, gateway, &wire.journal.tally, faults) {
-            desk.show(picture);
-        }
-        site.turn(desk, now);
+        show(alloc, gateway, &mut wire.journal, faults);
     }
-    ask(alloc, desk, &mut wire.ends.telephones);
+    if let Some(desk) = &mut wire.journal.desk {
+        site.turn(desk, now);
+        ask(alloc, desk, &mut wire.ends.telephones);
+    }
     wire.ends.is_busy = site.is_busy();
 }
