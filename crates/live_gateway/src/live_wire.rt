@@ -6,7 +6,7 @@ use crate::clock::LiveClock;
 use crate::readiness::Readiness;
 use crate::telephones::{TelephoneRequest, Telephones};
 use gateway_core::{DATAGRAM_ROOM, Input, Wire, WireFault};
-use live_journal::{Journal, LONGEST_TICK};
+use live_journal::{Journal, LONGEST_TICK, Now};
 use mio::net::UdpSocket;
 use std::alloc::Global;
 use std::io;
@@ -223,6 +223,18 @@ impl<'a, R: Net + Clock> LiveWire<'a, R> {
         (self.receive_faults, self.send_faults)
     }
 
+    // What clocks say. In a turn of a tick the gateway's clock has the moment that it goes to.
+    fn now(&self) -> Now {
+        let now = self.ends.clock.now();
+        match self.journal.given {
+            Some(Input::Tick { moment }) => Now {
+                clock: moment,
+                time: now.time,
+            },
+            _ => now,
+        }
+    }
+
     // Keeps what is given, for its count and its trace.
     fn keep(&mut self, input: Input, room: &[u8])
         requires { IsWithin input room.now }
@@ -272,7 +284,7 @@ impl<'a, R: Net + Clock> Wire for LiveWire<'a, R> {
 
     fn send(&mut self, to: SocketAddrV4, bytes: &[u8]) -> Result<(), WireFault> {
         let (_receive_faults, send_faults) = self.faults();
-        self.journal.sent(self.ends.clock.now(), to, bytes);
+        self.journal.sent(self.now(), to, bytes);
         match self.ends.socket.send_to(bytes, SocketAddr::V4(to)) {
             Ok(len) if len == bytes.len() => Ok(()),
             Ok(_) | Err(_) => {
