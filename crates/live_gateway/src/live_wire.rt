@@ -284,7 +284,8 @@ impl<'a, R: Net + Clock> Wire for LiveWire<'a, R> {
 
     fn send(&mut self, to: SocketAddrV4, bytes: &[u8]) -> Result<(), WireFault> {
         let (_receive_faults, send_faults) = self.faults();
-        self.journal.sent(self.now(), to, bytes);
+        let now = self.now();
+        self.journal.sent(now, to, bytes);
         match self.ends.socket.send_to(bytes, SocketAddr::V4(to)) {
             Ok(len) if len == bytes.len() => Ok(()),
             Ok(_) | Err(_) => {
