@@ -56,6 +56,7 @@ use Rattle.call_agent.specs.Issuing.{IssueRefusal, bad_command, command_text, gr
 use Rattle.call_agent.specs.Responding.{replied, responded, responded_to}
 use Rattle.call_agent.specs.Flying.{has_id}
 use Rattle.call_agent.proofs.EventLemmas.{agent_clock, tick_forward}
+use Rattle.outbound.specs.Sends.{sending_time}
 
 -- a text that goes out
 abbrev pub Goes : List ℕ → Type 0
@@ -154,7 +155,7 @@ flown_flies all firsts now flights flight each f due SentAgain is = record {
           (λ one s. record {
             text = sym s.text;
             since = omega (arith, s.moment, f.later);
-            within = let few : flight.due - flight.first < 20000 = sent_soon flight flight.due is in omega (arith, s.moment, few, f.later);
+            within = let few : flight.due - flight.first < sending_time = sent_soon flight flight.due is in omega (arith, s.moment, few, f.later);
           }) all f.known);
       early = due;
       goes = f.goes;

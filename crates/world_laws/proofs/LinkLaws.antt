@@ -46,7 +46,7 @@ use Rattle.agent_core.specs.declared.packet.End.{End}
 use Rattle.agent_core.specs.declared.packet.Packet.{Packet}
 use Rattle.agent_core.specs.declared.packet.Posted.{Posted}
 use Rattle.agent_core.specs.declared.packet.End.TheVariants.{AgentEnd as agent_end, GatewayEnd as gateway_end}
-use Rattle.agent_core.specs.World.{World, WorldStep, agent_in, agent_of, delivered, is_among, delivered_from, delivering, delivery_refusal, dialling, gateway_address, gateway_in, issuing, now_in, plain_world, posted_as, step_refusal, steps_are_taken, ticking, to_agent, to_gateway, went, world_after, world_opening}
+use Rattle.agent_core.specs.World.{World, WorldStep, agent_in, agent_of, delivered, is_among, delivered_from, delivering, delivery_refusal, dialling, gateway_address, gateway_in, issuing, now_in, plain_world, posted_as, step_refusal, steps_are_taken, ticking, to_agent, to_gateway, went, world_after, world_opening, oldest_packet}
 use Rattle.call_agent.specs.Taking.{GatewayCommand, command_of, transacted_by, faulty_command, read_command}
 use Rattle.world_laws.specs.Reached.{Reached, heard_in, issued_in, own_in, reached, taken_in}
 use Rattle.call_agent.specs.Responding.{replied, responded, responded_to}
@@ -362,7 +362,7 @@ never_refused m source bytes = refl
 only_tells : (S : List ℕ → Type 0) (moment now : ℕ) (texts : List (List ℕ)) → Each (λ (text : List ℕ). S text × (moment ≤ now)) texts → Each S texts
 only_tells S moment now texts each = each_weaker (λ (text : List ℕ). S text × (moment ≤ now)) S (λ text s. s.0) texts each
 
-delivered_links : (setup : Setup) (w : World) (post : Posted) → Linked setup w → now_in setup w - post.packet.moment ≤ 10000
+delivered_links : (setup : Setup) (w : World) (post : Posted) → Linked setup w → now_in setup w - post.packet.moment ≤ oldest_packet
     → Sends (issued_in setup w) (firsts_in (agent_in setup w).history) (agent_in setup w).now post
     → GatewaySends (own_in setup w) (firsts_in (gateway_in setup w).history) (now_in setup w) post → LinksIn setup (delivered_from post.end setup w post.packet)
 delivered_links setup w post l late from_agent from_gateway = by_end post.end post.packet late from_agent from_gateway where
@@ -381,7 +381,7 @@ delivered_links setup w post l late from_agent from_gateway = by_end post.end po
   commands : Each IsCommand (own_in setup w)
   commands = log_commands (now_in setup w) (own_in setup w) l.links.gateway.stands.logged
 
-  by_agent : (b : Bool) (packet : Packet) → now_in setup w - packet.moment ≤ 10000 → GatewayPosts (own_in setup w) (firsts_in (gateway_in setup w).history) (now_in setup w) gateway_end packet
+  by_agent : (b : Bool) (packet : Packet) → now_in setup w - packet.moment ≤ oldest_packet → GatewayPosts (own_in setup w) (firsts_in (gateway_in setup w).history) (now_in setup w) gateway_end packet
       → LinksIn setup (if b then to_agent setup w (hears (datagram packet.sender packet.bytes)) else w)
   by_agent true packet late sends =
       agent_linked setup w (hears (datagram packet.sender packet.bytes)) l.links h (never (agent_in setup w) packet.sender packet.bytes)
@@ -393,7 +393,7 @@ delivered_links setup w post l late from_agent from_gateway = by_end post.end po
       (only_tells (λ (text : List ℕ). Tells (own_in setup w) (firsts_in (gateway_in setup w).history) text packet.moment) packet.moment (now_in setup w) (texts_of packet.bytes) sends)))
   by_agent false packet late sends = l.links
 
-  by_end : (end : End) (packet : Packet) → now_in setup w - packet.moment ≤ 10000 → Posts (issued_in setup w) (firsts_in (agent_in setup w).history) (agent_in setup w).now end packet
+  by_end : (end : End) (packet : Packet) → now_in setup w - packet.moment ≤ oldest_packet → Posts (issued_in setup w) (firsts_in (agent_in setup w).history) (agent_in setup w).now end packet
       → GatewayPosts (own_in setup w) (firsts_in (gateway_in setup w).history) (now_in setup w) end packet → LinksIn setup (delivered_from end setup w packet)
   by_end agent_end packet late sends none = by_gateway (same_address packet.to (gateway_address setup)) packet sends
   by_end gateway_end packet late none sends = by_agent (is_among setup.agent.route packet.to) packet late sends

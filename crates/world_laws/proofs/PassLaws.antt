@@ -4,7 +4,7 @@ use Rattle.std.specs.Prelude.{◌⊎◌, nat_le, nat_lt, unwrap_or}
 use Rattle.std.proofs.lemmas.Bool.{and_parts, ltb-true, eqb-true, eqb-false}
 use Rattle.outbound.specs.declared.repeat.Repeat.{Repeat}
 use Rattle.outbound.specs.declared.repeat.Repeat.TheVariants.{Sent as SentAgain, GivenUp}
-use Rattle.outbound.specs.Sends.{may_repeat}
+use Rattle.outbound.specs.Sends.{may_repeat, most_repeats, sending_time}
 use Rattle.outbound.specs.Flight.{InFlight, repeat_of, repeated}
 use Rattle.outbound.proofs.LifeLaws.{repeat_same}
 use Rattle.machine_laws.specs.Saying.{OneOf}
@@ -86,7 +86,7 @@ unfolding repeated
 fewer_left flight moment is = rw is (by_test (may_repeat flight.first flight.repeats moment) refl is) where
   by_test : (b : Bool) → may_repeat flight.first flight.repeats moment ≡ b → (if b then SentAgain else GivenUp) ≡ SentAgain → suc (7 - (flight.repeats + 1)) < suc (7 - flight.repeats)
   by_test true may e =
-      let few : flight.repeats < 7 = ltb-true flight.repeats 7 (and_parts (nat_lt flight.repeats 7) (nat_lt (moment - flight.first) 20000) may).0 in omega (arith, few)
+      let few : flight.repeats < most_repeats = ltb-true flight.repeats most_repeats (and_parts (nat_lt flight.repeats most_repeats) (nat_lt (moment - flight.first) sending_time) may).0 in omega (arith, few)
   by_test false may e = absurd cc
 
 -- what one thing leaves

@@ -37,13 +37,14 @@ use Rattle.agent_core.specs.declared.packet.End.{End}
 use Rattle.agent_core.specs.declared.packet.Packet.{Packet}
 use Rattle.agent_core.specs.declared.packet.Posted.{Posted}
 use Rattle.agent_core.specs.declared.packet.End.TheVariants.{AgentEnd as agent_end, GatewayEnd as gateway_end}
-use Rattle.agent_core.specs.World.{World, WorldStep, agent_in, agent_of, agent_refused, delivered, is_among, delivered_from, delivering, delivery_refusal, dialling, gateway_address, gateway_in, gateway_refused, issuing, now_in, packet_too_old, plain_world, posted_as, step_refusal, steps_are_taken, ticking, to_agent, to_gateway, went, world_after, world_opening}
+use Rattle.agent_core.specs.World.{World, WorldStep, agent_in, agent_of, agent_refused, delivered, is_among, delivered_from, delivering, delivery_refusal, dialling, gateway_address, gateway_in, gateway_refused, issuing, now_in, packet_too_old, plain_world, posted_as, step_refusal, steps_are_taken, ticking, to_agent, to_gateway, went, world_after, world_opening, oldest_packet}
 use Rattle.world_laws.specs.Reached.{Reached, executed_in, issued_in, reached, reached_as}
 use Rattle.call_agent.proofs.EventLemmas.{agent_clock, after_on, forward}
 use Rattle.world_laws.proofs.AgentLaws.{Goes, Speaks, WasIssued, Fine, Holds, AgentGoesOn, event_on, opening_holds, issued_more, alone, never, tick_taken}
 use Rattle.history.specs.declared.entry.KeptFirst.{KeptFirst}
 use Rattle.history.specs.Kept.{firsts_in}
 use Rattle.world_laws.proofs.ReachedLaws.{executed_each, executed_apart}
+use Rattle.history.specs.Memory.{memory_time}
 
 -- The packets of the agent
 
@@ -84,7 +85,7 @@ pub record Comes (one : Reached) (b : Begun) : Type 0 where
   pub id : b.id ≡ one.asked.id
   pub read : one.outcome ≡ read_text b.text
   pub since : b.moment ≤ one.asked.moment
-  pub within : one.asked.moment < b.moment + 30000
+  pub within : one.asked.moment < b.moment + memory_time
 
 abbrev pub Came : List Begun → Reached → Type 0
 Came all one = OneOf (Comes one) all
@@ -172,7 +173,7 @@ gateway_agrees setup w event all m a came = record {
 -- a text of the agent's arrives
 
 command_came : (all : List Begun) (now : ℕ) (source : SocketAddrV4) (b : Begun) (name : List ℕ) (outcome : Outcome) → is_command_as b.id name outcome ≡ true
-    → outcome ≡ read_text b.text → b.moment ≤ now → now < b.moment + 30000 → Each (λ (one : Reached). Comes one b) (map (reached_as outcome) (asked_as source now outcome))
+    → outcome ≡ read_text b.text → b.moment ≤ now → now < b.moment + memory_time → Each (λ (one : Reached). Comes one b) (map (reached_as outcome) (asked_as source now outcome))
 command_came all now source b name no_header is read since within = absurd cc
 command_came all now source b name (bad_version id) is read since within = absurd cc
 command_came all now source b name (bad_body id) is read since within = absurd cc
@@ -199,7 +200,7 @@ one_with P R (b ∷ all) (inr one) step = one_with P R all one (λ c p is. step 
 
 -- a text that an end says arrives within 10,000 ms
 pub text_came : (all : List Begun) (firsts : List KeptFirst) (moment now : ℕ) (source : SocketAddrV4) (text : List ℕ) → Each IsCommand all → AreAnswers firsts → Tells all firsts text moment
-    → moment ≤ now → now - moment ≤ 10000 → Each (Came all) (reached (arrival now source text))
+    → moment ≤ now → now - moment ≤ oldest_packet → Each (Came all) (reached (arrival now source text))
 text_came all firsts moment now source text commands answers (inr (inl answered)) early late =
     one_to (λ (first : KeptFirst). IsAnswerTo first.id first.answer × (first.answer ≡ text)) (Each (Came all) (reached (arrival now source text)))
     (λ first both. let reads = sym (ap read_text both.1) ∙ both.0.reads in rw reads tt) firsts
@@ -211,11 +212,11 @@ text_came all firsts moment now source text commands answers (inl carried) early
     (λ b both is. each_of_one all b (reached (arrival now source text)) is
     (let reads : is_command_as b.id both.0.name (read_text text) ≡ true = ap (λ (t : List ℕ). is_command_as b.id both.0.name (read_text t)) both.1.text ∙ both.0.reads in
     let since : b.moment ≤ now = omega (arith, both.1.since, early) in
-    let within : now < b.moment + 30000 = omega (arith, both.1.within, early, late) in
+    let within : now < b.moment + memory_time = omega (arith, both.1.within, early, late) in
     command_came all now source b both.0.name (read_text text) reads (ap read_text both.1.text) since within))
 
 pub texts_came : (all : List Begun) (firsts : List KeptFirst) (moment now : ℕ) (source : SocketAddrV4) (texts : List (List ℕ)) → Each IsCommand all → AreAnswers firsts
-    → Each (λ (text : List ℕ). Tells all firsts text moment × (moment ≤ now)) texts → now - moment ≤ 10000 → Each (Came all) (flat_map reached (map (arrival now source) texts))
+    → Each (λ (text : List ℕ). Tells all firsts text moment × (moment ≤ now)) texts → now - moment ≤ oldest_packet → Each (Came all) (flat_map reached (map (arrival now source) texts))
 texts_came all firsts moment now source [] commands answers each late = tt
 texts_came all firsts moment now source (text ∷ texts) commands answers each late =
     each_both (Came all) (reached (arrival now source text)) _ (text_came all firsts moment now source text commands answers each.0.0 each.0.1 late)
@@ -238,9 +239,9 @@ abbrev AgreesIn : Setup → World → Type 0
 AgreesIn setup w = Agrees (issued_in setup w) (agent_in setup w) w
 
 delivered_agrees : (setup : Setup) (w : World) (post : Posted) → AgreesIn setup w → OneClock setup w → Sends (issued_in setup w) (firsts_in (agent_in setup w).history) (agent_in setup w).now post
-    → now_in setup w - post.packet.moment ≤ 10000 → AgreesIn setup (delivered_from post.end setup w post.packet)
+    → now_in setup w - post.packet.moment ≤ oldest_packet → AgreesIn setup (delivered_from post.end setup w post.packet)
 delivered_agrees setup w post a one sends late = by_end post.end post.packet sends late where
-  by_gateway : (b : Bool) (packet : Packet) → Posts (issued_in setup w) (firsts_in (agent_in setup w).history) (agent_in setup w).now agent_end packet → now_in setup w - packet.moment ≤ 10000
+  by_gateway : (b : Bool) (packet : Packet) → Posts (issued_in setup w) (firsts_in (agent_in setup w).history) (agent_in setup w).now agent_end packet → now_in setup w - packet.moment ≤ oldest_packet
       → AgreesIn setup (if b then to_gateway setup w (datagram packet.sender packet.bytes) else w)
   by_gateway true packet sends late =
       gateway_agrees setup w (datagram packet.sender packet.bytes) (issued_in setup w) (agent_in setup w) a
@@ -253,16 +254,16 @@ delivered_agrees setup w post a one sends late = by_end post.end post.packet sen
   by_agent true packet = agent_agrees setup w (hears (datagram packet.sender packet.bytes)) a (never (agent_in setup w) packet.sender packet.bytes)
   by_agent false packet = a
 
-  by_end : (end : End) (packet : Packet) → Posts (issued_in setup w) (firsts_in (agent_in setup w).history) (agent_in setup w).now end packet → now_in setup w - packet.moment ≤ 10000
+  by_end : (end : End) (packet : Packet) → Posts (issued_in setup w) (firsts_in (agent_in setup w).history) (agent_in setup w).now end packet → now_in setup w - packet.moment ≤ oldest_packet
       → AgreesIn setup (delivered_from end setup w packet)
   by_end agent_end packet sends late = by_gateway (same_address packet.to (gateway_address setup)) packet sends late
   by_end gateway_end packet sends late = by_agent (is_among setup.agent.route packet.to) packet
 
-pub not_late : (post : Posted) (now : ℕ) → delivery_refusal (Some post) now ≡ None → now - post.packet.moment ≤ 10000
-not_late post now taken = by_test (nat_lt 10000 (now - post.packet.moment)) refl taken where
-  by_test : (b : Bool) → nat_lt 10000 (now - post.packet.moment) ≡ b → (if b then Some packet_too_old else None) ≡ None → now - post.packet.moment ≤ 10000
+pub not_late : (post : Posted) (now : ℕ) → delivery_refusal (Some post) now ≡ None → now - post.packet.moment ≤ oldest_packet
+not_late post now taken = by_test (nat_lt oldest_packet (now - post.packet.moment)) refl taken where
+  by_test : (b : Bool) → nat_lt oldest_packet (now - post.packet.moment) ≡ b → (if b then Some packet_too_old else None) ≡ None → now - post.packet.moment ≤ oldest_packet
   by_test true old e = absurd (none-some packet_too_old (sym e))
-  by_test false fresh e = ltb-false 10000 (now - post.packet.moment) fresh
+  by_test false fresh e = ltb-false oldest_packet (now - post.packet.moment) fresh
 
 pub agent_taken : (refusal : Option AgentRefusal) → agent_refused refusal ≡ None → refusal ≡ None
 agent_taken None e = refl
@@ -369,7 +370,7 @@ tail_apart all b apart = λ i j d less within. apart (suc i) (suc j) d (omega (a
 
 -- two that come from issued commands with one id come within 30,000 ms
 pub same_issued : (all : List Begun) → AllPairs (λ (a b : Begun). a.id ≢ b.id) all → (one other : Reached) → Came all one → Came all other → one.asked.id ≡ other.asked.id
-    → other.asked.moment - one.asked.moment < 30000
+    → other.asked.moment - one.asked.moment < memory_time
 same_issued [] apart one other came comes same = absurd came
 same_issued (b ∷ all) apart one other (inl here) (inl there) same = omega (arith, here.since, there.within)
 same_issued (b ∷ all) apart one other (inl here) (inr there) same = absurd (head_apart all b apart other there (here.id ∙ same))
