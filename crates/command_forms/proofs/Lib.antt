@@ -5,6 +5,7 @@ pub mod ValueCodes
 pub mod EventLemmas
 pub mod CodeLemmas
 pub mod FormLemmas
+pub mod MemoryLemmas
 pub mod RestartLemmas
 pub mod ExplainingLaws
 pub mod Computing

@@ -47,7 +47,7 @@ use Rattle.command_forms.specs.declared.verbs.Connecting.TheVariants.{Keeps}
 use Rattle.command_forms.specs.declared.verbs.Purpose.TheVariants.{ForDeed}
 use Rattle.command_forms.specs.declared.verbs.VerbRow.{VerbRow}
 use Rattle.command_forms.specs.declared.verbs.Wildcard.TheVariants as wildcards
-use Rattle.command_forms.specs.Order.{form_while_in}
+use Rattle.command_forms.specs.Order.{form_while_in, takes_memory_in}
 use Rattle.command_forms.specs.Explaining.{explained_in, explanation_of}
 
 -- 127.0.0.1
@@ -72,6 +72,13 @@ form_from serves no_header = None
 form_from serves (bad_version id) = None
 form_from serves (bad_body id) = None
 
+-- whether it takes memory to judge a text
+abbrev pub takes_from : Bool → Outcome → Bool
+takes_from serves (message said) = takes_memory_in serves said (k_of (params_in said)) gateway
+takes_from serves no_header = false
+takes_from serves (bad_version id) = false
+takes_from serves (bad_body id) = false
+
 -- what a text asks of this gateway, which serves
 abbrev pub reply_to : List ℕ → Reply
 reply_to text = form_from true (read_text text)
@@ -82,6 +89,10 @@ command_text verb local lines = verb ++ codes " 2001 " ++ local ++ codes "@rgw.e
 
 abbrev pub command_on : List ℕ → List ℕ → List ℕ → Reply
 command_on verb local lines = reply_to (command_text verb local lines)
+
+-- whether it takes memory to judge such a command on line 1, of a gateway that serves or not
+abbrev pub takes : Bool → List ℕ → List ℕ → Bool
+takes serves verb lines = takes_from serves (read_text (command_text verb (codes "aaln/1") lines))
 
 -- the same before the gateway serves
 abbrev pub first_on : List ℕ → List ℕ → List ℕ → Reply

@@ -1,10 +1,11 @@
 -- What a command asks for, and the order in which it is checked: the first fault gives the return code (RFC 3435, 2.4;
 -- the order is this gateway's profile).
-use Rattle.std.specs.Prelude.{ℕ, Bool, true, false, ◌||◌, not, codes, List, [], ◌∷◌, Option, Some, None, option_map, Result, Ok}
+use Rattle.std.specs.Prelude.{ℕ, Bool, true, false, ◌&&◌, ◌||◌, not, codes, List, [], ◌∷◌, Option, Some, None, is_none, option_map, Result, Ok, Err}
 use Rattle.mg_bytes.specs.Checks.{unless, first_fault, checked, given}
 use Rattle.mgcp_text.specs.declared.message.Param.{Param}
 use Rattle.mgcp_text.specs.declared.message.Message.{Message}
 use Rattle.mgcp_text.specs.declared.confirmation.KValue.{KValue}
+use Rattle.mgcp_text.specs.Message.{params_in}
 use Rattle.endpoint_names.specs.declared.names.Names.{Names}
 use Rattle.endpoint_names.specs.declared.table.Host.{Host}
 use Rattle.command_forms.specs.declared.forms.Asks.{Asks}
@@ -25,7 +26,7 @@ use Rattle.command_forms.specs.declared.verbs.VerbRow.{VerbRow}
 use Rattle.command_forms.specs.Command.{Command, command_in}
 use Rattle.mg_bytes.specs.Steps.{◌>>=◌}
 use Rattle.command_forms.specs.Refusing.{letter_c, letter_i, letter_k, letter_x, refusal, absence, placed, coded}
-use Rattle.command_forms.specs.Meaning.{meant}
+use Rattle.command_forms.specs.Meaning.{meant, meant_in}
 use Rattle.command_forms.specs.Params.{params_fault, missing_letter, has, has_none, value_at}
 use Rattle.command_forms.specs.Values.{is_readable, identifier_from}
 use Rattle.command_forms.specs.Deeds.{deed_of}
@@ -71,17 +72,20 @@ asked_for (ReportOf reporting target) params body hosts =
 asked_for (DeedOn connecting target) params body hosts =
     deed_of connecting params (counted connecting body) hosts >>= λ deed. Ok (Does target deed)
 
--- What a command asks for whose verb and name mean this. The faults are in this order: those of the parameters from
--- top to bottom, one that is missing: 510 (protocol error), and then those of the values, wherever their lines stand, K
--- first, and of the description
-unfoldable pub asked : Meant → List Param → List ℕ → KValue → List Host → Result Asks Refused
-asked found params body confirms hosts =
-    checked (first_fault
+-- the fault that is found before any value but K's: that of a parameter from top to bottom, of one that is missing: 510
+-- (protocol error), of a K that can't be read
+abbrev pub early_fault : Meant → List Param → KValue → Option Refused
+early_fault found params confirms = first_fault
     (params_fault found.row 1 [] params
     ∷ option_map absence (absent_letter found.row params)
     ∷ unless (is_readable confirms) (refusal (Value letter_k) 510)
-    ∷ []))
-    (asked_for found.task params body hosts)
+    ∷ [])
+
+-- What a command asks for whose verb and name mean this. The faults are in this order: those of the parameters, one that
+-- is missing, and then those of the values, wherever their lines stand, K first, and of the description
+unfoldable pub asked : Meant → List Param → List ℕ → KValue → List Host → Result Asks Refused
+asked found params body confirms hosts =
+    checked (early_fault found params confirms) (asked_for found.task params body hosts)
 
 -- an audit asks for a report
 abbrev pub is_audit : Purpose → Bool
@@ -121,3 +125,23 @@ form_of command confirms names = form_while true command confirms names
 
 abbrev pub form_in : Message → KValue → Names → Result Asks ℕ
 form_in message confirms names = form_while_in true message confirms names
+
+-- Memory
+
+-- a deed takes it, and a report none
+abbrev pub is_deed : Task → Bool
+is_deed (ReportOf reporting target) = false
+is_deed (DeedOn connecting target) = true
+
+-- to judge a command that means this takes memory: it is a deed, and has no early fault
+abbrev pub takes_memory : Meant → List Param → KValue → Bool
+takes_memory found params confirms = is_none (early_fault found params confirms) && is_deed found.task
+
+abbrev pub meant_takes_memory : Result Meant Refused → List Param → KValue → Bool
+meant_takes_memory (Ok found) params confirms = takes_memory found params confirms
+meant_takes_memory (Err refused) params confirms = false
+
+-- and so of a message, where the gateway serves; a verb and a name that mean nothing take none
+abbrev pub takes_memory_in : Bool → Message → KValue → Names → Bool
+takes_memory_in serves message confirms names =
+    serves && meant_takes_memory (meant_in message names) (params_in message) confirms

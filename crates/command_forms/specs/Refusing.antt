@@ -1,6 +1,6 @@
 -- What a command is refused for: a return code (RFC 3435, 2.4), and what of the command is at fault (this gateway's
 -- profile).
-use Rattle.std.specs.Prelude.{◌≡◌, ◌≤◌, ⊤, ℕ, Option, option_map, Result, Ok, Err}
+use Rattle.std.specs.Prelude.{◌≡◌, ◌≤◌, ⊤, ℕ, Bool, true, Option, option_map, Result, Ok, Err}
 use Rattle.mg_bytes.specs.declared.code_fault.CodeFault.{CodeFault}
 use Rattle.mg_bytes.specs.declared.code_fault.CodeFault.TheVariants as faults
 use Rattle.command_forms.specs.declared.refused.FaultyPart.{FaultyPart}
@@ -94,3 +94,15 @@ stopped place (Err faults.OutOfMemory) = Err OutOfMemory
 abbrev pub stop_fault : Stop → CodeFault
 stop_fault OutOfMemory = faults.OutOfMemory
 stop_fault (AtFault refused) = faults.Code refused.code
+
+-- a judgement stops for want of memory only where it takes any
+abbrev pub StopsForMemory : {A : Type 0} → Bool → Result A Stop → Type 0
+StopsForMemory takes (Ok value) = ⊤
+StopsForMemory takes (Err (AtFault refused)) = ⊤
+StopsForMemory takes (Err OutOfMemory) = takes ≡ true
+
+-- the same without the place
+abbrev pub FailsForMemory : {A : Type 0} → Bool → Result A CodeFault → Type 0
+FailsForMemory takes (Ok value) = ⊤
+FailsForMemory takes (Err (faults.Code code)) = ⊤
+FailsForMemory takes (Err faults.OutOfMemory) = takes ≡ true

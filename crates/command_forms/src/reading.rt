@@ -1,9 +1,10 @@
 //! What a message asks for, or what it is refused for.
-ghost use Rattle.std.specs.Prelude.{◌≡◌, IfOk};
+ghost use Rattle.std.specs.Prelude.{◌≡◌, true, IfOk, IfErr};
 ghost use Rattle.mg_bytes.specs.CodeFault.{AnswersAs};
-ghost use Rattle.command_forms.specs.Refusing.{StopsAs};
+ghost use Rattle.command_forms.specs.Refusing.{StopsAs, StopsForMemory, FailsForMemory, stop_of};
 ghost use Rattle.command_forms.specs.Order.{audit_of, names_call, are_requested, absent_letter, counted, asked_for, asked};
 ghost use Rattle.command_forms.specs.Order.{is_audit, judged_while_in, form_while_in, form_in};
+ghost use Rattle.command_forms.specs.Order.{is_deed, takes_memory, takes_memory_in};
 ghost use Rattle.command_forms.specs.Explaining.{explained_in};
 
 use crate::deeds::deed_of;
@@ -63,7 +64,8 @@ fn counted(connecting: Connecting, body: &[u8]) -> &[u8]
 
 // What is to be reported by F and, of a connection, by I.
 fn audit_of<'m>(reporting: Reporting, params: &'m [Param<'_>]) -> Result<Audit<'m>, Stop>
-    ensures { StopsAs (audit_of reporting params.now) result }
+    ensures value { result ≡ stop_of (audit_of reporting params.now) }
+    ensures answers { StopsAs (audit_of reporting params.now) result }
 {
     let items = Bytes::of(value_at(b"F", params));
     let connection = match reporting {
@@ -84,7 +86,8 @@ fn asked_for<'m>(
     body: &[u8],
     table: &Table,
 ) -> Result<Asks<'m>, Stop>
-    ensures { StopsAs (asked_for task params.now body.now table.now) result }
+    ensures answers { StopsAs (asked_for task params.now body.now table.now) result }
+    ensures memory { StopsForMemory (is_deed task) result }
 {
     match task {
         Task::ReportOf(reporting, target) => {
@@ -105,7 +108,8 @@ fn asked_for<'m>(
 /// where a deletion has I without it, and for X where R, S, D, T or Q stand there without it; 510 for a K that can't be
 /// read; then the values of N (539), B (539), C (510), I (510), M (517), L (541, and else 535), X (510), Q (508), D
 /// (510, and 502 for a map that is too large), R, T and S; and 509 for a description that can't be read, where the verb
-/// takes one. A deed takes memory, and without it the answer is `OutOfMemory`.
+/// takes one. Only the values of a deed and its description take memory, and without it the answer is `OutOfMemory`: an
+/// audit, and what is at fault before these, has its answer without.
 #[tactic(auto, unfolding(crate::specs::Order::asked))]
 pub fn asked<'m>(
     alloc: Global,
@@ -115,7 +119,8 @@ pub fn asked<'m>(
     confirms: &KValue,
     table: &Table,
 ) -> Result<Asks<'m>, Stop>
-    ensures { StopsAs (asked found.now params.now body.now confirms.now table.now) result }
+    ensures answers { StopsAs (asked found.now params.now body.now confirms.now table.now) result }
+    ensures memory { StopsForMemory (takes_memory found.now params.now confirms.now) result }
 {
     if let Some(refused) = params_fault(&found.row, params) {
         return Err(Stop::AtFault(refused));
@@ -148,7 +153,8 @@ fn judged_while<'m>(
     confirms: &KValue,
     names: &Names,
 ) -> Result<Asks<'m>, Stop>
-    ensures { StopsAs (judged_while_in serves message.now confirms.now names.now) result }
+    ensures answers { StopsAs (judged_while_in serves message.now confirms.now names.now) result }
+    ensures memory { StopsForMemory (takes_memory_in serves message.now confirms.now names.now) result }
 {
     let found = meant(message, names)?;
     let Message::Command { params, body, .. } = message else {
@@ -164,6 +170,8 @@ fn judged_while<'m>(
 /// What a command asks for, whose K was read before, of a gateway that serves or doesn't yet, or the return code of its
 /// first fault: that of `meant`; else 405 where it is no audit and the gateway doesn't serve (RFC 3435, 2.4 and 4.4.6);
 /// else that of `asked`.
+///
+/// Memory is wanted as by `asked`, and never where the gateway doesn't serve.
 #[tactic(auto, using(crate::proofs::RefusedLemmas::form_is))]
 pub fn form_while<'m>(
     alloc: Global,
@@ -172,20 +180,22 @@ pub fn form_while<'m>(
     confirms: &KValue,
     names: &Names,
 ) -> Result<Asks<'m>, CodeFault>
-    ensures { AnswersAs (form_while_in serves message.now confirms.now names.now) result }
+    ensures answers { AnswersAs (form_while_in serves message.now confirms.now names.now) result }
+    ensures memory { FailsForMemory (takes_memory_in serves message.now confirms.now names.now) result }
 {
     Ok(judged_while(alloc, serves, message, confirms, names)?)
 }
 
 /// What a command asks for of a gateway that serves, whose K was read before, or the return code of its first fault:
-/// that of `meant`, else that of `asked`.
+/// that of `meant`, else that of `asked`. Memory is wanted as by `asked`.
 pub fn form<'m>(
     alloc: Global,
     message: &'m Message<'_>,
     confirms: &KValue,
     names: &Names,
 ) -> Result<Asks<'m>, CodeFault>
-    ensures { AnswersAs (form_in message.now confirms.now names.now) result }
+    ensures answers { AnswersAs (form_in message.now confirms.now names.now) result }
+    ensures memory { FailsForMemory (takes_memory_in true message.now confirms.now names.now) result }
 {
     form_while(alloc, true, message, confirms, names)
 }
@@ -199,7 +209,8 @@ pub fn explained(
     confirms: &KValue,
     names: &Names,
 ) -> Result<Option<Refused>, OutOfMemory>
-    ensures { IfOk result (λ refused. refused ≡ explained_in message.now confirms.now names.now) }
+    ensures refused { IfOk result (λ refused. refused ≡ explained_in message.now confirms.now names.now) }
+    ensures memory { IfErr result (λ _. takes_memory_in true message.now confirms.now names.now ≡ true) }
 {
     match judged_while(alloc, true, message, confirms, names) {
         Ok(_) => Ok(None),

@@ -1,6 +1,6 @@
 //! The values of a command's parameters, and its description.
 ghost use Rattle.std.specs.Prelude.{◌≡◌, codes, option_map};
-ghost use Rattle.mg_bytes.specs.CodeFault.{AnswersAs};
+ghost use Rattle.mg_bytes.specs.CodeFault.{AnswersAs, answer_of};
 ghost use Rattle.mgcp_text.specs.Message.{param_at};
 ghost use Rattle.command_forms.specs.Values.{is_readable, said_at, entity_at, encoding_from, identifier_from, mode_from};
 ghost use Rattle.command_forms.specs.Values.{handling_at, change_at, remote_of};
@@ -53,7 +53,8 @@ pub(crate) fn encoding_at(params: &[Param<'_>]) -> Result<Option<Encoding>, Code
 
 /// The identifier of a call, a connection or a request (RFC 3435, 2.1.3, 2.3.3 and appendix A).
 pub(crate) fn identifier_from(value: &[u8]) -> Result<Identifier, CodeFault>
-    ensures { AnswersAs (identifier_from value.now) result }
+    ensures value { result ≡ answer_of (identifier_from value.now) }
+    ensures answers { AnswersAs (identifier_from value.now) result }
 {
     match Identifier::of(value) {
         Some(identifier) => Ok(identifier),
