@@ -8,6 +8,7 @@ use Rattle.plain_machine.specs.Machine.{Machine, opening}
 use Rattle.plain_machine.specs.Lists.{plain, are_taken}
 use Rattle.gateway_core.specs.Alike.{Alike}
 use Rattle.gateway_core.specs.GatewayState.{GatewayState}
+use Rattle.gateway_core.specs.Outcomes.{last_outcomes}
 use Rattle.gateway_core.specs.Stands.{Stands}
 
 pub alike_shared : (k k' m n : Machine) → Alike k m → Alike k' m → Alike k' n → Alike k n
@@ -29,4 +30,6 @@ stands_shared g g' before events same s s' t = record {
   alike = alike_shared g.machine g'.machine (plain g.setup before) (plain g.setup events) s.alike
       (subst (λ (x : Setup). Alike g'.machine (plain x before)) same s'.alike)
       (subst (λ (x : Setup). Alike g'.machine (plain x events)) same t.alike);
+  outcomes = s.outcomes ∙ sym (subst (λ (x : Setup). g'.outcomes ≡ last_outcomes x before) same s'.outcomes)
+      ∙ subst (λ (x : Setup). g'.outcomes ≡ last_outcomes x events) same t.outcomes;
 }

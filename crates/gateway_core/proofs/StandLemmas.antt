@@ -24,7 +24,9 @@ use Rattle.gateway_core.specs.declared.state.State.{State}
 use Rattle.gateway_core.specs.Sound.{IsSound}
 use Rattle.history.proofs.RecallLaws.{recalls_itself}
 use Rattle.plain_machine.specs.Message.{Sent}
-use Rattle.gateway_core.proofs.AlikeLemmas.{effect_alike, refusal_alike, takes_alike, alike_purged, refusal_purged}
+use Rattle.gateway_core.proofs.AlikeLemmas.{effect_alike, refusal_alike, takes_alike, alike_purged, refusal_purged, outcomes_alike}
+use Rattle.gateway_core.specs.declared.outcome.TextOutcome.{TextOutcome}
+use Rattle.gateway_core.specs.Outcomes.{outcomes_of, outcomes_after, last_outcomes}
 use Rattle.gateway_core.specs.State.{machine_in, purged_in, PutsOut, AllOr}
 use Rattle.gateway_core.specs.Alike.{Alike, GoesOn}
 use Rattle.gateway_core.specs.GatewayState.{GatewayState}
@@ -51,6 +53,12 @@ step_stays k m is change were are (Err refusal) all a = rw all.machine (alike_pu
 pub step_silent : (k : Machine) (is : State) (change : Effect Machine) (were are : List OutDatagram) (result : Result (Unit {0}) Refusal) → AllOr k result change is were are → OnErr result (are ≡ were)
 step_silent k is change were are (Ok x) all = tt
 step_silent k is change were are (Err refusal) all = all.outputs
+
+-- what the texts of the event were
+pub step_told : (setup : Setup) (k m : Machine) (event : GatewayEvent) (told : List TextOutcome) (result : Result (Unit {0}) Refusal)
+    → OnOk result (told ≡ outcomes_of setup (purged_in k) event) → Alike k m → OnOk result (told ≡ outcomes_of setup m event)
+step_told setup k m event told (Ok x) is a = is ∙ outcomes_alike setup (purged_in k) m event (alike_purged k m a)
+step_told setup k m event told (Err refusal) is a = tt
 
 -- ---- what holds of every gateway
 
@@ -82,26 +90,40 @@ step_sound setup k is event were are (Err refusal) s e all = rw all.machine (pur
 
 -- ---- lists of events
 
+-- what is told of a list is told of its last event
+pub outcomes_on : (setup : Setup) (m : Machine) (were : List TextOutcome) (before : List GatewayEvent) (event : GatewayEvent)
+    → outcomes_after setup m were (before ++ event ∷ []) ≡ outcomes_of setup (machine_after setup m before) event
+unfolding machine_after outcomes_after
+outcomes_on setup m were [] event = refl
+outcomes_on setup m were (first ∷ before) event = outcomes_on setup (effect setup m first).value (outcomes_of setup m first) before event
+
 pub took_one : (g g' : GatewayState) (event : GatewayEvent) (were are : List OutDatagram) → g'.setup ≡ g.setup → refusal_of g.machine event ≡ None
-    → ((m : Machine) → Alike g.machine m → GoesOn g.setup m event g'.machine were are) → Took g (event ∷ []) g' were are
+    → ((m : Machine) → Alike g.machine m → GoesOn g.setup m event g'.machine were are)
+    → ((m : Machine) → Alike g.machine m → g'.outcomes ≡ outcomes_of g.setup m event) → Took g (event ∷ []) g' were are
 unfolding machine_after outputs_from
-took_one g g' event were are same none goes = record {
+took_one g g' event were are same none goes told = record {
   setup = same;
   stands = λ before s. rw same (record {
     setup = s.setup;
     taken = taken_on g.setup (opening g.setup) before event s.taken (sym (refusal_alike g.machine (plain g.setup before) event s.alike) ∙ none);
     alike = rw (machine_on g.setup (opening g.setup) before (event ∷ [])) (goes (plain g.setup before) s.alike).alike;
+    outcomes = told (plain g.setup before) s.alike ∙ sym (outcomes_on g.setup (opening g.setup) [] before event);
   });
   sent = λ before s. (goes (plain g.setup before) s.alike).outputs
       ∙ ap (λ (x : List OutDatagram). were ++ x) (sym (append-nil (put_out (effect g.setup (plain g.setup before) event).sent)));
 }
 
-pub took_none : (g g' : GatewayState) (were are : List OutDatagram) → g'.setup ≡ g.setup → are ≡ were
+pub took_none : (g g' : GatewayState) (were are : List OutDatagram) → g'.setup ≡ g.setup → are ≡ were → g'.outcomes ≡ g.outcomes
     → ((m : Machine) → Alike g.machine m → Alike g'.machine m) → Took g [] g' were are
 unfolding outputs_from
-took_none g g' were are same sent keeps = record {
+took_none g g' were are same sent told keeps = record {
   setup = same;
-  stands = λ before s. rw (same, append-nil before) (record { setup = s.setup; taken = s.taken; alike = keeps (plain g.setup before) s.alike });
+  stands = λ before s. rw (same, append-nil before) (record {
+    setup = s.setup;
+    taken = s.taken;
+    alike = keeps (plain g.setup before) s.alike;
+    outcomes = told ∙ s.outcomes;
+  });
   sent = λ before s. sent ∙ sym (append-nil were);
 }
 
@@ -137,9 +159,14 @@ pub took_next : (g h k : GatewayState) (events : List Event) (place : ℕ) (d : 
 took_next g h k events place d were are then inside a b =
     rw (events_more events place d inside) (took_on g h k (before_place events place) (event_of (get_or events place d) ∷ []) were are then a b)
 
-pub stands_for_nothing : (g : GatewayState) → IsSetUp g.setup → g.machine ≡ opening g.setup → Stands g []
-unfolding machine_after are_taken
-stands_for_nothing g set_up is = record { setup = set_up; taken = refl; alike = rw is (record { now = refl; endpoints = refl; history = recalls_itself [] }) }
+pub stands_for_nothing : (g : GatewayState) → IsSetUp g.setup → g.machine ≡ opening g.setup → g.outcomes ≡ [] → Stands g []
+unfolding machine_after are_taken outcomes_after
+stands_for_nothing g set_up is none = record {
+  setup = set_up;
+  taken = refl;
+  alike = rw is (record { now = refl; endpoints = refl; history = recalls_itself [] });
+  outcomes = none;
+}
 
 -- the event at a place
 pub at_place : (P : Event → Type 0) (events : List Event) (place : ℕ) (d : Event) → place < length events → P (get_or events place d) → IfSome (slice_get events place) P
@@ -152,14 +179,3 @@ pub ends_alike : (g : GatewayState) (setup : Setup) (events : List GatewayEvent)
     → Ends g.machine event given → Ends (plain setup events) event given
 ends_alike g setup events event given is s e =
     rw (← is) (rw (refusal_alike g.machine (plain g.setup events) event s.alike, takes_alike g.machine (plain g.setup events) event s.alike) at e)
-
-pub took_ok : (g g' : GatewayState) (event : GatewayEvent) (were are : List OutDatagram) (result : Result (Unit {0}) Refusal) → g'.setup ≡ g.setup
-    → Ends g.machine event (result_err result)
-    → ((m : Machine) → Alike g.machine m → OnOk result (GoesOn g.setup m event g'.machine were are)) → OnOk result (Took g (event ∷ []) g' were are)
-took_ok g g' event were are (Ok x) same e goes = took_one g g' event were are same (ends_fine g.machine event e) goes
-took_ok g g' event were are (Err refusal) same e goes = tt
-
-pub took_err : (g g' : GatewayState) (were are : List OutDatagram) (result : Result (Unit {0}) Refusal) → g'.setup ≡ g.setup → OnErr result (are ≡ were)
-    → ((m : Machine) → Alike g.machine m → OnErr result (Alike g'.machine m)) → OnErr result (Took g [] g' were are)
-took_err g g' were are (Ok x) same sent keeps = tt
-took_err g g' were are (Err refusal) same sent keeps = took_none g g' were are same sent keeps

@@ -1,6 +1,7 @@
 -- The texts of a datagram, one after the other.
-use Rattle.std.proofs.Common.{◌≡◌, ℕ, Option, Some, None, true, false, List, [], ◌∷◌, ◌++◌, refl, sym, ◌∙◌, ap, subst, append_assoc, append-nil}
-use Rattle.std.specs.Prelude.{if◌then◌else◌, Bool, Result}
+use Rattle.std.proofs.Common.{◌≡◌, ℕ, Option, Some, None, true, false, List, [], ◌∷◌, ◌++◌, length, length-append, refl, sym, ◌∙◌, ap, subst, append_assoc, append-nil, arith}
+use Rattle.std.proofs.lemmas.Bool.Decides.{nat_tests}
+use Rattle.std.specs.Prelude.{if◌then◌else◌, Bool, Result, Ok, nat_lt}
 use Rattle.std.specs.declared.alloc.AllocError.{AllocError}
 use Rattle.history.specs.Kept.{HistoryState}
 use Rattle.history.specs.Memory.{most_firsts}
@@ -29,13 +30,17 @@ use Rattle.transmission.specs.Acknowledging.{asks_for_acknowledgement, acknowled
 use Rattle.transmission.specs.Transacting.{message_to, transacted_as, with_first}
 use Rattle.transmission.specs.Hearing.{Hearing, hearing, refused, heard_at}
 use Rattle.transmission.specs.Confirming.{spans_of}
-use Rattle.plain_machine.specs.Answering.{line_of_name, Transaction, transaction, answer_text, executed, transacted_by, transacted, refusing, command_with, handled, took_all}
+use Rattle.plain_machine.specs.Answering.{line_of_name, Transaction, transaction, answer_text, executed, transacted_by, transacted, refusing, command_with, read_command, handled, took_all}
 use Rattle.endpoints.specs.Tells.{Goes}
 use Rattle.plain_machine.specs.Responding.{acknowledged, response_with, responded}
 use Rattle.plain_machine.specs.Message.{of_none, acknowledgement}
 use Rattle.plain_machine.proofs.EffectLaws.{handled_now}
 use Rattle.gateway_core.specs.declared.state.State.{State}
-use Rattle.gateway_core.specs.Hearing.{left_done}
+use Rattle.gateway_core.specs.Hearing.{left_done, left_outcome, passed_over}
+use Rattle.gateway_core.specs.declared.outcome.Reply.TheVariants.{First}
+use Rattle.gateway_core.specs.declared.outcome.TextOutcome.{TextOutcome}
+use Rattle.gateway_core.specs.declared.outcome.TextOutcome.TheVariants as outcomes
+use Rattle.gateway_core.specs.Outcomes.{reply_by, text_outcome, text_outcomes}
 use Rattle.gateway_core.specs.State.{machine_in, found_in, Went, Does}
 
 -- a first is executed: its command changed the store, then it was answered, and then comes what lines send because of it
@@ -133,11 +138,11 @@ went_heard setup source text was is history were out are outcome left read left_
     })
 
 -- a new command is executed
-pub command_done : (setup : Setup) (result : Result (Unit {0}) AllocError) (was is : State) (were are : List OutDatagram) (source : SocketAddrV4) (left : Option Message) (said : Message) (verb : Verb) (id : ℕ) (name : List ℕ) (params : List Param) (body : List ℕ)
+pub command_done : {A : Type 0} (result : Result A AllocError) (setup : Setup) (was is : State) (were are : List OutDatagram) (source : SocketAddrV4) (left : Option Message) (said : Message) (verb : Verb) (id : ℕ) (name : List ℕ) (params : List Param) (body : List ℕ)
     → left ≡ Some said → said ≡ messages.Command verb id name params body
     → ((line : Option ℕ) → Does result (executed (machine_in was) source (transaction id line (spans_of (k_of (params_in said))) (done_by (form_while_in (serves was.store.endpoints) said (k_of (params_in said)) setup.names) setup was.store.endpoints was.clock id))) was is were are)
     → Does result (left_done setup left (machine_in was) source) was is were are
-command_done setup result was is were are source left said verb id name params body some same done =
+command_done result setup was is were are source left said verb id name params body some same done =
     subst (λ (x : Option Message). Does result (left_done setup x (machine_in was) source) was is were are) (sym (some ∙ ap (λ (m : Message). Some m) same))
     (subst (λ (m : Message). Does result (executed (machine_in was) source (transaction id (line_of_name setup name) (spans_of (k_of (params_in m))) (done_by (form_while_in (serves was.store.endpoints) m (k_of (params_in m)) setup.names) setup was.store.endpoints was.clock id))) was is were are) same (done (line_of_name setup name)))
 
@@ -166,3 +171,94 @@ went_end setup source all was out none = rw none (record { machine = refl; found
 pub went_on : (setup : Setup) (source : SocketAddrV4) (text : List ℕ) (was is : State) (were are : List OutDatagram)
     → Went (handled setup (machine_in was) source (read_text text)) was is were are → is.clock ≡ was.clock
 went_on setup source text was is were are went = ap (λ (m : Machine). m.now) went.machine ∙ handled_now setup (machine_in was) source (read_text text)
+
+-- ---- what a text was
+
+-- a command that can't be read leaves nothing
+faulty_told : (looked : Looked) (setup : Setup) (m : Machine) (history next : HistoryState) (source : SocketAddrV4) (moment : ℕ) (sent : List OutDatagram) (passed : TextOutcome) (asked : Bool)
+    → left_outcome setup (transacted_as looked (hearing next sent None) (λ text. hearing history (message_to source moment text ∷ []) None) (hearing history [] None)).left m passed asked ≡ passed
+faulty_told new setup m history next source moment sent passed asked = refl
+faulty_told (repeat text) setup m history next source moment sent passed asked = refl
+faulty_told confirmed setup m history next source moment sent passed asked = refl
+faulty_told full setup m history next source moment sent passed asked = refl
+
+-- one that can be read is left where it is new
+read_told : (looked : Looked) (setup : Setup) (was : State) (next : HistoryState) (source : SocketAddrV4) (moment : ℕ) (verb : Verb) (id : ℕ) (name : List ℕ) (params : List Param) (body : List ℕ) (asked : Bool)
+    → left_outcome setup (transacted_as looked (hearing was.history [] (Some (messages.Command verb id name params body)))
+    (λ text. hearing was.history (message_to source moment text ∷ []) None) (hearing was.history [] None)).left (machine_in (with_heard was next)) (outcomes.Command (Some verb) id (reply_by looked 0)) asked
+    ≡ outcomes.Command (Some verb) id (reply_by looked (read_command setup (machine_in was) verb id name params body).done.answer.code)
+read_told new setup was next source moment verb id name params body asked = refl
+read_told (repeat text) setup was next source moment verb id name params body asked = refl
+read_told confirmed setup was next source moment verb id name params body asked = refl
+read_told full setup was next source moment verb id name params body asked = refl
+
+-- an acknowledgement is one message more
+one_more : (were : List OutDatagram) (asks : Bool) (sent : OutDatagram) → nat_lt (length were) (length (were ++ (if asks then sent ∷ [] else []))) ≡ asks
+one_more were true sent = rw (length-append were (sent ∷ [])) (grind (arith, nat_tests))
+one_more were false sent = rw (append-nil were) (grind (arith, nat_tests))
+
+abbrev asked_by : List OutDatagram → List OutDatagram → Bool
+asked_by were out = nat_lt (length were) (length out)
+
+-- a text was what it was passed over as, unless something of it is left
+told_as : (setup : Setup) (source : SocketAddrV4) (was : State) (history : HistoryState) (were : List OutDatagram) (outcome : Outcome)
+    → left_outcome setup (heard_at was.history source was.clock outcome).left (machine_in (with_heard was history)) (passed_over was.history.kept was.clock outcome)
+    (asked_by were (were ++ (heard_at was.history source was.clock outcome).sent)) ≡ text_outcome setup (machine_in was) outcome
+unfolding text_outcome
+told_as setup source was history were no_header = refl
+told_as setup source was history were (bad_version id) = faulty_told (look_of most_firsts was.history.kept id was.clock) setup _ was.history _ source was.clock _ _ _
+told_as setup source was history were (bad_body id) = faulty_told (look_of most_firsts was.history.kept id was.clock) setup _ was.history _ source was.clock _ _ _
+told_as setup source was history were (message (messages.Command verb id name params body)) =
+    read_told (look_of most_firsts was.history.kept id was.clock) setup was history source was.clock verb id name params body _
+told_as setup source was history were (message (messages.Response code id params body)) =
+    ap (λ (b : Bool). outcomes.Response b) (one_more were (asks_for_acknowledgement code params) (message_to source was.clock (acknowledgement_text id)))
+
+pub told_then : (setup : Setup) (source : SocketAddrV4) (text : List ℕ) (was : State) (history : HistoryState) (were out : List OutDatagram) (outcome : Outcome) (left : Option Message) (passed given : TextOutcome) (asked : Bool)
+    → outcome ≡ read_text text → (heard_at was.history source was.clock outcome).left ≡ left → out ≡ were ++ (heard_at was.history source was.clock outcome).sent
+    → asked ≡ asked_by were out → passed ≡ passed_over was.history.kept was.clock outcome → given ≡ left_outcome setup left (machine_in (with_heard was history)) passed asked
+    → given ≡ text_outcome setup (machine_in was) (read_text text)
+told_then setup source text was history were out outcome left passed given asked read left_is sent asked_is passed_is given_is =
+    let next : Machine = machine_in (with_heard was history) in
+    let over : TextOutcome = passed_over was.history.kept was.clock outcome in
+    given_is
+    ∙ ap (λ (x : TextOutcome). left_outcome setup left next x asked) passed_is
+    ∙ ap (λ (b : Bool). left_outcome setup left next over b) (asked_is ∙ ap (λ (x : List OutDatagram). asked_by were x) sent)
+    ∙ ap (λ (x : Option Message). left_outcome setup x next over (asked_by were (were ++ (heard_at was.history source was.clock outcome).sent))) (sym left_is)
+    ∙ told_as setup source was history were outcome
+    ∙ ap (λ (x : Outcome). text_outcome setup (machine_in was) x) read
+
+-- nothing of it is left
+pub told_passed : (setup : Setup) (source : SocketAddrV4) (text : List ℕ) (was : State) (outcome : Outcome) (passed : TextOutcome)
+    → outcome ≡ read_text text → (heard_at was.history source was.clock outcome).left ≡ None → passed ≡ passed_over was.history.kept was.clock outcome
+    → passed ≡ text_outcome setup (machine_in was) (read_text text)
+told_passed setup source text was outcome passed read none passed_is =
+    told_then setup source text was was.history [] _ outcome None passed passed _ read none refl refl passed_is refl
+
+-- a command that is left is answered with this code
+pub command_told : (setup : Setup) (m : Machine) (passed : TextOutcome) (asked : Bool) (left : Option Message) (said : Message) (verb : Verb) (id : ℕ) (name : List ℕ) (params : List Param) (body : List ℕ) (code : ℕ)
+    → left ≡ Some said → said ≡ messages.Command verb id name params body
+    → code ≡ (done_by (form_while_in (serves m.endpoints) said (k_of (params_in said)) setup.names) setup m.endpoints m.now id).answer.code
+    → outcomes.Command (Some verb) id (First code) ≡ left_outcome setup left m passed asked
+command_told setup m passed asked left said verb id name params body code some same is =
+    subst (λ (x : Option Message). outcomes.Command (Some verb) id (First code) ≡ left_outcome setup x m passed asked) (sym (some ∙ ap (λ (x : Message). Some x) same))
+    (ap (λ (n : ℕ). outcomes.Command (Some verb) id (First n))
+    (is ∙ ap (λ (x : Message). (done_by (form_while_in (serves m.endpoints) x (k_of (params_in x)) setup.names) setup m.endpoints m.now id).answer.code) same))
+
+-- the first of these texts, and then the others
+pub told_next : (setup : Setup) (source : SocketAddrV4) (all texts : List (List ℕ)) (text : List ℕ) (was between : State) (were mid : List OutDatagram) (told more whole : List TextOutcome)
+    → all ≡ text ∷ texts → Went (handled setup (machine_in was) source (read_text text)) was between were mid
+    → more ≡ told ++ text_outcome setup (machine_in was) (read_text text) ∷ [] → told ++ text_outcomes setup (machine_in was) source all ≡ whole
+    → more ++ text_outcomes setup (machine_in between) source texts ≡ whole
+unfolding text_outcomes
+told_next setup source all texts text was between were mid told more whole same went one is =
+    let first : TextOutcome = text_outcome setup (machine_in was) (read_text text) in
+    ap (λ (x : List TextOutcome). x ++ text_outcomes setup (machine_in between) source texts) one
+    ∙ append_assoc told (first ∷ []) (text_outcomes setup (machine_in between) source texts)
+    ∙ ap (λ (m : Machine). told ++ first ∷ text_outcomes setup m source texts) went.machine
+    ∙ subst (λ (x : List (List ℕ)). told ++ text_outcomes setup (machine_in was) source x ≡ whole) same is
+
+pub told_end : (setup : Setup) (source : SocketAddrV4) (rest : List (List ℕ)) (m : Machine) (told whole : List TextOutcome) → rest ≡ []
+    → told ++ text_outcomes setup m source rest ≡ whole → told ≡ whole
+unfolding text_outcomes
+told_end setup source rest m told whole none is =
+    sym (append-nil told) ∙ subst (λ (x : List (List ℕ)). told ++ text_outcomes setup m source x ≡ whole) none is

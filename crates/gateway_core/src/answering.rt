@@ -1,5 +1,5 @@
-//! What is done at a text that came in a datagram.
-ghost use Rattle.std.specs.Prelude.{◌≡◌, nat_lt, [], length, Some, None};
+//! What is done at a text that came in a datagram, and what the text was.
+ghost use Rattle.std.specs.Prelude.{◌≡◌, ◌∷◌, ◌++◌, nat_lt, [], length, Some, None, IfOk, OnOk};
 ghost use Rattle.mgcp_text.specs.Reading.{read_text};
 ghost use Rattle.mgcp_text.specs.Message.{params_in};
 ghost use Rattle.mgcp_text.specs.Confirmation.{k_of};
@@ -13,12 +13,15 @@ ghost use Rattle.endpoint_rules.specs.Telling.{MayTell};
 ghost use Rattle.transmission.specs.Confirming.{spans_of};
 ghost use Rattle.plain_machine.specs.Answering.{transaction, executed, handled, took_all};
 ghost use Rattle.gateway_core.specs.State.{machine_in, Does, Happens};
-ghost use Rattle.gateway_core.specs.Hearing.{left_done};
+ghost use Rattle.gateway_core.specs.Hearing.{left_done, left_outcome};
+ghost use Rattle.gateway_core.specs.Outcomes.{text_outcome, text_outcomes};
 
 use crate::commanding::commanded;
+use crate::outcome::{Reply, TextOutcome};
 use crate::responding::respond;
 use crate::sending::send_all;
 use crate::state::State;
+use crate::telling::passed_over;
 use endpoint_rules::Context;
 use mg_bytes::OutOfMemory;
 use mgcp_text::{Message, TextFault, read_k, read_message};
@@ -26,20 +29,25 @@ use plain_machine::{OutDatagram, Refusal};
 use std::net::SocketAddrV4;
 use transmission::{Origin, answer, hear, spans_of, texts};
 
-// A new command is executed, and its K is read once: its answer goes out before what lines send because of it.
+// A new command is executed, and its K is read once: its answer, which has this return code, goes out before what lines send
+// because of it.
 fn execute(
     context: Context<'_>,
     state: &mut State,
     origin: Origin,
     said: &Message<'_>,
     out: &mut Vec<OutDatagram>,
-) -> Result<(), OutOfMemory>
+) -> Result<u16, OutOfMemory>
     requires { MayTell context.setup.now state.old.clock }
-    ensures { (line : _) → Does result (executed (machine_in state.old) origin.source
+    ensures does { (line : _) → Does result (executed (machine_in state.old) origin.source
         (transaction origin.id line (spans_of (k_of (params_in said.now)))
         (done_by (form_while_in (serves state.old.store.endpoints) said.now (k_of (params_in said.now))
         context.entry.setup.now.names) context.entry.setup.now
         state.old.store.endpoints state.old.clock origin.id))) state.old state.new out.old.items out.new.items }
+    ensures code { IfOk result (λ code. code
+        ≡ (done_by (form_while_in (serves state.old.store.endpoints) said.now (k_of (params_in said.now))
+        context.entry.setup.now.names) context.entry.setup.now
+        state.old.store.endpoints state.old.clock origin.id).answer.code) }
 {
     let mut sent = Vec::new(context.alloc);
     let confirms = read_k(context.alloc, said)?;
@@ -63,27 +71,36 @@ fn execute(
         out,
     )?;
     send_all(out, sent)?;
-    Ok(())
+    Ok(given.code())
 }
 
-// What is left to the gateway at a text that it heard.
+// What is left to the gateway at a text that it heard, and what the text was: where nothing is left, what it was passed over as.
 fn handle(
     context: Context<'_>,
     state: &mut State,
     source: SocketAddrV4,
+    passed: TextOutcome,
+    is_acknowledged: bool,
     read: &Result<Message<'_>, TextFault>,
     out: &mut Vec<OutDatagram>,
-) -> Result<(), OutOfMemory>
+) -> Result<TextOutcome, OutOfMemory>
     requires { MayTell context.setup.now state.old.clock }
-    ensures { Does result (left_done context.entry.setup.now (result_ok read.now) (machine_in state.old) source)
+    ensures does { Does result (left_done context.entry.setup.now (result_ok read.now) (machine_in state.old) source)
         state.old state.new out.old.items out.new.items }
+    ensures outcome { IfOk result (λ outcome. outcome
+        ≡ left_outcome context.entry.setup.now (result_ok read.now) (machine_in state.old) passed is_acknowledged) }
 {
     let Ok(said) = read else {
-        return Ok(());
+        return Ok(passed);
     };
     match said {
-        Message::Command { id, .. } => {
-            execute(context, state, Origin { source, id: *id }, said, out)
+        Message::Command { verb, id, .. } => {
+            let code = execute(context, state, Origin { source, id: *id }, said, out)?;
+            Ok(TextOutcome::Command {
+                verb: Some(*verb),
+                id: *id,
+                reply: Reply::First { code },
+            })
         }
         Message::Response { code, id, .. } => {
             respond(
@@ -95,24 +112,28 @@ fn handle(
                 said,
                 out,
             )?;
-            Ok(())
+            Ok(TextOutcome::Response { is_acknowledged })
         }
     }
 }
 
-// A text.
+// A text: what it was.
 fn take(
     context: Context<'_>,
     state: &mut State,
     source: SocketAddrV4,
     text: &[u8],
     out: &mut Vec<OutDatagram>,
-) -> Result<(), OutOfMemory>
+) -> Result<TextOutcome, OutOfMemory>
     requires { MayTell context.setup.now state.old.clock }
-    ensures { Does result (handled context.entry.setup.now (machine_in state.old) source (read_text text.now))
+    ensures does { Does result (handled context.entry.setup.now (machine_in state.old) source (read_text text.now))
         state.old state.new out.old.items out.new.items }
+    ensures outcome { IfOk result (λ outcome. outcome
+        ≡ text_outcome context.entry.setup.now (machine_in state.old) (read_text text.now)) }
 {
     let read = read_message(context.alloc, text);
+    let passed = passed_over(&state.history, state.clock, &read);
+    let before = out.len();
     if !hear(
         context.alloc,
         &mut state.history,
@@ -121,23 +142,48 @@ fn take(
         &read,
         out,
     )? {
-        return Ok(());
+        return Ok(passed);
     }
-    handle(context, state, source, &read, out)?;
+    // Only a response sent anything yet: where it asks for that, its acknowledgement.
+    let is_acknowledged = out.len() > before;
+    let outcome = handle(context, state, source, passed, is_acknowledged, &read, out)?;
+    Ok(outcome)
+}
+
+// The next text of a datagram, which is told of behind those before it.
+fn take_next(
+    context: Context<'_>,
+    state: &mut State,
+    source: SocketAddrV4,
+    text: &[u8],
+    told: &mut Vec<TextOutcome>,
+    out: &mut Vec<OutDatagram>,
+) -> Result<(), OutOfMemory>
+    requires { MayTell context.setup.now state.old.clock }
+    ensures does { Does result (handled context.entry.setup.now (machine_in state.old) source (read_text text.now))
+        state.old state.new out.old.items out.new.items }
+    ensures told { OnOk result (told.new.items
+        ≡ told.old.items ++ text_outcome context.entry.setup.now (machine_in state.old) (read_text text.now) ∷ []) }
+{
+    let outcome = take(context, state, source, text, out)?;
+    told.push(outcome)?;
     Ok(())
 }
 
-/// A datagram: what is sent. Its texts are taken in their order, each completely; one that is too long does nothing, and takes
-/// no memory.
+/// A datagram: what is sent. Its texts are taken in their order, each completely, and told of; one that is too long does nothing,
+/// and takes no memory.
 pub(crate) fn take_datagram(
     context: Context<'_>,
     state: &mut State,
     source: SocketAddrV4,
     bytes: &[u8],
+    told: &mut Vec<TextOutcome>,
 ) -> Result<Vec<OutDatagram>, Refusal>
     requires { MayTell context.setup.now state.old.clock }
     ensures happens { Happens result (took_all context.entry.setup.now (machine_in state.old) source (texts_of bytes.now))
         state.old state.new }
+    ensures told { OnOk result (told.new.items
+        ≡ told.old.items ++ text_outcomes context.entry.setup.now (machine_in state.old) source (texts_of bytes.now)) }
     ensures ends { ends None (nat_lt largest_datagram (length bytes.now)) (result_err result) }
 {
     let mut out = Vec::new(context.alloc);
@@ -145,7 +191,7 @@ pub(crate) fn take_datagram(
         return Ok(out);
     };
     while let Some(text) = rest.next() {
-        take(context, state, source, text, &mut out)?;
+        take_next(context, state, source, text, told, &mut out)?;
     }
     Ok(out)
 }

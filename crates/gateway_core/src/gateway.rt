@@ -3,6 +3,7 @@ ghost use Rattle.std.specs.Prelude.{◌≡◌, ◌∷◌, [], List, map, option_
 ghost use Rattle.plain_machine.specs.Setup.{setup_of};
 ghost use Rattle.plain_machine.specs.Event.{GatewayEvent, event_of};
 
+use crate::outcome::TextOutcome;
 use crate::state::State;
 use crate::stopped::Stopped;
 use crate::working::step_state;
@@ -16,15 +17,20 @@ use plain_machine::{Config, ConfigFault, Event, Outputs, Refusal, Setup};
 use signals::ActiveSignal;
 use std::alloc::Global;
 use std::marker::Model;
+use std::mem::swap;
 
-/// A residential gateway. A contract sees its setup and what it keeps of the plain machine; `Stands` says which lists of
-/// events it stands for.
+/// A residential gateway. A contract sees its setup, what it keeps of the plain machine, and what the texts of the last event
+/// were; `Stands` says which lists of events it stands for.
 #[derive(Drop)]
 pub struct Gateway {
     alloc: Global,
     setup: Setup,
     // In a box, so that a gateway is small where it is moved.
     state: Box<State>,
+    // What the texts of the last event were that it took.
+    outcomes: Vec<TextOutcome>,
+    // The same of the event under way. Both keep their room, so that after a while neither asks for memory.
+    under_way: Vec<TextOutcome>,
 }
 
 impl Model for Gateway {
@@ -34,7 +40,11 @@ impl Model for Gateway {
 
     ghost Value = { GatewayState };
 
-    ghost view = { λ g. record { setup = g.setup; machine = machine_in g.state.value } };
+    ghost view = { λ g. record {
+      setup = g.setup;
+      machine = machine_in g.state.value;
+      outcomes = g.outcomes.items;
+    } };
 
     ghost invariant = { λ g. IsSound g.setup (machine_in g.state.value) };
 }
@@ -44,6 +54,7 @@ impl Gateway {
     ghost use Rattle.plain_machine.specs.Refusing.{Ends};
     ghost use Rattle.plain_machine.specs.Falling.{first_due};
     ghost use Rattle.plain_machine.specs.Lists.{plain, hook_of, signals_of, connections_of, lost_of};
+    ghost use Rattle.gateway_core.specs.Outcomes.{last_outcomes};
     ghost use Rattle.gateway_core.specs.Stands.{Stands, Opens, Took, StoppedAt};
 
     /// A gateway of this configuration, at moment 0.
@@ -55,6 +66,8 @@ impl Gateway {
         let setup = judged(config)?;
         let list = opening_list(alloc, &setup)?;
         let store = Store::of(alloc, list, opening_own(&setup))?;
+        let outcomes = Vec::new(alloc);
+        let under_way = Vec::new(alloc);
         let state = State {
             clock: 0,
             store,
@@ -65,6 +78,8 @@ impl Gateway {
                 alloc,
                 setup,
                 state,
+                outcomes,
+                under_way,
             }),
             Err(_) => Err(ConfigFault::OutOfMemory),
         }
@@ -150,6 +165,16 @@ impl Gateway {
         }
     }
 
+    /// What each text was of the last event that was taken, in their order: nothing where that was an act or a tick, where its
+    /// datagram was too long, and before any event (RFC 3435, 3.5). A refused event leaves what was told of the one before it.
+    pub fn outcomes(&self) -> &[TextOutcome]
+        ensures last { (events : List GatewayEvent) → Stands self.now events →
+            result.now ≡ last_outcomes self.now.setup events }
+        ensures kept { result.now ≡ self.now.outcomes }
+    {
+        self.outcomes.as_slice()
+    }
+
     // One event, whose outputs go after those that there are.
     fn step_onto(&mut self, event: Event<'_>, outputs: &mut Outputs) -> Result<(), Refusal>
         ensures ok { OnOk result (Took self.old (event_of event.entry ∷ []) self.new outputs.old outputs.new) }
@@ -160,7 +185,19 @@ impl Gateway {
             alloc: self.alloc,
             setup: &self.setup,
         };
-        step_state(context, &mut self.state, event, outputs)
+        match step_state(
+            context,
+            &mut self.state,
+            event,
+            &mut self.under_way,
+            outputs,
+        ) {
+            Ok(()) => {
+                swap(&mut self.outcomes, &mut self.under_way);
+                Ok(())
+            }
+            Err(refusal) => Err(refusal),
+        }
     }
 
     /// One event. The refusals 2 to 5 come exactly where the plain machine says; `NoSuchLine` comes before `PhoneState`.

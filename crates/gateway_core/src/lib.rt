@@ -7,8 +7,10 @@
 mod acting;
 mod answering;
 mod commanding;
+pub mod examples;
 mod gateway;
 pub mod laws;
+mod outcome;
 mod reporting;
 mod responding;
 mod sending;
@@ -16,11 +18,13 @@ mod served;
 mod serving;
 mod state;
 mod stopped;
+mod telling;
 mod ticking;
 mod wire;
 mod working;
 
 pub use crate::gateway::Gateway;
+pub use crate::outcome::{Reply, TextOutcome};
 pub use crate::served::Served;
 pub use crate::stopped::Stopped;
 pub use crate::wire::{DATAGRAM_ROOM, Input, Wire, WireFault};

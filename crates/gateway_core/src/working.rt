@@ -7,29 +7,35 @@ ghost use Rattle.plain_machine.specs.Refusing.{Ends};
 ghost use Rattle.gateway_core.specs.Sound.{IsSound};
 ghost use Rattle.gateway_core.specs.Alike.{Alike, GoesOn};
 ghost use Rattle.gateway_core.specs.State.{machine_in, found_in, purged_in, Happens, PutsOut, AllOr};
+ghost use Rattle.gateway_core.specs.Outcomes.{outcomes_of};
 
 use crate::acting::act_on;
 use crate::answering::take_datagram;
+use crate::outcome::TextOutcome;
 use crate::state::State;
 use crate::ticking::tick;
 use endpoint_rules::Context;
 use plain_machine::{Event, OutDatagram, Outputs, Refusal};
 use transmission::packed;
 
-// An event happens, or is refused: what is to be sent.
-#[tactic(auto, unfolding(plain_machine::specs::Happening::effect, plain_machine::specs::Refusing::refusal_of))]
+// An event happens, or is refused: what is to be sent, and what its texts were.
+#[tactic(auto, unfolding(plain_machine::specs::Happening::effect, plain_machine::specs::Refusing::refusal_of, crate::specs::Outcomes::outcomes_of))]
 fn happen(
     context: Context<'_>,
     state: &mut State,
     event: Event<'_>,
+    told: &mut Vec<TextOutcome>,
 ) -> Result<Vec<OutDatagram>, Refusal>
     requires { IsSound context.setup.now (machine_in state.old) }
     ensures happens { Happens result (effect context.entry.setup.now (machine_in state.old) (event_of event.entry))
         state.old state.new }
+    ensures told { OnOk result (told.new.items
+        ≡ outcomes_of context.entry.setup.now (machine_in state.old) (event_of event.entry)) }
     ensures ends { Ends (machine_in state.old) (event_of event.entry) (result_err result) }
 {
+    told.clear();
     match event {
-        Event::Datagram { source, bytes } => take_datagram(context, state, source, bytes),
+        Event::Datagram { source, bytes } => take_datagram(context, state, source, bytes, told),
         Event::Phone { line, act } => act_on(context, state, line, act),
         Event::Tick { moment } => tick(context, state, moment),
     }
@@ -41,16 +47,19 @@ fn carry_out(
     context: Context<'_>,
     state: &mut State,
     event: Event<'_>,
+    told: &mut Vec<TextOutcome>,
     outputs: &mut Outputs,
 ) -> Result<(), Refusal>
     requires { IsSound context.setup.now (machine_in state.old) }
     ensures ok { OnOk result (PutsOut (effect context.entry.setup.now (machine_in state.old) (event_of event.entry))
         state.new outputs.old outputs.new) }
+    ensures told { OnOk result (told.new.items
+        ≡ outcomes_of context.entry.setup.now (machine_in state.old) (event_of event.entry)) }
     ensures err { OnErr result (outputs.new ≡ outputs.old) }
     ensures found { OnErr result (found_in state.new ≡ found_in state.old) }
     ensures ends { Ends (machine_in state.old) (event_of event.entry) (result_err result) }
 {
-    let sent = happen(context, state, event)?;
+    let sent = happen(context, state, event, told)?;
     if sent.is_empty() {
         return Ok(());
     }
@@ -63,18 +72,21 @@ fn attempt(
     context: Context<'_>,
     state: &mut State,
     event: Event<'_>,
+    told: &mut Vec<TextOutcome>,
     outputs: &mut Outputs,
 ) -> Result<(), Refusal>
     requires { IsSound context.setup.now (machine_in state.old) }
     ensures all { AllOr (purged_in (machine_in state.old)) result
         (effect context.entry.setup.now (purged_in (machine_in state.old)) (event_of event.entry))
         state.new outputs.old outputs.new }
+    ensures told { OnOk result (told.new.items
+        ≡ outcomes_of context.entry.setup.now (purged_in (machine_in state.old)) (event_of event.entry)) }
     ensures ends { Ends (machine_in state.old) (event_of event.entry) (result_err result) }
 {
     let clock = state.clock;
     state.store.commit();
     state.history.purge(clock);
-    match carry_out(context, state, event, outputs) {
+    match carry_out(context, state, event, told, outputs) {
         Ok(()) => {
             state.store.commit();
             Ok(())
@@ -88,20 +100,24 @@ fn attempt(
     }
 }
 
-/// One event, whose outputs go after those that there are. After a refusal all that the gateway stands for stays.
+/// One event, whose outputs go after those that there are. What its texts were is told, unless it is refused; after a refusal all
+/// that the gateway stands for stays.
 pub(crate) fn step_state(
     context: Context<'_>,
     state: &mut State,
     event: Event<'_>,
+    told: &mut Vec<TextOutcome>,
     outputs: &mut Outputs,
 ) -> Result<(), Refusal>
     requires { IsSound context.setup.now (machine_in state.old) }
     ensures sound { IsSound context.entry.setup.now (machine_in state.new) }
     ensures ok { (m : _) → Alike (machine_in state.old) m → OnOk result
         (GoesOn context.entry.setup.now m (event_of event.entry) (machine_in state.new) outputs.old outputs.new) }
+    ensures told { (m : _) → Alike (machine_in state.old) m → OnOk result
+        (told.new.items ≡ outcomes_of context.entry.setup.now m (event_of event.entry)) }
     ensures err { (m : _) → Alike (machine_in state.old) m → OnErr result (Alike (machine_in state.new) m) }
     ensures no_outputs { OnErr result (outputs.new ≡ outputs.old) }
     ensures ends { Ends (machine_in state.old) (event_of event.entry) (result_err result) }
 {
-    attempt(context, state, event, outputs)
+    attempt(context, state, event, told, outputs)
 }

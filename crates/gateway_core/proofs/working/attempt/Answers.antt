@@ -19,3 +19,6 @@ returns-in-Err-clause-all c = record {
 
 pub returns-in-Err-clause-ends : goal.returns-in-Err-clause-ends
 returns-in-Err-clause-ends c = ends_purged (machine_in c.args.state.now) (event_of c.args.event) _ (rw (c.commit.ensures, c.purge.ensures.kept) at c.in-Err.ensures.ends)
+
+pub returns-in-Ok-clause-told : goal.returns-in-Ok-clause-told
+returns-in-Ok-clause-told c = rw (c.commit.ensures, c.purge.ensures.kept) at c.in-Ok.ensures.told

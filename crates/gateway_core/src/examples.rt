@@ -1,0 +1,68 @@
+//! What is told of the texts of an event (RFC 3435, 3.2, 3.3 and 3.5), as theorems.
+#![tactic(auto, unfolding(crate::proofs::Computing::on_examples))]
+
+ghost use Rattle.std.specs.Prelude.{◌≡◌, ◌++◌, codes, [], ◌∷◌, replicate, true, false, None, Some};
+ghost use Rattle.mgcp_text.specs.declared.message.Verb.TheVariants.{Rqnt};
+ghost use Rattle.mg_line.specs.declared.phone.Act.TheVariants.{OffHook};
+ghost use Rattle.history.specs.Looking.{full};
+ghost use Rattle.plain_machine.specs.Event.{datagram, phone, tick};
+ghost use Rattle.plain_machine.specs.Example.{example, agent, other_agent, audit, rqnt, response, from_agent};
+ghost use Rattle.gateway_core.specs.declared.outcome.Reply.TheVariants.{First, Again, Silence, NoRoom};
+ghost use Rattle.gateway_core.specs.declared.outcome.TextOutcome.TheVariants.{NoMessage, Command, Response};
+ghost use Rattle.gateway_core.specs.Outcomes.{front_code, reply_by, last_outcomes};
+ghost use Rattle.gateway_core.specs.Example.{told, audited};
+
+/// A new command is told of with the code that answers it, a repeat with that of the stored answer, wherever it comes from.
+/// 30,000 ms after its first it is new. What a K confirmed gets silence, and what finds no room nothing.
+pub fn commands_are_told_of()
+    ensures done { told (from_agent (audit 1206) ∷ []) ≡ audited 1206 (First 200) ∷ [] }
+    ensures refused { told (from_agent (codes "AUEP 1201 aaln/17@rgw.example.net MGCP 1.0\r\n") ∷ []) ≡ audited 1201 (First 500) ∷ [] }
+    ensures unready { last_outcomes example (rqnt 1203 (codes "aaln/1") (codes "X: A0\r\n") ∷ [])
+        ≡ Command (Some Rqnt) 1203 (First 405) ∷ [] }
+    ensures again { told (from_agent (audit 1206) ∷ datagram other_agent (audit 1206) ∷ []) ≡ audited 1206 (Again 200) ∷ [] }
+    ensures refused_again { told (from_agent (codes "AUEP 1201 aaln/17@rgw.example.net MGCP 1.0\r\n")
+        ∷ from_agent (audit 1201) ∷ []) ≡ audited 1201 (Again 500) ∷ [] }
+    ensures young { told (from_agent (audit 1206) ∷ tick 30999 ∷ from_agent (audit 1206) ∷ []) ≡ audited 1206 (Again 200) ∷ [] }
+    ensures old { told (from_agent (audit 1206) ∷ tick 31000 ∷ from_agent (audit 1206) ∷ []) ≡ audited 1206 (First 200) ∷ [] }
+    ensures silence { told (from_agent (audit 1301) ∷ from_agent (audit 1304 ++ codes "K: 1301\r\n") ∷ from_agent (audit 1301) ∷ [])
+        ≡ audited 1301 Silence ∷ [] }
+    ensures no_room { reply_by full 200 ≡ NoRoom }
+{}
+
+/// A command that can't be read past its id is told of without a verb, a response with whether it was acknowledged; what has no
+/// header is no message.
+pub fn other_texts_are_told_of()
+    ensures version { told (from_agent (codes "AUEP 8 x MGCP 2.0\r\n") ∷ []) ≡ Command None 8 (First 528) ∷ [] }
+    ensures body { told (from_agent (codes "AUEP 7\r\n") ∷ []) ≡ Command None 7 (First 510) ∷ [] }
+    ensures faulty_again { told (from_agent (audit 7) ∷ from_agent (codes "AUEP 7\r\n") ∷ []) ≡ Command None 7 (Again 200) ∷ [] }
+    ensures response { told (response 200 9 ∷ []) ≡ Response false ∷ [] }
+    ensures acknowledged { told (from_agent (codes "200 9 OK\r\nK:\r\n") ∷ []) ≡ Response true ∷ [] }
+    ensures no_header { told (from_agent (codes "hello\r\n") ∷ []) ≡ NoMessage ∷ [] }
+{}
+
+/// The texts of a datagram are told of in order, each to the gateway after those before it.
+pub fn each_text_is_told_of()
+    ensures copies { told (from_agent (audit 1206 ++ codes ".\r\n" ++ audit 1206) ∷ [])
+        ≡ audited 1206 (First 200) ∷ audited 1206 (Again 200) ∷ [] }
+    ensures faults { told (from_agent (codes "AUEP 1202 aaln/1@rgw.example.net MGCP 2.0\r\n.\r\n" ++ audit 1202) ∷ [])
+        ≡ Command None 1202 (First 528) ∷ audited 1202 (Again 528) ∷ [] }
+    ensures answered { last_outcomes example (tick 1 ∷ from_agent
+        (codes "RQNT 7 aaln/1@rgw.example.net MGCP 1.0\r\nX: A5\r\n.\r\n200 1 OK\r\n.\r\n"
+        ++ codes "RQNT 8 aaln/1@rgw.example.net MGCP 1.0\r\nX: A5\r\n") ∷ [])
+        ≡ Command (Some Rqnt) 7 (First 405) ∷ Response false ∷ Command (Some Rqnt) 8 (First 200) ∷ [] }
+{}
+
+/// Only the last event is told of; an act, a tick and a datagram that is too long have no text.
+pub fn the_last_event_alone_is_told_of()
+    ensures act { told (from_agent (audit 1206) ∷ phone 1 OffHook ∷ []) ≡ [] }
+    ensures tick { told (from_agent (audit 1206) ∷ tick 1001 ∷ []) ≡ [] }
+    ensures long { told (from_agent (audit 1206) ∷ from_agent (replicate 4001 65) ∷ []) ≡ [] }
+    ensures last { told (from_agent (audit 1206) ∷ response 200 9 ∷ []) ≡ Response false ∷ [] }
+{}
+
+/// The code at the front of an answer is its first three digits.
+pub fn an_answer_begins_with_its_code()
+    ensures code { front_code (codes "200 1206 OK\r\n") ≡ 200 }
+    ensures short { front_code (codes "20") ≡ 0 }
+    ensures word { front_code (codes "2OO 1206") ≡ 0 }
+{}
