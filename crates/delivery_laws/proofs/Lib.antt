@@ -30,6 +30,10 @@ pub mod LaterTurns
 pub mod AtOnceLemmas
 pub mod OwnChanceLaws
 pub mod GatewayChanceLaws
+pub mod OutLemmas
+pub mod RoundTurns
+pub mod RoundLaws
+pub mod ByThenLaws
 pub mod LineLaws
 pub mod AmidLaws
 pub mod ServingLaws
@@ -37,3 +41,4 @@ pub mod SoonTurns
 pub mod AskingLaws
 pub mod Computing
 pub mod ExampleLemmas
+pub mod FrontLemmas

@@ -1,11 +1,14 @@
 -- The worlds of the worked examples: the agent audits line 1 of rgw.example.net.
-use Rattle.std.specs.Prelude.{ℕ, ◌+◌, ◌*◌, codes, List, [], ◌∷◌, ◌++◌, map, Option, option_and_then, option_map}
+use Rattle.std.specs.Prelude.{ℕ, ◌+◌, ◌*◌, codes, List, [], ◌∷◌, ◌++◌, drop, length, map, Option, option_and_then, option_map}
 use Rattle.std.specs.List.{range_with_len}
 use Rattle.mg_line.specs.declared.state.State.{State}
-use Rattle.plain_machine.specs.Example.{two_lines}
+use Rattle.plain_machine.specs.Example.{two_lines, response, rqnt}
+use Rattle.dialled_once.specs.Example.{asks_for_all}
 use Rattle.plain_machine.specs.Machine.{endpoint_at}
 use Rattle.machine_laws.specs.Saying.{Begun}
-use Rattle.mg_line.specs.declared.phone.Act.TheVariants.{OffHook}
+use Rattle.mg_line.specs.declared.phone.Act.TheVariants.{OffHook, Key}
+use Rattle.mg_line.specs.declared.phone.Key.TheVariants.{Five, Six}
+use Rattle.plain_machine.specs.Event.{GatewayEvent, phone, tick}
 use Rattle.agent_core.specs.World.{WorldStep, gateway_in, delivering, dialling, issuing, ticking}
 use Rattle.world_laws.specs.Example.{world, announced, audits}
 use Rattle.dialled_end_to_end.specs.Example as both_ends
@@ -89,6 +92,27 @@ last_copy = asked ++ up_to 20 ++ delivering 9 ∷ ticking 21001 ∷ ticking 2200
 abbrev pub kept_back : List WorldStep
 kept_back = both_ends.asked ++ dialling 1 OffHook ∷ []
 
--- it is handed over, and so is its answer
+-- it is handed over, and so is its answer, and a ms passes
 abbrev pub rested : List WorldStep
-rested = kept_back ++ delivering 4 ∷ delivering 5 ∷ []
+rested = kept_back ++ delivering 4 ∷ delivering 5 ∷ ticking 2 ∷ []
+
+-- A line in step that has something in its quarantine
+
+-- a request for one notification, of whatever the telephone does
+abbrev pub in_step : ℕ → GatewayEvent
+in_step id = rqnt id (codes "aaln/1") (codes "X: C2\r\nR: L/hd(N),L/hu(N),L/hf(N),D/[0-9*#ABCD](N)\r\n")
+
+-- line 1 is asked so and lifted, and dials 5 and 6 before that is answered
+abbrev pub held : List GatewayEvent
+held = in_step 7 ∷ phone 1 OffHook ∷ phone 1 (Key Five) ∷ phone 1 (Key Six) ∷ []
+
+-- it is answered and asked for the next, in loop; both are answered, and a ms passes
+abbrev pub freed : List GatewayEvent
+freed = response 200 10000000 ∷ asks_for_all 8 (codes "aaln/1") ∷ response 200 10000001 ∷ response 200 10000002 ∷ tick 1001 ∷ []
+
+-- what the gateway took of the world above up to there, and behind that
+abbrev pub took_first : List WorldStep → List GatewayEvent
+took_first steps = (world steps).gateway_took
+
+abbrev pub took_since : List WorldStep → List GatewayEvent
+took_since steps = drop (length (took_first steps)) (took_first rested)

@@ -5,4 +5,5 @@ pub mod Taking
 pub mod GoingOn
 pub mod Asking
 pub mod Fairness
+pub mod Rounds
 pub mod Example

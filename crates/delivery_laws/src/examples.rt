@@ -2,28 +2,41 @@
 //! sentence of a definition has one that a slip in it breaks.
 #![tactic(auto, unfolding(crate::proofs::Computing::on_examples))]
 
-ghost use Rattle.std.specs.Prelude.{◌≡◌, ◌++◌, codes, [], ◌∷◌, length, map, true, false, None, Some};
+ghost use Rattle.std.specs.Prelude.{◌≡◌, ◌<◌, ◌+◌, ◌++◌, codes, [], ◌∷◌, length, map, true, false, None, Some};
 ghost use Rattle.history.specs.declared.entry.Entry.TheVariants.{Confirmation};
 ghost use Rattle.history.specs.Firsts.{young_of};
 ghost use Rattle.history.specs.Kept.{first_entry, young_firsts};
 ghost use Rattle.restart.specs.declared.restart.Restart.TheVariants.{Waiting, Announced, Serving};
 ghost use Rattle.mg_line.specs.declared.state.State.TheVariants.{Notification, Lockstep};
 ghost use Rattle.plain_machine.specs.Machine.{serves};
-ghost use Rattle.plain_machine.specs.Example.{two_lines, other_agent, agent};
+ghost use Rattle.plain_machine.specs.Example.{agent, other_agent, ready, response, two_lines};
 ghost use Rattle.agent_core.specs.declared.packet.End.TheVariants.{GatewayEnd, AgentEnd};
-ghost use Rattle.agent_core.specs.World.{delivering, gateway_address, gateway_in, steps_are_taken, ticking, world_opening};
+ghost use Rattle.agent_core.specs.World.{delivering, gateway_address, gateway_in, now_in, steps_are_taken, ticking, world_opening};
 ghost use Rattle.world_laws.specs.Reached.{issued_in, key_reached, own_in, taken_in};
 ghost use Rattle.world_laws.specs.Example.{world, texts_in, moments_in, code_in, announced, audits, seconds};
-ghost use Rattle.dialled_once.specs.Example.{lifted as off_hook};
-ghost use Rattle.dialled_end_to_end.specs.Example.{done_then, left_then, told_then};
+ghost use Rattle.mg_bytes.specs.declared.letter.Letter.TheVariants.{Timer};
+ghost use Rattle.mg_packages.specs.declared.event.LineEvent.TheVariants as events;
+ghost use Rattle.mg_packages.specs.declared.signal.Signal.TheVariants.{Ringing};
+ghost use Rattle.event_values.specs.declared.observed.Observed.TheVariants.{Happened, Ended};
+ghost use Rattle.plain_machine.specs.Event.{tick};
+ghost use Rattle.plain_machine.specs.Lists.{plain, sent_of};
+ghost use Rattle.dialled_once.specs.Example.{five, left_then as left_at, lifted as off_hook, six};
+ghost use Rattle.dialled_once.specs.Course.{course_from, course_of};
+ghost use Rattle.dialled_once.specs.Dialled.{IsAskedForAll, done_in};
+ghost use Rattle.line_isolation.specs.Belonging.{of_line};
+ghost use Rattle.machine_laws.specs.Saying.{HasNumbersLeft};
+ghost use Rattle.dialled_end_to_end.specs.GivenUp.{has_given_up};
+ghost use Rattle.dialled_end_to_end.specs.Example.{asked as asked_for_all, done_then, endpoint_then, left_then, told_then};
 ghost use Rattle.delivery_laws.specs.Copies.{arrives, IsCopy, IsConfirmedAmong, gateway_firsts};
 ghost use Rattle.delivery_laws.specs.Chances.{IsSentAfter, IsCarried};
 ghost use Rattle.delivery_laws.specs.OwnChances.{HasCome, IsOfLine, IsToldAfter};
-ghost use Rattle.delivery_laws.specs.Fairness.{GoesToAgent, IsFair};
+ghost use Rattle.delivery_laws.specs.Fairness.{AgentAlwaysHasRoom, GoesToAgent, HadItsTime, IsFair, IsNeverConfirmedIn};
+ghost use Rattle.delivery_laws.specs.Rounds.{IsAnsweredWithin, IsAskedWithin, of_telephone, rounds_take};
 ghost use Rattle.delivery_laws.specs.GoingOn.{IsPlainAnswer};
 ghost use Rattle.delivery_laws.specs.Taking.{IsConfirmedIn, agent_history};
 ghost use Rattle.delivery_laws.specs.Asking.{AsksBy};
 ghost use Rattle.delivery_laws.specs.Example.{audit, asked, audits_with, stored_in, answered, confirmed, up_to, last_copy};
+ghost use Rattle.delivery_laws.specs.Example.{freed, held, in_step, took_first, took_since};
 ghost use Rattle.delivery_laws.specs.Example.{both_lifted, brought, kept_back, key_begun, lifted, rested, notified, notification, redirected, flying_after, state_after, state_on};
 
 /// An audit is handed over once, and so is its answer: it has its answer. Without the one or the other it has none.
@@ -97,14 +110,28 @@ pub fn a_notification_is_brought()
     ensures goes_not { ¬ GoesToAgent two_lines (world redirected) (codes "NTFY 10000000 aaln/1@rgw.example.net MGCP 1.0\r\nX: A0\r\nO: L/hd\r\n") }
 {}
 
-/// Where the network is fair and the telephone rests the agent was told all that it did; while a notification is kept back it wasn't.
+/// Where the network is fair and the telephone rests the agent was told all that it did; while a notification is kept back it wasn't, and
+/// its line wasn't answered. All that the law asks for holds at once, where the line is asked and lifted, and then a ms passes.
 pub fn what_rests_is_taken()
     ensures steps { steps_are_taken two_lines world_opening rested ≡ true }
+    ensures numbers { HasNumbersLeft (own_in two_lines (world rested)) }
+    ensures events { (world rested).gateway_took ≡ took_first asked_for_all ++ took_since asked_for_all }
+    ensures asked { IsAskedForAll (course_of two_lines 1 (took_first asked_for_all))
+        (course_from two_lines (plain two_lines (took_first asked_for_all)) 1 (took_since asked_for_all)) (endpoint_then rested).line }
+    ensures nothing_given_up { has_given_up (of_line 1 (sent_of two_lines (world rested).gateway_took)) (endpoint_then rested).post ≡ false }
     ensures fair { IsFair two_lines rested 0 }
+    ensures room { AgentAlwaysHasRoom two_lines rested }
+    ensures unconfirmed { IsNeverConfirmedIn two_lines rested 10000000 }
+    ensures its_time { HadItsTime two_lines rested 0 (endpoint_then rested).post.pending }
+    ensures split { (world rested).gateway_took ≡ took_first kept_back ++ took_since kept_back }
+    ensures answered { IsAnsweredWithin two_lines 1 (took_first kept_back) (took_since kept_back) 0 }
+    ensures asked_again { IsAskedWithin two_lines 1 (took_first kept_back) (took_since kept_back) 0 }
+    ensures late { (plain two_lines (took_first kept_back)).now + rounds_take 0 0 0 < now_in two_lines (world rested) }
     ensures left { left_then rested ≡ [] }
     ensures told { told_then rested ≡ done_then rested }
     ensures done { done_then rested ≡ off_hook ∷ [] }
     ensures not_fair { ¬ IsFair two_lines kept_back 0 }
+    ensures not_answered { ¬ IsAnsweredWithin two_lines 1 (took_first kept_back) (tick 2 ∷ []) 0 }
     ensures none_left { left_then kept_back ≡ [] }
     ensures none_told { told_then kept_back ≡ [] }
     ensures done_too { done_then kept_back ≡ off_hook ∷ [] }
@@ -152,4 +179,24 @@ pub fn who_is_unanswered_asks_again()
     ensures too_long { ¬ AsksBy (Waiting 13) 10 2 None }
     ensures nothing_flies { ¬ AsksBy Announced 10 2 None }
     ensures serves { AsksBy Serving 10 2 None }
+{}
+
+/// What is quarantined goes out once the line is answered and asked, in either order, and one event at a time; in loop once it is
+/// answered. Where it isn't answered, or in step isn't asked, it stays. A line that waits for both no longer than 0 ms has nothing
+/// of it left after 0 ms.
+pub fn what_is_quarantined_goes_out()
+    ensures held { left_at held ≡ Some (five ∷ six ∷ []) }
+    ensures unasked { left_at (held ++ response 200 10000000 ∷ tick 1500 ∷ []) ≡ Some (five ∷ six ∷ []) }
+    ensures unanswered { left_at (held ++ in_step 8 ∷ tick 1001 ∷ []) ≡ Some (five ∷ six ∷ []) }
+    ensures round { left_at (held ++ response 200 10000000 ∷ in_step 8 ∷ []) ≡ Some (six ∷ []) }
+    ensures other_order { left_at (held ++ in_step 8 ∷ response 200 10000000 ∷ []) ≡ Some (six ∷ []) }
+    ensures out { left_at (held ++ freed) ≡ Some [] }
+    ensures answered_in_time { IsAnsweredWithin two_lines 1 (ready ++ held) freed 0 }
+    ensures asked_in_time { IsAskedWithin two_lines 1 (ready ++ held) freed 0 }
+    ensures begins { (plain two_lines (ready ++ held)).now ≡ 1000 }
+    ensures ends { (plain two_lines (ready ++ (held ++ freed))).now ≡ 1001 }
+    ensures not_answered { ¬ IsAnsweredWithin two_lines 1 (ready ++ held) (in_step 8 ∷ tick 1001 ∷ []) 0 }
+    ensures not_asked { ¬ IsAskedWithin two_lines 1 (ready ++ held) (response 200 10000000 ∷ tick 1500 ∷ []) 499 }
+    ensures most { rounds_take 256 1000 500 ≡ 384000 }
+    ensures of_telephone { of_telephone (five ∷ Ended Ringing ∷ Happened (events.Letter Timer) ∷ []) ≡ five ∷ [] }
 {}

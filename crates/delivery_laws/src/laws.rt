@@ -1,5 +1,13 @@
 //! Laws of delivery, in a world of two ends over a bad network.
 ghost use Rattle.std.specs.Prelude.{◌≡◌, ◌≢◌, ◌⊎◌, ◌≤◌, ◌<◌, ◌+◌, ◌*◌, ℕ, List, ◌++◌, ◌∷◌, [], All, Any, Some, length, true, false};
+ghost use Rattle.event_values.specs.declared.handling.Notifying.TheVariants.{Loop};
+ghost use Rattle.event_values.specs.declared.observed.Observed.{Observed};
+ghost use Rattle.event_requests.specs.declared.request.Request.{Request};
+ghost use Rattle.mg_line.specs.declared.state.State.TheVariants.{Lockstep};
+ghost use Rattle.mg_line.specs.Answering.{answered};
+ghost use Rattle.mg_line.specs.Line.{LineState};
+ghost use Rattle.mg_line.specs.Requesting.{asked};
+ghost use Rattle.restart.specs.declared.restart.Restart.TheVariants.{Serving};
 ghost use Rattle.mgcp_text.specs.declared.message.Message.TheVariants as messages;
 ghost use Rattle.mgcp_text.specs.declared.message.Param.{Param};
 ghost use Rattle.mgcp_text.specs.Reading.{message, read_text};
@@ -16,7 +24,7 @@ ghost use Rattle.plain_machine.specs.Machine.{serves, endpoint_at};
 ghost use Rattle.plain_machine.specs.Setup.{IsSetUp};
 ghost use Rattle.plain_machine.specs.Event.{GatewayEvent};
 ghost use Rattle.plain_machine.specs.Transactions.{commands_of};
-ghost use Rattle.plain_machine.specs.Lists.{plain, sent_of};
+ghost use Rattle.plain_machine.specs.Lists.{plain, sent_from, sent_of};
 ghost use Rattle.machine_laws.specs.Saying.{Begun, HasNumbersLeft};
 ghost use Rattle.line_isolation.specs.Belonging.{of_line};
 ghost use Rattle.dialled_once.specs.Course.{course_from, course_of};
@@ -33,6 +41,7 @@ ghost use Rattle.delivery_laws.specs.Taking.{AgentHasRoom, IsConfirmedIn, IsOwn,
 ghost use Rattle.delivery_laws.specs.Asking.{KeepsAsking};
 ghost use Rattle.delivery_laws.specs.Fairness.{IsFair, AlwaysHasRoom, IsNeverConfirmed, AgentAlwaysHasRoom, IsNeverConfirmedIn, GoesToAgent, HadItsTime};
 ghost use Rattle.delivery_laws.specs.GoingOn.{GoesOn, GoesOnAmid, IsPlainAnswer};
+ghost use Rattle.delivery_laws.specs.Rounds.{IsAnsweredWithin, IsAskedWithin, of_telephone, rounds_take};
 ghost use Rattle.delivery_laws.specs.Chances.{chances, last_chance, IsSentAfter, IsCarried};
 ghost use Rattle.delivery_laws.specs.OwnChances.{HasCome, IsOfLine, IsResponse, IsToldAfter};
 
@@ -125,7 +134,9 @@ pub fn a_fair_network_brings_each_notification()
 
 /// So over such a network what a telephone did is what the agent was told of its line, joined, and then what is quarantined, once what
 /// the line has in flight is so old; and where nothing is quarantined it is all that the agent was told. It is so where the law of both
-/// ends, `what_is_dialled_reaches_the_agent_once`, says that it reaches the agent once (RFC 3435, 4.4.1).
+/// ends, `what_is_dialled_reaches_the_agent_once`, says that it reaches the agent once. Where from a moment on the line waits for no
+/// answer and no request for longer than so many ms each, that is, so many rounds later, what the telephone had done by then the agent
+/// was told; and all of it, where the telephone rests since (RFC 3435, 4.4.1).
 pub fn what_is_dialled_is_taken_in_time()
     ensures taken { (setup : Setup) (steps : List WorldStep) (within line : ℕ) (before after : List GatewayEvent)
         (endpoint : Endpoint) → IsSetUp setup → steps_are_taken setup world_opening steps ≡ true → let w = plain_world setup steps in
@@ -145,6 +156,58 @@ pub fn what_is_dialled_is_taken_in_time()
         AgentAlwaysHasRoom setup steps → HadItsTime setup steps within endpoint.post.pending →
         happened_in endpoint.line.quarantined.events ≡ [] →
         done_in (course_of setup line w.gateway_took) ≡ happened_in (observed_on line (agent_in setup w)) }
+    ensures by_then { (setup : Setup) (steps : List WorldStep) (within line : ℕ) (before after some later : List GatewayEvent)
+        (answering asking : ℕ) (was endpoint : Endpoint) → IsSetUp setup → steps_are_taken setup world_opening steps ≡ true →
+        let w = plain_world setup steps in HasNumbersLeft (own_in setup w) → w.gateway_took ≡ before ++ after →
+        endpoint_at (gateway_in setup w).endpoints line ≡ Some endpoint →
+        IsAskedForAll (course_of setup line before) (course_from setup (plain setup before) line after) endpoint.line →
+        has_given_up (of_line line (sent_of setup w.gateway_took)) endpoint.post ≡ false → IsFair setup steps within →
+        AgentAlwaysHasRoom setup steps → HadItsTime setup steps within endpoint.post.pending → w.gateway_took ≡ some ++ later →
+        endpoint_at (plain setup some).endpoints line ≡ Some was →
+        IsAnsweredWithin setup line some later answering → IsAskedWithin setup line some later asking →
+        (plain setup some).now + rounds_take (length was.line.quarantined.events) answering asking < now_in setup w →
+        (rest : List Observed) × (happened_in (observed_on line (agent_in setup w)) ≡ done_in (course_of setup line some) ++ rest) }
+    ensures rests { (setup : Setup) (steps : List WorldStep) (within line : ℕ) (before after some later : List GatewayEvent)
+        (answering asking : ℕ) (was endpoint : Endpoint) → IsSetUp setup → steps_are_taken setup world_opening steps ≡ true →
+        let w = plain_world setup steps in HasNumbersLeft (own_in setup w) → w.gateway_took ≡ before ++ after →
+        endpoint_at (gateway_in setup w).endpoints line ≡ Some endpoint →
+        IsAskedForAll (course_of setup line before) (course_from setup (plain setup before) line after) endpoint.line →
+        has_given_up (of_line line (sent_of setup w.gateway_took)) endpoint.post ≡ false → IsFair setup steps within →
+        AgentAlwaysHasRoom setup steps → HadItsTime setup steps within endpoint.post.pending → w.gateway_took ≡ some ++ later →
+        endpoint_at (plain setup some).endpoints line ≡ Some was →
+        IsAnsweredWithin setup line some later answering → IsAskedWithin setup line some later asking →
+        (plain setup some).now + rounds_take (length was.line.quarantined.events) answering asking < now_in setup w →
+        done_in (course_from setup (plain setup some) line later) ≡ [] →
+        done_in (course_of setup line w.gateway_took) ≡ happened_in (observed_on line (agent_in setup w)) }
+{}
+
+/// Each time that quarantined events occur one at least goes out of the quarantine: at a request for which the line waits, and at the
+/// answer to its notification, in loop or where a request came since (RFC 3435, 4.4.1).
+pub fn each_round_lets_one_go()
+    ensures asked { (line : LineState) (request : Request) (moment : ℕ) → line.state ≡ Lockstep → line.quarantined.events ≢ [] →
+        length (asked line request moment).line.quarantined.events < length line.quarantined.events }
+    ensures answered { (line : LineState) (moment : ℕ) → (line.handling.notifying ≡ Loop) ⊎ (line.renewed ≡ true) →
+        line.quarantined.events ≢ [] → length (answered line moment).line.quarantined.events < length line.quarantined.events }
+{}
+
+/// So where from a moment on a line waits for no answer and for no request longer than so many ms each, and gives nothing up, after
+/// as many rounds of both as there were events in its quarantine nothing that its telephone did before is quarantined: no more of it
+/// than the telephone did since, and none where that rests (RFC 3435, 4.4.1).
+pub fn what_is_quarantined_goes_out_in_time()
+    ensures out { (setup : Setup) (before after : List GatewayEvent) (line answering asking : ℕ) (was is : Endpoint) →
+        endpoint_at (plain setup before).endpoints line ≡ Some was → was.post.restart ≡ Serving →
+        endpoint_at (plain setup (before ++ after)).endpoints line ≡ Some is →
+        has_given_up (of_line line (sent_from setup (plain setup before) after)) is.post ≡ false →
+        IsAnsweredWithin setup line before after answering → IsAskedWithin setup line before after asking →
+        (plain setup before).now + rounds_take (length was.line.quarantined.events) answering asking < (plain setup (before ++ after)).now →
+        length (of_telephone is.line.quarantined.events) ≤ length (done_in (course_from setup (plain setup before) line after)) }
+    ensures rests { (setup : Setup) (before after : List GatewayEvent) (line answering asking : ℕ) (was is : Endpoint) →
+        endpoint_at (plain setup before).endpoints line ≡ Some was → was.post.restart ≡ Serving →
+        endpoint_at (plain setup (before ++ after)).endpoints line ≡ Some is →
+        has_given_up (of_line line (sent_from setup (plain setup before) after)) is.post ≡ false →
+        IsAnsweredWithin setup line before after answering → IsAskedWithin setup line before after asking →
+        (plain setup before).now + rounds_take (length was.line.quarantined.events) answering asking < (plain setup (before ++ after)).now →
+        done_in (course_from setup (plain setup before) line after) ≡ [] → of_telephone is.line.quarantined.events ≡ [] }
 {}
 
 /// Until a response to it comes, a command of a line's own, a notification or its announcement, and an announcement of the gateway

@@ -1,18 +1,45 @@
-use Rattle.std.proofs.Common.{◌≡◌, ℕ, zero, suc, ◌+◌, ◌≤◌, List, [], ◌∷◌, ◌++◌, Option, Some, codes, refl, sym, ap, ◌∙◌, arith}
-use Rattle.std.specs.Prelude.{slice_get, unwrap_or}
+use Rattle.std.proofs.Common.{◌≡◌, ℕ, zero, suc, ◌+◌, ◌<◌, ◌≤◌, Bool, true, ◌&&◌, List, [], ◌∷◌, ◌++◌, length, Option, Some, None, codes, refl, sym, ap, ◌∙◌, subst, arith}
+use Rattle.std.specs.Prelude.{nat_lt, not, slice_get, unwrap_or}
+use Rattle.std.specs.List.{list_any}
+use Rattle.std.proofs.lemmas.Bool.{and_parts, ltb-true}
 use Rattle.std.proofs.lemmas.Option.{none-some}
+use Rattle.history.specs.Kept.{young_firsts}
+use Rattle.history.specs.Looking.{confirms}
+use Rattle.history.specs.Memory.{most_firsts}
+use Rattle.outbound.specs.Flight.{InFlight}
+use Rattle.plain_machine.specs.Event.{tick}
 use Rattle.plain_machine.specs.Example.{two_lines, agent}
 use Rattle.mg_line.specs.declared.phone.Act.TheVariants.{OffHook}
+use Rattle.dialled_once.proofs.AskingLemmas.{notifies_each}
 use Rattle.agent_core.specs.declared.packet.End.TheVariants.{GatewayEnd}
 use Rattle.agent_core.specs.declared.packet.Posted.{Posted}
-use Rattle.agent_core.specs.World.{WorldStep, delivering, dialling, gateway_address, issuing, plain_world, ticking}
+use Rattle.agent_core.specs.World.{World, WorldStep, delivering, dialling, gateway_address, issuing, now_in, plain_world, ticking}
+use Rattle.world_laws.specs.Reached.{own_in}
+use Rattle.world_laws.specs.Example.{world}
+use Rattle.dialled_end_to_end.specs.Example.{endpoint_in}
+use Rattle.dialled_end_to_end.proofs.NumberLemmas.{few_are_begun}
 use Rattle.delivery_laws.specs.Fairness.{IsHandedOver}
-use Rattle.delivery_laws.specs.Example.{kept_back, rested}
+use Rattle.delivery_laws.specs.Taking.{agent_history}
+use Rattle.delivery_laws.specs.Example.{kept_back, rested, took_first, took_since}
 use Rattle.delivery_laws.proofs.Computing.{on_examples}
 use Rattle.delivery_laws.proofs.ExampleLemmas.{hand_over, none_handed}
+use Rattle.delivery_laws.proofs.FrontLemmas.{answered_within, asked_within, front_holds, on_fronts, unconfirmed}
 use Rattle.delivery_laws.proofs.examples.what_rests_is_taken.Goals as goal
 
--- all packets were sent at 1
+-- the gateway announced itself, and one event was notified
+two : length (own_in two_lines (world rested)) ≡ 2
+unfolding on_examples
+two = refl
+
+pub returns-clause-numbers : goal.returns-clause-numbers
+returns-clause-numbers c = few_are_begun (own_in two_lines (world rested)) (subst (λ (n : ℕ). n < 9999999) (sym two) (omega arith))
+
+pub returns-clause-asked : goal.returns-clause-asked
+unfolding on_examples
+returns-clause-asked c =
+    record { undone = refl; asked = record { requested = notifies_each _ refl refl; quarantined = refl }; since = tt; none_lost = refl }
+
+-- all packets were sent at 1, and handed over then
 sent_then : (one post : Posted) → Some one ≡ Some post → one.packet.moment ≡ 1 → 1 ≤ post.packet.moment + 0
 sent_then one post same at =
     let is : 1 ≡ post.packet.moment = sym at ∙ ap (λ (o : Option Posted). (unwrap_or o one).packet.moment) same in
@@ -22,7 +49,7 @@ asks : WorldStep
 asks = issuing (codes "RQNT") (codes "aaln/1@rgw.example.net") (codes "X: C2\r\nR: L/hd(N),L/hu(N),L/hf(N),D/[0-9*#ABCD](N)\r\nQ: loop,process\r\n")
 
 lifted : List WorldStep
-lifted = dialling 1 OffHook ∷ delivering 4 ∷ delivering 5 ∷ []
+lifted = dialling 1 OffHook ∷ delivering 4 ∷ delivering 5 ∷ ticking 2 ∷ []
 
 fair_at : (number : ℕ) (post : Posted) → slice_get (plain_world two_lines rested).posted number ≡ Some post → IsHandedOver two_lines rested 0 number post
 unfolding on_examples asks lifted
@@ -35,9 +62,9 @@ fair_at (suc (suc zero)) post found =
 fair_at (suc (suc (suc zero))) post found =
     record { before = ticking 1 ∷ delivering 0 ∷ delivering 1 ∷ asks ∷ delivering 2 ∷ []; later = lifted; order = refl; sent = found; soon = sent_then _ post found refl }
 fair_at (suc (suc (suc (suc zero)))) post found =
-    record { before = kept_back; later = delivering 5 ∷ []; order = refl; sent = found; soon = sent_then _ post found refl }
+    record { before = kept_back; later = delivering 5 ∷ ticking 2 ∷ []; order = refl; sent = found; soon = sent_then _ post found refl }
 fair_at (suc (suc (suc (suc (suc zero))))) post found =
-    record { before = kept_back ++ delivering 4 ∷ []; later = []; order = refl; sent = found; soon = sent_then _ post found refl }
+    record { before = kept_back ++ delivering 4 ∷ []; later = ticking 2 ∷ []; order = refl; sent = found; soon = sent_then _ post found refl }
 fair_at (suc (suc (suc (suc (suc (suc n)))))) post found = absurd (none-some post found)
 
 pub returns-clause-fair : goal.returns-clause-fair
@@ -48,3 +75,50 @@ unfolding on_examples hand_over
 returns-clause-not_fair c = λ fair.
     let post : Posted = record { end = GatewayEnd; packet = record { moment = 1; sender = gateway_address two_lines; to = agent; bytes = codes "NTFY 10000000 aaln/1@rgw.example.net MGCP 1.0\r\nX: C2\r\nO: L/hd\r\n" } } in
     none_handed two_lines kept_back 0 4 post refl (fair 4 post refl (omega arith))
+
+-- At no beginning is room wanting, or the notification confirmed
+
+has_room : World → Bool
+has_room w = nat_lt (length (young_firsts (now_in two_lines w) (agent_history two_lines w))) most_firsts
+
+unnamed : World → Bool
+unnamed w = not (list_any (confirms 10000000) (agent_history two_lines w))
+
+both_then : List WorldStep → Bool
+both_then before = let w = plain_world two_lines before in has_room w && unnamed w
+
+all_then : on_fronts both_then rested ≡ true
+unfolding on_examples both_then has_room unnamed
+all_then = refl
+
+pub returns-clause-room : goal.returns-clause-room
+unfolding both_then has_room
+returns-clause-room c = λ before later order. let w = plain_world two_lines before in
+    ltb-true _ _ (and_parts (has_room w) (unnamed w) (front_holds both_then rested before later all_then order)).0
+
+pub returns-clause-unconfirmed : goal.returns-clause-unconfirmed
+unfolding both_then unnamed
+returns-clause-unconfirmed c = λ before later order confirmed. let w = plain_world two_lines before in
+    unconfirmed 10000000 (agent_history two_lines w) (and_parts (has_room w) (unnamed w) (front_holds both_then rested before later all_then order)).1 confirmed
+
+-- Line 1 waits for no answer at any time, but for 1 ms where it is kept back
+
+pub returns-clause-answered : goal.returns-clause-answered
+unfolding on_examples
+returns-clause-answered c = answered_within two_lines 1 (took_first kept_back) (took_since kept_back) 0 refl
+
+pub returns-clause-asked_again : goal.returns-clause-asked_again
+unfolding on_examples
+returns-clause-asked_again c = asked_within two_lines 1 (took_first kept_back) (took_since kept_back) 0 refl
+
+first_of : Option InFlight → ℕ
+first_of None = 0
+first_of (Some flight) = flight.first
+
+pub returns-clause-not_answered : goal.returns-clause-not_answered
+unfolding on_examples first_of
+returns-clause-not_answered c = λ answered.
+    let is = answered (tick 2 ∷ []) [] (endpoint_in 1 (took_first kept_back ++ tick 2 ∷ [])) refl refl refl in
+    let first : 1 ≡ is.flight.first = ap first_of is.flies in
+    let lately : 2 ≤ is.flight.first + 0 = is.lately in
+    omega (arith, first, lately)

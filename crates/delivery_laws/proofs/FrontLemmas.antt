@@ -1,0 +1,154 @@
+-- What holds of each beginning of a list; for worked examples, in which it computes.
+use Rattle.std.proofs.Common.{◌≡◌, ℕ, ◌+◌, Bool, true, false, ◌||◌, ◌&&◌, List, [], ◌∷◌, ◌++◌, Option, Some, None, inl, inr, refl, sym, ap, ◌∙◌, subst}
+use Rattle.std.specs.Prelude.{nat_le, nat_lt, not}
+use Rattle.std.specs.List.{list_any}
+use Rattle.std.proofs.lemmas.Bool.{and_parts, leb-true}
+use Rattle.std.proofs.lemmas.Bool.Decides.{Decides-ltb}
+use Rattle.event_requests.specs.declared.request.Request.{Request}
+use Rattle.history.specs.declared.entry.Entry.{Entry}
+use Rattle.history.specs.declared.entry.Entry.TheVariants.{First}
+use Rattle.history.specs.Looking.{confirms}
+use Rattle.mg_line.specs.declared.state.State.{State}
+use Rattle.mg_line.specs.declared.state.State.TheVariants.{Normal, Notification, Lockstep}
+use Rattle.outbound.specs.Flight.{InFlight}
+use Rattle.plain_machine.specs.declared.endpoint.Endpoint.{Endpoint}
+use Rattle.plain_machine.specs.declared.setup.Setup.{Setup}
+use Rattle.plain_machine.specs.Event.{GatewayEvent}
+use Rattle.plain_machine.specs.Lists.{plain}
+use Rattle.plain_machine.specs.Machine.{Machine, endpoint_at}
+use Rattle.machine_laws.specs.Saying.{OneOf}
+use Rattle.machine_laws.proofs.EachLemmas.{one_from_any}
+use Rattle.dialled_once.specs.Course.{course_from, requests_in}
+use Rattle.delivery_laws.specs.Rounds.{IsAnsweredWithin, IsAskedWithin, IsAwaited}
+use Rattle.delivery_laws.specs.Taking.{IsConfirmedIn}
+
+first_same : {X : Type 0} (x y : X) (xs ys : List X) → x ∷ xs ≡ y ∷ ys → x ≡ y
+first_same x y xs ys same = cc
+
+rest_same : {X : Type 0} (x y : X) (xs ys : List X) → x ∷ xs ≡ y ∷ ys → xs ≡ ys
+rest_same x y xs ys same = cc
+
+-- of the empty one, and of each longer one up to all
+abbrev pub on_fronts : {X : Type 0} → (List X → Bool) → List X → Bool
+on_fronts holds [] = holds []
+on_fronts holds (x ∷ xs) = holds [] && on_fronts (λ front. holds (x ∷ front)) xs
+
+pub front_holds : {X : Type 0} (holds : List X → Bool) (all some later : List X) → on_fronts holds all ≡ true → all ≡ some ++ later → holds some ≡ true
+front_holds holds [] [] later is same = is
+front_holds holds [] (y ∷ some) later is same = absurd cc
+front_holds holds (x ∷ xs) [] later is same = (and_parts (holds []) (on_fronts (λ front. holds (x ∷ front)) xs) is).0
+front_holds holds (x ∷ xs) (y ∷ some) later is same =
+    subst (λ z. holds (z ∷ some) ≡ true) (first_same x y xs (some ++ later) same)
+    (front_holds (λ front. holds (x ∷ front)) xs some later (and_parts (holds []) (on_fronts (λ front. holds (x ∷ front)) xs) is).1 (rest_same x y xs (some ++ later) same))
+
+-- and of each stretch behind a beginning
+abbrev pub on_stretches : {X : Type 0} → (List X → List X → Bool) → List X → Bool
+on_stretches holds [] = on_fronts (holds []) []
+on_stretches holds (x ∷ xs) = on_fronts (holds []) (x ∷ xs) && on_stretches (λ some between. holds (x ∷ some) between) xs
+
+pub stretch_holds : {X : Type 0} (holds : List X → List X → Bool) (all some between later : List X) → on_stretches holds all ≡ true → all ≡ (some ++ between) ++ later
+    → holds some between ≡ true
+stretch_holds holds [] [] between later is same = front_holds (holds []) [] between later is same
+stretch_holds holds [] (y ∷ some) between later is same = absurd cc
+stretch_holds holds (x ∷ xs) [] between later is same =
+    front_holds (holds []) (x ∷ xs) between later (and_parts (on_fronts (holds []) (x ∷ xs)) (on_stretches (λ some between. holds (x ∷ some) between) xs) is).0 same
+stretch_holds holds (x ∷ xs) (y ∷ some) between later is same =
+    subst (λ z. holds (z ∷ some) between ≡ true) (first_same x y xs ((some ++ between) ++ later) same)
+    (stretch_holds (λ some between. holds (x ∷ some) between) xs some between later
+    (and_parts (on_fronts (holds []) (x ∷ xs)) (on_stretches (λ some between. holds (x ∷ some) between) xs) is).1 (rest_same x y xs ((some ++ between) ++ later) same))
+
+-- Where no entry confirms it
+
+either_is : (a b : Bool) → b ≡ true → (a || b) ≡ true
+either_is true b is = refl
+either_is false b is = is
+
+pub unconfirmed : (id : ℕ) (entries : List Entry) → not (list_any (confirms id) entries) ≡ true → IsConfirmedIn id entries → ⊥
+unconfirmed id entries none is = clash (list_any (confirms id) entries) none (ap (list_any (confirms id)) is.order ∙ behind is.before (First is.first ∷ is.later) named) where
+  clash : (b : Bool) → not b ≡ true → b ≡ true → ⊥
+  clash true none is = cc
+  clash false none is = cc
+
+  behind : (before later : List Entry) → list_any (confirms id) later ≡ true → list_any (confirms id) (before ++ later) ≡ true
+  behind [] later is = is
+  behind (entry ∷ before) later is = either_is (confirms id entry) (list_any (confirms id) (before ++ later)) (behind before later is)
+
+  some_named : (later : List Entry) → OneOf (λ (entry : Entry). confirms id entry ≡ true) later → list_any (confirms id) later ≡ true
+  some_named [] none = absurd none
+  some_named (entry ∷ later) (inl is) = ap (λ (b : Bool). b || list_any (confirms id) later) is
+  some_named (entry ∷ later) (inr one) = either_is (confirms id entry) (list_any (confirms id) later) (some_named later one)
+
+  named : list_any (confirms id) (First is.first ∷ is.later) ≡ true
+  named = some_named is.later (one_from_any (λ (entry : Entry). confirms id entry ≡ true) is.later is.named)
+
+-- Whether a line is answered and asked
+
+abbrev is_notified : State → Bool
+is_notified Normal = false
+is_notified Notification = true
+is_notified Lockstep = false
+
+abbrev is_locked : State → Bool
+is_locked Normal = false
+is_locked Notification = false
+is_locked Lockstep = true
+
+abbrev is_awaited : ℕ → ℕ → Option InFlight → Bool
+is_awaited now wait None = false
+is_awaited now wait (Some flight) = nat_le flight.first now && nat_le now (flight.first + wait)
+
+awaited : (now wait : ℕ) (pending : Option InFlight) → is_awaited now wait pending ≡ true → IsAwaited now wait pending
+awaited now wait None is = absurd cc
+awaited now wait (Some flight) is =
+    let both = and_parts (nat_le flight.first now) (nat_le now (flight.first + wait)) is in
+    record { flight = flight; flies = refl; sent = leb-true flight.first now both.0; lately = leb-true now (flight.first + wait) both.1 }
+
+abbrev answered_by : ℕ → ℕ → Option Endpoint → Bool
+answered_by now wait None = true
+answered_by now wait (Some endpoint) = not (is_notified endpoint.line.state) || is_awaited now wait endpoint.post.pending
+
+abbrev pub is_answered : Setup → ℕ → List GatewayEvent → ℕ → List GatewayEvent → Bool
+is_answered setup line before wait some = let m = plain setup (before ++ some) in answered_by m.now wait (endpoint_at m.endpoints line)
+
+or_second : (a b : Bool) → a ≡ true → (not a || b) ≡ true → b ≡ true
+or_second true b a is = is
+or_second false b a is = absurd cc
+
+pub answered_within : (setup : Setup) (line : ℕ) (before events : List GatewayEvent) (wait : ℕ) → on_fronts (is_answered setup line before wait) events ≡ true
+    → IsAnsweredWithin setup line before events wait
+answered_within setup line before events wait all = λ some later endpoint order at state.
+    let m : Machine = plain setup (before ++ some) in
+    awaited m.now wait endpoint.post.pending
+    (or_second (is_notified endpoint.line.state) (is_awaited m.now wait endpoint.post.pending) (ap is_notified state)
+    (sym (ap (answered_by m.now wait) at) ∙ front_holds (is_answered setup line before wait) events some later all order))
+
+abbrev has_some : List Request → Bool
+has_some [] = false
+has_some (request ∷ requests) = true
+
+abbrev locked_by : Option Endpoint → Bool
+locked_by None = false
+locked_by (Some endpoint) = is_locked endpoint.line.state
+
+abbrev pub is_asked : Setup → ℕ → List GatewayEvent → ℕ → List GatewayEvent → List GatewayEvent → Bool
+is_asked setup line before wait some between =
+    let m = plain setup (before ++ some) in
+    not (locked_by (endpoint_at m.endpoints line) && nat_lt (m.now + wait) (plain setup ((before ++ some) ++ between)).now) || has_some (requests_in (course_from setup m line between))
+
+both_are : (a b : Bool) → a ≡ true → b ≡ true → (a && b) ≡ true
+both_are true true one two = refl
+both_are true false one two = absurd cc
+both_are false b one two = absurd cc
+
+pub asked_within : (setup : Setup) (line : ℕ) (before events : List GatewayEvent) (wait : ℕ) → on_stretches (is_asked setup line before wait) events ≡ true
+    → IsAskedWithin setup line before events wait
+asked_within setup line before events wait all = λ some between later endpoint order at state late none.
+    let m : Machine = plain setup (before ++ some) in
+    let next : ℕ = (plain setup ((before ++ some) ++ between)).now in
+    let locked : locked_by (endpoint_at m.endpoints line) ≡ true = ap locked_by at ∙ ap is_locked state in
+    let long : nat_lt (m.now + wait) next ≡ true = (Decides-ltb (m.now + wait) next).1 late in
+    let some_asked : has_some (requests_in (course_from setup m line between)) ≡ true =
+    or_second (locked_by (endpoint_at m.endpoints line) && nat_lt (m.now + wait) next) (has_some (requests_in (course_from setup m line between)))
+    (both_are (locked_by (endpoint_at m.endpoints line)) (nat_lt (m.now + wait) next) locked long)
+    (stretch_holds (is_asked setup line before wait) events some between later all order) in
+    let clash : true ≡ false = sym some_asked ∙ ap has_some none in cc
