@@ -2,11 +2,10 @@
 ghost use Rattle.std.specs.Prelude.{◌≡◌, ◌≤◌, [], length, IfOk, IfSome, None};
 ghost use Rattle.gateway_core.specs.Wire.{IsWithin};
 
-use crate::clock::LiveClock;
-use crate::readiness::Readiness;
-use crate::telephones::{TelephoneRequest, Telephones};
+use crate::telephones::{TelephoneRequest, next_request};
 use gateway_core::{DATAGRAM_ROOM, Input, Wire, WireFault};
-use live_journal::{Journal, LONGEST_TICK, Now};
+use live_ends::{CommandSocket, LONGEST_TICK, LiveClock, Now, Readiness};
+use live_journal::Journal;
 use mio::net::UdpSocket;
 use std::alloc::Global;
 use std::io;
@@ -25,8 +24,9 @@ const BATCH: u8 = 64;
 /// Where inputs come from.
 #[derive(Drop)]
 pub struct Ends<'a, R> {
+    alloc: Global,
     pub socket: UdpSocket,
-    pub telephones: Telephones,
+    pub telephones: CommandSocket,
     pub clock: LiveClock<'a, R>,
     /// The moment at which something falls due next, at the gateway or its site.
     pub due: Option<u64>,
@@ -58,12 +58,13 @@ impl<'a, R: Net + Clock> Ends<'a, R> {
         rt: &R,
         alloc: Global,
         mut socket: UdpSocket,
-        mut telephones: Telephones,
+        mut telephones: CommandSocket,
         clock: LiveClock<'a, R>,
         end: Option<u64>,
     ) -> io::Result<Ends<'a, R>> {
-        let ready = Readiness::watch(rt, alloc, &mut socket, &mut telephones.socket)?;
+        let ready = Readiness::watch(rt, alloc, &mut socket, &mut telephones)?;
         Ok(Ends {
+            alloc,
             socket,
             telephones,
             clock,
@@ -122,10 +123,10 @@ impl<'a, R: Net + Clock> Ends<'a, R> {
     fn telephoned(&mut self) -> Option<Input>
         ensures { IfSome result (λ input. IsWithin input []) }
     {
-        if self.ready.telephones {
-            self.ready.telephones = self.telephones.look();
+        if self.ready.commands {
+            self.ready.commands = self.telephones.look();
         }
-        match self.telephones.request()? {
+        match next_request(self.alloc, &self.telephones)? {
             TelephoneRequest::Act { line, act } => Some(Input::Phone { line, act }),
             TelephoneRequest::Show { .. }
             | TelephoneRequest::Counts
@@ -249,7 +250,8 @@ impl<'a, R: Net + Clock> LiveWire<'a, R> {
             }
             Input::Phone { .. } => {
                 let now = self.ends.clock.now();
-                self.journal.act(now, self.ends.telephones.line());
+                let line = self.ends.telephones.line().unwrap_or(&[]);
+                self.journal.act(now, line);
             }
             Input::Tick { moment } => self.journal.trace.tick(moment),
             Input::End => {}

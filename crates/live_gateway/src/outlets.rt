@@ -1,10 +1,10 @@
 //! Where what happens is told besides the network: a capture's file, and the page.
 use crate::live_wire::LiveWire;
-use crate::site::Site;
-use crate::telephones::Telephones;
 use gateway_core::Gateway;
+use live_ends::CommandSocket;
 use live_journal::{Faults, Journal, picture_of};
 use live_page::Desk;
+use live_site::Site;
 use std::alloc::Global;
 use std::net::Net;
 use std::random::RandomSource;
@@ -27,7 +27,7 @@ pub fn earlier(one: Option<u64>, other: Option<u64>) -> Option<u64> {
 }
 
 // What the page asks for is asked of a telephone, where none is asked anything.
-fn ask(alloc: Global, desk: &mut Desk, telephones: &mut Telephones) {
+fn ask(alloc: Global, desk: &mut Desk, telephones: &mut CommandSocket) {
     if !telephones.is_idle() {
         return;
     }

@@ -3,10 +3,11 @@ ghost use Rattle.std.specs.Prelude.{◌≤◌, ◌↔◌, IsTrue};
 
 use crate::live_wire::LiveWire;
 use crate::outlets::{Outlets, earlier, serve_site};
-use crate::site::Site;
-use crate::telephones::{TelephoneRequest, Telephones};
+use crate::telephones::{TelephoneRequest, next_request};
 use gateway_core::{Gateway, Input, Refusal};
+use live_ends::CommandSocket;
 use live_journal::{Faults, Journal, MessageTally, Trace, TraceEntry, report};
+use live_site::Site;
 use mg_bytes::OutOfMemory;
 use mg_line::Act;
 use mg_packages::Hook;
@@ -66,7 +67,7 @@ fn refusal_text(alloc: Global, refusal: Refusal) -> Result<Vec<u8>, OutOfMemory>
 // The gateway refused an act: the telephone is told why.
 fn refuse_act(
     alloc: Global,
-    telephones: &mut Telephones,
+    telephones: &mut CommandSocket,
     journal: &mut Journal,
     moment: u64,
     refusal: Refusal,
@@ -95,14 +96,14 @@ fn refuse_act(
 fn answer_question(
     alloc: Global,
     gateway: &Gateway,
-    telephones: &mut Telephones,
+    telephones: &mut CommandSocket,
     trace: &mut Trace,
     line: u16,
 ) {
     match shown(alloc, gateway, line) {
         Ok(text) => {
             let text = text.as_slice();
-            let line = telephones.line();
+            let line = telephones.line().unwrap_or(&[]);
             trace.tell(TraceEntry::Line { line });
             trace.tell(TraceEntry::Shown { text });
             telephones.answer(text);
@@ -115,7 +116,7 @@ fn answer_question(
 fn answer_counts(
     alloc: Global,
     gateway: &Gateway,
-    telephones: &mut Telephones,
+    telephones: &mut CommandSocket,
     tally: &MessageTally,
     faults: Faults,
 ) {
@@ -129,12 +130,12 @@ fn answer_counts(
 fn answer_questions(
     alloc: Global,
     gateway: &Gateway,
-    telephones: &mut Telephones,
+    telephones: &mut CommandSocket,
     journal: &mut Journal,
     faults: Faults,
 ) -> bool {
     for _ in 0..MOST_REQUESTS {
-        match telephones.request() {
+        match next_request(alloc, telephones) {
             Some(TelephoneRequest::Show { line }) => {
                 answer_question(alloc, gateway, telephones, &mut journal.trace, line);
             }

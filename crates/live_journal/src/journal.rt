@@ -2,10 +2,11 @@
 use crate::capture::Capture;
 use crate::log::Log;
 use crate::message_tally::MessageTally;
-use crate::now::Now;
 use crate::trace::{Trace, TraceEntry};
 use gateway_core::Input;
-use live_page::{Desk, Kind};
+use live_ends::Now;
+use live_page::Desk;
+use page_answers::Kind;
 use std::net::{Ipv4Addr, SocketAddrV4};
 
 /// The journal of a wire.

@@ -1,8 +1,7 @@
 //! The log, for people, on standard error: a line a message, and a line for what is to be noted beside it.
-use crate::now::Now;
 use crate::recent::Recent;
-use crate::record::Record;
 use exchange_log::{Note, Stamp, Way, put_given_up, put_message, put_note};
+use live_ends::{Now, Record};
 use mg_bytes::OutOfMemory;
 use mgcp_text::{Message, TextFault, TransactionId, read_message};
 use piggyback::parts;

@@ -5,8 +5,8 @@ use crate::message_tally::MessageTally;
 use crate::reporting::Faults;
 use connections::{Connection, mode_text};
 use gateway_core::Gateway;
-use live_page::{CodeCount, ConnectionView, LineView, Picture, SignalView, VerbCount};
 use mg_packages::{Hook, signal_name};
+use page_answers::{CodeCount, ConnectionView, LineView, Picture, SignalView, VerbCount};
 use std::alloc::{AllocError, Global};
 
 fn signals_of(alloc: Global, gateway: &Gateway, line: u16) -> Result<Vec<SignalView>, AllocError>

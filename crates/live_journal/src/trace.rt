@@ -4,8 +4,7 @@
 //! Ticks at which nothing was sent are told together.
 ghost use Rattle.std.specs.Prelude.{◌<◌};
 
-use crate::now::LONGEST_TICK;
-use crate::record::{Record, RecordState};
+use live_ends::{LONGEST_TICK, Record, RecordState};
 use mg_bytes::{OutOfMemory, lines, put_decimal};
 use std::alloc::Global;
 use std::io;

@@ -4,8 +4,7 @@ use Rattle.mg_bytes.proofs.Computing.{on_examples as byte_examples}
 use Rattle.serde_json.proofs.OnLiterals.{serde_json_on_literals}
 use Rattle.live_page.specs.Access.{place_of}
 use Rattle.live_page.specs.Acting.{queued_in}
-use Rattle.live_page.specs.Verbs.{verb_word}
 
 unfoldable pub on_examples : ⊤
-unfolding byte_examples serde_json_on_literals place_of queued_in verb_word
+unfolding byte_examples serde_json_on_literals place_of queued_in
 on_examples = tt

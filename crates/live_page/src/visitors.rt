@@ -7,13 +7,11 @@ ghost use Rattle.std.specs.Prelude.{◌≡◌, ◌≤◌, ◌<◌, length};
 use crate::desk::Desk;
 use http_server::{Config, Connection};
 use http1::Limits;
+use live_ends::MOST_VISITORS;
 use std::alloc::{AllocError, Global};
 use std::hash::RandomState;
 use std::io;
 use std::io::{ErrorKind, Read, Write};
-
-/// So many are served at a time; one more is turned away.
-pub const MOST_VISITORS: usize = 16;
 
 /// How long a visitor may take for a request and its answer, in ms, and be silent between them. One that is slower is dropped.
 pub const PATIENCE: u64 = 15_000;

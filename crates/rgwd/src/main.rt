@@ -4,5 +4,5 @@
 use std::process::ExitCode;
 
 fn main(rt: HostRuntime) -> ExitCode {
-    ExitCode::from(live_gateway::run(&rt))
+    ExitCode::from(rgwd_cli::run(&rt))
 }

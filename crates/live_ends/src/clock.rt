@@ -1,12 +1,12 @@
-//! The gateway's clock over the machine's.
+//! A clock that goes on by ticks, over the machine's.
 ghost use Rattle.std.specs.Prelude.{◌≡◌, ◌≤◌, ◌+◌, ◌*◌, IfOk, min, max};
 
-use live_journal::{LONGEST_TICK, Now};
+use crate::now::{LONGEST_TICK, Now};
 use std::io;
 use std::rt::Clock;
 use std::time::{Instant, SystemTime};
 
-/// The machine's clock, whose moments are ms from the start, and the moment that the gateway's clock has.
+/// The machine's clock, whose moments are ms from the start, and the moment to which ticks have come.
 #[derive(Drop)]
 pub struct LiveClock<'a, R> {
     rt: &'a R,
@@ -47,7 +47,7 @@ impl<'a, R: Clock> LiveClock<'a, R> {
         })
     }
 
-    /// The moment of the gateway's clock.
+    /// The moment to which ticks have come.
     pub fn ticked(&self) -> u64
         ensures { result ≡ self.now.ticked }
     {
@@ -66,14 +66,14 @@ impl<'a, R: Clock> LiveClock<'a, R> {
         }
     }
 
-    /// The gateway's clock has this moment.
+    /// Ticks have come to this moment.
     pub fn set(&mut self, ticked: u64)
         ensures { self.new.ticked ≡ ticked }
     {
         self.ticked = ticked;
     }
 
-    /// The moment to which the next tick goes: now, but at most a longest tick past the gateway's clock, and not before it.
+    /// The moment to which the next tick goes: now, but at most a longest tick past the last one, and not before it.
     pub fn moment(&self) -> io::Result<u64>
         ensures back { IfOk result (λ moment. self.now.ticked ≤ moment) }
         ensures far { IfOk result (λ moment. moment ≤ self.now.ticked + LONGEST_TICK) }

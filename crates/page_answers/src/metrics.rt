@@ -1,6 +1,6 @@
 //! What was counted, in Prometheus' text format.
 ghost use Rattle.std.specs.Prelude.{◌≡◌, ◌++◌, OnOk, IfOk};
-ghost use Rattle.live_page.specs.Metrics.{escaped_byte, escaped, help_line, type_line, family_head, plain_sample, label_begun, label_ended, labelled_sample, code_text, verb_sample, verb_samples, code_samples, single};
+ghost use Rattle.page_answers.specs.Metrics.{escaped_byte, escaped, help_line, type_line, family_head, plain_sample, label_begun, label_ended, labelled_sample, code_text, verb_sample, verb_samples, code_samples, single};
 
 use crate::counts::{CodeCount, Counts, VerbCount, verb_word};
 use crate::picture::Picture;
@@ -366,7 +366,7 @@ fn put_gauges(alloc: Global, out: &mut Vec<u8>, picture: &Picture) -> Result<(),
 }
 
 /// What was counted and what is held, in Prometheus' text format.
-pub(crate) fn metrics_text(alloc: Global, picture: &Picture) -> Result<Vec<u8>, OutOfMemory> {
+pub fn metrics_text(alloc: Global, picture: &Picture) -> Result<Vec<u8>, OutOfMemory> {
     let mut out = Vec::new(alloc);
     put_traffic(alloc, &mut out, &picture.counts)?;
     put_own(alloc, &mut out, &picture.counts)?;

@@ -117,11 +117,7 @@ fn counts_value(alloc: Global, counts: &Counts) -> Result<Value, AllocError> {
 }
 
 /// What the gateway is: its clock in ms, its lines from the first, and what was counted. `version` says which state is shown.
-pub(crate) fn state_text(
-    alloc: Global,
-    picture: &Picture,
-    version: u64,
-) -> Result<String, AllocError> {
+pub fn state_text(alloc: Global, picture: &Picture, version: u64) -> Result<String, AllocError> {
     let lines = lines_value(alloc, picture.lines.as_slice())?;
     let counts = counts_value(alloc, &picture.counts)?;
     let value = json!(in alloc; {

@@ -1,15 +1,12 @@
 //! The program: reads its words and its configuration, opens its sockets, and serves.
-use crate::clock::LiveClock;
 use crate::ending::Ending;
-use crate::live_wire::{Ends, LiveWire};
-use crate::outlets::Outlets;
-use crate::session::{serve, write_records};
-use crate::site::Site;
-use crate::telephones::Telephones;
 use crate::words::{Settings, WordFault, read_words};
 use gateway_core::Gateway;
-use live_journal::{Capture, Journal, Log, MessageTally, RecordState, Trace, TraceEntry, report};
+use live_ends::{CommandSocket, LiveClock, RecordState};
+use live_gateway::{Ends, LiveWire, Outlets, serve, write_records};
+use live_journal::{Capture, Journal, Log, MessageTally, Trace, TraceEntry, report};
 use live_page::Desk;
+use live_site::Site;
 use mio::net::UdpSocket;
 use rgw_play::{LIMIT, PlayFault, gateway_of, read_key_at_fault, read_limited};
 use std::alloc::Global;
@@ -99,7 +96,7 @@ fn open_ends<'a, 'w, R: Net + Clock>(
         Ok(socket) => socket,
         Err(e) => return Err(socket_ending("--listen", listen, &e)),
     };
-    let telephones = match Telephones::open(rt, alloc, phones) {
+    let telephones = match CommandSocket::open(rt, alloc, phones) {
         Ok(telephones) => telephones,
         Err(e) => return Err(socket_ending("--phones", phones, &e)),
     };

@@ -1,6 +1,6 @@
 //! What was counted.
 ghost use Rattle.std.specs.Prelude.{◌≡◌};
-ghost use Rattle.live_page.specs.Verbs.{verb_word as word_of_verb};
+ghost use Rattle.page_answers.specs.Verbs.{verb_word as word_of_verb};
 
 /// How many commands of a verb came.
 #[derive(Clone, Copy)]

@@ -1,6 +1,6 @@
 //! The site: the page of the gateway, which browsers ask for over HTTP.
-use crate::readiness::Readiness;
-use live_page::{Desk, MOST_VISITORS, Standing, Visitors};
+use live_ends::{MOST_VISITORS, Readiness};
+use live_page::{Desk, Standing, Visitors};
 use mio::net::{TcpListener, TcpStream};
 use std::alloc::{AllocError, Global};
 use std::hash::RandomState;

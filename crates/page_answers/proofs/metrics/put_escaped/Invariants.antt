@@ -1,6 +1,6 @@
 use Rattle.std.proofs.Common.{◌≡◌, ◌++◌, drop}
-use Rattle.live_page.specs.Metrics.{escaped}
-use Rattle.live_page.proofs.metrics.put_escaped.Given as goal
+use Rattle.page_answers.specs.Metrics.{escaped}
+use Rattle.page_answers.proofs.metrics.put_escaped.Given as goal
 
 abbrev pub invariant-loop-byte : goal.invariant-loop-byte
 invariant-loop-byte l = l.out.items ++ escaped (drop l.byte-index l.text) ≡ l.fn.out.items ++ escaped l.text

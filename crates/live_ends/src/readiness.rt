@@ -1,5 +1,5 @@
 //! Which sockets may have something, as the system tells it.
-use live_page::MOST_VISITORS;
+use crate::command_socket::CommandSocket;
 use mio::event::Event;
 use mio::net::{TcpListener, TcpStream, UdpSocket};
 use mio::{Events, Interest, Poll, Token};
@@ -9,10 +9,13 @@ use std::io::ErrorKind;
 use std::net::Net;
 use std::time::Duration;
 
+/// So many visitors of a site are served at a time; one more is turned away.
+pub const MOST_VISITORS: usize = 16;
+
 // By these the system names the sockets.
 const SOCKET: usize = 0;
 
-const TELEPHONES: usize = 1;
+const COMMANDS: usize = 1;
 
 const LISTENER: usize = 2;
 
@@ -32,14 +35,14 @@ const NO_VISIT: Visit = Visit {
     is_writable: false,
 };
 
-/// What is known of the sockets: of the gateway's and of the telephones' whether something may have come since it was last
-/// found empty; of the site's what was told since it was forgotten.
+/// What is known of the sockets: of the one for datagrams and of the one for commands whether something may have come since it was
+/// last found empty; of a site's what was told since it was forgotten.
 #[derive(Drop)]
 pub struct Readiness {
     poll: Poll,
     events: Events,
     pub socket: bool,
-    pub telephones: bool,
+    pub commands: bool,
     pub listener: bool,
     pub visits: [Visit; MOST_VISITORS],
 }
@@ -56,7 +59,7 @@ impl Readiness {
         rt: &R,
         alloc: Global,
         socket: &mut UdpSocket,
-        telephones: &mut UdpSocket,
+        commands: &mut CommandSocket,
     ) -> io::Result<Readiness> {
         let Ok(events) = Events::with_capacity(alloc, SOCKETS) else {
             return Err(io::Error::from(ErrorKind::OutOfMemory));
@@ -65,12 +68,12 @@ impl Readiness {
         poll.registry()
             .register(socket, Token(SOCKET), Interest::READABLE)?;
         poll.registry()
-            .register(telephones, Token(TELEPHONES), Interest::READABLE)?;
+            .register(&mut commands.socket, Token(COMMANDS), Interest::READABLE)?;
         Ok(Readiness {
             poll,
             events,
             socket: true,
-            telephones: true,
+            commands: true,
             listener: false,
             visits: [NO_VISIT; MOST_VISITORS],
         })
@@ -95,9 +98,9 @@ impl Readiness {
         self.visits = [NO_VISIT; MOST_VISITORS];
     }
 
-    /// Whether something may have come.
+    /// Whether a datagram or a command may have come.
     pub fn is_any(&self) -> bool {
-        self.socket || self.telephones
+        self.socket || self.commands
     }
 
     /// Waits until something comes, but no longer than this, in ms.
@@ -107,7 +110,7 @@ impl Readiness {
         for event in self.events.iter() {
             match usize::from(event.token()) {
                 SOCKET => self.socket = true,
-                TELEPHONES => self.telephones = true,
+                COMMANDS => self.commands = true,
                 LISTENER => self.listener = true,
                 token => {
                     if let Some(visit) = self.visits.get_mut(token.saturating_sub(FIRST_VISITOR)) {

@@ -1,6 +1,6 @@
 //! What happened lately, numbered from 1.
 ghost use Rattle.std.specs.Prelude.{◌≡◌, ◌≤◌, ◌+◌, length, OnOk, OnErr};
-ghost use Rattle.live_page.specs.Keeping.{kept_with};
+ghost use Rattle.page_answers.specs.Keeping.{kept_with};
 
 use std::alloc::{AllocError, Global};
 use std::collections::VecDeque;

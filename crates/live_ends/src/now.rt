@@ -1,12 +1,12 @@
 //! When something happens.
 
-/// The gateway's clock goes on by no more than this in one tick, in ms.
+/// The clock goes on by no more than this in one tick, in ms.
 pub const LONGEST_TICK: u64 = 1000;
 
 /// What clocks say.
 #[derive(Clone, Copy)]
 pub struct Now {
-    /// The moment of the gateway's clock, in ms.
+    /// The moment to which ticks have come, in ms.
     pub clock: u64,
     /// Microseconds since 1970 began, in UTC. A change of the time of day since the start isn't in it.
     pub time: u64,

@@ -1,6 +1,6 @@
 use Rattle.std.proofs.Common.{◌≡◌, ◌++◌, drop}
-use Rattle.live_page.specs.Metrics.{verb_samples}
-use Rattle.live_page.proofs.metrics.put_verbs.Given as goal
+use Rattle.page_answers.specs.Metrics.{verb_samples}
+use Rattle.page_answers.proofs.metrics.put_verbs.Given as goal
 
 abbrev pub invariant-loop-count : goal.invariant-loop-count
 invariant-loop-count l = l.out.items ++ verb_samples (drop l.count-index l.counts) ≡ l.fn.out.items ++ verb_samples l.counts

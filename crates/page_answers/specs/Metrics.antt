@@ -1,9 +1,9 @@
 -- Prometheus' text format, version 0.0.4: what is told of a metric, and each of its samples.
 use Rattle.std.specs.Prelude.{ℕ, ◌==◌, nat_lt, codes, decimal, if◌then◌else◌, List, [], ◌∷◌, ◌++◌}
 use Rattle.std.specs.List.{flat_map}
-use Rattle.live_page.specs.declared.counts.VerbCount.{VerbCount}
-use Rattle.live_page.specs.declared.counts.CodeCount.{CodeCount}
-use Rattle.live_page.specs.Verbs.{verb_word}
+use Rattle.page_answers.specs.declared.counts.VerbCount.{VerbCount}
+use Rattle.page_answers.specs.declared.counts.CodeCount.{CodeCount}
+use Rattle.page_answers.specs.Verbs.{verb_word}
 
 -- in a label's value a backslash, a quote and a line feed are written behind a backslash
 abbrev pub escaped_byte : ℕ → List ℕ

@@ -61,7 +61,7 @@ fn first_of(ring: &Ring) -> u64 {
 
 /// What happened after a number, oldest first: at most 128, and where to go on. `version` says which state is shown, `clock` is
 /// the gateway's, in ms.
-pub(crate) fn events_text(
+pub fn events_text(
     alloc: Global,
     ring: &Ring,
     after: u64,

@@ -1,0 +1,119 @@
+//! A socket that takes lines of text, each of which asks for something, and answers them.
+use mg_bytes::lines;
+use mio::net::UdpSocket;
+use std::alloc::Global;
+use std::io;
+use std::net::{Net, SocketAddr, SocketAddrV4};
+
+// The room for a datagram of lines. What is longer is cut off.
+const ROOM: usize = 4096;
+
+/// A socket for commands, and what is left of the last datagram that came to it.
+#[derive(Drop)]
+pub struct CommandSocket {
+    /// To be watched.
+    pub(crate) socket: UdpSocket,
+    // Who sent the datagram, if one did, and its bytes.
+    sender: Option<SocketAddr>,
+    text: Vec<u8>,
+    // Where in them the line begins that is answered next, and where what follows it does.
+    line: Option<usize>,
+    rest: usize,
+}
+
+impl CommandSocket {
+    /// A socket at this address.
+    pub fn open<R: Net>(rt: &R, alloc: Global, address: SocketAddrV4) -> io::Result<CommandSocket> {
+        Ok(CommandSocket {
+            socket: UdpSocket::bind(rt, SocketAddr::V4(address))?,
+            sender: None,
+            text: Vec::with_capacity(alloc, ROOM)?,
+            line: None,
+            rest: 0,
+        })
+    }
+
+    /// The address of its socket.
+    pub fn address(&self) -> io::Result<SocketAddr> {
+        self.socket.local_addr()
+    }
+
+    /// The line that is to be answered next, without its end and the blanks round it; an empty one is passed over.
+    pub fn line(&self) -> Option<&[u8]> {
+        let begin = self.line?;
+        let text = self.text.get(begin..)?;
+        lines(text).next()
+    }
+
+    /// What stands behind that line in its datagram.
+    pub fn rest(&self) -> &[u8] {
+        self.text.get(self.rest..).unwrap_or(&[])
+    }
+
+    /// Whether no line waits to be answered.
+    pub fn is_idle(&self) -> bool {
+        self.line.is_none()
+    }
+
+    // The next line that isn't empty is answered next.
+    fn advance(&mut self) {
+        self.line = None;
+        let text = self.text.get(self.rest..).unwrap_or(&[]);
+        let mut rest = lines(text);
+        while let Some(line) = rest.next() {
+            let begin = self.rest;
+            self.rest = self.text.len().saturating_sub(rest.rest().len());
+            if !line.is_empty() {
+                self.line = Some(begin);
+                return;
+            }
+        }
+    }
+
+    // These lines have come, from somebody who is answered or from nobody.
+    fn begin(&mut self, sender: Option<SocketAddr>, text: &[u8]) {
+        self.sender = sender;
+        self.rest = 0;
+        self.text.clear();
+        // Where memory is refused for more than there is room for, nothing has come.
+        let _ = self.text.extend_from_slice(text);
+        self.advance();
+    }
+
+    /// Takes a datagram, where one has come and nothing is left of the one before: whether there was either.
+    pub fn look(&mut self) -> bool {
+        if self.line.is_some() {
+            return true;
+        }
+        let mut room = [0u8; ROOM];
+        let Ok((len, sender)) = self.socket.recv_from(&mut room) else {
+            return false;
+        };
+        self.begin(Some(sender), &room[..len]);
+        true
+    }
+
+    /// Takes lines that came another way, where none waits; nobody is answered.
+    pub fn take(&mut self, line: &[u8]) {
+        self.begin(None, line);
+    }
+
+    // Where an answer can't be sent it is lost.
+    fn tell(&self, answer: &[u8]) {
+        if let Some(sender) = self.sender {
+            let _ = self.socket.send_to(answer, sender);
+        }
+    }
+
+    /// Answers the line, and goes on to the next.
+    pub fn answer(&mut self, answer: &[u8]) {
+        self.tell(answer);
+        self.advance();
+    }
+
+    /// Answers the line together with all that stands behind it in its datagram.
+    pub fn answer_all(&mut self, answer: &[u8]) {
+        self.tell(answer);
+        self.line = None;
+    }
+}

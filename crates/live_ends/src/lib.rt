@@ -1,0 +1,17 @@
+//! What a program on a live network stands on: the machine's clock, sockets that are waited for, a socket that takes commands,
+//! and records that are written when a turn is over.
+//!
+//! Nothing here knows what a datagram says, or what a command does.
+#![tactic(auto)]
+
+mod clock;
+mod command_socket;
+mod now;
+mod readiness;
+mod record;
+
+pub use crate::clock::LiveClock;
+pub use crate::command_socket::CommandSocket;
+pub use crate::now::{LONGEST_TICK, Now};
+pub use crate::readiness::{MOST_VISITORS, Readiness, Visit};
+pub use crate::record::{Record, RecordState};
