@@ -1,0 +1,10 @@
+-- The definitions opened, so that worked examples compute.
+use Rattle.std.specs.Prelude.{⊤}
+use Rattle.mg_bytes.proofs.Computing.{on_examples as byte_examples}
+use Rattle.bad_network.specs.Spelling.{percent_of, span_of}
+use Rattle.bad_network.specs.Parts.{with_parts, spoiling_of}
+use Rattle.bad_network.specs.Waiting.{place_in, put_in}
+
+unfoldable pub on_examples : ⊤
+unfolding byte_examples percent_of span_of with_parts spoiling_of place_in put_in
+on_examples = tt

@@ -1,0 +1,28 @@
+-- What is drawn for a packet: four words of the generator Pcg32, always as many, whatever they are used for.
+use Rattle.std.specs.Prelude.{ℕ}
+use Rattle.rand_core.specs.Pcg32Seed.{pcg32_seed}
+use Rattle.rand_pcg.specs.Lcg.{Lcg}
+use Rattle.rand_pcg.specs.Pcg.{pcg32, pcg32_of_seed}
+use Rattle.bad_network.specs.declared.draws.Draws.{Draws}
+
+-- a word of the generator, and the generator after it
+unfoldable pub word_of : Lcg → ℕ
+word_of generator = (pcg32 generator).0
+
+unfoldable pub after_word : Lcg → Lcg
+after_word generator = (pcg32 generator).1
+
+-- the generator that a seed begins
+unfoldable pub seeded : ℕ → Lcg
+seeded seed = pcg32_of_seed (pcg32_seed 16 seed)
+
+abbrev pub draws_of : Lcg → Draws
+draws_of generator = record {
+  lost = word_of generator;
+  copied = word_of (after_word generator);
+  first = word_of (after_word (after_word generator));
+  second = word_of (after_word (after_word (after_word generator)));
+}
+
+abbrev pub after_draws : Lcg → Lcg
+after_draws generator = after_word (after_word (after_word (after_word generator)))

@@ -1,0 +1,21 @@
+-- What the worked examples share.
+use Rattle.std.specs.Prelude.{ℕ, List, [], ◌∷◌}
+use Rattle.std.specs.declared.net.socket_addr.SocketAddrV4.{SocketAddrV4}
+use Rattle.bad_network.specs.declared.draws.Draws.{Draws}
+use Rattle.bad_network.specs.declared.packet.Packet.{Packet}
+use Rattle.bad_network.specs.declared.packet.Way.TheVariants.{In, Out}
+use Rattle.bad_network.specs.declared.spoiling.Spoiling.{Spoiling}
+
+-- 10 of 100 are lost, 5 come twice, and each is from 100 to 3,000 ms late
+abbrev pub rough : Spoiling
+rough = record { lose = 10; copy = 5; least = 100; most = 3000; seed = 7 }
+
+abbrev pub drawn : ℕ → ℕ → ℕ → ℕ → Draws
+drawn lost copied first second = record { lost = lost; copied = copied; first = first; second = second }
+
+abbrev pub peer : SocketAddrV4
+peer = record { ip = record { octets = 10 ∷ 0 ∷ 0 ∷ 7 ∷ [] }; port = 2727 }
+
+-- a packet of one byte, that is due at a moment
+abbrev pub packet : ℕ → ℕ → Packet
+packet byte due = record { way = In; peer = peer; offered = 0; due = due; bytes = byte ∷ [] }

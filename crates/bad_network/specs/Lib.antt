@@ -1,0 +1,7 @@
+pub mod Spelling
+pub mod Parts
+pub mod Drawing
+pub mod Fates
+pub mod Waiting
+pub mod Passing
+pub mod Example

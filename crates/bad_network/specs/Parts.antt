@@ -1,0 +1,68 @@
+-- What a text says of a network, as `lose 10%, copy 5%, late 0-3000, seed 7` (this program's profile).
+use Rattle.std.specs.Prelude.{ℕ, codes, if◌then◌else◌, bytes_eq, List, [], ◌∷◌, Option, Some, None, Result, Ok, Err}
+use Rattle.std.specs.Option.{unwrap_or}
+use Rattle.mg_bytes.specs.Steps.{◌>>=◌}
+use Rattle.mg_bytes.specs.Bytes.{space}
+use Rattle.mg_bytes.specs.Blanks.{trimmed}
+use Rattle.mg_bytes.specs.Items.{items_of}
+use Rattle.mg_bytes.specs.Numbers.{decimal_of}
+use Rattle.mg_bytes.specs.Words.{split_once}
+use Rattle.bad_network.specs.declared.spoiling.Parts.{Parts}
+use Rattle.bad_network.specs.declared.spoiling.Spoiling.{Spoiling}
+use Rattle.bad_network.specs.declared.spoiling.SpoilingFault.{SpoilingFault}
+use Rattle.bad_network.specs.declared.spoiling.SpoilingFault.TheVariants.{Lose, Copy, Late, Seed, Other}
+use Rattle.bad_network.specs.Spelling.{percent_of, span_of}
+
+abbrev pub no_parts : Parts
+no_parts = record { lose = None; copy = None; late = None; seed = None }
+
+-- a part stands there once, and its value is one
+abbrev pub put_once : {A : Type 0} → Option A → Option A → SpoilingFault → (A → Parts) → Result Parts SpoilingFault
+put_once None None fault put = Err fault
+put_once None (Some found) fault put = Ok (put found)
+put_once (Some held) found fault put = Err fault
+
+abbrev pub with_lose : Parts → Option ℕ → Result Parts SpoilingFault
+with_lose parts value = put_once parts.lose value Lose (λ lose. record parts { lose = Some lose })
+
+abbrev pub with_copy : Parts → Option ℕ → Result Parts SpoilingFault
+with_copy parts value = put_once parts.copy value Copy (λ copy. record parts { copy = Some copy })
+
+abbrev pub with_late : Parts → Option (ℕ × ℕ) → Result Parts SpoilingFault
+with_late parts value = put_once parts.late value Late (λ late. record parts { late = Some late })
+
+abbrev pub with_seed : Parts → Option ℕ → Result Parts SpoilingFault
+with_seed parts value = put_once parts.seed value Seed (λ seed. record parts { seed = Some seed })
+
+-- what a word says with the value behind it
+abbrev pub with_named : Parts → Option (List ℕ × List ℕ) → Result Parts SpoilingFault
+with_named parts None = Err Other
+with_named parts (Some sides) =
+    if bytes_eq sides.0 (codes "lose") then with_lose parts (percent_of (trimmed sides.1))
+    else if bytes_eq sides.0 (codes "copy") then with_copy parts (percent_of (trimmed sides.1))
+    else if bytes_eq sides.0 (codes "late") then with_late parts (span_of (trimmed sides.1))
+    else if bytes_eq sides.0 (codes "seed") then with_seed parts (decimal_of (trimmed sides.1))
+    else Err Other
+
+-- a part: a word, blanks, and its value
+abbrev pub with_part : Parts → List ℕ → Result Parts SpoilingFault
+with_part parts item = with_named parts (split_once space item)
+
+-- parts in their order; the first that is wrong is the fault
+unfoldable pub with_parts : Parts → List (List ℕ) → Result Parts SpoilingFault
+with_parts parts [] = Ok parts
+with_parts parts (item ∷ items) = with_part parts item >>= λ more. with_parts more items
+
+-- where a part is missing, nothing is lost, copied or late, and the seed is 1
+abbrev pub made_of : Parts → Spoiling
+made_of parts = record {
+  lose = unwrap_or parts.lose 0;
+  copy = unwrap_or parts.copy 0;
+  least = (unwrap_or parts.late (0, 0)).0;
+  most = (unwrap_or parts.late (0, 0)).1;
+  seed = unwrap_or parts.seed 1;
+}
+
+-- what a text says: its parts, which commas part
+unfoldable pub spoiling_of : List ℕ → Result Spoiling SpoilingFault
+spoiling_of text = with_parts no_parts (items_of text) >>= λ parts. Ok (made_of parts)

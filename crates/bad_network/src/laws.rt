@@ -1,0 +1,39 @@
+//! Laws of the definitions. Each function has an empty body: its clauses are the theorems.
+ghost use Rattle.std.specs.Prelude.{◌≡◌, ◌≤◌, ◌<◌, ◌+◌, ◌^◌, ◌++◌, ℕ, List, Some, None, All};
+ghost use Rattle.std.specs.List.Sorted.{IsPermutation};
+ghost use Rattle.std.specs.declared.net.socket_addr.SocketAddrV4.{SocketAddrV4};
+ghost use Rattle.bad_network.specs.declared.draws.Draws.{Draws};
+ghost use Rattle.bad_network.specs.declared.fate.Fate.{Fate};
+ghost use Rattle.bad_network.specs.declared.packet.Packet.{Packet};
+ghost use Rattle.bad_network.specs.declared.packet.Way.{Way};
+ghost use Rattle.bad_network.specs.declared.spoiling.Spoiling.{Spoiling};
+ghost use Rattle.bad_network.specs.Fates.{fate_of};
+ghost use Rattle.bad_network.specs.Waiting.{copies_of, taken, IsInOrder};
+ghost use Rattle.bad_network.specs.Passing.{NetworkStep, opening, passed};
+
+/// A copy is the packet itself: its way, its peer, its bytes, and the moment at which it was offered.
+pub fn copies_are_the_packet_itself()
+    ensures { (fate : Fate) (way : Way) (peer : SocketAddrV4) (bytes : List ℕ) (now : ℕ) →
+        All (λ p. (p.way ≡ way) × (p.peer ≡ peer) × (p.bytes ≡ bytes) × (p.offered ≡ now)) (copies_of fate way peer bytes now) }
+{}
+
+/// A copy is due no sooner than its packet is offered, and at most 10,000 ms later (RFC 3435, 3.5).
+pub fn no_copy_is_late_by_more_than_ten_seconds()
+    ensures { (spoiling : Spoiling) (draws : Draws) (way : Way) (peer : SocketAddrV4) (bytes : List ℕ) (now : ℕ) → now < 2 ^ 64 →
+        All (λ p. (now ≤ p.due) × (p.due ≤ now + 10000)) (copies_of (fate_of spoiling draws) way peer bytes now) }
+{}
+
+/// What is handed out is due, and none of those that still wait is due before it; where nothing is, none of them is due.
+pub fn the_first_that_is_due_is_handed_out()
+    ensures some { (now : ℕ) (waiting rest : List Packet) (p : Packet) → IsInOrder waiting → taken now waiting ≡ (Some p, rest) →
+        (p.due ≤ now) × All (λ q. p.due ≤ q.due) rest }
+    ensures none { (now : ℕ) (waiting rest : List Packet) → IsInOrder waiting → taken now waiting ≡ (None, rest) →
+        All (λ q. now < q.due) waiting }
+{}
+
+/// Whatever is offered and taken, each copy that was made was handed out or waits, once, and those that wait are in order.
+pub fn each_copy_is_handed_out_once_or_waits()
+    ensures once { (steps : List NetworkStep) →
+        IsPermutation (passed opening steps).made ((passed opening steps).handed ++ (passed opening steps).waiting) }
+    ensures order { (steps : List NetworkStep) → IsInOrder (passed opening steps).waiting }
+{}
