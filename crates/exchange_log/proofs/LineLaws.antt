@@ -14,7 +14,7 @@ use Rattle.exchange_log.specs.declared.stamp.Stamp.{Stamp}
 use Rattle.exchange_log.specs.declared.stamp.Way.{Way}
 use Rattle.exchange_log.specs.declared.stamp.Way.TheVariants.{Came, Sent}
 use Rattle.exchange_log.specs.declared.note.Note.{Note}
-use Rattle.exchange_log.specs.declared.note.Note.TheVariants.{AnsweredAgain, Unanswered, SentAgain, Refused, Unreadable, TooLong, OutOfMemory}
+use Rattle.exchange_log.specs.declared.note.Note.TheVariants.{AnsweredAgain, Unanswered, SentAgain, Refused, Unreadable, TooLong, OutOfMemory, Lost, Late, Copied}
 use Rattle.exchange_log.specs.Escaping.{shown, escaped, is_text, IsLine}
 use Rattle.exchange_log.specs.TimeOfDay.{two_digits, three_digits, time_of_day}
 use Rattle.exchange_log.specs.Messages.{set_off, local_name, header_shown, headed, line_shown, message_of, message_shown, header_of}
@@ -136,6 +136,12 @@ noted_text (Refused id code) =
 noted_text Unreadable = refl
 noted_text (TooLong length) = around (codes "too long: ") (decimal length) (codes " bytes or more") refl (decimal_text length) refl
 noted_text OutOfMemory = refl
+noted_text Lost = refl
+noted_text (Late ms) = around (codes "late by ") (decimal ms) (codes " ms") refl (decimal_text ms) refl
+noted_text (Copied first second) =
+    around (codes "copied, late by " ++ decimal first ++ codes " and ") (decimal second) (codes " ms")
+    (around (codes "copied, late by ") (decimal first) (codes " and ") refl (decimal_text first) refl)
+    (decimal_text second) refl
 
 -- the lines
 

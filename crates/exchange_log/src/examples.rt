@@ -81,6 +81,9 @@ pub fn notes_say_what_happened()
     ensures unreadable { note_text notes.Unreadable ≡ codes "no message" }
     ensures too_long { note_text (notes.TooLong 4001) ≡ codes "too long: 4001 bytes or more" }
     ensures memory { note_text notes.OutOfMemory ≡ codes "out of memory, nothing was done" }
+    ensures lost { note_text notes.Lost ≡ codes "lost on its way" }
+    ensures late { note_text (notes.Late 1200) ≡ codes "late by 1200 ms" }
+    ensures copied { note_text (notes.Copied 0 1200) ≡ codes "copied, late by 0 and 1200 ms" }
 {}
 
 /// Each line begins with the time of day and the other end, and says by a sign what it is.

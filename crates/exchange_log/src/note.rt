@@ -22,6 +22,12 @@ pub enum Note {
     Unreadable,
     /// What came is longer than any datagram that is taken: so many bytes of it were seen (RFC 3435, 3.5.4).
     TooLong { length: usize },
+    /// What came or was sent is lost on a network that spoils what goes over it.
+    Lost,
+    /// It comes later by so many ms.
+    Late { ms: u64 },
+    /// It comes twice, later by so many ms each time.
+    Copied { first: u64, second: u64 },
     /// Memory was refused, and nothing was done.
     OutOfMemory,
 }
@@ -68,6 +74,16 @@ fn put_refusal(
     put_words(out, code)
 }
 
+// How late both copies are.
+fn put_copied(alloc: Global, out: &mut Vec<u8>, first: u64, second: u64) -> Result<(), OutOfMemory>
+    ensures { OnOk result (out.new.items ≡ out.old.items
+        ++ (codes "copied, late by " ++ decimal first ++ codes " and " ++ decimal second ++ codes " ms")) }
+{
+    put_around(alloc, out, b"copied, late by ", first, b" and ")?;
+    put_decimal(alloc, out, second)?;
+    out.extend_from_slice(b" ms")
+}
+
 // The number that an id is.
 fn number_of(id: TransactionId) -> u64
     ensures { result ≡ id }
@@ -107,6 +123,9 @@ pub(crate) fn put_note_text(alloc: Global, out: &mut Vec<u8>, note: Note) -> Res
         Note::TooLong { length } => {
             put_around(alloc, out, b"too long: ", length as u64, b" bytes or more")
         }
+        Note::Lost => out.extend_from_slice(b"lost on its way"),
+        Note::Late { ms } => put_around(alloc, out, b"late by ", ms, b" ms"),
+        Note::Copied { first, second } => put_copied(alloc, out, first, second),
         Note::OutOfMemory => out.extend_from_slice(b"out of memory, nothing was done"),
     }
 }

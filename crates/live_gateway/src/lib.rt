@@ -6,6 +6,7 @@
 
 mod live_wire;
 mod outlets;
+mod passage;
 mod session;
 mod telephones;
 

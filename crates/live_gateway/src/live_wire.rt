@@ -2,7 +2,9 @@
 ghost use Rattle.std.specs.Prelude.{◌≡◌, ◌≤◌, [], length, IfOk, IfSome, None};
 ghost use Rattle.gateway_core.specs.Wire.{IsWithin};
 
+use crate::outlets::earlier;
 use crate::telephones::{TelephoneRequest, next_request};
+use bad_network::{BadNetwork, Fate};
 use gateway_core::{DATAGRAM_ROOM, Input, Wire, WireFault};
 use live_ends::{CommandSocket, LONGEST_TICK, LiveClock, Now, Readiness};
 use live_journal::Journal;
@@ -26,6 +28,11 @@ const BATCH: u8 = 64;
 pub struct Ends<'a, R> {
     alloc: Global,
     pub socket: UdpSocket,
+    // What spoils what goes over it, where that is asked for.
+    pub(crate) network: Option<BadNetwork>,
+    // The datagram in the room that was lost at this turn, or how late the one is that is given, in ms.
+    pub(crate) lost: Option<(SocketAddrV4, usize)>,
+    pub(crate) late: u64,
     pub telephones: CommandSocket,
     pub clock: LiveClock<'a, R>,
     /// The moment at which something falls due next, at the gateway or its site.
@@ -59,6 +66,7 @@ impl<'a, R: Net + Clock> Ends<'a, R> {
         alloc: Global,
         mut socket: UdpSocket,
         mut telephones: CommandSocket,
+        network: Option<BadNetwork>,
         clock: LiveClock<'a, R>,
         end: Option<u64>,
     ) -> io::Result<Ends<'a, R>> {
@@ -66,6 +74,9 @@ impl<'a, R: Net + Clock> Ends<'a, R> {
         Ok(Ends {
             alloc,
             socket,
+            network,
+            lost: None,
+            late: 0,
             telephones,
             clock,
             due: None,
@@ -107,6 +118,20 @@ impl<'a, R: Net + Clock> Ends<'a, R> {
             }
             Err(e) if e.kind() == ErrorKind::Interrupted => Ok(None),
             Err(e) => Err(e),
+        }
+    }
+
+    // A datagram for the gateway, where there is one, that came over the network, where there is that.
+    fn come(&mut self, room: &mut [u8]) -> io::Result<Option<(SocketAddrV4, usize)>>
+        ensures length { length room.new ≡ length room.old }
+        ensures within { IfOk result (λ found. IfSome found (λ p. p.1 ≤ length room.new)) }
+    {
+        if let Some(arrival) = self.handed_over(room) {
+            return Ok(Some(arrival));
+        }
+        match self.receive(room)? {
+            Some((source, len)) => Ok(self.pass(source, len, room)),
+            None => Ok(None),
         }
     }
 
@@ -156,7 +181,7 @@ impl<'a, R: Net + Clock> Ends<'a, R> {
             return Ok(0);
         }
         let now = self.clock.moment()?;
-        let due = self.due.unwrap_or(u64::MAX);
+        let due = earlier(self.due, self.network_due()).unwrap_or(u64::MAX);
         let end = self.end.unwrap_or(u64::MAX);
         let left = due.min(end).saturating_sub(now);
         Ok(left.clamp(SHORTEST_WAIT, LONGEST_WAIT))
@@ -174,7 +199,7 @@ impl<'a, R: Net + Clock> Ends<'a, R> {
         {
             return Ok(Some(input));
         }
-        match self.receive(room)? {
+        match self.come(room)? {
             Some((source, len)) => Ok(Some(Input::Datagram { source, len })),
             None => Ok(self.telephoned()),
         }
@@ -236,6 +261,19 @@ impl<'a, R: Net + Clock> LiveWire<'a, R> {
         }
     }
 
+    // Tells what the network did to a datagram of this turn.
+    fn tell_spoilt(&mut self, room: &[u8])
+        ensures receive { self.new.receive_faults ≡ self.old.receive_faults }
+        ensures send { self.new.send_faults ≡ self.old.send_faults }
+    {
+        if let Some((source, len)) = self.ends.lost {
+            let now = self.ends.clock.now();
+            self.ends.lost = None;
+            let bytes = room.get(..len).unwrap_or(&[]);
+            self.journal.log.lose(now, source, bytes);
+        }
+    }
+
     // Keeps what is given, for its count and its trace.
     fn keep(&mut self, input: Input, room: &[u8])
         requires { IsWithin input room.now }
@@ -247,6 +285,9 @@ impl<'a, R: Net + Clock> LiveWire<'a, R> {
             Input::Datagram { source, len } => {
                 let now = self.ends.clock.now();
                 self.journal.datagram(now, source, &room[..len]);
+                let late = self.ends.late;
+                self.ends.late = 0;
+                self.journal.log.spoil(now, source, Fate::Once { late });
             }
             Input::Phone { .. } => {
                 let now = self.ends.clock.now();
@@ -272,8 +313,10 @@ impl<'a, R: Net + Clock> Wire for LiveWire<'a, R> {
     fn next(&mut self, room: &mut [u8]) -> Result<Input, WireFault> {
         let (receive_faults, _send_faults) = self.faults();
         self.journal.given = None;
+        self.ends.lost = None;
         match self.ends.input(room) {
             Ok(input) => {
+                self.tell_spoilt(room);
                 self.keep(input, room);
                 Ok(input)
             }
@@ -288,9 +331,12 @@ impl<'a, R: Net + Clock> Wire for LiveWire<'a, R> {
         let (_receive_faults, send_faults) = self.faults();
         let now = self.now();
         self.journal.sent(now, to, bytes);
-        match self.ends.socket.send_to(bytes, SocketAddr::V4(to)) {
-            Ok(len) if len == bytes.len() => Ok(()),
-            Ok(_) | Err(_) => {
+        match self.ends.send(now.clock, to, bytes) {
+            Ok(fate) => {
+                self.journal.log.spoil(now, to, fate);
+                Ok(())
+            }
+            Err(_) => {
                 self.send_faults = send_faults.saturating_add(1);
                 Err(WireFault)
             }

@@ -10,6 +10,7 @@ mod message_tally;
 mod picture;
 mod recent;
 mod reporting;
+mod spoiling;
 mod trace;
 
 pub use crate::capture::Capture;

@@ -1,6 +1,7 @@
 //! The program: reads its words and its configuration, opens its sockets, and serves.
 use crate::ending::Ending;
 use crate::words::{Settings, WordFault, read_words};
+use bad_network::BadNetwork;
 use gateway_core::Gateway;
 use live_ends::{CommandSocket, LiveClock, RecordState};
 use live_gateway::{Ends, LiveWire, Outlets, serve, write_records};
@@ -103,7 +104,12 @@ fn open_ends<'a, 'w, R: Net + Clock>(
     let Ok(clock) = LiveClock::start(rt) else {
         return Err(Ending::Clock);
     };
-    match Ends::new(rt, alloc, socket, telephones, clock, settings.stop_after) {
+    let network = match settings.network {
+        Some(spoiling) => Some(BadNetwork::new(alloc, spoiling)),
+        None => None,
+    };
+    let end = settings.stop_after;
+    match Ends::new(rt, alloc, socket, telephones, network, clock, end) {
         Ok(ends) => Ok(ends),
         Err(e) => Err(socket_ending("--listen", listen, &e)),
     }

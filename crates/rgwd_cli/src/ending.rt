@@ -1,6 +1,7 @@
 //! How the program ends: its status, and what it says then.
 use crate::help::{HELP, USAGE, VERSIONS, put_pieces};
 use crate::words::WordFault;
+use bad_network::SpoilingFault;
 use gateway_core::ConfigKey;
 use rgw_play::name_of_config_fault;
 use std::fmt;
@@ -20,6 +21,10 @@ pub enum Ending<'a> {
     /// What stands behind this word isn't an address.
     BadAddress {
         word: &'static str,
+    },
+    /// This part of what stands behind `--network` says nothing of a network.
+    BadNetwork {
+        fault: SpoilingFault,
     },
     /// The configuration in this file has this fault, which is about this key, if it can be read.
     Config {
@@ -54,7 +59,10 @@ impl<'a> Ending<'a> {
     pub fn status(self) -> u8 {
         match self {
             Ending::Served | Ending::Help | Ending::Version => 0,
-            Ending::Usage | Ending::BadAddress { .. } | Ending::Config { .. } => 2,
+            Ending::Usage
+            | Ending::BadAddress { .. }
+            | Ending::BadNetwork { .. }
+            | Ending::Config { .. } => 2,
             Ending::Unreadable { .. }
             | Ending::Unwritable { .. }
             | Ending::Unbound { .. }
@@ -73,6 +81,7 @@ impl<'a> From<WordFault> for Ending<'a> {
             WordFault::Help => Ending::Help,
             WordFault::Version => Ending::Version,
             WordFault::BadAddress { word } => Ending::BadAddress { word },
+            WordFault::BadNetwork { fault } => Ending::BadNetwork { fault },
         }
     }
 }
@@ -102,6 +111,7 @@ impl<'a> fmt::Display for Ending<'a> {
             Ending::Version => put_pieces(f, &VERSIONS),
             Ending::Usage => put_pieces(f, &[USAGE, "\n"]),
             Ending::BadAddress { word } => put_pieces(f, &[word, ": no address a.b.c.d:port\n"]),
+            Ending::BadNetwork { fault } => put_pieces(f, &["--network: ", fault.text(), "\n"]),
             Ending::Config { file, number, key } => put_config(f, file, number, key),
             Ending::Unreadable { file } => put_pieces(f, &[file, ": read fault\n"]),
             Ending::Unwritable { file } => put_pieces(f, &[file, ": write fault\n"]),

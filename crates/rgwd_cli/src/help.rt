@@ -14,7 +14,7 @@ pub const PHONES: &str = "127.0.0.1:2428";
 
 /// The words of the command line, in a line.
 pub const USAGE: &str =
-    "usage: rgwd CONFIG [--listen ADDRESS] [--phones ADDRESS] [--http ADDRESS] [--log] [--capture FILE] [--trace] [--stop-after MS]";
+    "usage: rgwd CONFIG [--listen ADDRESS] [--phones ADDRESS] [--http ADDRESS] [--log] [--capture FILE] [--trace] [--network TEXT] [--stop-after MS]";
 
 // What the words say, from the end of the first line on. The places of the defaults are left open.
 const ABOVE: &str = "
@@ -32,6 +32,7 @@ const BELOW: &str = "
   --log               what is said is written to standard error, a line a message
   --capture FILE      datagrams are written into this file, for tshark and Wireshark
   --trace             all that happens is written to standard output; else nothing is
+  --network TEXT      datagrams are lost, copied and late, as \"lose 10%, copy 5%, late 0-3000, seed 7\"
   --stop-after MS     it ends at this moment of its clock, in ms; else it goes on
   --help, --version   this, or the version, on standard output
 

@@ -1,5 +1,6 @@
 //! Reads the words of the command line.
 use crate::help::{LISTEN, PHONES, VERSION};
+use bad_network::{Spoiling, SpoilingFault};
 use clap::error::ErrorKind;
 use clap::{Arg, ArgAction, ArgMatches, Command};
 use std::alloc::{AllocError, Global};
@@ -22,6 +23,8 @@ pub struct Settings<'a> {
     pub http: Option<SocketAddrV4>,
     /// The file that datagrams are captured into.
     pub capture: Option<&'a str>,
+    /// How a network spoils its datagrams, where one is asked for.
+    pub network: Option<Spoiling>,
     /// The moment at which it ends, in ms.
     pub stop_after: Option<u64>,
 }
@@ -39,6 +42,8 @@ pub enum WordFault {
     Version,
     /// What stands behind this word isn't an address.
     BadAddress { word: &'static str },
+    /// This part of what stands behind `--network` says nothing of a network.
+    BadNetwork { fault: SpoilingFault },
 }
 
 impl From<AllocError> for WordFault {
@@ -57,10 +62,11 @@ enum Word {
     Trace,
     Log,
     Capture,
+    Network,
     StopAfter,
 }
 
-const WORDS: [Word; 8] = [
+const WORDS: [Word; 9] = [
     Word::Config,
     Word::Listen,
     Word::Phones,
@@ -68,6 +74,7 @@ const WORDS: [Word; 8] = [
     Word::Trace,
     Word::Log,
     Word::Capture,
+    Word::Network,
     Word::StopAfter,
 ];
 
@@ -89,6 +96,7 @@ fn arg_of<'a>(alloc: Global, word: Word) -> Arg<'a> {
         Word::Trace => flag_word(alloc, "trace"),
         Word::Log => flag_word(alloc, "log"),
         Word::Capture => Arg::new(alloc, "capture").long("capture"),
+        Word::Network => Arg::new(alloc, "network").long("network"),
         Word::StopAfter => Arg::new(alloc, "stop-after")
             .long("stop-after")
             .value_parser(clap::value_parser!(u64)),
@@ -130,6 +138,17 @@ fn address_in(
     }
 }
 
+// How a network spoils datagrams, if that stands there.
+fn network_in(matches: &ArgMatches<'_>) -> Result<Option<Spoiling>, WordFault> {
+    let Some(text) = matches.get_str("network") else {
+        return Ok(None);
+    };
+    match Spoiling::read(text.as_bytes()) {
+        Ok(spoiling) => Ok(Some(spoiling)),
+        Err(fault) => Err(WordFault::BadNetwork { fault }),
+    }
+}
+
 // Why no settings are found in words, by the kind of clap's error.
 fn fault_of(kind: ErrorKind) -> WordFault {
     match kind {
@@ -152,6 +171,7 @@ fn settings_in<'a>(matches: &ArgMatches<'a>) -> Result<Settings<'a>, WordFault> 
         trace: matches.get_flag("trace"),
         log: matches.get_flag("log"),
         capture: matches.get_str("capture"),
+        network: network_in(matches)?,
         stop_after: matches.get_one::<u64>("stop-after"),
     })
 }

@@ -1,0 +1,56 @@
+//! What the log says of a network that spoils what goes over it.
+use crate::log::Log;
+use bad_network::Fate;
+use exchange_log::{Note, Stamp, Way, put_message, put_note};
+use live_ends::Now;
+use mg_bytes::OutOfMemory;
+use piggyback::parts;
+use std::net::SocketAddrV4;
+
+// What is noted of this fate; nothing where a datagram comes at once.
+fn note_of(fate: Fate) -> Option<Note> {
+    match fate {
+        Fate::Lost => Some(Note::Lost),
+        Fate::Once { late: 0 } => None,
+        Fate::Once { late } => Some(Note::Late { ms: late }),
+        Fate::Twice { first, second } => Some(Note::Copied { first, second }),
+    }
+}
+
+impl Log {
+    fn put_lost(&mut self, from: Stamp, bytes: &[u8]) -> Result<(), OutOfMemory> {
+        let out = &mut self.record.out;
+        for text in parts(bytes) {
+            put_message(self.alloc, out, from, Way::Came, text, None)?;
+        }
+        put_note(self.alloc, out, from, Note::Lost)
+    }
+
+    /// A datagram that was sent to the gateway is lost, and doesn't come.
+    pub fn lose(&mut self, now: Now, source: SocketAddrV4, bytes: &[u8]) {
+        if !self.record.is_on() {
+            return;
+        }
+        let from = Stamp {
+            moment: now.time,
+            peer: source,
+        };
+        if self.put_lost(from, bytes).is_err() {
+            self.record.refuse();
+        }
+    }
+
+    /// The datagram that came or was sent last has this fate.
+    pub fn spoil(&mut self, now: Now, peer: SocketAddrV4, fate: Fate) {
+        let Some(note) = note_of(fate) else {
+            return;
+        };
+        let stamp = Stamp {
+            moment: now.time,
+            peer,
+        };
+        if self.record.is_on() && put_note(self.alloc, &mut self.record.out, stamp, note).is_err() {
+            self.record.refuse();
+        }
+    }
+}
