@@ -1,8 +1,13 @@
-//! The program `rgwd`.
+//! The program `rgwd`: its words, its exit statuses and its texts, and what it opens and serves.
 #![tactic(auto)]
+
+mod app;
+mod ending;
+mod help;
+mod words;
 
 use std::process::ExitCode;
 
 fn main(rt: HostRuntime) -> ExitCode {
-    ExitCode::from(rgwd_cli::run(&rt))
+    ExitCode::from(app::run(&rt))
 }

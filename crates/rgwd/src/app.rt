@@ -79,10 +79,10 @@ fn config_text<R: Files>(rt: &R, alloc: Global, file: &str) -> Result<Vec<u8>, P
 
 // What went wrong with a socket.
 fn socket_ending<'a>(word: &'static str, address: SocketAddrV4, fault: &io::Error) -> Ending<'a> {
-    match fault.kind() {
-        ErrorKind::OutOfMemory => Ending::OutOfMemory,
-        _ => Ending::Unbound { word, address },
+    if fault.kind() == ErrorKind::OutOfMemory {
+        return Ending::OutOfMemory;
     }
+    Ending::Unbound { word, address }
 }
 
 // The sockets and the clock.
