@@ -12,6 +12,7 @@ mod maps;
 mod messages;
 mod names;
 mod packing;
+mod shown;
 mod spelled;
 
 use crate::texts::unless_said;
@@ -61,6 +62,9 @@ fn put_answer(alloc: Global, out: &mut Vec<u8>, call: &str, value: &[u8]) -> io:
         return done;
     }
     if let Some(done) = logged::put_answer(alloc, out, call, value) {
+        return done;
+    }
+    if let Some(done) = shown::put_answer(alloc, out, call, value) {
         return done;
     }
     messages::put_answer(alloc, out, call, value).unwrap_or(Err(unread()))
