@@ -1,6 +1,6 @@
 -- What goes over a network comes out of it once, in order and in time, or waits.
-use Rattle.std.proofs.Common.{◌≡◌, ℕ, ◌+◌, ◌<◌, ◌≤◌, ◌^◌, min, true, false, Bool, List, [], ◌∷◌, ◌++◌, Option, Some, None, refl, sym, ap, ◌∙◌, append_assoc, subst, arith}
-use Rattle.std.specs.Prelude.{nat_lt, nat_le, option_to_list, All}
+use Rattle.std.proofs.Common.{◌≡◌, ℕ, ◌+◌, ◌<◌, ◌≤◌, ◌^◌, true, false, Bool, List, [], ◌∷◌, ◌++◌, Option, Some, None, refl, sym, ap, append_assoc, subst, arith}
+use Rattle.std.specs.Prelude.{nat_le, option_to_list, All}
 use Rattle.std.specs.List.Sorted.{IsPermutation}
 use Rattle.std.specs.declared.net.socket_addr.SocketAddrV4.{SocketAddrV4}
 use Rattle.std.proofs.lemmas.Bool.{leb-true, leb-false}
@@ -13,7 +13,7 @@ use Rattle.bad_network.specs.declared.fate.Fate.{Fate}
 use Rattle.bad_network.specs.declared.fate.Fate.TheVariants.{Lost, Once, Twice}
 use Rattle.bad_network.specs.declared.packet.Packet.{Packet}
 use Rattle.bad_network.specs.declared.packet.Way.{Way}
-use Rattle.bad_network.specs.Fates.{latest, is_hit, lateness, fate_of}
+use Rattle.bad_network.specs.Fates.{is_hit, lateness, fate_of}
 use Rattle.bad_network.specs.Waiting.{later, packet_of, copies_of, put_in, put_all, taken, IsNoLater, IsInOrder}
 use Rattle.bad_network.specs.Passing.{NetworkStep, offers, takes, Passed, opening, stepped, passed}
 use Rattle.bad_network.proofs.WaitingLemmas.{put_permutes, order_put}

@@ -3,7 +3,7 @@ use Rattle.std.specs.Prelude.{ℕ, List, [], ◌∷◌}
 use Rattle.std.specs.declared.net.socket_addr.SocketAddrV4.{SocketAddrV4}
 use Rattle.bad_network.specs.declared.draws.Draws.{Draws}
 use Rattle.bad_network.specs.declared.packet.Packet.{Packet}
-use Rattle.bad_network.specs.declared.packet.Way.TheVariants.{In, Out}
+use Rattle.bad_network.specs.declared.packet.Way.TheVariants.{In}
 use Rattle.bad_network.specs.declared.spoiling.Spoiling.{Spoiling}
 
 -- 10 of 100 are lost, 5 come twice, and each is from 100 to 3,000 ms late

@@ -74,14 +74,23 @@ fn put_refusal(
     put_words(out, code)
 }
 
-// How late both copies are.
-fn put_copied(alloc: Global, out: &mut Vec<u8>, first: u64, second: u64) -> Result<(), OutOfMemory>
-    ensures { OnOk result (out.new.items ≡ out.old.items
-        ++ (codes "copied, late by " ++ decimal first ++ codes " and " ++ decimal second ++ codes " ms")) }
+// Pieces around two numbers.
+fn put_both(
+    alloc: Global,
+    out: &mut Vec<u8>,
+    before: &[u8],
+    first: u64,
+    between: &[u8],
+    second: u64,
+    after: &[u8],
+) -> Result<(), OutOfMemory>
+    ensures { OnOk result (out.new.items
+        ≡ out.old.items ++ (before.now ++ decimal first ++ between.now ++ decimal second ++ after.now)) }
 {
-    put_around(alloc, out, b"copied, late by ", first, b" and ")?;
+    put_around(alloc, out, before, first, between)?;
     put_decimal(alloc, out, second)?;
-    out.extend_from_slice(b" ms")
+    out.extend_from_slice(after)?;
+    Ok(())
 }
 
 // The number that an id is.
@@ -125,7 +134,17 @@ pub(crate) fn put_note_text(alloc: Global, out: &mut Vec<u8>, note: Note) -> Res
         }
         Note::Lost => out.extend_from_slice(b"lost on its way"),
         Note::Late { ms } => put_around(alloc, out, b"late by ", ms, b" ms"),
-        Note::Copied { first, second } => put_copied(alloc, out, first, second),
+        Note::Copied { first, second } => {
+            put_both(
+                alloc,
+                out,
+                b"copied, late by ",
+                first,
+                b" and ",
+                second,
+                b" ms",
+            )
+        }
         Note::OutOfMemory => out.extend_from_slice(b"out of memory, nothing was done"),
     }
 }
