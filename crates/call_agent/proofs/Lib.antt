@@ -3,5 +3,6 @@ pub mod AgentStands
 pub mod FlightTable
 pub mod TellingLemmas
 pub mod PassLemmas
+pub mod WorkLemmas
 pub mod HearingLemmas
 pub mod StandLemmas

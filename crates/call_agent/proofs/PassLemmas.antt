@@ -13,9 +13,10 @@ use Rattle.outbound.proofs.LifeLaws.{repeat_same}
 use Rattle.transmission.specs.declared.output.OutDatagram.{OutDatagram}
 use Rattle.transmission.specs.Transacting.{message_to}
 use Rattle.call_agent.specs.Growing.{Grown}
-use Rattle.call_agent.specs.Flying.{Flown, flown_on, if_due, first_flight, passed, pass, with_flight, without_flight}
+use Rattle.call_agent.specs.Flying.{Flown, flown, flown_on, if_due, first_flight, passed, pass, ticked, with_flight, without_flight}
 use Rattle.call_agent.specs.Flights.{flight_in, flights_in}
-use Rattle.call_agent.specs.State.{FlewOn}
+use Rattle.call_agent.specs.declared.state.State.{State}
+use Rattle.call_agent.specs.State.{FlewOn, Went, kept_in}
 
 -- ---- one thing
 
@@ -109,3 +110,20 @@ count_next places i here within had =
 
 pub count_end : (places : List (Option InFlight)) (i : ℕ) → length places ≤ i → length (flights_in (drop i places)) ≡ 0
 count_end places i past = ap (λ (x : List (Option InFlight)). length (flights_in x)) (drop_all i places past)
+
+-- ---- nothing
+
+passed_none : (k : ℕ) (flights : List InFlight) (moment : ℕ) → if_due moment (first_flight flights) ≡ None → passed k flights moment ≡ flown flights []
+unfolding passed
+passed_none zero flights moment none = refl
+passed_none (suc k) flights moment none = rw none refl
+
+-- nothing is due, so nothing goes out
+pub passes_nothing : (flights : List InFlight) (moment : ℕ) → if_due moment (first_flight flights) ≡ None → pass flights moment ≡ flown flights []
+unfolding pass
+passes_nothing flights moment none = passed_none (8 * length flights) flights moment none
+
+-- and the tick moves the clock alone
+pub ticked_idly : (was is : State) (moment : ℕ) (out : List OutDatagram) → if_due moment (first_flight was.flights.is) ≡ None → out ≡ [] → is ≡ record was { clock = moment }
+    → Went (ticked (kept_in was) moment (pass was.flights.is moment)) was is [] out
+ticked_idly was is moment out none empty moved = rw (passes_nothing was.flights.is moment none, moved) (record { machine = refl; found = refl; sent = empty })

@@ -19,9 +19,9 @@ use Rattle.call_agent.specs.declared.setup.AgentSetup.{AgentSetup}
 use Rattle.call_agent.specs.declared.state.Answered.{Answered}
 use Rattle.call_agent.specs.declared.state.State.{State}
 use Rattle.call_agent.specs.Agent.{AgentMachine, AgentEffect, FinalAnswer, agent_opening, answer_for, observed_on}
-use Rattle.call_agent.specs.Flying.{first_flight}
+use Rattle.call_agent.specs.Flying.{first_flight, if_due}
 use Rattle.call_agent.specs.Issuing.{command_text, is_good, greatest_id, issued, issue_refusal}
-use Rattle.call_agent.specs.Hearing.{AgentEvent, issues, hears, agent_after, agent_effect, agent_refusal, event_refused, issue_refused, hearing_refusal, plain_agent}
+use Rattle.call_agent.specs.Hearing.{AgentEvent, issues, hears, agent_after, agent_effect, agent_refusal, event_refused, issue_refused, hearing_refusal, agent_takes_none, AgentEnds, plain_agent}
 use Rattle.call_agent.specs.AgentAlike.{AgentAlike}
 use Rattle.call_agent.specs.State.{final_of, answer_in, answered_with, kept_in, purged_in, AllOr, GoesOnAs}
 use Rattle.call_agent.specs.AgentStands.{AgentState, agent_takes, AgentStands, AgentTook, AgentStays, IsAgentSound}
@@ -47,6 +47,11 @@ hearing_alike : (k m : AgentMachine) (event : GatewayEvent) → AgentAlike k m �
 hearing_alike k m (datagram source bytes) a = refl
 hearing_alike k m (phone line act) a = refl
 hearing_alike k m (tick moment) a = ap (λ (x : AgentMachine). tick_refusal x.now moment) a.same
+
+takes_alike : (k m : AgentMachine) (event : GatewayEvent) → AgentAlike k m → agent_takes_none m event ≡ agent_takes_none k event
+takes_alike k m (datagram source bytes) a = refl
+takes_alike k m (phone line act) a = refl
+takes_alike k m (tick moment) a = ap (λ (x : AgentMachine). is_none (if_due moment (first_flight x.flights))) a.same
 
 refusal_alike : (k m : AgentMachine) (event : AgentEvent) → AgentAlike k m → agent_refusal m event ≡ agent_refusal k event
 unfolding agent_refusal
@@ -149,19 +154,19 @@ hearing_purged k (datagram source bytes) = refl
 hearing_purged k (phone line act) = refl
 hearing_purged k (tick moment) = refl
 
-none_refused : (refusal : Option Refusal) → ends refusal false None → refusal ≡ None
-none_refused None e = refl
-none_refused (Some refusal) e = absurd cc
+none_refused : (refusal : Option Refusal) (free : Bool) → ends refusal free None → refusal ≡ None
+none_refused None free e = refl
+none_refused (Some refusal) free e = absurd cc
 
 pub taken_event : (k : AgentMachine) (event : GatewayEvent) → hearing_refusal k event ≡ None → agent_refusal k (hears event) ≡ None
 unfolding agent_refusal
 taken_event k event none = ap event_refused none
 
-pub step_goes : (setup : AgentSetup) (k m : AgentMachine) (is : State) (event : GatewayEvent) (result : Result (List OutDatagram) Refusal) → ends (hearing_refusal k event) false (result_err result)
+pub step_goes : (setup : AgentSetup) (k m : AgentMachine) (is : State) (event : GatewayEvent) (result : Result (List OutDatagram) Refusal) → AgentEnds k event (result_err result)
     → AllOr (purged_in k) result (agent_effect setup (purged_in k) (hears event)) is → AgentAlike k m
     → IfOk result (λ out. GoesOnAs (agent_effect setup m (hears event)) (kept_in is) out)
 step_goes setup k m is event (Ok out) e all a =
-    let both = effect_alike setup (purged_in k) m (hears event) (alike_purged k m a) (taken_event (purged_in k) event (hearing_purged k event ∙ none_refused (hearing_refusal k event) e)) in
+    let both = effect_alike setup (purged_in k) m (hears event) (alike_purged k m a) (taken_event (purged_in k) event (hearing_purged k event ∙ none_refused (hearing_refusal k event) (agent_takes_none k event) e)) in
     record { alike = subst (λ (x : AgentMachine). AgentAlike x (agent_effect setup m (hears event)).machine) (sym all.machine) both.alike; outputs = all.outputs ∙ ap packed (sym both.sent) }
 step_goes setup k m is event (Err refusal) e all a = tt
 
@@ -191,17 +196,17 @@ purged_sound : (setup : AgentSetup) (m : AgentMachine) → IsAgentSound setup m 
 purged_sound setup m s = record { some = s.some; most = s.most; moment = s.moment }
 
 pub step_sound : (setup : AgentSetup) (k : AgentMachine) (is : State) (event : GatewayEvent) (result : Result (List OutDatagram) Refusal) → IsAgentSound setup k
-    → ends (hearing_refusal k event) false (result_err result) → AllOr (purged_in k) result (agent_effect setup (purged_in k) (hears event)) is → IsAgentSound setup (kept_in is)
+    → AgentEnds k event (result_err result) → AllOr (purged_in k) result (agent_effect setup (purged_in k) (hears event)) is → IsAgentSound setup (kept_in is)
 step_sound setup k is event (Ok out) s e all =
-    rw all.machine (event_sound setup (purged_in k) event (purged_sound setup k s) (hearing_purged k event ∙ none_refused (hearing_refusal k event) e))
+    rw all.machine (event_sound setup (purged_in k) event (purged_sound setup k s) (hearing_purged k event ∙ none_refused (hearing_refusal k event) (agent_takes_none k event) e))
 step_sound setup k is event (Err refusal) s e all = rw all (purged_sound setup k s)
 
 -- ---- the calls
 
-pub stepped : (a a' : AgentState) (event : GatewayEvent) (result : Result (List OutDatagram) Refusal) → a'.setup ≡ a.setup → ends (hearing_refusal a.machine event) false (result_err result)
+pub stepped : (a a' : AgentState) (event : GatewayEvent) (result : Result (List OutDatagram) Refusal) → a'.setup ≡ a.setup → AgentEnds a.machine event (result_err result)
     → ((m : AgentMachine) → AgentAlike a.machine m → IfOk result (λ out. GoesOnAs (agent_effect a.setup m (hears event)) a'.machine out))
     → IfOk result (λ out. AgentTook a (hears event) a' out)
-stepped a a' event (Ok out) same e goes = took_event a a' (hears event) out same (taken_event a.machine event (none_refused (hearing_refusal a.machine event) e)) goes
+stepped a a' event (Ok out) same e goes = took_event a a' (hears event) out same (taken_event a.machine event (none_refused (hearing_refusal a.machine event) (agent_takes_none a.machine event) e)) goes
 stepped a a' event (Err refusal) same e goes = tt
 
 pub step_refused : (a a' : AgentState) (result : Result (List OutDatagram) Refusal) → a'.setup ≡ a.setup
@@ -209,6 +214,7 @@ pub step_refused : (a a' : AgentState) (result : Result (List OutDatagram) Refus
 step_refused a a' (Ok out) same keeps = tt
 step_refused a a' (Err refusal) same keeps = stays_so a a' same keeps
 
-pub ends_so : (a : AgentState) (event : GatewayEvent) (given : Option Refusal) (before : List AgentEvent) → AgentStands a before → ends (hearing_refusal a.machine event) false given
-    → ends (hearing_refusal (plain_agent a.setup before) event) false given
-ends_so a event given before s e = rw (hearing_alike a.machine (plain_agent a.setup before) event s.alike) e
+pub ends_so : (a : AgentState) (event : GatewayEvent) (given : Option Refusal) (before : List AgentEvent) → AgentStands a before → AgentEnds a.machine event given
+    → AgentEnds (plain_agent a.setup before) event given
+ends_so a event given before s e =
+    rw (hearing_alike a.machine (plain_agent a.setup before) event s.alike, takes_alike a.machine (plain_agent a.setup before) event s.alike) e

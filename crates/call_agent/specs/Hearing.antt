@@ -1,5 +1,5 @@
 -- What comes to an agent: it issues a command, or something happens as to a gateway: a datagram comes, or the clock goes on.
-use Rattle.std.specs.Prelude.{ℕ, List, [], ◌∷◌, ◌++◌, find, Option, Some, None}
+use Rattle.std.specs.Prelude.{ℕ, Bool, true, nat_lt, List, [], ◌∷◌, ◌++◌, length, find, Option, Some, None, is_none}
 use Rattle.std.specs.declared.net.socket_addr.SocketAddrV4.{SocketAddrV4}
 use Rattle.mgcp_text.specs.declared.message.Message.{Message}
 use Rattle.mgcp_text.specs.declared.message.Message.TheVariants as messages
@@ -7,14 +7,14 @@ use Rattle.mgcp_text.specs.Reading.{Outcome, read_text}
 use Rattle.plain_machine.specs.declared.refusal.Refusal.{Refusal}
 use Rattle.plain_machine.specs.declared.refusal.Refusal.TheVariants.{NoSuchLine}
 use Rattle.plain_machine.specs.Event.{GatewayEvent, datagram, phone, tick}
-use Rattle.transmission.specs.Texts.{texts_of}
+use Rattle.transmission.specs.Texts.{largest_datagram, texts_of}
 use Rattle.transmission.specs.Hearing.{response_as}
-use Rattle.plain_machine.specs.Refusing.{tick_refusal}
+use Rattle.plain_machine.specs.Refusing.{tick_refusal, ends}
 use Rattle.machine_laws.specs.Saying.{Begun}
 use Rattle.call_agent.specs.declared.setup.AgentSetup.{AgentSetup}
 use Rattle.call_agent.specs.Agent.{AgentMachine, AgentEffect, agent_opening, idle}
 use Rattle.call_agent.specs.Issuing.{command_text, issued, IssueRefusal, issue_refusal}
-use Rattle.call_agent.specs.Flying.{has_id, pass, ticked}
+use Rattle.call_agent.specs.Flying.{has_id, first_flight, if_due, pass, ticked}
 use Rattle.call_agent.specs.Responding.{responded_to, responded}
 use Rattle.call_agent.specs.Taking.{GatewayCommand, read_command, command_of, executed, transacted}
 
@@ -78,6 +78,16 @@ abbrev pub hearing_refusal : AgentMachine → GatewayEvent → Option Refusal
 hearing_refusal m (datagram source bytes) = None
 hearing_refusal m (phone line act) = Some NoSuchLine
 hearing_refusal m (tick moment) = tick_refusal m.now moment
+
+-- an event takes no memory: the datagram is too long, or nothing is due up to the tick; an act is refused
+abbrev pub agent_takes_none : AgentMachine → GatewayEvent → Bool
+agent_takes_none m (datagram source bytes) = nat_lt largest_datagram (length bytes)
+agent_takes_none m (phone line act) = true
+agent_takes_none m (tick moment) = is_none (if_due moment (first_flight m.flights))
+
+-- a step with this event may end so
+abbrev pub AgentEnds : AgentMachine → GatewayEvent → Option Refusal → Type 0
+AgentEnds m event given = ends (hearing_refusal m event) (agent_takes_none m event) given
 
 unfoldable pub agent_refusal : AgentMachine → AgentEvent → Option AgentRefusal
 agent_refusal m (issues verb name rest) = issue_refused (issue_refusal m verb name rest)

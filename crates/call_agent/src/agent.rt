@@ -1,12 +1,11 @@
 //! The call agent.
-ghost use Rattle.std.specs.Prelude.{◌≡◌, ◌≤◌, ◌∷◌, [], List, false, find, option_map, option_copied, IfOk, OnErr};
+ghost use Rattle.std.specs.Prelude.{◌≡◌, ◌≤◌, ◌∷◌, [], List, find, option_map, option_copied, IfOk, OnErr};
 ghost use Rattle.std.specs.Result.{result_err};
 ghost use Rattle.plain_machine.specs.Event.{event_of};
-ghost use Rattle.plain_machine.specs.Refusing.{ends};
 ghost use Rattle.call_agent.specs.Agent.{answer_for, observed_on};
 ghost use Rattle.call_agent.specs.Flying.{first_flight};
 ghost use Rattle.call_agent.specs.Issuing.{issue_refusal};
-ghost use Rattle.call_agent.specs.Hearing.{AgentEvent, issues, hears, hearing_refusal, plain_agent};
+ghost use Rattle.call_agent.specs.Hearing.{AgentEvent, AgentEnds, issues, hears, plain_agent};
 ghost use Rattle.call_agent.specs.State.{answer_in, answered_with};
 ghost use Rattle.call_agent.specs.AgentStands.{AgentStands, AgentTook, AgentStays, IssueEnds};
 
@@ -143,13 +142,13 @@ impl Agent {
     }
 
     /// One event, as of a gateway: a datagram comes, or the clock goes on (in ms); what goes out. An agent has no telephones,
-    /// so an act is `NoSuchLine`; a tick is refused as a gateway's is. What the agent stood for before a refused event it
-    /// stands for still.
+    /// so an act is `NoSuchLine`; a tick is refused as a gateway's is. A datagram that is too long, and a tick up to which nothing
+    /// is due, take no memory. What the agent stood for before a refused event it stands for still.
     pub fn step(&mut self, event: Event<'_>) -> Result<Outputs, Refusal>
         ensures ok { IfOk result (λ outputs. AgentTook self.old (hears (event_of event.entry)) self.new outputs) }
         ensures err { OnErr result (AgentStays self.old self.new) }
-        ensures ends { (before : List AgentEvent) → AgentStands self.old before → ends
-            (hearing_refusal (plain_agent self.old.setup before) (event_of event.entry)) false (result_err result) }
+        ensures ends { (before : List AgentEvent) → AgentStands self.old before → AgentEnds
+            (plain_agent self.old.setup before) (event_of event.entry) (result_err result) }
     {
         let context = Context {
             alloc: self.alloc,

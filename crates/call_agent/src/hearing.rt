@@ -1,8 +1,9 @@
 //! What is done at a text that came in a datagram.
-ghost use Rattle.std.specs.Prelude.{◌≡◌, ◌<◌, ◌^◌};
-ghost use Rattle.std.specs.Result.{result_ok};
+ghost use Rattle.std.specs.Prelude.{◌≡◌, ◌<◌, ◌^◌, nat_lt, length, None};
+ghost use Rattle.std.specs.Result.{result_err, result_ok};
 ghost use Rattle.mgcp_text.specs.Reading.{read_text};
-ghost use Rattle.transmission.specs.Texts.{texts_of};
+ghost use Rattle.transmission.specs.Texts.{largest_datagram, texts_of};
+ghost use Rattle.plain_machine.specs.Refusing.{ends};
 ghost use Rattle.call_agent.specs.Hearing.{handled, left_done, took_all};
 ghost use Rattle.call_agent.specs.State.{kept_in, Does, Happens};
 
@@ -11,7 +12,7 @@ use crate::state::{Context, State};
 use crate::taking::execute;
 use mg_bytes::OutOfMemory;
 use mgcp_text::{Message, TextFault, read_message};
-use plain_machine::OutDatagram;
+use plain_machine::{OutDatagram, Refusal};
 use std::net::SocketAddrV4;
 use transmission::{Origin, hear, texts};
 
@@ -71,16 +72,18 @@ fn take(
     Ok(())
 }
 
-/// A datagram: what is sent. Its texts are taken in their order, each completely; one that is too long does nothing.
+/// A datagram: what is sent. Its texts are taken in their order, each completely; one that is too long does nothing, and takes
+/// no memory.
 pub(crate) fn take_datagram(
     context: Context<'_>,
     state: &mut State,
     source: SocketAddrV4,
     bytes: &[u8],
-) -> Result<Vec<OutDatagram>, OutOfMemory>
+) -> Result<Vec<OutDatagram>, Refusal>
     requires { state.old.clock < 2 ^ 62 }
-    ensures { Happens result (took_all context.entry.setup.now (kept_in state.old) source (texts_of bytes.now))
+    ensures happens { Happens result (took_all context.entry.setup.now (kept_in state.old) source (texts_of bytes.now))
         state.old state.new }
+    ensures ends { ends None (nat_lt largest_datagram (length bytes.now)) (result_err result) }
 {
     let mut out = Vec::new(context.alloc);
     let Some(mut rest) = texts(bytes) else {

@@ -1,9 +1,9 @@
 //! What falls due of the commands in flight (RFC 3435, 3.5.3 and 4.3).
-ghost use Rattle.std.specs.Prelude.{◌<◌, ◌^◌, false};
+ghost use Rattle.std.specs.Prelude.{◌<◌, ◌^◌, is_none};
 ghost use Rattle.std.specs.Result.{result_err};
 ghost use Rattle.outbound.specs.Flight.{repeat_of};
 ghost use Rattle.plain_machine.specs.Refusing.{tick_refusal, ends};
-ghost use Rattle.call_agent.specs.Flying.{flown_on, pass, ticked};
+ghost use Rattle.call_agent.specs.Flying.{first_flight, flown_on, if_due, pass, ticked};
 ghost use Rattle.call_agent.specs.State.{kept_in, Flies, Happens};
 
 use crate::flights::Flights;
@@ -57,7 +57,7 @@ fn pass(
     Ok(())
 }
 
-/// A tick to a moment: what is sent.
+/// A tick to a moment: what is sent. One up to which nothing is due takes no memory.
 pub(crate) fn tick(
     context: Context<'_>,
     state: &mut State,
@@ -65,13 +65,17 @@ pub(crate) fn tick(
 ) -> Result<Vec<OutDatagram>, Refusal>
     requires { state.old.clock < 2 ^ 62 }
     ensures happens { Happens result (ticked (kept_in state.old) moment (pass state.old.flights.is moment)) state.old state.new }
-    ensures ends { ends (tick_refusal state.old.clock moment) false (result_err result) }
+    ensures ends { ends (tick_refusal state.old.clock moment)
+        (is_none (if_due moment (first_flight state.old.flights.is))) (result_err result) }
 {
     if let Some(refusal) = tick_refusal(state.clock, moment) {
         return Err(refusal);
     }
     let mut out = Vec::new(context.alloc);
     state.clock = moment;
+    if state.flights.first_due(moment).is_none() {
+        return Ok(out);
+    }
     pass(context.alloc, &mut state.flights, moment, &mut out)?;
     Ok(out)
 }

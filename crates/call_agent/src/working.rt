@@ -1,9 +1,8 @@
 //! What an event does, with all that it sends: all of it, or nothing.
-ghost use Rattle.std.specs.Prelude.{◌≡◌, false, IfOk, OnErr};
+ghost use Rattle.std.specs.Prelude.{◌≡◌, IfOk, OnErr};
 ghost use Rattle.std.specs.Result.{result_err};
 ghost use Rattle.plain_machine.specs.Event.{event_of};
-ghost use Rattle.plain_machine.specs.Refusing.{ends};
-ghost use Rattle.call_agent.specs.Hearing.{agent_effect, hears, hearing_refusal};
+ghost use Rattle.call_agent.specs.Hearing.{AgentEnds, agent_effect, hears};
 ghost use Rattle.call_agent.specs.Agent.{AgentMachine};
 ghost use Rattle.call_agent.specs.AgentAlike.{AgentAlike};
 ghost use Rattle.call_agent.specs.AgentStands.{IsAgentSound};
@@ -25,10 +24,10 @@ fn happen(
     requires { IsAgentSound context.setup.now (kept_in state.old) }
     ensures happens { Happens result (agent_effect context.entry.setup.now (kept_in state.old) (hears (event_of event.entry)))
         state.old state.new }
-    ensures ends { ends (hearing_refusal (kept_in state.old) (event_of event.entry)) false (result_err result) }
+    ensures ends { AgentEnds (kept_in state.old) (event_of event.entry) (result_err result) }
 {
     match event {
-        Event::Datagram { source, bytes } => Ok(take_datagram(context, state, source, bytes)?),
+        Event::Datagram { source, bytes } => take_datagram(context, state, source, bytes),
         Event::Phone { .. } => Err(Refusal::NoSuchLine),
         Event::Tick { moment } => tick(context, state, moment),
     }
@@ -40,9 +39,12 @@ fn carry_out(context: Context<'_>, state: &mut State, event: Event<'_>) -> Resul
     ensures ok { IfOk result (λ outputs. PutsOut (agent_effect context.entry.setup.now (kept_in state.old)
         (hears (event_of event.entry))) state.new outputs) }
     ensures found { OnErr result (found_in state.new ≡ found_in state.old) }
-    ensures ends { ends (hearing_refusal (kept_in state.old) (event_of event.entry)) false (result_err result) }
+    ensures ends { AgentEnds (kept_in state.old) (event_of event.entry) (result_err result) }
 {
     let sent = happen(context, state, event)?;
+    if sent.is_empty() {
+        return Ok(Outputs::new(context.alloc));
+    }
     Ok(packed(context.alloc, sent)?)
 }
 
@@ -73,7 +75,7 @@ fn attempt(context: Context<'_>, state: &mut State, event: Event<'_>) -> Result<
     requires { IsAgentSound context.setup.now (kept_in state.old) }
     ensures all { AllOr (purged_in (kept_in state.old)) result
         (agent_effect context.entry.setup.now (purged_in (kept_in state.old)) (hears (event_of event.entry))) state.new }
-    ensures ends { ends (hearing_refusal (kept_in state.old) (event_of event.entry)) false (result_err result) }
+    ensures ends { AgentEnds (kept_in state.old) (event_of event.entry) (result_err result) }
 {
     let clock = state.clock;
     commit(state);
@@ -97,7 +99,7 @@ pub(crate) fn step_state(
     ensures ok { (m : AgentMachine) → AgentAlike (kept_in state.old) m → IfOk result (λ outputs.
         GoesOnAs (agent_effect context.entry.setup.now m (hears (event_of event.entry))) (kept_in state.new) outputs) }
     ensures err { (m : AgentMachine) → AgentAlike (kept_in state.old) m → OnErr result (AgentAlike (kept_in state.new) m) }
-    ensures ends { ends (hearing_refusal (kept_in state.old) (event_of event.entry)) false (result_err result) }
+    ensures ends { AgentEnds (kept_in state.old) (event_of event.entry) (result_err result) }
 {
     attempt(context, state, event)
 }

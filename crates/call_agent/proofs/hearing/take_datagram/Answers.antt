@@ -9,8 +9,8 @@ loop-text-preserved c = record {
   clock = went_on _ _ _ _ _ _ _ c.in_ok-take.ensures ∙ c.loop-text.invariant.clock;
 }
 
-pub returns : goal.returns
-returns c = c.loop-text.invariant.completes c.loop-text.state _ (went_end _ _ _ _ _ c.in_default-next.ensures.steps.0)
+pub returns-clause-happens : goal.returns-clause-happens
+returns-clause-happens c = c.loop-text.invariant.completes c.loop-text.state _ (went_end _ _ _ _ _ c.in_default-next.ensures.steps.0)
 
-pub returns-in_default : goal.returns-in_default
-returns-in_default c = rw c.new-out.ensures.items (went_end _ _ _ c.args.state.now [] c.in_default.ensures.texts)
+pub returns-in_default-clause-happens : goal.returns-in_default-clause-happens
+returns-in_default-clause-happens c = rw c.new-out.ensures.items (went_end _ _ _ c.args.state.now [] c.in_default.ensures.texts)
