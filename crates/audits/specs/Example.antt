@@ -1,5 +1,5 @@
 -- What the worked examples speak of.
-use Rattle.std.specs.Prelude.{ℕ, List, [], ◌∷◌, replicate, codes, length, Option, Some, Result, Ok, Err}
+use Rattle.std.specs.Prelude.{ℕ, List, [], ◌∷◌, ◌++◌, replicate, codes, length, Option, Some, Result, Ok, Err}
 use Rattle.mg_bytes.specs.Items.{items_of}
 use Rattle.mgcp_text.specs.Answer.{AnswerContent, response_of}
 use Rattle.mgcp_text.specs.Writing.{written}
@@ -89,6 +89,19 @@ told_of_under id endpoint connection items = text_from id (connection_report id 
 
 abbrev pub told_of : AuditedEndpoint → List ℕ → List ℕ → Result (List ℕ) ℕ
 told_of endpoint connection items = told_of_under 9 endpoint connection items
+
+-- what a line and a connection of it can do, as a response tells it
+abbrev pub capabilities : List ℕ
+capabilities = codes "A: a:PCMU;PCMA, p:10-30, v:L;G;D, m:sendonly;recvonly;sendrecv;confrnce;inactive\r\n"
+
+abbrev pub statistics : List ℕ
+statistics = codes "P: PS=0, OS=0, PR=0, OR=0, PL=0, JI=0, LA=0\r\n"
+
+-- the description of a connection with this number and version, at this port with these payload types
+abbrev pub described : List ℕ → List ℕ → List ℕ
+described numbers stream =
+    codes "v=0\r\no=- " ++ numbers ++ codes " IN IP4 127.0.0.1\r\ns=-\r\nc=IN IP4 127.0.0.1\r\nt=0 0\r\nm=audio "
+    ++ stream ++ codes "\r\na=ptime:20\r\n"
 
 -- how long a text is
 abbrev pub size_of : Result (List ℕ) ℕ → Result ℕ ℕ

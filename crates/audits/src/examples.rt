@@ -1,10 +1,10 @@
 //! Worked examples of audits, as theorems: each sentence of the definitions at work, by the text of the response.
 #![tactic(auto, unfolding(crate::proofs::Computing::on_examples))]
 
-ghost use Rattle.std.specs.Prelude.{◌≡◌, ◌∷◌, [], codes, replicate, Some, None, Ok, Err};
+ghost use Rattle.std.specs.Prelude.{◌≡◌, ◌∷◌, ◌++◌, [], codes, replicate, Some, None, Ok, Err};
 ghost use Rattle.connections.specs.Example.{cut_connection, first_connection, pcma_connection};
 ghost use Rattle.audits.specs.Example.{opening, lifted, after_request, calling, with_places, numbered, with_entity, calling_with_entity};
-ghost use Rattle.audits.specs.Example.{told, told_under, told_of, told_of_under, size_of};
+ghost use Rattle.audits.specs.Example.{told, told_under, told_of, told_of_under, size_of, capabilities, statistics, described};
 
 use connections::{Encoding, Mode};
 
@@ -46,11 +46,15 @@ pub fn connections_are_told_by_their_places()
 /// The items are told in the order of F, forwards and backwards.
 pub fn a_line_is_told_in_the_order_of_f()
     ensures after_a_request { told_under 1404 after_request (codes "R,ES,X,Q,T")
-        ≡ Ok (codes "200 1404 OK\r\nR: L/hd(A,E(R(L/hu(N),D/[0123456789*#T](D)),S(L/dl)))\r\nES: L/hu\r\nX: A4\r\nQ: step,process\r\nT:\r\n") }
+        ≡ Ok (codes "200 1404 OK\r\nR: L/hd(A,E(R(L/hu(N),D/[0123456789*#T](D)),S(L/dl)))\r\n"
+        ++ codes "ES: L/hu\r\nX: A4\r\nQ: step,process\r\nT:\r\n") }
     ensures forwards { told lifted (codes "A,B,D,ES,I,N,O,Q,R,S,T,X")
-        ≡ Ok (codes "200 9 OK\r\nA: a:PCMU;PCMA, p:10-30, v:L;G;D, m:sendonly;recvonly;sendrecv;confrnce;inactive\r\nB: e:A\r\nD: (12T|34)\r\nES: L/hd\r\nI:\r\nN: Me@[127.0.0.1]:2728\r\nO: L/hd,D/1\r\nQ: loop,discard\r\nR: L/hu(N),D/[0123456789T](D)\r\nS: L/dl,L/vmwi\r\nT: L/all,G/oc\r\nX: 1aB\r\n") }
+        ≡ Ok (codes "200 9 OK\r\n" ++ capabilities
+        ++ codes "B: e:A\r\nD: (12T|34)\r\nES: L/hd\r\nI:\r\nN: Me@[127.0.0.1]:2728\r\nO: L/hd,D/1\r\n"
+        ++ codes "Q: loop,discard\r\nR: L/hu(N),D/[0123456789T](D)\r\nS: L/dl,L/vmwi\r\nT: L/all,G/oc\r\nX: 1aB\r\n") }
     ensures backwards { told lifted (codes "X,T,S,R,Q,O,N,I,ES,D,B")
-        ≡ Ok (codes "200 9 OK\r\nX: 1aB\r\nT: L/all,G/oc\r\nS: L/dl,L/vmwi\r\nR: L/hu(N),D/[0123456789T](D)\r\nQ: loop,discard\r\nO: L/hd,D/1\r\nN: Me@[127.0.0.1]:2728\r\nI:\r\nES: L/hd\r\nD: (12T|34)\r\nB: e:A\r\n") }
+        ≡ Ok (codes "200 9 OK\r\nX: 1aB\r\nT: L/all,G/oc\r\nS: L/dl,L/vmwi\r\nR: L/hu(N),D/[0123456789T](D)\r\n"
+        ++ codes "Q: loop,discard\r\nO: L/hd,D/1\r\nN: Me@[127.0.0.1]:2728\r\nI:\r\nES: L/hd\r\nD: (12T|34)\r\nB: e:A\r\n") }
 {}
 
 /// An item is told once, at its first place, in whatever case and with whatever blanks it is asked for.
@@ -74,7 +78,7 @@ pub fn other_items_are_left_out()
 /// The encoding of a line is told by B, and changes no connection.
 pub fn the_encoding_is_told_by_b_alone()
     ensures line { told (record (calling first_connection) { encoding = Encoding.A }) (codes "B,A,I")
-        ≡ Ok (codes "200 9 OK\r\nB: e:A\r\nA: a:PCMU;PCMA, p:10-30, v:L;G;D, m:sendonly;recvonly;sendrecv;confrnce;inactive\r\nI: 1\r\n") }
+        ≡ Ok (codes "200 9 OK\r\nB: e:A\r\n" ++ capabilities ++ codes "I: 1\r\n") }
     ensures connection { told_of (record (calling first_connection) { encoding = Encoding.A }) (codes "1") (codes "L")
         ≡ Ok (codes "200 9 OK\r\nL: a:PCMU;PCMA, p:20\r\n") }
 {}
@@ -82,7 +86,9 @@ pub fn the_encoding_is_told_by_b_alone()
 /// Each item of a connection has its value; L has the local list, also where the remote description leaves less.
 pub fn each_item_of_a_connection_is_told()
     ensures first { told_of (calling first_connection) (codes "1") (codes "C,L,M,N,P")
-        ≡ Ok (codes "200 9 OK\r\nC: 1A\r\nL: a:PCMU;PCMA, p:20\r\nM: recvonly\r\nN: ca@ca.example.net\r\nP: PS=0, OS=0, PR=0, OR=0, PL=0, JI=0, LA=0\r\n") }
+        ≡ Ok (codes "200 9 OK\r\nC: 1A\r\nL: a:PCMU;PCMA, p:20\r\nM: recvonly\r\nN: ca@ca.example.net\r\n" ++ statistics) }
+    ensures counts { told_of (calling first_connection) (codes "1") (codes "P")
+        ≡ Ok (codes "200 9 OK\r\nP: PS=0, OS=0, PR=0, OR=0, PL=0, JI=0, LA=0\r\n") }
     ensures cut { told_of (calling cut_connection) (codes "1") (codes "L") ≡ Ok (codes "200 9 OK\r\nL: a:PCMU;PCMA, p:20\r\n") }
     ensures pcma { told_of (calling pcma_connection) (codes "1") (codes "L") ≡ Ok (codes "200 9 OK\r\nL: a:PCMA, p:30\r\n") }
     ensures entity { told_of (record (calling first_connection) { entity = lifted.entity }) (codes "1") (codes "N")
@@ -94,25 +100,26 @@ pub fn a_connection_is_told_in_the_order_of_f()
     ensures after_a_change { told_of_under 1915 (calling (record cut_connection { mode = Mode.SendReceive })) (codes "1") (codes "C,M")
         ≡ Ok (codes "200 1915 OK\r\nC: 1A\r\nM: sendrecv\r\n") }
     ensures backwards { told_of (calling first_connection) (codes "1") (codes "P,N,M,L,C")
-        ≡ Ok (codes "200 9 OK\r\nP: PS=0, OS=0, PR=0, OR=0, PL=0, JI=0, LA=0\r\nN: ca@ca.example.net\r\nM: recvonly\r\nL: a:PCMU;PCMA, p:20\r\nC: 1A\r\n") }
+        ≡ Ok (codes "200 9 OK\r\n" ++ statistics ++ codes "N: ca@ca.example.net\r\nM: recvonly\r\nL: a:PCMU;PCMA, p:20\r\nC: 1A\r\n") }
 {}
 
 /// The local description stands behind the items and an empty line, and the remote one behind one more, in whatever order F
 /// asks for them. The local one has the list in force and the port of its place; a remote one that isn't known is `v=0`.
 pub fn descriptions_stand_behind_empty_lines()
     ensures local { told_of (calling cut_connection) (codes "1") (codes "LC")
-        ≡ Ok (codes "200 9 OK\r\n\r\nv=0\r\no=- 1 2 IN IP4 127.0.0.1\r\ns=-\r\nc=IN IP4 127.0.0.1\r\nt=0 0\r\nm=audio 3000 RTP/AVP 8\r\na=ptime:20\r\n") }
+        ≡ Ok (codes "200 9 OK\r\n\r\n" ++ described (codes "1 2") (codes "3000 RTP/AVP 8")) }
     ensures remote { told_of (calling cut_connection) (codes "1") (codes "M,rc")
         ≡ Ok (codes "200 9 OK\r\nM: recvonly\r\n\r\nv=0\r\nc=IN IP4 10.0.0.9\r\nm=audio 4000 RTP/AVP 8\r\n") }
     ensures both { told_of (calling cut_connection) (codes "1") (codes "lc,C,RC,LC")
-        ≡ Ok (codes "200 9 OK\r\nC: 1A\r\n\r\nv=0\r\no=- 1 2 IN IP4 127.0.0.1\r\ns=-\r\nc=IN IP4 127.0.0.1\r\nt=0 0\r\nm=audio 3000 RTP/AVP 8\r\na=ptime:20\r\n\r\nv=0\r\nc=IN IP4 10.0.0.9\r\nm=audio 4000 RTP/AVP 8\r\n") }
+        ≡ Ok (codes "200 9 OK\r\nC: 1A\r\n\r\n" ++ described (codes "1 2") (codes "3000 RTP/AVP 8")
+        ++ codes "\r\nv=0\r\nc=IN IP4 10.0.0.9\r\nm=audio 4000 RTP/AVP 8\r\n") }
     ensures turned { told_of (calling cut_connection) (codes "1") (codes "RC,LC")
         ≡ told_of (calling cut_connection) (codes "1") (codes "LC,RC") }
     ensures unknown { told_of (calling first_connection) (codes "1") (codes "RC") ≡ Ok (codes "200 9 OK\r\n\r\nv=0\r\n") }
     ensures both_unknown { told_of (calling first_connection) (codes "1") (codes "RC,LC")
-        ≡ Ok (codes "200 9 OK\r\n\r\nv=0\r\no=- 1 1 IN IP4 127.0.0.1\r\ns=-\r\nc=IN IP4 127.0.0.1\r\nt=0 0\r\nm=audio 3000 RTP/AVP 0 8\r\na=ptime:20\r\n\r\nv=0\r\n") }
+        ≡ Ok (codes "200 9 OK\r\n\r\n" ++ described (codes "1 1") (codes "3000 RTP/AVP 0 8") ++ codes "\r\nv=0\r\n") }
     ensures by_place { told_of (with_places (None ∷ numbered 7 ∷ None ∷ numbered 26 ∷ [])) (codes "1a") (codes "LC")
-        ≡ Ok (codes "200 9 OK\r\n\r\nv=0\r\no=- 26 1 IN IP4 127.0.0.1\r\ns=-\r\nc=IN IP4 127.0.0.1\r\nt=0 0\r\nm=audio 3006 RTP/AVP 0 8\r\na=ptime:20\r\n") }
+        ≡ Ok (codes "200 9 OK\r\n\r\n" ++ described (codes "26 1") (codes "3006 RTP/AVP 0 8")) }
 {}
 
 /// An identifier of no connection of the line is 515, also one with leading zeros.

@@ -37,6 +37,7 @@ use Rattle.plain_machine.specs.Posting.{line_of_id}
 use Rattle.plain_machine.specs.Requesting.{deed_done, deed_on, deed_on_all, done_for, done_there, line_with_place, refused_by, unless_refused}
 use Rattle.plain_machine.specs.Responding.{responded, responded_on, response_with}
 use Rattle.plain_machine.proofs.ListLaws.{machine_on}
+use Rattle.gateway_laws.proofs.AnnouncementLaws.{text_keeps}
 use Rattle.gateway_laws.proofs.FlightLaws.{a_served_gateway_hears_nothing, a_stranger_does_nothing, no_command_at_a_deed, order_waits, others_stay}
 use Rattle.machine_laws.specs.Saying.{OneOf}
 use Rattle.machine_laws.specs.Waiting.{KeepOrder}
@@ -162,14 +163,6 @@ asks_fly (Err code) setup endpoints moment other line id order s = s
 asks_fly (Ok (Reports target audit)) setup endpoints moment other line id order s = s
 asks_fly (Ok (Does target deed)) setup endpoints moment other line id order s = target_flies setup endpoints target deed moment line id order s
 
-transacted_flies : (looked : Looked) (m : Machine) (source : SocketAddrV4) (t : Transaction) (line id : ℕ) → StillFlies line id m.endpoints → StillFlies line id t.done.told.value
-    → StillFlies line id (transacted_by looked m source t).value.endpoints
-unfolding executed
-transacted_flies new m source t line id s done = done
-transacted_flies (repeat text) m source t line id s done = s
-transacted_flies confirmed m source t line id s done = s
-transacted_flies full m source t line id s done = s
-
 -- while something is in flight of a line the gateway serves
 it_serves : (line id : ℕ) (endpoints : Endpoints) → AreInOrder endpoints → StillFlies line id endpoints → serves endpoints ≡ true
 it_serves line id endpoints order s = by_serving (serves endpoints) (order.lines line s.endpoint s.at) where
@@ -203,16 +196,10 @@ response_flies setup endpoints moment response line id order apart s = by_own (l
 
 handled_flies : (setup : Setup) (m : Machine) (source : SocketAddrV4) (outcome : Outcome) (line id : ℕ) → KeepOrder m.endpoints → responds id outcome ≡ false → StillFlies line id m.endpoints
     → StillFlies line id (handled setup m source outcome).value.endpoints
-unfolding handled
-handled_flies setup m source no_header line id order stranger s = s
-handled_flies setup m source (bad_version other) line id order stranger s = transacted_flies (look_of most_firsts m.history other m.now) m source _ line id s s
-handled_flies setup m source (bad_body other) line id order stranger s = transacted_flies (look_of most_firsts m.history other m.now) m source _ line id s s
-handled_flies setup m source (message (messages.Command verb other name params body)) line id order stranger s =
-    let said : Command = record { verb = verb; name = name; params = params; body = body } in
-    transacted_flies (look_of most_firsts m.history other m.now) m source _ line id s
-    (asks_fly (form_while (serves m.endpoints) said (k_of params) setup.names) setup m.endpoints m.now other line id order.order s)
-handled_flies setup m source (message (messages.Response code other params body)) line id order stranger s =
-    response_flies setup m.endpoints m.now (response_with setup other code params) line id order.order (eqb-false other id stranger) s
+handled_flies setup m source outcome line id order stranger s =
+    text_keeps setup (StillFlies line id) m source outcome (λ asks other. asks_fly asks setup m.endpoints m.now other line id order.order s)
+    (λ code other params body reads. response_flies setup m.endpoints m.now (response_with setup other code params) line id order.order
+    (eqb-false other id (sym (ap (responds id) reads) ∙ stranger)) s) s
 
 texts_fly : (setup : Setup) (m : Machine) (source : SocketAddrV4) (texts : List (List ℕ)) (line id : ℕ) → KeepOrder m.endpoints
     → Each (λ (text : List ℕ). responds id (read_text text) ≡ false) texts → StillFlies line id m.endpoints → StillFlies line id (took_all setup m source texts).value.endpoints

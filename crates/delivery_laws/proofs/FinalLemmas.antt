@@ -50,7 +50,8 @@ use Rattle.gateway_laws.proofs.MessageLaws.{Fits, code_is, command_answered, eve
 use Rattle.machine_laws.proofs.EachLemmas.{Each, each_both, each_push}
 use Rattle.world_laws.specs.Landing.{is_final}
 use Rattle.delivery_laws.specs.Copies.{IsFinal}
-use Rattle.delivery_laws.proofs.RefusalCodes.{refusal_code}
+use Rattle.connections.proofs.CodeLaws.{IsFinalCode}
+use Rattle.plain_machine.proofs.CodeLemmas.{refusal_final}
 use Rattle.delivery_laws.proofs.ReportCodes.{fitting_high, connected_high}
 
 -- What a command is answered
@@ -73,12 +74,12 @@ deed_high (Create creation) = omega arith
 deed_high (Modify call id change) = omega arith
 deed_high (Delete deletion) = omega arith
 
-unless_high : (refusal : Option ℕ) (endpoints : Endpoints) (done : Done) → IfSome refusal (λ code. 200 ≤ code) → 200 ≤ done.answer.code → 200 ≤ (unless_refused refusal endpoints done).answer.code
+unless_high : (refusal : Option ℕ) (endpoints : Endpoints) (done : Done) → IfSome refusal IsFinalCode → 200 ≤ done.answer.code → 200 ≤ (unless_refused refusal endpoints done).answer.code
 unless_high None endpoints done refused high = high
-unless_high (Some code) endpoints done refused high = refused
+unless_high (Some code) endpoints done refused high = refused.0
 
 done_high : (setup : Setup) (endpoints : Endpoints) (lines : Target) (more : List Param) (deed : Deed) (moment : ℕ) → 200 ≤ (deed_done setup endpoints lines more deed moment).answer.code
-done_high setup endpoints lines more deed moment = unless_high (refused_by endpoints lines deed) endpoints _ (refusal_code endpoints lines deed) (deed_high deed.connections)
+done_high setup endpoints lines more deed moment = unless_high (refused_by endpoints lines deed) endpoints _ (refusal_final endpoints lines deed) (deed_high deed.connections)
 
 target_high : (setup : Setup) (endpoints : Endpoints) (target : Target) (deed : Deed) (moment : ℕ) → 200 ≤ (done_for setup endpoints target deed moment).answer.code
 target_high setup endpoints (targets.One line) deed moment = done_high setup endpoints (targets.One line) [] deed moment

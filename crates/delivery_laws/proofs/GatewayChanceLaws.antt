@@ -65,7 +65,8 @@ use Rattle.dialled_once.proofs.CourseLemmas.{AllHear, Hears}
 use Rattle.agent_core.specs.World.{WorldStep, now_in, plain_world, steps_are_taken, world_opening}
 use Rattle.delivery_laws.specs.Chances.{chances}
 use Rattle.delivery_laws.specs.OwnChances.{HasCome, IsOfLine, IsToldAfter}
-use Rattle.delivery_laws.proofs.OnTurns.{IsOn, Sends, again_sends, all_out, answer_begins, begin_sends, heard_id, over_sends, put_off_sends, still_sends, WentOut}
+use Rattle.dialled_end_to_end.proofs.RestLemmas.{answer_begins}
+use Rattle.delivery_laws.proofs.OnTurns.{IsOn, Sends, again_sends, all_out, begin_sends, heard_id, over_sends, put_off_sends, still_sends, WentOut}
 use Rattle.delivery_laws.proofs.LaterTurns.{DueLater, put_off_later, soon}
 use Rattle.delivery_laws.proofs.OwnChanceLaws.{Came, each_done, hear_came}
 
@@ -240,7 +241,7 @@ module _ (A : ℕ → Type 0) where
     by_test true =
         subst (λ (x : List Sent). OwnSends x told.value.own) (append_assoc sent (one ∷ []) (of_line 0 told.sent))
         (from_still (sent ++ one ∷ []) endpoints told still
-        (record { rests = s.rests; sends = still_sends A sent (one ∷ []) endpoints.own.pending (answer_begins A one answers) s.sends }))
+        (record { rests = s.rests; sends = still_sends A sent (one ∷ []) endpoints.own.pending (answer_begins one answers) s.sends }))
     by_test false = from_still sent endpoints told still s
 
   transacted_own : (looked : Looked) (m : Machine) (source : SocketAddrV4) (t : Transaction) (sent : List Sent) → IsStill m.endpoints t.done.told → OwnSends sent m.endpoints.own

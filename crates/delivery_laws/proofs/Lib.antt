@@ -6,8 +6,6 @@ pub mod WaitLemmas
 pub mod HearLemmas
 pub mod StepLemmas
 pub mod SenderLemmas
-pub mod ConnectionCodes
-pub mod RefusalCodes
 pub mod ReportCodes
 pub mod FinalLemmas
 pub mod PutOffLemmas

@@ -4,7 +4,6 @@ use Rattle.std.proofs.Common.{◌≡◌, ◌≢◌, ℕ, ◌+◌, ◌-◌, ◌<�
 use Rattle.std.specs.Prelude.{◌⊎◌, IfSome, nat_le, option_map}
 use Rattle.std.specs.Option.{unwrap_or}
 use Rattle.std.proofs.lemmas.Bool.{eqb-true, leb-true, leb-false}
-use Rattle.std.proofs.lemmas.Grind.{flat_map-append}
 use Rattle.std.proofs.lemmas.Option.{none-some}
 use Rattle.std.specs.declared.net.socket_addr.SocketAddrV4.{SocketAddrV4}
 use Rattle.routes.specs.declared.route.Route.{Route}
@@ -56,6 +55,7 @@ use Rattle.machine_laws.specs.Saying.{Begun, OneOf, begun_at, begun_in}
 use Rattle.machine_laws.proofs.EachLemmas.{Each, each_push, each_weaker, one_before, one_behind}
 use Rattle.dialled_once.specs.Course.{CourseStep}
 use Rattle.dialled_once.proofs.CourseLemmas.{EndpointTurns}
+use Rattle.dialled_end_to_end.proofs.RestLemmas.{Rests, rests_is, rests_on, rests_again, flight_waits, noted_silent, asked_awaits, begun_both, answer_begins}
 use Rattle.delivery_laws.specs.Chances.{last_chance}
 use Rattle.delivery_laws.proofs.PostedLemmas.{SaysAt}
 use Rattle.delivery_laws.proofs.WaitLemmas.{again_few, again_is, at_once, given_up, offset, offset_first, offset_next}
@@ -135,36 +135,6 @@ its_sends sent b flight until is out = λ number less.
     subst (λ (text : List ℕ). OneOf (SaysAt text (b.moment + offset number)) sent) is.text
     (subst (λ (first : ℕ). OneOf (SaysAt flight.text (first + offset number)) sent) is.first (out number less))
 
--- where the line waits for an answer
-
--- while an announcement waits nothing is in flight; while something is in flight the line waits
-abbrev Rests : Restart → Option InFlight → State → Type 0
-Rests (Waiting until) pending state = (pending ≡ None) × (state ≡ Notification)
-Rests Announced pending state = state ≡ Notification
-Rests Serving pending state = IfSome pending (λ flight. state ≡ Notification)
-
-rests_is : (restart : Restart) (pending : Option InFlight) (state : State) → Rests restart pending state → (state ≡ Notification) ⊎ ((restart ≡ Serving) × (pending ≡ None))
-rests_is (Waiting until) pending state rests = inl rests.1
-rests_is Announced pending state rests = inl rests
-rests_is Serving None state rests = inr (refl, refl)
-rests_is Serving (Some flight) state rests = inl rests
-
-rests_on : (restart : Restart) (pending : Option InFlight) (was is : State) → Rests restart pending was → is ≡ Notification → Rests restart pending is
-rests_on (Waiting until) pending was is rests waits = (rests.0, waits)
-rests_on Announced pending was is rests waits = waits
-rests_on Serving None was is rests waits = tt
-rests_on Serving (Some flight) was is rests waits = waits
-
-rests_again : (restart : Restart) (flight other : InFlight) (state : State) → Rests restart (Some flight) state → Rests restart (Some other) state
-rests_again (Waiting until) flight other state rests = absurd (none-some flight (sym rests.0))
-rests_again Announced flight other state rests = rests
-rests_again Serving flight other state rests = rests
-
-flight_waits : (restart : Restart) (flight : InFlight) (state : State) → Rests restart (Some flight) state → state ≡ Notification
-flight_waits (Waiting until) flight state rests = rests.1
-flight_waits Announced flight state rests = rests
-flight_waits Serving flight state rests = rests
-
 -- what a response is
 
 -- one that is more than nothing to what is in flight has its id
@@ -181,9 +151,6 @@ provisional_id flight id code is = by_test (flight.id == id) refl is where
   by_test : (b : Bool) → (flight.id == id) ≡ b → (if b then reply_by code else Stranger) ≡ Provisional → flight.id ≡ id
   by_test true same e = eqb-true flight.id id same
   by_test false far e = absurd cc
-
-begun_both : (some more : List Sent) → begun_in (some ++ more) ≡ begun_in some ++ begun_in more
-begun_both some more = flat_map-append begun_at some more
 
 -- A holds of the ids of the responses that came
 module _ (A : ℕ → Type 0) where
@@ -286,11 +253,6 @@ module _ (A : ℕ → Type 0) where
   abbrev SendsOn : List Sent → Effect Endpoint → Type 0
   SendsOn sent turn = LineSends (sent ++ turn.sent) turn.value
 
-  -- nothing is told
-  noted_silent : (setup : Setup) (line moment : ℕ) (endpoint : Endpoint) (done : LineDone) → done.notice ≡ None → noted setup line moment endpoint done ≡ silently (record endpoint { line = done.line })
-  unfolding noted
-  noted_silent setup line moment endpoint done none = ap (with_notice setup line moment (record endpoint { line = done.line })) none
-
   waits_sends : (setup : Setup) (sent : List Sent) (line moment : ℕ) (endpoint : Endpoint) (done : LineDone) → WaitsOn done → LineSends sent endpoint
       → SendsOn sent (noted setup line moment endpoint done)
   waits_sends setup sent line moment endpoint done on f =
@@ -322,10 +284,6 @@ module _ (A : ℕ → Type 0) where
     by_rests : (endpoint.line.state ≡ Notification) ⊎ ((endpoint.post.restart ≡ Serving) × (endpoint.post.pending ≡ None)) → SendsOn sent (noted setup line moment endpoint done)
     by_rests (inl is) = waits_sends setup sent line moment endpoint done (waits is) f
     by_rests (inr free) = free_sends setup sent line moment endpoint done free.0 free.1 awaits (subst (Sends sent) free.1 f.sends)
-
-  asked_awaits : (request : Option Request) (line : LineState) (moment : ℕ) → AwaitsIfNotified (asked_if request line moment)
-  asked_awaits None line moment = tt
-  asked_awaits (Some request) line moment = notifies_once.request line request moment
 
   deed_sends : (setup : Setup) (sent : List Sent) (deed : Deed) (moment line : ℕ) (endpoint : Endpoint) → LineSends sent endpoint → SendsOn sent (deed_on setup deed moment line endpoint)
   unfolding deed_on
@@ -448,16 +406,6 @@ module _ (A : ℕ → Type 0) where
     by_heard (Answered agent) e =
         let to : Endpoint = record endpoint { post = record endpoint.post { entity = unwrap_or agent endpoint.post.entity; pending = None; restart = Serving } } in
         free_sends setup sent line moment to (answered endpoint.line moment) refl refl (notifies_once.answering endpoint.line moment) (over (Answered agent) e (λ same. absurd cc))
-
-  -- an answer to a command goes out
-  pub answer_begins : (one : Sent) → is_answer one.said ≡ true → begun_in (one ∷ []) ≡ []
-  answer_begins one is = by_said one.said is where
-    by_said : (said : Said) → is_answer said ≡ true → begun_in ((record one { said = said }) ∷ []) ≡ []
-    by_said (answer response) e = refl
-    by_said (again text) e = refl
-    by_said (command said) e = absurd cc
-    by_said (resent text) e = absurd cc
-    by_said (acknowledgement response) e = absurd cc
 
   -- it is so whatever the course
   abbrev pub SendsBeside : Bool → List CourseStep → List Sent → Endpoint → Type 0

@@ -13,7 +13,7 @@ use Rattle.audits.specs.Endpoint.{AuditedEndpoint}
 use Rattle.audits.specs.Fitting.{fitting}
 use Rattle.plain_machine.specs.Commanding.{answer_by}
 use Rattle.plain_machine.specs.Reporting.{report_by}
-use Rattle.delivery_laws.proofs.ConnectionCodes.{IsHigh, audited_high}
+use Rattle.connections.proofs.CodeLaws.{IsFinal, audited_final}
 
 fit_high : (b : Bool) (wanted : AnswerContent) → 200 ≤ wanted.code → 200 ≤ (answer_by (checked {F = ℕ} (unless b 533) (Ok wanted))).code
 fit_high true wanted high = high
@@ -27,13 +27,13 @@ endpoint_high : (id : ℕ) (endpoint : AuditedEndpoint) (items : List (List ℕ)
 unfolding endpoint_report
 endpoint_high id endpoint items = fitting_high id _ (omega arith)
 
-report_high : (id : ℕ) (entity : List ℕ) (made : Result Audited ℕ) (items : List (List ℕ)) → IsHigh made → 200 ≤ (answer_by (report_from id entity made items)).code
-report_high id entity (Err code) items high = high
-report_high id entity (Ok found) items high = fitting_high id _ (omega arith)
+report_high : (id : ℕ) (entity : List ℕ) (made : Result Audited ℕ) (items : List (List ℕ)) → IsFinal made → 200 ≤ (answer_by (report_from id entity made items)).code
+report_high id entity (Err code) items final = final.0
+report_high id entity (Ok found) items final = fitting_high id _ (omega arith)
 
 connection_high : (id : ℕ) (endpoint : AuditedEndpoint) (connection : List ℕ) (items : List (List ℕ)) → 200 ≤ (answer_by (connection_report id endpoint connection items)).code
 unfolding connection_report
-connection_high id endpoint connection items = report_high id endpoint.entity.text (audited connection endpoint.connections) items (audited_high connection endpoint.connections)
+connection_high id endpoint connection items = report_high id endpoint.entity.text (audited connection endpoint.connections) items (audited_final connection endpoint.connections)
 
 pub connected_high : (connection : Option (List ℕ)) (id : ℕ) (endpoint : AuditedEndpoint) (items : List (List ℕ)) → 200 ≤ (answer_by (report_by connection id endpoint items)).code
 connected_high None id endpoint items = endpoint_high id endpoint items

@@ -36,7 +36,7 @@ use Rattle.plain_machine.specs.Machine.{Endpoints, Machine, serves}
 use Rattle.plain_machine.specs.Posting.{line_of_id}
 use Rattle.plain_machine.specs.Requesting.{deed_done, deed_on, done_for, done_there, line_with_place, lines_meant, refused_by, unless_refused}
 use Rattle.plain_machine.specs.Responding.{responded, response_with}
-use Rattle.gateway_laws.proofs.AnnouncementLaws.{answer_serves}
+use Rattle.gateway_laws.proofs.AnnouncementLaws.{answer_serves, asks_own, text_keeps}
 use Rattle.gateway_laws.proofs.FlightLaws.{a_served_gateway_hears_nothing, a_stranger_to_itself, own_stays as own_stays_at}
 use Rattle.machine_laws.specs.Waiting.{KeepOrder}
 use Rattle.machine_laws.proofs.EachLemmas.{Each, each_from_all, one_from_any, one_of_each, one_to, one_weaker}
@@ -51,48 +51,12 @@ use Rattle.delivery_laws.specs.OwnChances.{IsResponse}
 use Rattle.delivery_laws.proofs.AmidLaws.{FirstOf, first_of, it_responds, responds, response_does, response_is, takes_texts}
 use Rattle.delivery_laws.proofs.LineLaws.{IsAnswered, heard_is}
 
--- A command leaves the gateway's own post
-
-unless_own : (refusal : Option ℕ) (endpoints : Endpoints) (done : Done) → done.told.value.own ≡ endpoints.own → (unless_refused refusal endpoints done).told.value.own ≡ endpoints.own
-unless_own None endpoints done same = same
-unless_own (Some code) endpoints done same = refl
-
-deed_own : (setup : Setup) (endpoints : Endpoints) (target : Target) (more : List Param) (deed : Deed) (moment : ℕ) → (deed_done setup endpoints target more deed moment).told.value.own ≡ endpoints.own
-deed_own setup endpoints target more deed moment =
-    unless_own (refused_by endpoints target deed) endpoints _ (own_stays (lines_meant endpoints target) endpoints (deed_on setup deed moment))
-
-target_own : (setup : Setup) (endpoints : Endpoints) (target : Target) (deed : Deed) (moment : ℕ) → (done_for setup endpoints target deed moment).told.value.own ≡ endpoints.own
-target_own setup endpoints (One n) deed moment = deed_own setup endpoints (One n) [] deed moment
-target_own setup endpoints AllLines deed moment = deed_own setup endpoints AllLines [] deed moment
-target_own setup endpoints Any deed moment = by_place (line_with_place endpoints) where
-  by_place : (found : Option ℕ) → (done_there found setup endpoints deed moment).told.value.own ≡ endpoints.own
-  by_place None = refl
-  by_place (Some n) = deed_own setup endpoints (One n) _ deed moment
-
-asks_own : (asks : Result Asks ℕ) (setup : Setup) (endpoints : Endpoints) (moment id : ℕ) → (done_by asks setup endpoints moment id).told.value.own ≡ endpoints.own
-asks_own (Err code) setup endpoints moment id = refl
-asks_own (Ok (Reports target audit)) setup endpoints moment id = refl
-asks_own (Ok (Does target deed)) setup endpoints moment id = target_own setup endpoints target deed moment
-
-transacted_own : (looked : Looked) (m : Machine) (source : SocketAddrV4) (t : Transaction) → t.done.told.value.own ≡ m.endpoints.own → (transacted_by looked m source t).value.endpoints.own ≡ m.endpoints.own
-unfolding executed
-transacted_own new m source t same = same
-transacted_own (repeat text) m source t same = refl
-transacted_own confirmed m source t same = refl
-transacted_own full m source t same = refl
-
--- what holds of that post stays, where it does at each response
-text_keeps : (setup : Setup) (P : Post → Type 0) (m : Machine) (source : SocketAddrV4) (outcome : Outcome)
+-- what holds of the gateway's own post stays at a text, where it does at each response
+own_keeps : (setup : Setup) (P : Post → Type 0) (m : Machine) (source : SocketAddrV4) (outcome : Outcome)
     → ((code id : ℕ) (params : List Param) (body : List ℕ) → outcome ≡ message (messages.Response code id params body)
     → P (responded setup m.endpoints m.now (response_with setup id code params)).value.own) → P m.endpoints.own → P (handled setup m source outcome).value.endpoints.own
-unfolding handled
-text_keeps setup P m source no_header hears is = is
-text_keeps setup P m source (bad_version id) hears is = subst P (sym (transacted_own (look_of most_firsts m.history id m.now) m source _ refl)) is
-text_keeps setup P m source (bad_body id) hears is = subst P (sym (transacted_own (look_of most_firsts m.history id m.now) m source _ refl)) is
-text_keeps setup P m source (message (messages.Command verb id name params body)) hears is =
-    let said : Command = record { verb = verb; name = name; params = params; body = body } in
-    subst P (sym (transacted_own (look_of most_firsts m.history id m.now) m source _ (asks_own (form_while (serves m.endpoints) said (k_of params) setup.names) setup m.endpoints m.now id))) is
-text_keeps setup P m source (message (messages.Response code id params body)) hears is = hears code id params body refl
+own_keeps setup P m source outcome hears is =
+    text_keeps setup (λ (endpoints : Endpoints). P endpoints.own) m source outcome (λ asks id. subst P (sym (asks_own asks setup m.endpoints m.now id)) is) hears is
 
 -- Before its answer the announcement stays in flight
 
@@ -116,7 +80,7 @@ unfolding took_all
 texts_fly setup m source [] id none s = s
 texts_fly setup m source (text ∷ texts) id none s =
     texts_fly setup (handled setup m source (read_text text)).value source texts id none.1
-    (text_keeps setup (OwnFlies id) m source (read_text text)
+    (own_keeps setup (OwnFlies id) m source (read_text text)
     (λ code other params body reads. response_stays setup m.endpoints m.now (response_with setup other code params) id
     (eqb-false other id (sym (ap (responds id) reads) ∙ none.0)) s) s)
 
@@ -135,7 +99,7 @@ unfolding took_all
 texts_serve setup m source [] order served = served
 texts_serve setup m source (text ∷ texts) order served =
     texts_serve setup (handled setup m source (read_text text)).value source texts (text_waits setup m source (read_text text) order)
-    (text_keeps setup (λ (own : Post). is_serving own.restart ≡ true) m source (read_text text)
+    (own_keeps setup (λ (own : Post). is_serving own.restart ≡ true) m source (read_text text)
     (λ code id params body reads. response_serves setup m.endpoints m.now (response_with setup id code params) order served) served)
 
 -- The answer comes

@@ -3,7 +3,6 @@ use Rattle.std.proofs.Common.{◌≡◌, ℕ, ◌≤◌, Bool, true, false, ◌|
 use Rattle.std.specs.Prelude.{◌⊎◌, IfSome, not, option_map}
 use Rattle.std.specs.Option.{unwrap_or}
 use Rattle.std.specs.List.{list_any}
-use Rattle.std.proofs.lemmas.Grind.{flat_map-append}
 use Rattle.std.proofs.lemmas.Option.{none-some}
 use Rattle.endpoint_names.specs.declared.entity.Entity.{Entity}
 use Rattle.event_requests.specs.declared.request.Request.{Request}
@@ -49,6 +48,7 @@ use Rattle.machine_laws.specs.Saying.{Begun, begun_at, begun_in}
 use Rattle.machine_laws.proofs.EachLemmas.{Each, each_push}
 use Rattle.world_laws.proofs.LinkLaws.{final_is}
 use Rattle.dialled_end_to_end.specs.GivenUp.{announces, has_given_up}
+use Rattle.dialled_end_to_end.proofs.RestLemmas.{Rests, rests_is, rests_on, rests_again, flight_waits, noted_silent, asked_awaits, begun_both, answer_begins}
 use Rattle.dialled_once.specs.Course.{CourseStep}
 use Rattle.dialled_once.proofs.CourseLemmas.{EndpointTurns}
 
@@ -61,35 +61,6 @@ abbrev is_waiting : Restart → Bool
 is_waiting (Waiting until) = true
 is_waiting Announced = false
 is_waiting Serving = false
-
--- while an announcement waits nothing is in flight; while something is in flight the line waits
-abbrev Rests : Restart → Option InFlight → State → Type 0
-Rests (Waiting until) pending state = (pending ≡ None) × (state ≡ Notification)
-Rests Announced pending state = state ≡ Notification
-Rests Serving pending state = IfSome pending (λ flight. state ≡ Notification)
-
-rests_is : (restart : Restart) (pending : Option InFlight) (state : State) → Rests restart pending state → (state ≡ Notification) ⊎ ((restart ≡ Serving) × (pending ≡ None))
-rests_is (Waiting until) pending state rests = inl rests.1
-rests_is Announced pending state rests = inl rests
-rests_is Serving None state rests = inr (refl, refl)
-rests_is Serving (Some flight) state rests = inl rests
-
-rests_on : (restart : Restart) (pending : Option InFlight) (was is : State) → Rests restart pending was → is ≡ Notification → Rests restart pending is
-rests_on (Waiting until) pending was is rests waits = (rests.0, waits)
-rests_on Announced pending was is rests waits = waits
-rests_on Serving None was is rests waits = tt
-rests_on Serving (Some flight) was is rests waits = waits
-
--- another send of what is in flight
-rests_again : (restart : Restart) (flight other : InFlight) (state : State) → Rests restart (Some flight) state → Rests restart (Some other) state
-rests_again (Waiting until) flight other state rests = absurd (none-some flight (sym rests.0))
-rests_again Announced flight other state rests = rests
-rests_again Serving flight other state rests = rests
-
-flight_waits : (restart : Restart) (flight : InFlight) (state : State) → Rests restart (Some flight) state → state ≡ Notification
-flight_waits (Waiting until) flight state rests = rests.1
-flight_waits Announced flight state rests = rests
-flight_waits Serving flight state rests = rests
 
 abbrev has_announced : List Sent → Bool
 has_announced sent = list_any (λ one. announces one.said) sent
@@ -146,9 +117,6 @@ module _ (A : ℕ → Type 0) (B : Type 0) where
   abbrev FliesOn : List Sent → Effect Endpoint → Type 0
   FliesOn sent turn = Flies (sent ++ turn.sent) turn.value
 
-  begun_both : (some more : List Sent) → begun_in (some ++ more) ≡ begun_in some ++ begun_in more
-  begun_both some more = flat_map-append begun_at some more
-
   -- what is sent begins nothing
   fine_on : (sent more : List Sent) (restart : Restart) (pending : Option InFlight) → begun_in more ≡ [] → Fine sent restart pending → Fine (sent ++ more) restart pending
   fine_on sent more restart pending none f = record {
@@ -165,10 +133,6 @@ module _ (A : ℕ → Type 0) (B : Type 0) where
   either_on sent more restart pending none (inr g) = inr (gone_on sent more restart g)
 
   -- What a line tells
-
-  noted_silent : (setup : Setup) (line moment : ℕ) (endpoint : Endpoint) (done : LineDone) → done.notice ≡ None → noted setup line moment endpoint done ≡ silently (record endpoint { line = done.line })
-  unfolding noted
-  noted_silent setup line moment endpoint done none = ap (with_notice setup line moment (record endpoint { line = done.line })) none
 
   -- nothing
   waits_flies : (setup : Setup) (sent : List Sent) (line moment : ℕ) (endpoint : Endpoint) (done : LineDone) → WaitsOn done → Flies sent endpoint
@@ -226,10 +190,6 @@ module _ (A : ℕ → Type 0) (B : Type 0) where
     by_rests : (endpoint.line.state ≡ Notification) ⊎ ((endpoint.post.restart ≡ Serving) × (endpoint.post.pending ≡ None)) → FliesOn sent (noted setup line moment endpoint done)
     by_rests (inl is) = waits_flies setup sent line moment endpoint done (waits is) f
     by_rests (inr free) = free_flies setup sent line moment endpoint done free.0 free.1 awaits f.either
-
-  asked_awaits : (request : Option Request) (line : LineState) (moment : ℕ) → AwaitsIfNotified (asked_if request line moment)
-  asked_awaits None line moment = tt
-  asked_awaits (Some request) line moment = notifies_once.request line request moment
 
   deed_flies : (setup : Setup) (sent : List Sent) (deed : Deed) (moment line : ℕ) (endpoint : Endpoint) → Flies sent endpoint → FliesOn sent (deed_on setup deed moment line endpoint)
   unfolding deed_on
@@ -378,16 +338,6 @@ module _ (A : ℕ → Type 0) (B : Type 0) where
         let to : Endpoint = record endpoint { post = record endpoint.post { entity = unwrap_or agent endpoint.post.entity; pending = None; restart = Serving } } in
         free_flies setup sent line moment to (answered endpoint.line moment) refl refl (notifies_once.answering endpoint.line moment)
         (settles sent endpoint.post.restart endpoint.post.pending is.flight endpoint.line.state is.flies (subst A (sym is.same) (holds is.final)) f.rests f.either)
-
-  -- an answer to a command goes out
-  answer_begins : (one : Sent) → is_answer one.said ≡ true → begun_in (one ∷ []) ≡ []
-  answer_begins one is = by_said one.said is where
-    by_said : (said : Said) → is_answer said ≡ true → begun_in ((record one { said = said }) ∷ []) ≡ []
-    by_said (answer response) e = refl
-    by_said (again text) e = refl
-    by_said (command said) e = absurd cc
-    by_said (resent text) e = absurd cc
-    by_said (acknowledgement response) e = absurd cc
 
   -- it is so whatever the course
   abbrev pub FliesBeside : Bool → List CourseStep → List Sent → Endpoint → Type 0

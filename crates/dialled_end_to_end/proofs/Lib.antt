@@ -1,3 +1,4 @@
+pub mod RestLemmas
 pub mod FlightLemmas
 pub mod WellLemmas
 pub mod ToldLemmas

@@ -104,7 +104,7 @@ target_own setup endpoints Any deed moment = by_line (line_with_place endpoints)
   by_line None = refl
   by_line (Some line) = deed_own setup endpoints (One line) _ deed moment
 
-asks_own : (asks : Result Asks ℕ) (setup : Setup) (endpoints : Endpoints) (moment id : ℕ) → (done_by asks setup endpoints moment id).told.value.own ≡ endpoints.own
+pub asks_own : (asks : Result Asks ℕ) (setup : Setup) (endpoints : Endpoints) (moment id : ℕ) → (done_by asks setup endpoints moment id).told.value.own ≡ endpoints.own
 asks_own (Err code) setup endpoints moment id = refl
 asks_own (Ok (Reports target audit)) setup endpoints moment id = refl
 asks_own (Ok (Does target deed)) setup endpoints moment id = target_own setup endpoints target deed moment
@@ -205,24 +205,33 @@ passed_serves (suc n) setup endpoints moment lasts = by_due (due_by endpoints mo
       by_due None rest = lasts.served
       by_due (Some item) rest = rest item
 
-transacted_serves : (looked : Looked) (m : Machine) (source : SocketAddrV4) (t : Transaction) → serves m.endpoints ≡ true → serves t.done.told.value ≡ true
-    → serves (transacted_by looked m source t).value.endpoints ≡ true
+-- what holds of the endpoints stays at a text, where it does at what a command asks for and at a response
+transacted_keeps : (P : Endpoints → Type 0) (looked : Looked) (m : Machine) (source : SocketAddrV4) (t : Transaction) → P m.endpoints → P t.done.told.value
+    → P (transacted_by looked m source t).value.endpoints
 unfolding executed
-transacted_serves new m source t was is = is
-transacted_serves (repeat text) m source t was is = was
-transacted_serves confirmed m source t was is = was
-transacted_serves full m source t was is = was
+transacted_keeps P new m source t was is = is
+transacted_keeps P (repeat text) m source t was is = was
+transacted_keeps P confirmed m source t was is = was
+transacted_keeps P full m source t was is = was
+
+pub text_keeps : (setup : Setup) (P : Endpoints → Type 0) (m : Machine) (source : SocketAddrV4) (outcome : Outcome)
+    → ((asks : Result Asks ℕ) (id : ℕ) → P (done_by asks setup m.endpoints m.now id).told.value)
+    → ((code id : ℕ) (params : List Param) (body : List ℕ) → outcome ≡ message (messages.Response code id params body)
+    → P (responded setup m.endpoints m.now (response_with setup id code params)).value) → P m.endpoints → P (handled setup m source outcome).value.endpoints
+unfolding handled
+text_keeps setup P m source no_header asked hears was = was
+text_keeps setup P m source (bad_version id) asked hears was = transacted_keeps P (look_of most_firsts m.history id m.now) m source _ was was
+text_keeps setup P m source (bad_body id) asked hears was = transacted_keeps P (look_of most_firsts m.history id m.now) m source _ was was
+text_keeps setup P m source (message (messages.Command verb id name params body)) asked hears was =
+    let said : Command = record { verb = verb; name = name; params = params; body = body } in
+    transacted_keeps P (look_of most_firsts m.history id m.now) m source _ was (asked (form_while (serves m.endpoints) said (k_of params) setup.names) id)
+text_keeps setup P m source (message (messages.Response code id params body)) asked hears was = hears code id params body refl
 
 handled_serves : (setup : Setup) (m : Machine) (source : SocketAddrV4) (outcome : Outcome) → Lasts m.endpoints → serves (handled setup m source outcome).value.endpoints ≡ true
-unfolding handled
-handled_serves setup m source no_header lasts = lasts.served
-handled_serves setup m source (bad_version id) lasts = transacted_serves (look_of most_firsts m.history id m.now) m source _ lasts.served lasts.served
-handled_serves setup m source (bad_body id) lasts = transacted_serves (look_of most_firsts m.history id m.now) m source _ lasts.served lasts.served
-handled_serves setup m source (message (messages.Command verb id name params body)) lasts =
-    transacted_serves (look_of most_firsts m.history id m.now) m source _ lasts.served
-    (deed_serves setup m.endpoints m.now id (record { verb = verb; name = name; params = params; body = body }) (k_of params) ∙ lasts.served)
-handled_serves setup m source (message (messages.Response code id params body)) lasts =
-    response_lasts setup m.endpoints m.now (response_with setup id code params) lasts.order.own.order lasts.served
+handled_serves setup m source outcome lasts =
+    text_keeps setup (λ (endpoints : Endpoints). serves endpoints ≡ true) m source outcome
+    (λ asks id. same_own m.endpoints (done_by asks setup m.endpoints m.now id).told.value (asks_own asks setup m.endpoints m.now id) ∙ lasts.served)
+    (λ code id params body is. response_lasts setup m.endpoints m.now (response_with setup id code params) lasts.order.own.order lasts.served) lasts.served
 
 took_serves : (setup : Setup) (m : Machine) (source : SocketAddrV4) (texts : List (List ℕ)) → Lasts m.endpoints → serves (took_all setup m source texts).value.endpoints ≡ true
 unfolding took_all

@@ -1,16 +1,17 @@
 //! Agents at work, as theorems.
 #![tactic(auto, unfolding(crate::proofs::Computing::on_examples))]
 
-ghost use Rattle.std.specs.Prelude.{◌≡◌, ◌++◌, codes, [], ◌∷◌, None, Some, map};
+ghost use Rattle.std.specs.Prelude.{◌≡◌, ◌++◌, true, false, codes, replicate, [], ◌∷◌, None, Some, map};
 ghost use Rattle.mg_packages.specs.declared.event.LineEvent.TheVariants as events;
 ghost use Rattle.mg_line.specs.declared.phone.Act.TheVariants as acts;
 ghost use Rattle.event_values.specs.declared.observed.Observed.TheVariants.{Happened};
 ghost use Rattle.plain_machine.specs.declared.refusal.Refusal.TheVariants as refusals;
-ghost use Rattle.plain_machine.specs.Event.{phone, tick};
+ghost use Rattle.plain_machine.specs.Event.{datagram, phone, tick};
+ghost use Rattle.plain_machine.specs.Example.{other_agent};
 ghost use Rattle.call_agent.specs.Agent.{answer_for, observed_on};
 ghost use Rattle.call_agent.specs.Issuing.{no_more_ids, bad_command};
-ghost use Rattle.call_agent.specs.Hearing.{issues, hears, as_event, as_issue, plain_agent};
-ghost use Rattle.world_laws.specs.Example.{agent_from, audit_by_agent, agent_refuses, agent_sends, seconds_of_agent, from_gateway};
+ghost use Rattle.call_agent.specs.Hearing.{issues, hears, as_event, as_issue, agent_takes_none, plain_agent};
+ghost use Rattle.world_laws.specs.Example.{agent_from, agent_then, audit_by_agent, agent_refuses, agent_sends, seconds_of_agent, from_gateway};
 
 /// The greatest id is issued, and after it none.
 pub fn ids_end_with_the_greatest()
@@ -42,6 +43,18 @@ pub fn an_agent_refuses_as_a_gateway_does()
     ensures back { agent_refuses 1 (hears (tick 1000) ∷ []) (hears (tick 999)) ≡ Some (as_event refusals.ClockBack) }
     ensures again { agent_refuses 1 (hears (tick 1000) ∷ []) (hears (tick 1000)) ≡ None }
     ensures datagram { agent_refuses 1 [] (from_gateway []) ≡ None }
+{}
+
+/// A datagram that is too long takes no memory, and neither does a tick up to which nothing is due.
+pub fn an_idle_agent_takes_no_memory()
+    ensures idle { agent_takes_none (agent_then []) (tick 1000) ≡ true }
+    ensures before { agent_takes_none (agent_then (audit_by_agent ∷ [])) (tick 499) ≡ true }
+    ensures at { agent_takes_none (agent_then (audit_by_agent ∷ [])) (tick 500) ≡ false }
+    ensures second { agent_takes_none (agent_then (audit_by_agent ∷ hears (tick 500) ∷ audit_by_agent ∷ [])) (tick 999) ≡ true }
+    ensures of_second { agent_takes_none (agent_then (audit_by_agent ∷ hears (tick 500) ∷ audit_by_agent ∷ [])) (tick 1000) ≡ false }
+    ensures longest { agent_takes_none (agent_then []) (datagram other_agent (replicate 4000 10)) ≡ false }
+    ensures too_long { agent_takes_none (agent_then []) (datagram other_agent (replicate 4001 10)) ≡ true }
+    ensures act { agent_takes_none (agent_then []) (phone 1 acts.OffHook) ≡ true }
 {}
 
 /// A command is sent at once, repeated as a gateway repeats, and given up after that.
