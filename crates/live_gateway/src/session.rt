@@ -169,6 +169,10 @@ impl<'a, R: Net + Clock> LiveWire<'a, R> {
                 self.journal.answered(gateway.now(), DONE);
                 self.ends.telephones.answer(DONE);
             }
+            (Some(Input::Datagram { .. }), false) => {
+                self.journal.trace.tell(TraceEntry::Taken);
+                self.journal.tally.heard(gateway.now(), gateway.outcomes());
+            }
             (_, true) => self.journal.trace.refused(),
             (_, false) => self.journal.trace.tell(TraceEntry::Taken),
         }

@@ -47,7 +47,7 @@ impl Journal {
 
     /// A datagram is given to the gateway.
     pub fn datagram(&mut self, now: Now, source: SocketAddrV4, bytes: &[u8]) {
-        self.tally.received(bytes);
+        self.tally.received();
         self.trace.tell(TraceEntry::Datagram { source, bytes });
         self.log.receive(now, source, bytes);
         self.capture.came(now.time, source, bytes);

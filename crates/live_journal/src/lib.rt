@@ -5,18 +5,23 @@
 mod capture;
 mod explaining;
 mod journal;
+pub mod laws;
 mod log;
 mod message_tally;
+mod own_counts;
 mod picture;
 mod recent;
 mod reporting;
 mod spoiling;
+mod text_counts;
 mod trace;
 
 pub use crate::capture::Capture;
 pub use crate::journal::Journal;
 pub use crate::log::Log;
 pub use crate::message_tally::MessageTally;
+pub use crate::own_counts::OwnCounts;
 pub use crate::picture::picture_of;
 pub use crate::reporting::{Faults, report};
+pub use crate::text_counts::TextCounts;
 pub use crate::trace::{Trace, TraceEntry};

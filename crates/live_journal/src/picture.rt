@@ -52,7 +52,7 @@ fn line_view(alloc: Global, gateway: &Gateway, line: u16) -> Result<LineView, Al
 }
 
 fn put_commands(views: &mut Vec<VerbCount>, tally: &MessageTally) -> Result<(), AllocError> {
-    for (place, number) in tally.commands.iter().enumerate() {
+    for (place, number) in tally.texts.commands.iter().enumerate() {
         views.push(VerbCount {
             verb: place as u8,
             number: *number,
@@ -62,11 +62,11 @@ fn put_commands(views: &mut Vec<VerbCount>, tally: &MessageTally) -> Result<(), 
 }
 
 fn put_answers(views: &mut Vec<CodeCount>, tally: &MessageTally) -> Result<(), AllocError> {
-    for (code, number) in tally.answers.iter() {
-        views.push(CodeCount {
-            code: *code,
-            number: *number,
-        })?;
+    for (code, number) in (0..u16::MAX).zip(tally.texts.answers.iter()) {
+        let number = *number;
+        if number > 0 {
+            views.push(CodeCount { code, number })?;
+        }
     }
     Ok(())
 }
@@ -82,14 +82,14 @@ fn put_counts(
     put_answers(&mut counts.answers, tally)?;
     counts.datagrams_in = tally.datagrams_in;
     counts.datagrams_out = tally.datagrams_out;
-    counts.responses = tally.responses;
-    counts.unreadable = tally.others;
-    counts.answers_again = tally.answers_again;
-    counts.notifications = tally.notifications;
-    counts.notifications_again = tally.notifications_again;
-    counts.announcements = tally.announcements;
-    counts.announcements_again = tally.announcements_again;
-    counts.given_up = tally.given_up;
+    counts.responses = tally.texts.responses;
+    counts.unreadable = tally.texts.others;
+    counts.answers_again = tally.texts.again;
+    counts.notifications = tally.own.notifications;
+    counts.notifications_again = tally.own.notifications_again;
+    counts.announcements = tally.own.announcements;
+    counts.announcements_again = tally.own.announcements_again;
+    counts.given_up = tally.own.given_up;
     counts.transactions = tally.transactions(picture.clock);
     counts.refused = faults.refused;
     counts.receive_faults = faults.receive;

@@ -35,6 +35,11 @@ impl Recent {
         number
     }
 
+    /// Something is sent with this id for the first time. Where memory is refused it isn't remembered.
+    pub fn remember(&mut self, moment: u64, id: u32) {
+        let _ = self.firsts.put(id, moment);
+    }
+
     /// Something is sent with this id: whether it is a repeat. Where memory is refused it isn't remembered.
     pub fn is_repeat(&mut self, moment: u64, id: u32) -> bool {
         if let Some(first) = self.firsts.peek(&id) {
@@ -42,7 +47,7 @@ impl Recent {
                 return true;
             }
         }
-        let _ = self.firsts.put(id, moment);
+        self.remember(moment, id);
         false
     }
 }

@@ -49,7 +49,7 @@ fn put_numbers(text: &mut String, numbers: &[(&str, u64)]) -> Result<(), AllocEr
 
 fn put_commands(text: &mut String, tally: &MessageTally) -> Result<(), AllocError> {
     text.push_str("\ncommands")?;
-    for (word, number) in VERB_WORDS.iter().zip(tally.commands.iter()) {
+    for (word, number) in VERB_WORDS.iter().zip(tally.texts.commands.iter()) {
         write!(text, " {word} {number}")?;
     }
     Ok(())
@@ -57,8 +57,10 @@ fn put_commands(text: &mut String, tally: &MessageTally) -> Result<(), AllocErro
 
 fn put_answers(text: &mut String, tally: &MessageTally) -> Result<(), AllocError> {
     text.push_str("\nanswers")?;
-    for (code, number) in tally.answers.iter() {
-        write!(text, " {code:03} {number}")?;
+    for (code, number) in tally.texts.answers.iter().enumerate() {
+        if *number > 0 {
+            write!(text, " {code:03} {number}")?;
+        }
     }
     Ok(())
 }
@@ -73,12 +75,12 @@ fn put_others(
     put_numbers(
         text,
         &[
-            (" repeated ", tally.answers_again),
-            ("\nnotifications ", tally.notifications),
-            (" repeated ", tally.notifications_again),
-            ("\nannouncements ", tally.announcements),
-            (" repeated ", tally.announcements_again),
-            (" after given up ", tally.given_up),
+            (" repeated ", tally.texts.again),
+            ("\nnotifications ", tally.own.notifications),
+            (" repeated ", tally.own.notifications_again),
+            ("\nannouncements ", tally.own.announcements),
+            (" repeated ", tally.own.announcements_again),
+            (" after given up ", tally.own.given_up),
             ("\nlost events ", lost),
             (" refused ", faults.refused),
             ("\nfaults receive ", faults.receive),
@@ -106,8 +108,8 @@ pub fn report(
     put_numbers(
         &mut text,
         &[
-            ("\nresponses ", tally.responses),
-            (" no message ", tally.others),
+            ("\nresponses ", tally.texts.responses),
+            (" no message ", tally.texts.others),
         ],
     )?;
     put_answers(&mut text, tally)?;
