@@ -40,3 +40,4 @@ pub mod AskingLaws
 pub mod Computing
 pub mod ExampleLemmas
 pub mod FrontLemmas
+pub mod FairExamples

@@ -1,40 +1,22 @@
-use Rattle.std.proofs.Common.{◌≡◌, ℕ, zero, suc, ◌+◌, ◌≤◌, true, false, ◌++◌, List, [], ◌∷◌, Option, Some, codes, inl, refl, sym, ap, ◌∙◌, subst, arith}
+use Rattle.std.proofs.Common.{◌≡◌, ℕ, zero, suc, true, false, List, [], ◌∷◌, Option, Some, codes, inl, refl, sym, ap, ◌∙◌, subst}
 use Rattle.std.specs.Prelude.{Any, slice_get, unwrap_or}
 use Rattle.std.proofs.lemmas.Option.{none-some}
 use Rattle.transmission.specs.Texts.{texts_of}
 use Rattle.plain_machine.specs.Example.{two_lines}
 use Rattle.machine_laws.proofs.EachLemmas.{any_from_one}
-use Rattle.mg_line.specs.declared.phone.Act.TheVariants.{OffHook}
 use Rattle.agent_core.specs.declared.packet.End.TheVariants.{GatewayEnd, AgentEnd}
 use Rattle.agent_core.specs.declared.packet.Packet.{Packet}
 use Rattle.agent_core.specs.declared.packet.Posted.{Posted}
-use Rattle.agent_core.specs.World.{delivering, dialling, gateway_address, plain_world, ticking}
+use Rattle.agent_core.specs.World.{gateway_address, plain_world}
 use Rattle.delivery_laws.specs.Copies.{arrives}
-use Rattle.delivery_laws.specs.Fairness.{IsHandedOver}
-use Rattle.delivery_laws.specs.Example.{brought, notified}
+use Rattle.delivery_laws.specs.Example.{brought}
 use Rattle.delivery_laws.proofs.Computing.{on_examples}
+use Rattle.delivery_laws.proofs.FairExamples.{fair_is}
 use Rattle.delivery_laws.proofs.examples.a_notification_is_brought.Goals as goal
 
--- all packets were sent at 1
-sent_then : (one post : Posted) → Some one ≡ Some post → one.packet.moment ≡ 1 → 1 ≤ post.packet.moment + 0
-sent_then one post same at =
-    let is : 1 ≡ post.packet.moment = sym at ∙ ap (λ (o : Option Posted). (unwrap_or o one).packet.moment) same in
-    omega (arith, is)
-
-fair_at : (number : ℕ) (post : Posted) → slice_get (plain_world two_lines brought).posted number ≡ Some post → IsHandedOver two_lines brought 0 number post
-unfolding on_examples
-fair_at zero post found =
-    record { before = ticking 1 ∷ []; later = delivering 1 ∷ dialling 1 OffHook ∷ delivering 2 ∷ delivering 3 ∷ []; order = refl; sent = found; soon = sent_then _ post found refl }
-fair_at (suc zero) post found =
-    record { before = ticking 1 ∷ delivering 0 ∷ []; later = dialling 1 OffHook ∷ delivering 2 ∷ delivering 3 ∷ []; order = refl; sent = found; soon = sent_then _ post found refl }
-fair_at (suc (suc zero)) post found =
-    record { before = notified; later = delivering 3 ∷ []; order = refl; sent = found; soon = sent_then _ post found refl }
-fair_at (suc (suc (suc zero))) post found =
-    record { before = notified ++ delivering 2 ∷ []; later = []; order = refl; sent = found; soon = sent_then _ post found refl }
-fair_at (suc (suc (suc (suc n)))) post found = absurd (none-some post found)
-
 pub returns-clause-fair : goal.returns-clause-fair
-returns-clause-fair c = λ number post found late. fair_at number post found
+unfolding on_examples
+returns-clause-fair c = fair_is two_lines brought 0 refl
 
 -- the gateway's packets go to the agent, and the others are the agent's
 

@@ -1,28 +1,26 @@
-use Rattle.std.proofs.Common.{◌≡◌, ℕ, zero, suc, ◌+◌, ◌<◌, ◌≤◌, Bool, true, ◌&&◌, List, [], ◌∷◌, ◌++◌, length, Option, Some, None, codes, refl, sym, ap, ◌∙◌, subst, arith}
-use Rattle.std.specs.Prelude.{nat_lt, not, slice_get, unwrap_or}
+use Rattle.std.proofs.Common.{◌≡◌, ℕ, ◌+◌, ◌<◌, ◌≤◌, Bool, true, ◌&&◌, List, [], ◌∷◌, ◌++◌, length, Option, Some, None, codes, refl, sym, ap, subst, arith}
+use Rattle.std.specs.Prelude.{nat_lt, not}
 use Rattle.std.specs.List.{list_any}
 use Rattle.std.proofs.lemmas.Bool.{and_parts, ltb-true}
-use Rattle.std.proofs.lemmas.Option.{none-some}
 use Rattle.history.specs.Kept.{young_firsts}
 use Rattle.history.specs.Looking.{confirms}
 use Rattle.history.specs.Memory.{most_firsts}
 use Rattle.outbound.specs.Flight.{InFlight}
 use Rattle.plain_machine.specs.Event.{tick}
 use Rattle.plain_machine.specs.Example.{two_lines, agent}
-use Rattle.mg_line.specs.declared.phone.Act.TheVariants.{OffHook}
 use Rattle.dialled_once.proofs.AskingLemmas.{notifies_each}
 use Rattle.agent_core.specs.declared.packet.End.TheVariants.{GatewayEnd}
 use Rattle.agent_core.specs.declared.packet.Posted.{Posted}
-use Rattle.agent_core.specs.World.{World, WorldStep, delivering, dialling, gateway_address, issuing, now_in, plain_world, ticking}
+use Rattle.agent_core.specs.World.{World, WorldStep, gateway_address, now_in, plain_world}
 use Rattle.world_laws.specs.Reached.{own_in}
 use Rattle.world_laws.specs.Example.{world}
 use Rattle.dialled_end_to_end.specs.Example.{endpoint_in}
 use Rattle.dialled_end_to_end.proofs.NumberLemmas.{few_are_begun}
-use Rattle.delivery_laws.specs.Fairness.{IsHandedOver}
 use Rattle.delivery_laws.specs.Taking.{agent_history}
 use Rattle.delivery_laws.specs.Example.{kept_back, rested, took_first, took_since}
 use Rattle.delivery_laws.proofs.Computing.{on_examples}
 use Rattle.delivery_laws.proofs.ExampleLemmas.{hand_over, none_handed}
+use Rattle.delivery_laws.proofs.FairExamples.{fair_is}
 use Rattle.delivery_laws.proofs.FrontLemmas.{answered_within, asked_within, front_holds, on_fronts, unconfirmed}
 use Rattle.delivery_laws.proofs.examples.what_rests_is_taken.Goals as goal
 
@@ -39,36 +37,9 @@ unfolding on_examples
 returns-clause-asked c =
     record { undone = refl; asked = record { requested = notifies_each _ refl refl; quarantined = refl }; since = tt; none_lost = refl }
 
--- all packets were sent at 1, and handed over then
-sent_then : (one post : Posted) → Some one ≡ Some post → one.packet.moment ≡ 1 → 1 ≤ post.packet.moment + 0
-sent_then one post same at =
-    let is : 1 ≡ post.packet.moment = sym at ∙ ap (λ (o : Option Posted). (unwrap_or o one).packet.moment) same in
-    omega (arith, is)
-
-asks : WorldStep
-asks = issuing (codes "RQNT") (codes "aaln/1@rgw.example.net") (codes "X: C2\r\nR: L/hd(N),L/hu(N),L/hf(N),D/[0-9*#ABCD](N)\r\nQ: loop,process\r\n")
-
-lifted : List WorldStep
-lifted = dialling 1 OffHook ∷ delivering 4 ∷ delivering 5 ∷ ticking 2 ∷ []
-
-fair_at : (number : ℕ) (post : Posted) → slice_get (plain_world two_lines rested).posted number ≡ Some post → IsHandedOver two_lines rested 0 number post
-unfolding on_examples asks lifted
-fair_at zero post found =
-    record { before = ticking 1 ∷ []; later = delivering 1 ∷ asks ∷ delivering 2 ∷ delivering 3 ∷ lifted; order = refl; sent = found; soon = sent_then _ post found refl }
-fair_at (suc zero) post found =
-    record { before = ticking 1 ∷ delivering 0 ∷ []; later = asks ∷ delivering 2 ∷ delivering 3 ∷ lifted; order = refl; sent = found; soon = sent_then _ post found refl }
-fair_at (suc (suc zero)) post found =
-    record { before = ticking 1 ∷ delivering 0 ∷ delivering 1 ∷ asks ∷ []; later = delivering 3 ∷ lifted; order = refl; sent = found; soon = sent_then _ post found refl }
-fair_at (suc (suc (suc zero))) post found =
-    record { before = ticking 1 ∷ delivering 0 ∷ delivering 1 ∷ asks ∷ delivering 2 ∷ []; later = lifted; order = refl; sent = found; soon = sent_then _ post found refl }
-fair_at (suc (suc (suc (suc zero)))) post found =
-    record { before = kept_back; later = delivering 5 ∷ ticking 2 ∷ []; order = refl; sent = found; soon = sent_then _ post found refl }
-fair_at (suc (suc (suc (suc (suc zero))))) post found =
-    record { before = kept_back ++ delivering 4 ∷ []; later = ticking 2 ∷ []; order = refl; sent = found; soon = sent_then _ post found refl }
-fair_at (suc (suc (suc (suc (suc (suc n)))))) post found = absurd (none-some post found)
-
 pub returns-clause-fair : goal.returns-clause-fair
-returns-clause-fair c = λ number post found late. fair_at number post found
+unfolding on_examples
+returns-clause-fair c = fair_is two_lines rested 0 refl
 
 pub returns-clause-not_fair : goal.returns-clause-not_fair
 unfolding on_examples hand_over
