@@ -108,7 +108,7 @@ fn tell(alloc: Global, picture: &mut Picture, key: &[u8], value: &[u8]) -> io::R
         }
         b"off" | b"on" => {
             let lost = number_of(value)?;
-            begin_line(alloc, &mut picture.lines, key == b"off", lost)?;
+            begin_line(alloc, &mut picture.lines, key == b"off".as_slice(), lost)?;
         }
         _ => tell_line(&mut picture.lines, key, value)?,
     }
