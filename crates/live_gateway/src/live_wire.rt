@@ -231,6 +231,12 @@ impl<'a, R: Net + Clock> Ends<'a, R> {
     }
 }
 
+// The line that is asked next is given to the gateway.
+fn tell_act(journal: &mut Journal, now: Now, telephones: &CommandSocket) {
+    let line = telephones.line().unwrap_or(&[]);
+    journal.act(now, line);
+}
+
 impl<'a, R: Net + Clock> LiveWire<'a, R> {
     /// A wire with these ends.
     pub fn new(ends: Ends<'a, R>, journal: Journal) -> LiveWire<'a, R> {
@@ -291,8 +297,7 @@ impl<'a, R: Net + Clock> LiveWire<'a, R> {
             }
             Input::Phone { .. } => {
                 let now = self.ends.clock.now();
-                let line = self.ends.telephones.line().unwrap_or(&[]);
-                self.journal.act(now, line);
+                tell_act(&mut self.journal, now, &self.ends.telephones);
             }
             Input::Tick { moment } => self.journal.trace.tick(moment),
             Input::End => {}

@@ -35,6 +35,11 @@ impl<'a, R: Net + Clock> Ends<'a, R> {
         }
     }
 
+    // Sends a datagram that the network hands over; one that can't be sent is lost.
+    fn send_off(&mut self, to: SocketAddrV4, bytes: &[u8]) {
+        let _ = self.socket.send_to(bytes, SocketAddr::V4(to));
+    }
+
     /// A datagram that the network hands to the gateway now, if there is one. Those that go out now are sent; one that can't be is lost.
     pub(crate) fn handed_over(&mut self, room: &mut [u8]) -> Option<(SocketAddrV4, usize)>
         ensures length { length room.new ≡ length room.old }
@@ -42,14 +47,12 @@ impl<'a, R: Net + Clock> Ends<'a, R> {
     {
         for _ in 0..u16::MAX {
             let packet = self.take_due()?;
-            let bytes = packet.bytes.as_bytes();
+            let peer = packet.peer;
             match packet.way {
-                Way::Out => {
-                    let _ = self.socket.send_to(bytes, SocketAddr::V4(packet.peer));
-                }
+                Way::Out => self.send_off(peer, packet.bytes.as_bytes()),
                 Way::In => {
                     self.late = packet.due.saturating_sub(packet.offered);
-                    return Some((packet.peer, put_into(room, bytes)));
+                    return Some((peer, put_into(room, packet.bytes.as_bytes())));
                 }
             }
         }
