@@ -108,13 +108,18 @@ code_of no_header = 0
 code_of (bad_version id) = 0
 code_of (bad_body id) = 0
 
-final_of : (code : ℕ) → 200 ≤ code → code ≤ 999 → is_final code ≡ true
+pub final_of : (code : ℕ) → 200 ≤ code → code ≤ 999 → is_final code ≡ true
 final_of code low high = rw (le-leb 200 code low, le-leb code 999 high) refl
 
-written_final : (id : ℕ) (given : AnswerContent) → IsId id → IsAnswer given → 200 ≤ given.code → IsFinal (written (response_of id given))
+-- what is written is read with its code
+pub written_code : (id : ℕ) (given : AnswerContent) → IsId id → IsAnswer given → (code other : ℕ) (params : List Param) (body : List ℕ)
+    → read_text (written (response_of id given)) ≡ message (messages.Response code other params body) → given.code ≡ code
 unfolding code_of
+written_code id given has is code other params body reads = ap code_of (sym (read_again (response_of id given) (answer_writable id given has.0 has.1 is)) ∙ reads)
+
+written_final : (id : ℕ) (given : AnswerContent) → IsId id → IsAnswer given → 200 ≤ given.code → IsFinal (written (response_of id given))
 written_final id given has is high = λ code other params body reads.
-    let same : given.code ≡ code = ap code_of (sym (read_again (response_of id given) (answer_writable id given has.0 has.1 is)) ∙ reads) in
+    let same : given.code ≡ code = written_code id given has is code other params body reads in
     final_of code (subst (λ (c : ℕ). 200 ≤ c) same high) (subst (λ (c : ℕ). c ≤ 999) same is.three_digits)
 
 -- Of all commands that arrive

@@ -8,6 +8,7 @@ pub mod StepLemmas
 pub mod SenderLemmas
 pub mod ReportCodes
 pub mod FinalLemmas
+pub mod AgentFinalLemmas
 pub mod PutOffLemmas
 pub mod ChanceLemmas
 pub mod QuietLemmas

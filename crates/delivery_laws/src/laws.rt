@@ -11,7 +11,9 @@ ghost use Rattle.restart.specs.declared.restart.Restart.TheVariants.{Serving};
 ghost use Rattle.mgcp_text.specs.declared.message.Message.TheVariants as messages;
 ghost use Rattle.mgcp_text.specs.declared.message.Param.{Param};
 ghost use Rattle.mgcp_text.specs.Reading.{message, read_text};
+ghost use Rattle.history.specs.declared.entry.KeptFirst.{KeptFirst};
 ghost use Rattle.history.specs.Arrival.{Arrival};
+ghost use Rattle.history.specs.Kept.{firsts_in};
 ghost use Rattle.history.specs.Memory.{most_firsts};
 ghost use Rattle.history.specs.Firsts.{firsts_of};
 ghost use Rattle.outbound.specs.Sends.{most_repeats};
@@ -30,7 +32,9 @@ ghost use Rattle.line_isolation.specs.Belonging.{of_line};
 ghost use Rattle.dialled_once.specs.Course.{course_from, course_of};
 ghost use Rattle.dialled_once.specs.Dialled.{IsAskedForAll, done_in};
 ghost use Rattle.dialled_once.specs.Keeping.{happened_in};
+ghost use Rattle.call_agent.specs.declared.setup.AgentSetup.{AgentSetup};
 ghost use Rattle.call_agent.specs.Agent.{observed_on};
+ghost use Rattle.call_agent.specs.Hearing.{AgentEvent, plain_agent};
 ghost use Rattle.agent_core.specs.declared.packet.End.TheVariants.{GatewayEnd, AgentEnd};
 ghost use Rattle.agent_core.specs.World.{WorldStep, agent_in, delivering, gateway_in, now_in, oldest_packet, plain_world, steps_are_taken, world_opening};
 ghost use Rattle.world_laws.specs.Landing.{is_final};
@@ -55,10 +59,12 @@ pub fn a_delivered_command_is_answered_at_once()
         IsConfirmedAmong b.id (gateway_firsts setup after) ⊎ IsAnswered setup w after b.id }
 {}
 
-/// Each answer that the gateway stores is a final response (RFC 3435, 2.4).
+/// Each answer that the gateway stores is a final response, and so is each that an agent stores, which is never 521 (RFC 3435, 2.4).
 pub fn stored_answers_are_final()
-    ensures { (setup : Setup) (events : List GatewayEvent) → IsSetUp setup →
+    ensures gateway { (setup : Setup) (events : List GatewayEvent) → IsSetUp setup →
         All (λ (first : Arrival). IsFinal first.answer) (firsts_of most_firsts (commands_of setup events)) }
+    ensures agent { (setup : AgentSetup) (events : List AgentEvent) →
+        All (λ (first : KeptFirst). (id : ℕ) → IsPlainAnswer id first.answer) (firsts_in (plain_agent setup events).history) }
 {}
 
 /// A final response that is handed to the agent less than 23,500 ms after its command was issued makes that the command has an

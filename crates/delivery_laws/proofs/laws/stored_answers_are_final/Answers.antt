@@ -2,8 +2,15 @@ use Rattle.history.specs.Memory.{most_firsts}
 use Rattle.history.specs.Firsts.{firsts_of}
 use Rattle.plain_machine.specs.Transactions.{commands_of}
 use Rattle.machine_laws.proofs.EachLemmas.{all_from_each}
+use Rattle.history.specs.Kept.{firsts_in}
+use Rattle.call_agent.specs.Agent.{agent_opening}
+use Rattle.call_agent.specs.Hearing.{agent_after}
+use Rattle.delivery_laws.proofs.AgentFinalLemmas.{HasPlain, agent_plain}
 use Rattle.delivery_laws.proofs.FinalLemmas.{HasFinal, firsts_final}
 use Rattle.delivery_laws.proofs.laws.stored_answers_are_final.Goals as goal
 
-pub returns : goal.returns
-returns c = λ setup events set_up. all_from_each HasFinal (firsts_of most_firsts (commands_of setup events)) (firsts_final setup most_firsts events set_up)
+pub returns-clause-gateway : goal.returns-clause-gateway
+returns-clause-gateway c = λ setup events set_up. all_from_each HasFinal (firsts_of most_firsts (commands_of setup events)) (firsts_final setup most_firsts events set_up)
+
+pub returns-clause-agent : goal.returns-clause-agent
+returns-clause-agent c = λ setup events. all_from_each HasPlain (firsts_in (agent_after setup (agent_opening setup) events).history) (agent_plain setup events)
