@@ -33,7 +33,7 @@ use Rattle.delivery_laws.proofs.ServedLaws.{answered_at_once, had_in, stored_fin
 
 -- Two beginnings of one list
 
-abbrev IsBefore : List WorldStep → List WorldStep → Type 0
+abbrev pub IsBefore : List WorldStep → List WorldStep → Type 0
 IsBefore a b = (more : List WorldStep) × (b ≡ a ++ more)
 
 head_same : (s t : WorldStep) (a b : List WorldStep) → s ∷ a ≡ t ∷ b → s ≡ t
@@ -42,7 +42,7 @@ head_same s t a b same = cc
 tail_same : (s t : WorldStep) (a b : List WorldStep) → s ∷ a ≡ t ∷ b → a ≡ b
 tail_same s t a b same = cc
 
-one_first : (a b x y : List WorldStep) → a ++ x ≡ b ++ y → IsBefore a b ⊎ IsBefore b a
+pub one_first : (a b x y : List WorldStep) → a ++ x ≡ b ++ y → IsBefore a b ⊎ IsBefore b a
 one_first [] b x y same = inl (b, refl)
 one_first (s ∷ a) [] x y same = inr (s ∷ a, refl)
 one_first (s ∷ a) (t ∷ b) x y same = by_rest (one_first a b x y (tail_same s t (a ++ x) (b ++ y) same)) where
@@ -65,11 +65,11 @@ found_within (x ∷ xs) zero post at = omega arith
 found_within (x ∷ xs) (suc place) post at = let less = found_within xs place post at in omega (arith, less)
 
 -- each has an id of its own
-abbrev AreApart : List Begun → Type 0
+abbrev pub AreApart : List Begun → Type 0
 AreApart [] = Unit {0}
 AreApart (b ∷ all) = Each (λ (c : Begun). b.id ≢ c.id) all × AreApart all
 
-apart_from : (all : List Begun) → AllPairs (λ (a b : Begun). a.id ≢ b.id) all → AreApart all
+pub apart_from : (all : List Begun) → AllPairs (λ (a b : Begun). a.id ≢ b.id) all → AreApart all
 apart_from [] pairs = tt
 apart_from (b ∷ all) pairs = (
   each_from_all (λ (c : Begun). b.id ≢ c.id) all (λ k d within. pairs zero (suc k) d (omega arith) (omega (arith, within))),

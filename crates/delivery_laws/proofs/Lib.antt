@@ -28,6 +28,9 @@ pub mod OnTurns
 pub mod LaterTurns
 pub mod AtOnceLemmas
 pub mod OwnChanceLaws
+pub mod FrontSteps
+pub mod AnewTurns
+pub mod AnsweredLaws
 pub mod GatewayChanceLaws
 pub mod OutLemmas
 pub mod RoundTurns

@@ -146,7 +146,7 @@ endpoints_after setup steps number text code id params body copy one reads =
     ∙ ap (λ (m : Machine). m.endpoints) (machine_on setup (opening setup) w.gateway_took (e ∷ []) ∙ gateway_alone setup (gateway_in setup w) e)
     ∙ response_alone setup (gateway_in setup w) copy.post.packet.sender copy.post.packet.bytes text code id params body one reads
 
-of_its_line : (setup : Setup) (w : World) (line : ℕ) (endpoint : Endpoint) (flight : InFlight) → endpoint_at (gateway_in setup w).endpoints line ≡ Some endpoint → endpoint.post.pending ≡ Some flight
+pub of_its_line : (setup : Setup) (w : World) (line : ℕ) (endpoint : Endpoint) (flight : InFlight) → endpoint_at (gateway_in setup w).endpoints line ≡ Some endpoint → endpoint.post.pending ≡ Some flight
     → line_of_id flight.id ≡ line
 of_its_line setup w line endpoint flight at flies =
     let waits : Waits line endpoint = waits_for_the_answer setup w.gateway_took line endpoint at in

@@ -243,7 +243,8 @@ pub fn who_is_unanswered_keeps_asking()
 
 /// The answer to the command in flight of a line, handed to the gateway, lets the line go on: in a packet of its own, and amid other
 /// texts, from what those before it made of the line. That to the announcement of the gateway itself makes it serve. The answer 521,
-/// which may name another agent, does neither (RFC 3435, 2.4 and 3.5.5).
+/// which may name another agent, does neither. From then on the line has no command with its id in flight, unless its numbers are used
+/// up (RFC 3435, 2.4 and 3.5.5).
 pub fn an_answer_lets_its_line_go_on()
     ensures line { (setup : Setup) (steps : List WorldStep) (number : ℕ) (text : List ℕ) (code id : ℕ) (params : List Param)
         (body : List ℕ) (line : ℕ) (endpoint : Endpoint) (flight : InFlight) → let w = plain_world setup steps in
@@ -270,4 +271,10 @@ pub fn an_answer_lets_its_line_go_on()
         (copy : IsCopy setup w AgentEnd text number) → let texts = texts_of copy.post.packet.bytes in IsResponse id (read_text text) →
         All (IsPlainAnswer id) texts → (gateway_in setup w).endpoints.own.pending ≡ Some flight → flight.id ≡ id →
         serves (gateway_in setup after).endpoints ≡ true }
+    ensures over { (setup : Setup) (before later : List WorldStep) (number : ℕ) (text : List ℕ) (code id : ℕ) (params : List Param)
+        (body : List ℕ) (line : ℕ) (endpoint : Endpoint) (flight : InFlight) → IsSetUp setup →
+        let steps = (before ++ delivering number ∷ []) ++ later in steps_are_taken setup world_opening steps ≡ true →
+        let w = plain_world setup steps in HasNumbersLeft (own_in setup w) → IsCopy setup (plain_world setup before) AgentEnd text number →
+        read_text text ≡ message (messages.Response code id params body) → is_final code ≡ true → code ≢ 521 →
+        endpoint_at (gateway_in setup w).endpoints line ≡ Some endpoint → endpoint.post.pending ≡ Some flight → flight.id ≢ id }
 {}

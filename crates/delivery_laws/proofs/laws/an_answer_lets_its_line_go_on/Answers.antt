@@ -1,4 +1,5 @@
 use Rattle.delivery_laws.proofs.AmidLaws.{line_goes_on_amid}
+use Rattle.delivery_laws.proofs.AnsweredLaws.{over_once_answered}
 use Rattle.delivery_laws.proofs.LineLaws.{line_goes_on, gateway_goes_on}
 use Rattle.delivery_laws.proofs.ServingLaws.{gateway_goes_on_amid}
 use Rattle.delivery_laws.proofs.laws.an_answer_lets_its_line_go_on.Goals as goal
@@ -14,3 +15,6 @@ returns-clause-amid c = line_goes_on_amid
 
 pub returns-clause-own_amid : goal.returns-clause-own_amid
 returns-clause-own_amid c = gateway_goes_on_amid
+
+pub returns-clause-over : goal.returns-clause-over
+returns-clause-over c = over_once_answered

@@ -1,0 +1,379 @@
+-- A command that was answered isn't in flight again.
+use Rattle.std.proofs.Common.{◌≡◌, ◌≢◌, ℕ, ◌<◌, ◌≤◌, Bool, true, false, ◌==◌, if◌then◌else◌, List, [], ◌∷◌, ◌++◌, length, map, Option, Some, None, inl, inr, refl, sym, ap, ◌∙◌, subst, arith, append-nil, append_assoc}
+use Rattle.std.specs.Prelude.{◌⊎◌, All, Any, IfSome, nat_le, nat_lt, option_map, slice_get}
+use Rattle.std.specs.Option.{unwrap_or}
+use Rattle.std.proofs.lemmas.Bool.{and_parts, eqb-true, eqb-false, leb-true, ltb-true, ltb-false}
+use Rattle.std.proofs.lemmas.Bool.Decides.{Decides-eqb}
+use Rattle.std.proofs.lemmas.Option.{none-some}
+use Rattle.std.specs.declared.net.socket_addr.SocketAddrV4.{SocketAddrV4}
+use Rattle.piggyback.specs.Parts.{parts_of}
+use Rattle.piggyback.proofs.PartingLaws.{parts-parts, short-parts_of}
+use Rattle.mgcp_text.specs.declared.message.Param.{Param}
+use Rattle.mgcp_text.specs.declared.message.Message.TheVariants as messages
+use Rattle.mgcp_text.specs.Reading.{Outcome, message, read_text}
+use Rattle.mg_line.specs.Answering.{answered}
+use Rattle.outbound.specs.Flight.{InFlight}
+use Rattle.restart.specs.declared.restart.Restart.TheVariants.{Serving}
+use Rattle.restart.specs.declared.heard.Heard.{Heard}
+use Rattle.transmission.specs.Texts.{texts_of, largest_datagram}
+use Rattle.plain_machine.specs.declared.response.Response.{Response}
+use Rattle.plain_machine.specs.declared.setup.Setup.{Setup}
+use Rattle.plain_machine.specs.declared.endpoint.Endpoint.{Endpoint}
+use Rattle.plain_machine.specs.Announcing.{heard_on, replied}
+use Rattle.plain_machine.specs.Answering.{handled, took_all}
+use Rattle.plain_machine.specs.Arriving.{TextArrival, arrival, arrivals_from, arrivals_of}
+use Rattle.plain_machine.specs.Effect.{Effect}
+use Rattle.plain_machine.specs.Event.{GatewayEvent, datagram}
+use Rattle.plain_machine.specs.Happening.{effect}
+use Rattle.plain_machine.specs.Lists.{machine_after, plain, sent_from, sent_of}
+use Rattle.plain_machine.specs.Machine.{Endpoints, Machine, endpoint_at, on_line, opening}
+use Rattle.plain_machine.specs.Message.{Sent}
+use Rattle.plain_machine.specs.Posting.{line_of_id}
+use Rattle.plain_machine.specs.Responding.{own_heard, responded, responded_as, responded_on, response_with}
+use Rattle.plain_machine.specs.Setup.{IsSetUp}
+use Rattle.plain_machine.proofs.ListLaws.{machine_on}
+use Rattle.machine_laws.specs.Saying.{Begun, HasNumbersLeft, OneOf, begun_at, begun_in}
+use Rattle.machine_laws.proofs.EachLemmas.{Each, each_back, each_from_all, one_before, one_behind, one_from_any, one_mapped, one_of_each, one_to, one_weaker}
+use Rattle.machine_laws.proofs.LineLemmas.{place_of}
+use Rattle.machine_laws.proofs.TextLaws.{datagram_does, texts_at}
+use Rattle.machine_laws.proofs.WaitLaws.{events_wait, text_waits, texts_wait}
+use Rattle.line_isolation.specs.Belonging.{is_of, of_line}
+use Rattle.line_isolation.proofs.AlikeLemmas.{behind_acknowledged}
+use Rattle.delivery_laws.proofs.RoundLaws.{sent_on}
+use Rattle.line_isolation.proofs.OwningLemmas.{LineTurns, of_both, on_one_line, responded_owned, sent_by, turn_if}
+use Rattle.dialled_once.proofs.CourseLemmas.{AnyResponse, events_stand, hear_all}
+use Rattle.dialled_end_to_end.proofs.RestLemmas.{begun_both}
+use Rattle.agent_core.specs.declared.packet.End.TheVariants.{AgentEnd as agent_end}
+use Rattle.agent_core.specs.World.{World, WorldStep, delivering, gateway_in, plain_world, steps_are_taken, to_gateway, world_after, world_opening}
+use Rattle.world_laws.specs.Landing.{is_final}
+use Rattle.world_laws.specs.Reached.{Reached, own_in, taken_in}
+use Rattle.world_laws.proofs.LinkLaws.{taken_as_sent, world_linked}
+use Rattle.world_laws.proofs.TakenLaws.{heard_was_taken}
+use Rattle.delivery_laws.specs.Copies.{IsCopy}
+use Rattle.delivery_laws.specs.OwnChances.{IsResponse}
+use Rattle.delivery_laws.proofs.AnewTurns.{Anew, AnewBeside, Began, anew_turns, noted_anew, responded_anew}
+use Rattle.delivery_laws.proofs.FairLaws.{AreApart, apart_from}
+use Rattle.delivery_laws.proofs.FrontSteps.{took_more}
+use Rattle.delivery_laws.proofs.LineLaws.{heard_is, of_its_line}
+use Rattle.delivery_laws.proofs.PlaceLemmas.{one_parted}
+use Rattle.delivery_laws.proofs.ReturnedLaws.{HasOne, gateway_comes}
+use Rattle.delivery_laws.proofs.StepLemmas.{handed_to_gateway, step_more, steps_more, taken_front}
+
+-- Texts, each a datagram of its own
+
+abbrev IsPart : List ℕ → Type 0
+IsPart text = texts_of text ≡ text ∷ []
+
+all_parts : (bytes : List ℕ) (texts : List (List ℕ)) → length bytes ≤ largest_datagram → Each (λ (part : List ℕ). parts_of part ≡ part ∷ []) texts
+    → Each (λ (part : List ℕ). length part ≤ length bytes) texts → Each IsPart texts
+unfolding texts_of
+all_parts bytes [] small parts short = tt
+all_parts bytes (text ∷ texts) small parts short =
+    (ap (λ (b : Bool). if b then [] else parts_of text) (within (nat_lt largest_datagram (length text)) refl) ∙ parts.0, all_parts bytes texts small parts.1 short.1) where
+      within : (b : Bool) → nat_lt largest_datagram (length text) ≡ b → b ≡ false
+      within false e = refl
+      within true e = absurd (let more : largest_datagram < length text = ltb-true _ _ e in let few = short.0 in omega (arith, more, few, small))
+
+are_parts : (bytes : List ℕ) → Each IsPart (texts_of bytes)
+unfolding texts_of
+are_parts bytes = by_length (nat_lt largest_datagram (length bytes)) refl where
+  by_length : (b : Bool) → nat_lt largest_datagram (length bytes) ≡ b → Each IsPart (if b then [] else parts_of bytes)
+  by_length true e = tt
+  by_length false e =
+      all_parts bytes (parts_of bytes) (ltb-false _ _ e) (each_from_all (λ (part : List ℕ). parts_of part ≡ part ∷ []) (parts_of bytes) (parts-parts bytes))
+      (each_from_all (λ (part : List ℕ). length part ≤ length bytes) (parts_of bytes) (short-parts_of bytes))
+
+one_part : (setup : Setup) (m : Machine) (source : SocketAddrV4) (text : List ℕ) → IsPart text
+    → ((effect setup m (datagram source text)).value ≡ (handled setup m source (read_text text)).value)
+    × ((effect setup m (datagram source text)).sent ≡ (handled setup m source (read_text text)).sent)
+unfolding effect took_all
+one_part setup m source text is = (
+  ap (λ (texts : List (List ℕ)). (took_all setup m source texts).value) is,
+  ap (λ (texts : List (List ℕ)). (took_all setup m source texts).sent) is ∙ append-nil (handled setup m source (read_text text)).sent,
+)
+
+-- so are they all
+as_events : (setup : Setup) (m : Machine) (source : SocketAddrV4) (texts : List (List ℕ)) → Each IsPart texts
+    → (machine_after setup m (map (datagram source) texts) ≡ (took_all setup m source texts).value) × (sent_from setup m (map (datagram source) texts) ≡ (took_all setup m source texts).sent)
+unfolding took_all machine_after sent_from
+as_events setup m source [] parts = (refl, refl)
+as_events setup m source (text ∷ texts) parts =
+    let h : Effect Machine = handled setup m source (read_text text) in
+    let one = one_part setup m source text parts.0 in
+    let rest = as_events setup h.value source texts parts.1 in (
+      ap (λ (x : Machine). machine_after setup x (map (datagram source) texts)) one.0 ∙ rest.0,
+      ap (λ (x : List Sent). x ++ sent_from setup (effect setup m (datagram source text)).value (map (datagram source) texts)) one.1
+          ∙ ap (λ (x : Machine). h.sent ++ sent_from setup x (map (datagram source) texts)) one.0 ∙ ap (λ (x : List Sent). h.sent ++ x) rest.1,
+    )
+
+-- Where one text stands
+
+record Parted (text : List ℕ) (texts : List (List ℕ)) : Type 0 where
+  before : List (List ℕ)
+  later : List (List ℕ)
+  order : texts ≡ before ++ text ∷ later
+
+parted : (text : List ℕ) (texts : List (List ℕ)) → OneOf (λ (one : List ℕ). one ≡ text) texts → Parted text texts
+parted text [] one = absurd one
+parted text (first ∷ texts) (inl same) = record { before = []; later = texts; order = ap (λ (t : List ℕ). t ∷ texts) same }
+parted text (first ∷ texts) (inr there) =
+    let p = parted text texts there in
+    record { before = first ∷ p.before; later = p.later; order = ap (λ (x : List (List ℕ)). first ∷ x) p.order }
+
+-- The answer comes
+
+module _ (setup : Setup) (line : ℕ) (some : 1 ≤ line) (response : Response) (mine : line_of_id response.id ≡ line) (final : is_final response.code ≡ true) (other : response.code ≢ 521) where
+  turn_anew : (moment : ℕ) (was : Endpoint) → let turn = responded_on setup line moment response was in Anew response.id turn.sent turn.value.post.pending
+  unfolding responded_on replied
+  turn_anew moment was = by_pending was.post.pending refl where
+    stranger : Anew response.id [] was.post.pending → Anew response.id (responded_on setup line moment response was).sent (responded_on setup line moment response was).value.post.pending
+    stranger anew = responded_anew response.id setup [] line moment response was anew
+
+    by_test : (flight : InFlight) → was.post.pending ≡ Some flight → (b : Bool) → (flight.id == response.id) ≡ b
+        → Anew response.id (responded_on setup line moment response was).sent (responded_on setup line moment response was).value.post.pending
+    by_test flight flies true same =
+        let heard = heard_is was.post response flight flies (eqb-true flight.id response.id same) final other in
+        let to : Endpoint = record was { post = record was.post { entity = unwrap_or heard.0 was.post.entity; pending = None; restart = Serving } } in
+        subst (λ (h : Heard). Anew response.id (responded_as h setup line moment response was).sent (responded_as h setup line moment response was).value.post.pending) (sym heard.1)
+        (noted_anew response.id setup [] line moment to (answered was.line moment) tt)
+    by_test flight flies false far = stranger (subst (Anew response.id []) (sym flies) (λ same. absurd (eqb-false flight.id response.id far same)))
+
+    by_pending : (pending : Option InFlight) → was.post.pending ≡ pending
+        → Anew response.id (responded_on setup line moment response was).sent (responded_on setup line moment response was).value.post.pending
+    by_pending None flies = stranger (subst (Anew response.id []) (sym flies) tt)
+    by_pending (Some flight) flies = by_test flight flies (flight.id == response.id) refl
+
+  some_same : (a b : Endpoint) → Some a ≡ Some b → a ≡ b
+  some_same a b same = ap (λ (o : Option Endpoint). unwrap_or o a) same
+
+  on_line_anew : (endpoints : Endpoints) (moment : ℕ) (s : Endpoint) → let is = on_line endpoints line (responded_on setup line moment response) in endpoint_at is.value line ≡ Some s
+      → Anew response.id (of_line line is.sent) s.post.pending
+  on_line_anew endpoints moment s at = by_found (endpoint_at endpoints line) refl where
+    turn : Endpoint → Effect Endpoint
+    turn = responded_on setup line moment response
+
+    is : Effect Endpoints
+    is = on_line endpoints line turn
+
+    turned : LineTurns line endpoints turn is
+    turned =
+        subst (λ (b : Bool). LineTurns line endpoints (turn_if b turn) is) ((Decides-eqb line line).1 refl)
+        (on_one_line endpoints line line turn (λ x. responded_owned setup line moment response x))
+
+    by_found : (found : Option Endpoint) → endpoint_at endpoints line ≡ found → Anew response.id (of_line line is.sent) s.post.pending
+    by_found None none = absurd (none-some s (sym (turned.endpoint ∙ ap (option_map (λ (x : Endpoint). (turn x).value)) none) ∙ at))
+    by_found (Some was) here =
+        let same : (turn was).value ≡ s = some_same (turn was).value s (sym (turned.endpoint ∙ ap (option_map (λ (x : Endpoint). (turn x).value)) here) ∙ at) in
+        let out : of_line line is.sent ≡ (turn was).sent = turned.sent ∙ ap (sent_by turn) here in
+        subst (λ (x : List Sent). Anew response.id x s.post.pending) (sym out)
+        (subst (λ (x : Endpoint). Anew response.id (turn was).sent x.post.pending) same (turn_anew moment was))
+
+  response_anew : (endpoints : Endpoints) (moment : ℕ) (s : Endpoint) → let is = responded setup endpoints moment response in endpoint_at is.value line ≡ Some s
+      → Anew response.id (of_line line is.sent) s.post.pending
+  response_anew endpoints moment s at =
+      subst (λ (e : Effect Endpoints). endpoint_at e.value line ≡ Some s → Anew response.id (of_line line e.sent) s.post.pending) (sym is_so) (on_line_anew endpoints moment s) at where
+        no_own : (b : Bool) → (line == 0) ≡ b → b ≡ false
+        no_own false e = refl
+        no_own true e = absurd (let zero : line ≡ 0 = eqb-true line 0 e in omega (arith, some, zero))
+
+        is_so : responded setup endpoints moment response ≡ on_line endpoints line (responded_on setup line moment response)
+        is_so =
+            ap (λ (n : ℕ). if n == 0 then own_heard setup endpoints moment response else on_line endpoints n (responded_on setup n moment response)) mine
+            ∙ ap (λ (b : Bool). if b then own_heard setup endpoints moment response else on_line endpoints line (responded_on setup line moment response)) (no_own (line == 0) refl)
+
+handled_anew : (setup : Setup) (m : Machine) (source : SocketAddrV4) (outcome : Outcome) (code id line : ℕ) (params : List Param) (body : List ℕ)
+    → outcome ≡ message (messages.Response code id params body) → is_final code ≡ true → code ≢ 521 → line_of_id id ≡ line → 1 ≤ line → (s : Endpoint)
+    → endpoint_at (handled setup m source outcome).value.endpoints line ≡ Some s → Anew id (of_line line (handled setup m source outcome).sent) s.post.pending
+unfolding handled
+handled_anew setup m source outcome code id line params body reads final other mine some s at =
+    subst (λ (o : Outcome). endpoint_at (handled setup m source o).value.endpoints line ≡ Some s → Anew id (of_line line (handled setup m source o).sent) s.post.pending) (sym reads)
+    (λ there. subst (λ (x : List Sent). Anew id x s.post.pending) (sym (behind_acknowledged setup line m.now source code id params (responded setup m.endpoints m.now (response_with setup id code params)).sent))
+    (response_anew setup line some (response_with setup id code params) mine final other m.endpoints m.now s there)) at
+
+-- What began since
+
+module _ (id : ℕ) where
+  unfiltered : (line : ℕ) (sent : List Sent) → Began id (begun_in (of_line line sent)) → Began id (begun_in sent)
+  unfiltered line [] began = began
+  unfiltered line (one ∷ sent) began = by_test (is_of line one.owner) began (λ x. unfiltered line sent x) where
+    by_part : Began id (begun_at one) ⊎ Began id (begun_in (of_line line sent)) → (Began id (begun_in (of_line line sent)) → Began id (begun_in sent)) → Began id (begun_in (one ∷ sent))
+    by_part (inl here) on = one_before (λ (b : Begun). b.id ≡ id) (begun_at one) (begun_in sent) here
+    by_part (inr there) on = one_behind (λ (b : Begun). b.id ≡ id) (begun_at one) (begun_in sent) (on there)
+
+    by_test : (b : Bool) → Began id (begun_in (if b then one ∷ of_line line sent else of_line line sent)) → (Began id (begun_in (of_line line sent)) → Began id (begun_in sent))
+        → Began id (begun_in (one ∷ sent))
+    by_test true began on = by_part (one_parted (λ (b : Begun). b.id ≡ id) (begun_at one) (begun_in (of_line line sent)) began) on
+    by_test false began on = one_behind (λ (b : Begun). b.id ≡ id) (begun_at one) (begun_in sent) (on began)
+
+  -- no id begins twice
+  twice : (xs ys : List Begun) → AreApart (xs ++ ys) → Began id xs → Began id ys → ⊥
+  twice [] ys apart one other = absurd one
+  twice (x ∷ xs) ys apart (inl is) other =
+      one_to (λ (y : Begun). (x.id ≢ y.id) × (y.id ≡ id)) ⊥ (λ y both. both.0 (is ∙ sym both.1)) ys
+      (one_of_each (λ (y : Begun). x.id ≢ y.id) (λ (y : Begun). y.id ≡ id) ys (each_back (λ (y : Begun). x.id ≢ y.id) xs ys apart.0) other)
+  twice (x ∷ xs) ys apart (inr one) other = twice xs ys apart.1 one other
+
+  began_behind : (some more : List Sent) → Began id (begun_in more) → Began id (begun_in (some ++ more))
+  began_behind some more began = subst (Began id) (sym (begun_both some more)) (one_behind (λ (b : Begun). b.id ≡ id) (begun_in some) (begun_in more) began)
+
+module _ (setup : Setup) (first rest : List GatewayEvent) (source : SocketAddrV4) (bytes text : List ℕ) (code id line : ℕ) (params : List Param) (body : List ℕ)
+    (inside : OneOf (λ (one : List ℕ). one ≡ text) (texts_of bytes)) (reads : read_text text ≡ message (messages.Response code id params body)) (final : is_final code ≡ true) (other : code ≢ 521)
+    (mine : line_of_id id ≡ line) (some : 1 ≤ line) where
+  abbrev m : Machine
+  m = plain setup first
+
+  abbrev p : Parted text (texts_of bytes)
+  p = parted text (texts_of bytes) inside
+
+  abbrev front : Effect Machine
+  front = took_all setup m source p.before
+
+  abbrev here : Effect Machine
+  here = handled setup front.value source (read_text text)
+
+  abbrev behind : List GatewayEvent
+  behind = map (datagram source) p.later ++ rest
+
+  abbrev last : Effect Machine
+  last = took_all setup here.value source p.later
+
+  later_parts : Each IsPart p.later
+  later_parts = (each_back IsPart p.before (text ∷ p.later) (subst (Each IsPart) p.order (are_parts bytes))).1
+
+  done : effect setup m (datagram source bytes) ≡ record { value = last.value; sent = front.sent ++ (here.sent ++ last.sent) }
+  done = datagram_does setup m source bytes ∙ ap (took_all setup m source) p.order ∙ texts_at setup m source p.before p.later text
+
+  machine_is : plain setup (first ++ datagram source bytes ∷ rest) ≡ machine_after setup here.value behind
+  unfolding machine_after
+  machine_is =
+      machine_on setup (opening setup) first (datagram source bytes ∷ rest)
+      ∙ ap (λ (e : Effect Machine). machine_after setup e.value rest) done
+      ∙ ap (λ (x : Machine). machine_after setup x rest) (sym (as_events setup here.value source p.later later_parts).0)
+      ∙ sym (machine_on setup here.value (map (datagram source) p.later) rest)
+
+  since : List Sent
+  since = here.sent ++ sent_from setup here.value behind
+
+  sent_is : sent_of setup (first ++ datagram source bytes ∷ rest) ≡ sent_of setup first ++ (front.sent ++ since)
+  unfolding sent_from since
+  sent_is =
+      sent_on setup (opening setup) first (datagram source bytes ∷ rest)
+      ∙ ap (λ (e : Effect Machine). sent_of setup first ++ (e.sent ++ sent_from setup e.value rest)) done
+      ∙ ap (λ (x : List Sent). sent_of setup first ++ x)
+      (append_assoc front.sent (here.sent ++ last.sent) (sent_from setup last.value rest)
+      ∙ ap (λ (x : List Sent). front.sent ++ x) (append_assoc here.sent last.sent (sent_from setup last.value rest)
+      ∙ ap (λ (x : List Sent). here.sent ++ (x ++ sent_from setup last.value rest)) (sym all.1)
+      ∙ ap (λ (x : Machine). here.sent ++ (sent_from setup here.value (map (datagram source) p.later) ++ sent_from setup x rest)) (sym all.0)
+      ∙ ap (λ (x : List Sent). here.sent ++ x) (sym (sent_on setup here.value (map (datagram source) p.later) rest)))) where
+        all : (machine_after setup here.value (map (datagram source) p.later) ≡ last.value) × (sent_from setup here.value (map (datagram source) p.later) ≡ last.sent)
+        all = as_events setup here.value source p.later later_parts
+
+  began_since : (s : Endpoint) → endpoint_at (plain setup (first ++ datagram source bytes ∷ rest)).endpoints line ≡ Some s → Anew id since s.post.pending
+  unfolding since
+  began_since s at =
+      by_pending s.post.pending
+      ((events_stand setup AnyResponse (AnewBeside id) (anew_turns id setup) line some here.value [] (of_line line here.sent) 0 behind
+      (hear_all setup AnyResponse (λ response. tt) (arrivals_from 0 behind)) (record {
+        order = text_waits setup front.value source (read_text text) (texts_wait setup m source p.before (events_wait setup first));
+        holds = λ x there. handled_anew setup front.value source (read_text text) code id line params body reads final other mine some x there;
+      })).holds s (ap (λ (x : Machine). endpoint_at x.endpoints line) (sym machine_is) ∙ at)) where
+        by_pending : (pending : Option InFlight) → Anew id (of_line line here.sent ++ of_line line (sent_from setup here.value behind)) pending → Anew id (here.sent ++ sent_from setup here.value behind) pending
+        by_pending None anew = tt
+        by_pending (Some flight) anew = λ same.
+            unfiltered id line (here.sent ++ sent_from setup here.value behind)
+            (subst (λ (x : List Sent). Began id (begun_in x)) (sym (of_both line here.sent (sent_from setup here.value behind))) (anew same))
+
+  pub not_again : Began id (begun_in (sent_of setup first)) → AreApart (begun_in (sent_of setup (first ++ datagram source bytes ∷ rest))) → (s : Endpoint) (flight : InFlight)
+      → endpoint_at (plain setup (first ++ datagram source bytes ∷ rest)).endpoints line ≡ Some s → s.post.pending ≡ Some flight → flight.id ≢ id
+  not_again began apart s flight at flies same =
+      twice id (begun_in (sent_of setup first)) (begun_in (front.sent ++ since))
+      (subst AreApart (ap begun_in sent_is ∙ begun_both (sent_of setup first) (front.sent ++ since)) apart) began
+      (began_behind id front.sent since (subst (Anew id since) flies (began_since s at) same))
+
+-- In a world
+
+module _ (setup : Setup) (before later : List WorldStep) (number : ℕ) (text : List ℕ) (code id : ℕ) (params : List Param) (body : List ℕ) (line : ℕ) (endpoint : Endpoint) (flight : InFlight)
+    (set_up : IsSetUp setup) (taken : steps_are_taken setup world_opening ((before ++ delivering number ∷ []) ++ later) ≡ true)
+    (few : HasNumbersLeft (own_in setup (plain_world setup ((before ++ delivering number ∷ []) ++ later)))) (copy : IsCopy setup (plain_world setup before) agent_end text number)
+    (reads : read_text text ≡ message (messages.Response code id params body)) (final : is_final code ≡ true) (other : code ≢ 521)
+    (at : endpoint_at (gateway_in setup (plain_world setup ((before ++ delivering number ∷ []) ++ later))).endpoints line ≡ Some endpoint) (flies : endpoint.post.pending ≡ Some flight) where
+  abbrev w : World
+  w = plain_world setup before
+
+  abbrev next : World
+  next = plain_world setup (before ++ delivering number ∷ [])
+
+  abbrev whole : World
+  whole = plain_world setup ((before ++ delivering number ∷ []) ++ later)
+
+  abbrev event : GatewayEvent
+  event = datagram copy.post.packet.sender copy.post.packet.bytes
+
+  front_taken : steps_are_taken setup world_opening (before ++ delivering number ∷ []) ≡ true
+  front_taken = taken_front setup world_opening (before ++ delivering number ∷ []) later taken
+
+  next_is : next ≡ to_gateway setup w event
+  next_is = step_more setup before (delivering number) ∙ handed_to_gateway setup w text number copy
+
+  inside : OneOf (λ (one : List ℕ). one ≡ text) (texts_of copy.post.packet.bytes)
+  inside = one_from_any (λ (one : List ℕ). one ≡ text) (texts_of copy.post.packet.bytes) copy.inside
+
+  abbrev Comes : TextArrival → Type 0
+  Comes a = a.outcome ≡ message (messages.Response code id params body)
+
+  came : OneOf Comes (arrivals_of next.gateway_took)
+  came =
+      subst (HasOne Comes setup) (sym next_is)
+      (gateway_comes Comes setup w event
+      (one_mapped Comes (arrival (gateway_in setup w).now copy.post.packet.sender) (texts_of copy.post.packet.bytes)
+      (one_weaker (λ (one : List ℕ). one ≡ text) (λ (one : List ℕ). read_text one ≡ message (messages.Response code id params body)) (λ one same. ap read_text same ∙ reads)
+      (texts_of copy.post.packet.bytes) inside)))
+
+  -- the agent had taken it, and the gateway sent it
+  was_taken : OneOf (λ (one : Reached). one.asked.id ≡ id) (taken_in w)
+  was_taken =
+      subst (λ (x : World). OneOf (λ (one : Reached). one.asked.id ≡ id) (taken_in x)) next_is
+      (one_from_any (λ (one : Reached). one.asked.id ≡ id) (taken_in next)
+      (one_to (λ (a : TextArrival). Tells a × Comes a) (Any (λ (one : Reached). one.asked.id ≡ id) (taken_in next))
+      (λ a both. both.0 code id params body both.1 (leb-true 200 code (and_parts (nat_le 200 code) (nat_le code 999) final).0)) (arrivals_of next.gateway_took)
+      (one_of_each Tells Comes (arrivals_of next.gateway_took)
+      (each_from_all Tells (arrivals_of next.gateway_took) (heard_was_taken setup (before ++ delivering number ∷ []) set_up front_taken)) came))) where
+        Tells : TextArrival → Type 0
+        Tells a = (said other : ℕ) (params : List Param) (body : List ℕ) → a.outcome ≡ message (messages.Response said other params body) → 200 ≤ said
+            → Any (λ (one : Reached). one.asked.id ≡ other) (taken_in next)
+
+  had_begun : Began id (own_in setup w)
+  had_begun =
+      one_to (λ (one : Reached). AsSent one × (one.asked.id ≡ id)) (Began id (own_in setup w))
+      (λ one both. one_weaker (λ (b : Begun). (b.id ≡ one.asked.id) × (one.outcome ≡ read_text b.text)) (λ (b : Begun). b.id ≡ id) (λ b is. is.0 ∙ both.1) (own_in setup w)
+      (one_from_any (λ (b : Begun). (b.id ≡ one.asked.id) × (one.outcome ≡ read_text b.text)) (own_in setup w) both.0)) (taken_in w)
+      (one_of_each AsSent (λ (one : Reached). one.asked.id ≡ id) (taken_in w)
+      (each_from_all AsSent (taken_in w) (taken_as_sent setup before set_up (taken_front setup world_opening before (delivering number ∷ []) front_taken))) was_taken) where
+        AsSent : Reached → Type 0
+        AsSent one = Any (λ (b : Begun). (b.id ≡ one.asked.id) × (one.outcome ≡ read_text b.text)) (own_in setup w)
+
+  abbrev more : List GatewayEvent
+  more = (took_more setup next later).0
+
+  took : whole.gateway_took ≡ w.gateway_took ++ event ∷ more
+  took =
+      ap (λ (x : World). x.gateway_took) (steps_more setup world_opening (before ++ delivering number ∷ []) later) ∙ (took_more setup next later).1
+      ∙ ap (λ (x : World). x.gateway_took ++ more) next_is ∙ append_assoc w.gateway_took (event ∷ []) more
+
+  apart : AreApart (begun_in (sent_of setup (w.gateway_took ++ event ∷ more)))
+  apart =
+      subst (λ (x : List GatewayEvent). AreApart (begun_in (sent_of setup x))) took
+      (apart_from (own_in setup whole) ((world_linked setup ((before ++ delivering number ∷ []) ++ later) set_up taken).links.gateway.stands.logged.apart few))
+
+  pub over : flight.id ≢ id
+  over same =
+      not_again setup w.gateway_took more copy.post.packet.sender copy.post.packet.bytes text code id line params body inside reads final other
+      (ap line_of_id (sym same) ∙ of_its_line setup whole line endpoint flight at flies) (place_of (gateway_in setup whole).endpoints line endpoint at).0 had_begun apart endpoint flight
+      (ap (λ (x : List GatewayEvent). endpoint_at (plain setup x).endpoints line) (sym took) ∙ at) flies same
+
+pub over_once_answered : (setup : Setup) (before later : List WorldStep) (number : ℕ) (text : List ℕ) (code id : ℕ) (params : List Param) (body : List ℕ) (line : ℕ) (endpoint : Endpoint) (flight : InFlight)
+    → IsSetUp setup → steps_are_taken setup world_opening ((before ++ delivering number ∷ []) ++ later) ≡ true → let w = plain_world setup ((before ++ delivering number ∷ []) ++ later) in
+    HasNumbersLeft (own_in setup w) → IsCopy setup (plain_world setup before) agent_end text number → read_text text ≡ message (messages.Response code id params body) → is_final code ≡ true → code ≢ 521
+    → endpoint_at (gateway_in setup w).endpoints line ≡ Some endpoint → endpoint.post.pending ≡ Some flight → flight.id ≢ id
+over_once_answered setup before later number text code id params body line endpoint flight set_up taken few copy reads final other at flies =
+    over setup before later number text code id params body line endpoint flight set_up taken few copy reads final other at flies
