@@ -7,14 +7,9 @@ use Rattle.std.proofs.lemmas.Option.{none-some}
 use Rattle.std.specs.declared.net.socket_addr.SocketAddrV4.{SocketAddrV4}
 use Rattle.mgcp_text.specs.declared.message.Message.TheVariants as messages
 use Rattle.mgcp_text.specs.declared.message.Param.{Param}
-use Rattle.mgcp_text.specs.Confirmation.{k_of}
 use Rattle.mgcp_text.specs.Reading.{Outcome, message, no_header, bad_version, bad_body, read_text}
-use Rattle.history.specs.Looking.{Looked, new, repeat, confirmed, full, look_of}
-use Rattle.history.specs.Memory.{most_firsts}
 use Rattle.transmission.specs.Texts.{texts_of}
-use Rattle.command_forms.specs.Command.{Command}
 use Rattle.command_forms.specs.Meaning.{is_for}
-use Rattle.command_forms.specs.Order.{form_while}
 use Rattle.command_forms.specs.declared.forms.Asks.{Asks}
 use Rattle.command_forms.specs.declared.forms.Asks.TheVariants.{Reports, Does}
 use Rattle.command_forms.specs.declared.forms.Deed.{Deed}
@@ -25,7 +20,7 @@ use Rattle.outbound.specs.Flight.{InFlight}
 use Rattle.plain_machine.specs.declared.response.Response.{Response}
 use Rattle.plain_machine.specs.declared.setup.Setup.{Setup}
 use Rattle.plain_machine.specs.declared.endpoint.Endpoint.{Endpoint}
-use Rattle.plain_machine.specs.Answering.{Transaction, executed, handled, took_all, transacted_by}
+use Rattle.plain_machine.specs.Answering.{handled, took_all}
 use Rattle.plain_machine.specs.Commanding.{done_by}
 use Rattle.plain_machine.specs.Done.{Done}
 use Rattle.plain_machine.specs.Effect.{Effect, silently}

@@ -10,7 +10,7 @@ use Rattle.mg_line.specs.Opening.{opened}
 use Rattle.mg_line.specs.Falling.{fired}
 use Rattle.outbound.specs.declared.repeat.Repeat.{Repeat}
 use Rattle.outbound.specs.declared.repeat.Repeat.TheVariants.{Sent as SentAgain, GivenUp}
-use Rattle.outbound.specs.Flight.{InFlight, heard, repeat_of, repeated}
+use Rattle.outbound.specs.Flight.{InFlight, heard, repeat_of}
 use Rattle.outbound.proofs.LifeLaws.{repeat_same, reply_same}
 use Rattle.restart.specs.declared.restart.Restart.{Restart}
 use Rattle.restart.specs.declared.restart.Restart.TheVariants.{Waiting, Announced, Serving}
@@ -28,7 +28,7 @@ use Rattle.plain_machine.specs.Announcing.{announcement, announced, announced_by
 use Rattle.plain_machine.specs.Falling.{happened_on}
 use Rattle.plain_machine.specs.Message.{Sent}
 use Rattle.plain_machine.specs.Notifying.{notification, noted, posted, with_notice}
-use Rattle.plain_machine.specs.Posting.{id_on, repeated_as, resent_by, resent_on}
+use Rattle.plain_machine.specs.Posting.{repeated_as, resent_by, resent_on}
 use Rattle.plain_machine.specs.Requesting.{asked_if, deed_on, with_connections, with_entity}
 use Rattle.plain_machine.specs.Responding.{opened_on, redirected_on, responded_as, responded_on}
 use Rattle.machine_laws.specs.Saying.{Begun, OneOf, begun_at, begun_in}

@@ -1,6 +1,6 @@
 -- A command that was answered isn't in flight again.
 use Rattle.std.proofs.Common.{◌≡◌, ◌≢◌, ℕ, ◌<◌, ◌≤◌, Bool, true, false, ◌==◌, if◌then◌else◌, List, [], ◌∷◌, ◌++◌, length, map, Option, Some, None, inl, inr, refl, sym, ap, ◌∙◌, subst, arith, append-nil, append_assoc}
-use Rattle.std.specs.Prelude.{◌⊎◌, All, Any, IfSome, nat_le, nat_lt, option_map, slice_get}
+use Rattle.std.specs.Prelude.{◌⊎◌, Any, nat_le, nat_lt, option_map}
 use Rattle.std.specs.Option.{unwrap_or}
 use Rattle.std.proofs.lemmas.Bool.{and_parts, eqb-true, eqb-false, leb-true, ltb-true, ltb-false}
 use Rattle.std.proofs.lemmas.Bool.Decides.{Decides-eqb}
@@ -19,7 +19,7 @@ use Rattle.transmission.specs.Texts.{texts_of, largest_datagram}
 use Rattle.plain_machine.specs.declared.response.Response.{Response}
 use Rattle.plain_machine.specs.declared.setup.Setup.{Setup}
 use Rattle.plain_machine.specs.declared.endpoint.Endpoint.{Endpoint}
-use Rattle.plain_machine.specs.Announcing.{heard_on, replied}
+use Rattle.plain_machine.specs.Announcing.{replied}
 use Rattle.plain_machine.specs.Answering.{handled, took_all}
 use Rattle.plain_machine.specs.Arriving.{TextArrival, arrival, arrivals_from, arrivals_of}
 use Rattle.plain_machine.specs.Effect.{Effect}
@@ -44,13 +44,12 @@ use Rattle.line_isolation.proofs.OwningLemmas.{LineTurns, of_both, on_one_line, 
 use Rattle.dialled_once.proofs.CourseLemmas.{AnyResponse, events_stand, hear_all}
 use Rattle.dialled_end_to_end.proofs.RestLemmas.{begun_both}
 use Rattle.agent_core.specs.declared.packet.End.TheVariants.{AgentEnd as agent_end}
-use Rattle.agent_core.specs.World.{World, WorldStep, delivering, gateway_in, plain_world, steps_are_taken, to_gateway, world_after, world_opening}
+use Rattle.agent_core.specs.World.{World, WorldStep, delivering, gateway_in, plain_world, steps_are_taken, to_gateway, world_opening}
 use Rattle.world_laws.specs.Landing.{is_final}
 use Rattle.world_laws.specs.Reached.{Reached, own_in, taken_in}
 use Rattle.world_laws.proofs.LinkLaws.{taken_as_sent, world_linked}
 use Rattle.world_laws.proofs.TakenLaws.{heard_was_taken}
 use Rattle.delivery_laws.specs.Copies.{IsCopy}
-use Rattle.delivery_laws.specs.OwnChances.{IsResponse}
 use Rattle.delivery_laws.proofs.AnewTurns.{Anew, AnewBeside, Began, anew_turns, noted_anew, responded_anew}
 use Rattle.delivery_laws.proofs.FairLaws.{AreApart, apart_from}
 use Rattle.delivery_laws.proofs.FrontSteps.{took_more}

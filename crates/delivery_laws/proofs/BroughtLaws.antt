@@ -24,6 +24,12 @@ use Rattle.delivery_laws.proofs.StepLemmas.{handed_to_agent, step_more, taken_fr
 use Rattle.delivery_laws.proofs.TakenLemmas.{taken_stays}
 use Rattle.delivery_laws.proofs.TakeLaws.{agent_takes}
 
+-- each packet that is so old was handed over in time
+abbrev pub HandsOver : Setup → List WorldStep → ℕ → ℕ → Type 0
+HandsOver setup steps limit within =
+    (number : ℕ) (post : Posted) → slice_get (plain_world setup steps).posted number ≡ Some post → post.packet.moment + limit ≤ now_in setup (plain_world setup steps)
+    → IsHandedOver setup steps within number post
+
 -- the agent took it when a packet of it was handed over in time
 pub record IsBrought (setup : Setup) (steps : List WorldStep) (within : ℕ) (b : Begun) : Type 0 where
   pub number : ℕ
@@ -33,9 +39,10 @@ pub record IsBrought (setup : Setup) (steps : List WorldStep) (within : ℕ) (b 
   pub step : plain_world setup (there.before ++ delivering number ∷ []) ≡ to_agent setup (plain_world setup there.before) (hears (datagram post.packet.sender post.packet.bytes))
   pub took : IsTaken setup (plain_world setup there.before) (plain_world setup (there.before ++ delivering number ∷ [])) b.id
 
-module _ (setup : Setup) (steps : List WorldStep) (within : ℕ) (b : Begun) (set_up : IsSetUp setup) (taken : steps_are_taken setup world_opening steps ≡ true) (fair : IsFair setup steps within)
+module _ (setup : Setup) (steps : List WorldStep) (limit within : ℕ) (b : Begun) (set_up : IsSetUp setup) (taken : steps_are_taken setup world_opening steps ≡ true)
+    (fair : HandsOver setup steps limit within)
     (roomy : AgentAlwaysHasRoom setup steps) (unconfirmed : IsNeverConfirmedIn setup steps b.id) (own : IsOwn setup (plain_world setup steps) b)
-    (goes : GoesToAgent setup (plain_world setup steps) b.text) (late : b.moment + within ≤ now_in setup (plain_world setup steps)) where
+    (goes : GoesToAgent setup (plain_world setup steps) b.text) (late : b.moment + limit ≤ now_in setup (plain_world setup steps)) where
   abbrev w : World
   w = plain_world setup steps
 
@@ -56,7 +63,7 @@ module _ (setup : Setup) (steps : List WorldStep) (within : ℕ) (b : Begun) (se
     inside = any_from_one (λ (one : List ℕ). one ≡ b.text) (texts_of post.packet.bytes) shows.2
 
     there : IsHandedOver setup steps within number post
-    there = fair number post found (subst (λ (moment : ℕ). moment + within ≤ now_in setup w) (sym shows.1) late)
+    there = fair number post found (subst (λ (moment : ℕ). moment + limit ≤ now_in setup w) (sym shows.1) late)
 
     first : List WorldStep
     first = there.before ++ delivering number ∷ []
@@ -77,16 +84,16 @@ module _ (setup : Setup) (steps : List WorldStep) (within : ℕ) (b : Begun) (se
   brought : IsBrought setup steps within b
   brought = let at = one_at (HasText b.text b.moment) w.posted shown in brought_by at.0 at.1 at.2 at.3
 
-pub is_brought : (setup : Setup) (steps : List WorldStep) (within : ℕ) (b : Begun) → IsSetUp setup → steps_are_taken setup world_opening steps ≡ true → IsFair setup steps within
+pub is_brought : (setup : Setup) (steps : List WorldStep) (limit within : ℕ) (b : Begun) → IsSetUp setup → steps_are_taken setup world_opening steps ≡ true → HandsOver setup steps limit within
     → AgentAlwaysHasRoom setup steps → IsNeverConfirmedIn setup steps b.id → let w = plain_world setup steps in IsOwn setup w b → GoesToAgent setup w b.text
-    → b.moment + within ≤ now_in setup w → IsBrought setup steps within b
-is_brought setup steps within b set_up taken fair roomy unconfirmed own goes late = brought setup steps within b set_up taken fair roomy unconfirmed own goes late
+    → b.moment + limit ≤ now_in setup w → IsBrought setup steps within b
+is_brought setup steps limit within b set_up taken fair roomy unconfirmed own goes late = brought setup steps limit within b set_up taken fair roomy unconfirmed own goes late
 
 pub brought_in_time : (setup : Setup) (steps : List WorldStep) (within : ℕ) (b : Begun) → IsSetUp setup → steps_are_taken setup world_opening steps ≡ true → IsFair setup steps within
     → AgentAlwaysHasRoom setup steps → IsNeverConfirmedIn setup steps b.id → let w = plain_world setup steps in IsOwn setup w b → GoesToAgent setup w b.text
     → b.moment + within ≤ now_in setup w → Any (λ (one : Reached). one.asked.id ≡ b.id) (taken_in w)
 brought_in_time setup steps within b set_up taken fair roomy unconfirmed own goes late =
-    let is = is_brought setup steps within b set_up taken fair roomy unconfirmed own goes late in
+    let is = is_brought setup steps within within b set_up taken fair roomy unconfirmed own goes late in
     let first = is.there.before ++ delivering is.number ∷ [] in
     any_from_one (λ (one : Reached). one.asked.id ≡ b.id) (taken_in (plain_world setup steps))
     (subst (λ (s : List WorldStep). OneOf (λ (one : Reached). one.asked.id ≡ b.id) (taken_in (plain_world setup s))) (sym is.there.order)

@@ -150,7 +150,7 @@ module _ (setup : Setup) (line : ℕ) (one : 1 ≤ line) where
         holds = λ x at. subst (Flies AnyId ⊥ (of_line line (sent_of setup some))) (let both : Some was ≡ Some x = sym here ∙ at in (let same : was ≡ x = cc in same)) gone;
       })).holds endpoint (ap (λ (m : Machine). endpoint_at m.endpoints line) (sym (machine_on setup (opening setup) some later)) ∙ there))
 
-  serving_then : (some later : List GatewayEvent) (was endpoint : Endpoint) → endpoint_at (plain setup some).endpoints line ≡ Some was
+  pub serving_then : (some later : List GatewayEvent) (was endpoint : Endpoint) → endpoint_at (plain setup some).endpoints line ≡ Some was
       → endpoint_at (plain setup (some ++ later)).endpoints line ≡ Some endpoint → has_given_up (of_line line (sent_of setup (some ++ later))) endpoint.post ≡ false → was.post.restart ≡ Serving
   serving_then some later was endpoint here there none = by_test (has_given_up (of_line line (sent_of setup some)) was.post) refl where
     by_test : (b : Bool) → has_given_up (of_line line (sent_of setup some)) was.post ≡ b → was.post.restart ≡ Serving

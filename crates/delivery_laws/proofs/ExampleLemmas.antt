@@ -1,6 +1,7 @@
 -- What is a copy in the worlds of the worked examples.
-use Rattle.std.proofs.Common.{◌≡◌, ℕ, Bool, true, false, ◌||◌, ◌==◌, List, [], ◌∷◌, ◌++◌, Option, Some, None, inl, inr, refl, sym, ap, ◌∙◌, subst}
+use Rattle.std.proofs.Common.{◌≡◌, ℕ, zero, suc, Bool, true, false, ◌||◌, ◌&&◌, ◌==◌, List, [], ◌∷◌, ◌++◌, Option, Some, None, inl, inr, refl, sym, ap, ◌∙◌, subst}
 use Rattle.std.specs.Prelude.{slice_get, unwrap_or}
+use Rattle.std.proofs.lemmas.Bool.{and_parts}
 use Rattle.std.proofs.lemmas.Bool.Decides.{Decides-eqb}
 use Rattle.std.proofs.lemmas.Option.{none-some}
 use Rattle.transmission.specs.Texts.{texts_of}
@@ -8,6 +9,8 @@ use Rattle.plain_machine.specs.declared.setup.Setup.{Setup}
 use Rattle.machine_laws.specs.Saying.{OneOf}
 use Rattle.machine_laws.proofs.EachLemmas.{any_from_one, one_from_any}
 use Rattle.agent_core.specs.declared.packet.End.{End}
+use Rattle.agent_core.specs.declared.packet.End.TheVariants.{AgentEnd as agent_end, GatewayEnd as gateway_end}
+use Rattle.agent_core.specs.declared.packet.Packet.{Packet}
 use Rattle.agent_core.specs.declared.packet.Posted.{Posted}
 use Rattle.agent_core.specs.World.{World, WorldStep, delivering, dialling, issuing, ticking}
 use Rattle.delivery_laws.specs.Copies.{arrives, IsCopy}
@@ -71,3 +74,23 @@ handed_there number (step ∷ before) later = either_holds (hands number step) (
 pub none_handed : (setup : Setup) (steps : List WorldStep) (within number : ℕ) (post : Posted) → hand_over number steps ≡ false → IsHandedOver setup steps within number post → ⊥
 none_handed setup steps within number post none handed =
     absurd (let e : false ≡ true = sym none ∙ ap (hand_over number) handed.order ∙ handed_there number handed.before handed.later in cc)
+
+-- Whether all packets of the gateway go to the agent, computed
+
+abbrev goes_by : End → Setup → Packet → Bool
+goes_by agent_end setup packet = true
+goes_by gateway_end setup packet = arrives gateway_end setup packet
+
+abbrev pub all_go : Setup → List Posted → Bool
+all_go setup [] = true
+all_go setup (post ∷ posts) = goes_by post.end setup post.packet && all_go setup posts
+
+pub it_goes : (setup : Setup) (posts : List Posted) (number : ℕ) (post : Posted) → all_go setup posts ≡ true → slice_get posts number ≡ Some post → post.end ≡ gateway_end
+    → arrives gateway_end setup post.packet ≡ true
+it_goes setup [] number post all found from = absurd (none-some post found)
+it_goes setup (first ∷ posts) zero post all found from =
+    let both = and_parts (goes_by first.end setup first.packet) (all_go setup posts) all in
+    let same : first ≡ post = ap (λ (o : Option Posted). unwrap_or o first) found in
+    subst (λ (e : End). goes_by e setup post.packet ≡ true) from (subst (λ (x : Posted). goes_by x.end setup x.packet ≡ true) same both.0)
+it_goes setup (first ∷ posts) (suc number) post all found from =
+    it_goes setup posts number post (and_parts (goes_by first.end setup first.packet) (all_go setup posts) all).1 found from

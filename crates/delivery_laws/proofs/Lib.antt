@@ -29,13 +29,16 @@ pub mod LaterTurns
 pub mod AtOnceLemmas
 pub mod OwnChanceLaws
 pub mod FrontSteps
+pub mod FairFronts
 pub mod AnewTurns
 pub mod AnsweredLaws
 pub mod GatewayChanceLaws
 pub mod OutLemmas
 pub mod RoundTurns
 pub mod RoundLaws
+pub mod WaitingTurns
 pub mod ByThenLaws
+pub mod InTimeLaws
 pub mod LineLaws
 pub mod AmidLaws
 pub mod ServingLaws

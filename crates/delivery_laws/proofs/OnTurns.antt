@@ -8,11 +8,10 @@ use Rattle.std.proofs.lemmas.Option.{none-some}
 use Rattle.std.specs.declared.net.socket_addr.SocketAddrV4.{SocketAddrV4}
 use Rattle.routes.specs.declared.route.Route.{Route}
 use Rattle.endpoint_names.specs.declared.entity.Entity.{Entity}
-use Rattle.event_requests.specs.declared.request.Request.{Request}
 use Rattle.mgcp_text.specs.Writing.{written}
 use Rattle.mg_line.specs.declared.state.State.{State}
 use Rattle.mg_line.specs.declared.state.State.TheVariants.{Notification}
-use Rattle.mg_line.specs.Line.{LineState, LineDone, Notice}
+use Rattle.mg_line.specs.Line.{LineDone, Notice}
 use Rattle.mg_line.specs.Acting.{phoned}
 use Rattle.mg_line.specs.Answering.{answered}
 use Rattle.mg_line.specs.Opening.{opened}
@@ -44,7 +43,7 @@ use Rattle.plain_machine.specs.Effect.{Effect, silently}
 use Rattle.plain_machine.specs.Announcing.{announcement, announced, announced_by, announced_on, heard_by, heard_on, replied}
 use Rattle.plain_machine.specs.Falling.{due_on, happened_on, post_due}
 use Rattle.plain_machine.specs.Flights.{IsClosed}
-use Rattle.plain_machine.specs.Message.{Said, answer, again, command, resent, acknowledgement, is_answer, Sent}
+use Rattle.plain_machine.specs.Message.{Sent}
 use Rattle.plain_machine.specs.Notifying.{posted, notification, with_notice, noted}
 use Rattle.plain_machine.specs.Posting.{id_on, repeated_as, resent_by, resent_on}
 use Rattle.plain_machine.specs.Requesting.{with_entity, with_connections, asked_if, deed_on}

@@ -19,16 +19,18 @@ use Rattle.agent_core.specs.declared.packet.End.{End}
 use Rattle.agent_core.specs.declared.packet.End.TheVariants.{AgentEnd as agent_end, GatewayEnd as gateway_end}
 use Rattle.agent_core.specs.declared.packet.Packet.{Packet}
 use Rattle.agent_core.specs.declared.packet.Posted.{Posted}
-use Rattle.agent_core.specs.World.{World, WorldStep, agent_in, delivered, delivered_from, delivering, dialling, gateway_address, gateway_in, is_among, issuing, now_in, plain_world, steps_are_taken, ticking, to_agent, to_gateway, went, world_after, world_opening}
+use Rattle.agent_core.specs.World.{World, WorldStep, agent_in, agent_of, delivered, delivered_from, delivering, dialling, gateway_address, gateway_in, is_among, issuing, now_in, plain_world, steps_are_taken, ticking, to_agent, to_gateway, went, world_after, world_opening}
 use Rattle.world_laws.specs.Reached.{issued_in}
 use Rattle.world_laws.proofs.WorldLaws.{agent_answers, world_sound}
 use Rattle.delivery_laws.specs.Copies.{IsCopy}
 use Rattle.delivery_laws.specs.Taking.{IsOwn, IsTaken, agent_history}
 use Rattle.delivery_laws.specs.Fairness.{AgentAlwaysHasRoom, GoesToAgent, IsFair, IsHandedOver, IsNeverConfirmedIn}
+use Rattle.delivery_laws.specs.GoingOn.{IsPlainAnswer}
 use Rattle.delivery_laws.specs.OwnChances.{HasCome, IsResponse}
 use Rattle.delivery_laws.proofs.StepLemmas.{handed_to_gateway, step_more, steps_more, taken_front}
 use Rattle.delivery_laws.proofs.FairLaws.{stays_found}
-use Rattle.delivery_laws.proofs.BroughtLaws.{IsBrought, is_brought}
+use Rattle.delivery_laws.proofs.AgentFinalLemmas.{HasPlain, agent_plain}
+use Rattle.delivery_laws.proofs.BroughtLaws.{HandsOver, IsBrought, is_brought}
 
 -- What came stays come
 
@@ -79,11 +81,14 @@ module _ (P : TextArrival → Type 0) (setup : Setup) where
 
 -- The way back
 
-back_late : (issued within sent now : ℕ) → sent ≤ issued + within → issued + 2 * within ≤ now → sent + within ≤ now
-back_late issued within sent now soon late = omega (arith, soon, late)
+back_late : (issued within limit sent now : ℕ) → sent ≤ issued + within → issued + within + limit ≤ now → sent + limit ≤ now
+back_late issued within limit sent now soon late = omega (arith, soon, late)
 
-there_late : (issued within now : ℕ) → issued + 2 * within ≤ now → issued + within ≤ now
-there_late issued within now late = omega (arith, late)
+there_late : (issued within limit now : ℕ) → issued + within + limit ≤ now → issued + limit ≤ now
+there_late issued within limit now late = omega (arith, late)
+
+twice_late : (issued within now : ℕ) → issued + 2 * within ≤ now → issued + within + within ≤ now
+twice_late issued within now late = omega (arith, late)
 
 -- the stored answer is a response to it
 reads_so : (setup : Setup) (first : List WorldStep) (id : ℕ) (text : List ℕ) → steps_are_taken setup world_opening first ≡ true
@@ -96,8 +101,19 @@ reads_so setup first id text taken stored =
     (one_of_each (λ (one : KeptFirst). IsAnswerTo one.id one.answer) (λ (one : KeptFirst). (one.id ≡ id) × (one.answer ≡ text)) firsts
     (agent_answers (issued_in setup after) (agent_in setup after) (world_sound setup first taken).agrees.agent) stored)
 
-module _ (setup : Setup) (steps : List WorldStep) (within : ℕ) (b : Begun) (taken : steps_are_taken setup world_opening steps ≡ true) (fair : IsFair setup steps within)
-    (late : b.moment + 2 * within ≤ now_in setup (plain_world setup steps)) (is : IsBrought setup steps within b) where
+-- a response to it, final and not 521, was handed over
+pub record IsReturned (setup : Setup) (steps : List WorldStep) (b : Begun) : Type 0 where
+  pub before : List WorldStep
+  pub number : ℕ
+  pub later : List WorldStep
+  pub order : steps ≡ (before ++ delivering number ∷ []) ++ later
+  pub text : List ℕ
+  pub copy : IsCopy setup (plain_world setup before) agent_end text number
+  pub reads : IsAnswerTo b.id text
+  pub plain : IsPlainAnswer b.id text
+
+module _ (setup : Setup) (steps : List WorldStep) (limit within : ℕ) (b : Begun) (taken : steps_are_taken setup world_opening steps ≡ true) (fair : HandsOver setup steps limit within)
+    (late : b.moment + within + limit ≤ now_in setup (plain_world setup steps)) (is : IsBrought setup steps within b) where
   abbrev before : List WorldStep
   before = is.there.before
 
@@ -129,29 +145,57 @@ module _ (setup : Setup) (steps : List WorldStep) (within : ℕ) (b : Begun) (ta
       subst (λ (s : List WorldStep). slice_get (plain_world setup s).posted took.number ≡ Some post) (sym is.there.order)
       (stays_found setup b.id first is.there.later took.number post took.copy.found)
 
-  abbrev Comes : TextArrival → Type 0
-  Comes a = IsResponse b.id a.outcome
+  plain : IsPlainAnswer b.id took.text
+  plain =
+      let firsts = firsts_in (agent_history setup (plain_world setup first)) in
+      one_to (λ (one : KeptFirst). HasPlain one × ((one.id ≡ b.id) × (one.answer ≡ took.text))) (IsPlainAnswer b.id took.text)
+      (λ one both. subst (IsPlainAnswer b.id) both.1.1 (both.0 b.id)) firsts
+      (one_of_each HasPlain (λ (one : KeptFirst). (one.id ≡ b.id) × (one.answer ≡ took.text)) firsts (agent_plain (agent_of setup) (plain_world setup first).agent_took)
+      (one_from_any (λ (one : KeptFirst). (one.id ≡ b.id) × (one.answer ≡ took.text)) firsts took.stored))
 
-  -- where it is handed over it comes
-  returned : IsHandedOver setup steps within took.number post → HasCome (plain_world setup steps) b.id
-  returned back =
-      any_from_one Comes (arrivals_of (plain_world setup steps).gateway_took)
-      (subst (λ (s : List WorldStep). HasOne Comes setup (plain_world setup s)) (sym back.order)
-      (arrivals_stay Comes setup (back.before ++ delivering took.number ∷ []) back.later
-      (subst (HasOne Comes setup) (sym (step_more setup back.before (delivering took.number) ∙ handed_to_gateway setup (plain_world setup back.before) took.text took.number copy))
-      (gateway_comes Comes setup (plain_world setup back.before) (datagram post.packet.sender post.packet.bytes)
-      (one_mapped Comes (arrival (gateway_in setup (plain_world setup back.before)).now post.packet.sender) (texts_of post.packet.bytes)
-      (one_weaker (λ (one : List ℕ). one ≡ took.text) (λ (one : List ℕ). IsResponse b.id (read_text one)) (λ one same. (reads.code, reads.params, reads.body, ap read_text same ∙ reads.reads))
-      (texts_of post.packet.bytes) (one_from_any (λ (one : List ℕ). one ≡ took.text) (texts_of post.packet.bytes) took.copy.inside))))))) where
-        copy : IsCopy setup (plain_world setup back.before) agent_end took.text took.number
-        copy = record { post = post; found = back.sent; sender = took.copy.sender; goes = took.copy.goes; inside = took.copy.inside }
+  returns : IsHandedOver setup steps within took.number post → IsReturned setup steps b
+  returns back = record {
+    before = back.before;
+    number = took.number;
+    later = back.later;
+    order = back.order;
+    text = took.text;
+    copy = record { post = post; found = back.sent; sender = took.copy.sender; goes = took.copy.goes; inside = took.copy.inside };
+    reads = reads;
+    plain = plain;
+  }
 
-  comes_back : now_in setup (plain_world setup first) ≡ now_in setup (plain_world setup before) → HasCome (plain_world setup steps) b.id
-  comes_back same = returned (fair took.number post found (back_late b.moment within post.packet.moment (now_in setup (plain_world setup steps)) (soon same) late))
+  comes_back : now_in setup (plain_world setup first) ≡ now_in setup (plain_world setup before) → IsReturned setup steps b
+  comes_back same = returns (fair took.number post found (back_late b.moment within limit post.packet.moment (now_in setup (plain_world setup steps)) (soon same) late))
+
+pub is_returned : (setup : Setup) (steps : List WorldStep) (limit within : ℕ) (b : Begun) → IsSetUp setup → steps_are_taken setup world_opening steps ≡ true → HandsOver setup steps limit within
+    → AgentAlwaysHasRoom setup steps → IsNeverConfirmedIn setup steps b.id → let w = plain_world setup steps in IsOwn setup w b → GoesToAgent setup w b.text
+    → b.moment + within + limit ≤ now_in setup w → IsReturned setup steps b
+is_returned setup steps limit within b set_up taken fair roomy unconfirmed own goes late =
+    let is = is_brought setup steps limit within b set_up taken fair roomy unconfirmed own goes (there_late b.moment within limit (now_in setup (plain_world setup steps)) late) in
+    comes_back setup steps limit within b taken fair late is (ap (now_in setup) is.step)
+
+-- where it is handed over it comes
+has_come : (setup : Setup) (steps : List WorldStep) (b : Begun) → IsReturned setup steps b → HasCome (plain_world setup steps) b.id
+has_come setup steps b back =
+    any_from_one Comes (arrivals_of (plain_world setup steps).gateway_took)
+    (subst (λ (s : List WorldStep). HasOne Comes setup (plain_world setup s)) (sym back.order)
+    (arrivals_stay Comes setup (back.before ++ delivering back.number ∷ []) back.later
+    (subst (HasOne Comes setup) (sym (step_more setup back.before (delivering back.number) ∙ handed_to_gateway setup (plain_world setup back.before) back.text back.number back.copy))
+    (gateway_comes Comes setup (plain_world setup back.before) (datagram packet.sender packet.bytes)
+    (one_mapped Comes (arrival (gateway_in setup (plain_world setup back.before)).now packet.sender) (texts_of packet.bytes)
+    (one_weaker (λ (one : List ℕ). one ≡ back.text) (λ (one : List ℕ). IsResponse b.id (read_text one))
+    (λ one same. (back.reads.code, back.reads.params, back.reads.body, ap read_text same ∙ back.reads.reads)) (texts_of packet.bytes)
+    (one_from_any (λ (one : List ℕ). one ≡ back.text) (texts_of packet.bytes) back.copy.inside))))))) where
+      packet : Packet
+      packet = back.copy.post.packet
+
+      Comes : TextArrival → Type 0
+      Comes a = IsResponse b.id a.outcome
 
 pub returned_in_time : (setup : Setup) (steps : List WorldStep) (within : ℕ) (b : Begun) → IsSetUp setup → steps_are_taken setup world_opening steps ≡ true → IsFair setup steps within
     → AgentAlwaysHasRoom setup steps → IsNeverConfirmedIn setup steps b.id → let w = plain_world setup steps in IsOwn setup w b → GoesToAgent setup w b.text
     → b.moment + 2 * within ≤ now_in setup w → HasCome w b.id
 returned_in_time setup steps within b set_up taken fair roomy unconfirmed own goes late =
-    let is = is_brought setup steps within b set_up taken fair roomy unconfirmed own goes (there_late b.moment within (now_in setup (plain_world setup steps)) late) in
-    comes_back setup steps within b taken fair late is (ap (now_in setup) is.step)
+    has_come setup steps b
+    (is_returned setup steps within within b set_up taken fair roomy unconfirmed own goes (twice_late b.moment within (now_in setup (plain_world setup steps)) late))

@@ -1,5 +1,5 @@
 -- The answer to its announcement makes the gateway serve amid other texts of its packet.
-use Rattle.std.proofs.Common.{◌≡◌, ◌≢◌, ℕ, Bool, true, false, ◌==◌, List, [], ◌∷◌, ◌++◌, Option, Some, None, Result, Ok, Err, refl, sym, ap, ◌∙◌, subst}
+use Rattle.std.proofs.Common.{◌≡◌, ◌≢◌, ℕ, Bool, true, false, ◌==◌, List, [], ◌∷◌, ◌++◌, Option, Some, refl, sym, ap, ◌∙◌, subst}
 use Rattle.std.specs.Prelude.{All, IfSome}
 use Rattle.std.specs.Option.{unwrap_or}
 use Rattle.std.proofs.lemmas.Bool.{eqb-true, eqb-false}
@@ -7,18 +7,8 @@ use Rattle.std.proofs.lemmas.Option.{none-some}
 use Rattle.std.specs.declared.net.socket_addr.SocketAddrV4.{SocketAddrV4}
 use Rattle.mgcp_text.specs.declared.message.Message.TheVariants as messages
 use Rattle.mgcp_text.specs.declared.message.Param.{Param}
-use Rattle.mgcp_text.specs.Confirmation.{k_of}
-use Rattle.mgcp_text.specs.Reading.{Outcome, message, no_header, bad_version, bad_body, read_text}
-use Rattle.history.specs.Looking.{Looked, new, repeat, confirmed, full, look_of}
-use Rattle.history.specs.Memory.{most_firsts}
+use Rattle.mgcp_text.specs.Reading.{Outcome, message, read_text}
 use Rattle.transmission.specs.Texts.{texts_of}
-use Rattle.command_forms.specs.Command.{Command}
-use Rattle.command_forms.specs.Order.{form_while}
-use Rattle.command_forms.specs.declared.forms.Asks.{Asks}
-use Rattle.command_forms.specs.declared.forms.Asks.TheVariants.{Reports, Does}
-use Rattle.command_forms.specs.declared.forms.Deed.{Deed}
-use Rattle.command_forms.specs.declared.forms.Target.{Target}
-use Rattle.command_forms.specs.declared.forms.Target.TheVariants.{One, All as AllLines, Any}
 use Rattle.outbound.specs.Flight.{InFlight}
 use Rattle.restart.specs.declared.restart.Restart.{Restart}
 use Rattle.restart.specs.declared.restart.Restart.TheVariants.{Waiting, Announced, Serving}
@@ -27,20 +17,16 @@ use Rattle.plain_machine.specs.declared.post.Post.{Post}
 use Rattle.plain_machine.specs.declared.response.Response.{Response}
 use Rattle.plain_machine.specs.declared.setup.Setup.{Setup}
 use Rattle.plain_machine.specs.Announcing.{heard_on}
-use Rattle.plain_machine.specs.Answering.{Transaction, executed, handled, took_all, transacted_by}
-use Rattle.plain_machine.specs.Commanding.{done_by}
-use Rattle.plain_machine.specs.Done.{Done}
+use Rattle.plain_machine.specs.Answering.{handled, took_all}
 use Rattle.plain_machine.specs.Effect.{Effect}
 use Rattle.plain_machine.specs.Flights.{OwnInOrderBy}
 use Rattle.plain_machine.specs.Machine.{Endpoints, Machine, serves}
 use Rattle.plain_machine.specs.Posting.{line_of_id}
-use Rattle.plain_machine.specs.Requesting.{deed_done, deed_on, done_for, done_there, line_with_place, lines_meant, refused_by, unless_refused}
 use Rattle.plain_machine.specs.Responding.{responded, response_with}
 use Rattle.gateway_laws.proofs.AnnouncementLaws.{answer_serves, asks_own, text_keeps}
 use Rattle.gateway_laws.proofs.FlightLaws.{a_served_gateway_hears_nothing, a_stranger_to_itself, own_stays as own_stays_at}
 use Rattle.machine_laws.specs.Waiting.{KeepOrder}
 use Rattle.machine_laws.proofs.EachLemmas.{Each, each_from_all, one_from_any, one_of_each, one_to, one_weaker}
-use Rattle.machine_laws.proofs.LineLemmas.{own_stays}
 use Rattle.machine_laws.proofs.TextLaws.{texts_at}
 use Rattle.machine_laws.proofs.WaitLaws.{events_wait, text_waits, texts_wait}
 use Rattle.agent_core.specs.declared.packet.End.TheVariants.{AgentEnd as agent_end}

@@ -4,11 +4,13 @@ use Rattle.std.specs.Prelude.{◌≡◌, ℕ, ◌+◌, ◌≤◌, true, IfSome, 
 use Rattle.outbound.specs.Flight.{InFlight}
 use Rattle.transmission.specs.Texts.{texts_of}
 use Rattle.plain_machine.specs.declared.setup.Setup.{Setup}
+use Rattle.plain_machine.specs.Posting.{line_of_id}
+use Rattle.machine_laws.specs.Saying.{Begun}
 use Rattle.agent_core.specs.declared.packet.Posted.{Posted}
 use Rattle.agent_core.specs.declared.packet.End.TheVariants.{GatewayEnd as gateway_end}
 use Rattle.agent_core.specs.World.{World, WorldStep, delivering, now_in, plain_world}
 use Rattle.delivery_laws.specs.Copies.{HasRoom, IsConfirmedAmong, arrives, gateway_firsts}
-use Rattle.delivery_laws.specs.Taking.{AgentHasRoom, IsConfirmedIn, agent_history}
+use Rattle.delivery_laws.specs.Taking.{AgentHasRoom, IsConfirmedIn, IsOwn, agent_history}
 
 -- these steps hand the packet with this number over, so many ms after it was sent at the latest
 pub record IsHandedOver (setup : Setup) (steps : List WorldStep) (within number : ℕ) (post : Posted) : Type 0 where
@@ -55,3 +57,9 @@ abbrev pub HadItsTime : Setup → List WorldStep → ℕ → Option InFlight →
 HadItsTime setup steps within pending =
     let w = plain_world setup steps in IfSome pending (λ flight.
     (flight.first + within ≤ now_in setup w) × GoesToAgent setup w flight.text × IsNeverConfirmedIn setup steps flight.id)
+
+-- each command of this line's own goes to the agent, and was never confirmed
+abbrev pub ReachTheAgent : Setup → List WorldStep → ℕ → Type 0
+ReachTheAgent setup steps line =
+    let w = plain_world setup steps in
+    (b : Begun) → IsOwn setup w b → line_of_id b.id ≡ line → GoesToAgent setup w b.text × IsNeverConfirmedIn setup steps b.id

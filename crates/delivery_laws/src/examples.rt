@@ -30,7 +30,7 @@ ghost use Rattle.dialled_end_to_end.specs.Example.{asked as asked_for_all, done_
 ghost use Rattle.delivery_laws.specs.Copies.{arrives, IsCopy, IsConfirmedAmong, gateway_firsts};
 ghost use Rattle.delivery_laws.specs.Chances.{IsSentAfter, IsCarried};
 ghost use Rattle.delivery_laws.specs.OwnChances.{HasCome, IsOfLine, IsToldAfter};
-ghost use Rattle.delivery_laws.specs.Fairness.{AgentAlwaysHasRoom, GoesToAgent, HadItsTime, IsFair, IsNeverConfirmedIn};
+ghost use Rattle.delivery_laws.specs.Fairness.{AgentAlwaysHasRoom, GoesToAgent, HadItsTime, IsFair, IsNeverConfirmedIn, ReachTheAgent};
 ghost use Rattle.delivery_laws.specs.Rounds.{IsAnsweredWithin, IsAskedWithin, of_telephone, rounds_take};
 ghost use Rattle.delivery_laws.specs.GoingOn.{IsPlainAnswer};
 ghost use Rattle.delivery_laws.specs.Taking.{IsConfirmedIn, agent_history};
@@ -108,6 +108,7 @@ pub fn a_notification_is_brought()
     ensures goes { GoesToAgent two_lines (world brought) notification }
     ensures took { map key_reached (taken_in (world brought)) ≡ (1, 1) ∷ (10000000, 1) ∷ [] }
     ensures goes_not { ¬ GoesToAgent two_lines (world redirected) (codes "NTFY 10000000 aaln/1@rgw.example.net MGCP 1.0\r\nX: A0\r\nO: L/hd\r\n") }
+    ensures reaches_not { ¬ ReachTheAgent two_lines redirected 1 }
 {}
 
 /// Where the network is fair and the telephone rests the agent was told all that it did; while a notification is kept back it wasn't, and
@@ -122,6 +123,8 @@ pub fn what_rests_is_taken()
     ensures fair { IsFair two_lines rested 0 }
     ensures room { AgentAlwaysHasRoom two_lines rested }
     ensures unconfirmed { IsNeverConfirmedIn two_lines rested 10000000 }
+    ensures reaches { ReachTheAgent two_lines rested 1 }
+    ensures serves { serves (plain two_lines (took_first kept_back)).endpoints ≡ true }
     ensures its_time { HadItsTime two_lines rested 0 (endpoint_then rested).post.pending }
     ensures split { (world rested).gateway_took ≡ took_first kept_back ++ took_since kept_back }
     ensures answered { IsAnsweredWithin two_lines 1 (took_first kept_back) (took_since kept_back) 0 }

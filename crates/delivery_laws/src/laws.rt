@@ -43,7 +43,7 @@ ghost use Rattle.dialled_end_to_end.specs.GivenUp.{has_given_up};
 ghost use Rattle.delivery_laws.specs.Copies.{IsCopy, IsIssued, answer_wait, gateway_firsts, IsConfirmedAmong, HasRoom, IsAnswered, IsFinal, HasAnswer, IsServed};
 ghost use Rattle.delivery_laws.specs.Taking.{AgentHasRoom, IsConfirmedIn, IsOwn, IsTaken, agent_history};
 ghost use Rattle.delivery_laws.specs.Asking.{KeepsAsking};
-ghost use Rattle.delivery_laws.specs.Fairness.{IsFair, AlwaysHasRoom, IsNeverConfirmed, AgentAlwaysHasRoom, IsNeverConfirmedIn, GoesToAgent, HadItsTime};
+ghost use Rattle.delivery_laws.specs.Fairness.{IsFair, AlwaysHasRoom, IsNeverConfirmed, AgentAlwaysHasRoom, IsNeverConfirmedIn, GoesToAgent, HadItsTime, ReachTheAgent};
 ghost use Rattle.delivery_laws.specs.GoingOn.{GoesOn, GoesOnAmid, IsPlainAnswer};
 ghost use Rattle.delivery_laws.specs.Rounds.{IsAnsweredWithin, IsAskedWithin, of_telephone, rounds_take};
 ghost use Rattle.delivery_laws.specs.Chances.{chances, last_chance, IsSentAfter, IsCarried};
@@ -142,7 +142,8 @@ pub fn a_fair_network_brings_each_notification()
 /// the line has in flight is so old; and where nothing is quarantined it is all that the agent was told. It is so where the law of both
 /// ends, `what_is_dialled_reaches_the_agent_once`, says that it reaches the agent once. Where from a moment on the line waits for no
 /// answer and no request for longer than so many ms each, that is, so many rounds later, what the telephone had done by then the agent
-/// was told; and all of it, where the telephone rests since (RFC 3435, 4.4.1).
+/// was told; and all of it, where the telephone rests since. Where the gateway serves then, and all that the line sends reaches the
+/// agent, an answer takes twice the time of the network at most (RFC 3435, 4.4.1).
 pub fn what_is_dialled_is_taken_in_time()
     ensures taken { (setup : Setup) (steps : List WorldStep) (within line : ℕ) (before after : List GatewayEvent)
         (endpoint : Endpoint) → IsSetUp setup → steps_are_taken setup world_opening steps ≡ true → let w = plain_world setup steps in
@@ -185,6 +186,29 @@ pub fn what_is_dialled_is_taken_in_time()
         (plain setup some).now + rounds_take (length was.line.quarantined.events) answering asking < now_in setup w →
         done_in (course_from setup (plain setup some) line later) ≡ [] →
         done_in (course_of setup line w.gateway_took) ≡ happened_in (observed_on line (agent_in setup w)) }
+    ensures fair_by_then { (setup : Setup) (steps : List WorldStep) (within line : ℕ) (before after some later : List GatewayEvent)
+        (asking : ℕ) (was endpoint : Endpoint) → IsSetUp setup → steps_are_taken setup world_opening steps ≡ true →
+        let w = plain_world setup steps in HasNumbersLeft (own_in setup w) → w.gateway_took ≡ before ++ after →
+        endpoint_at (gateway_in setup w).endpoints line ≡ Some endpoint →
+        IsAskedForAll (course_of setup line before) (course_from setup (plain setup before) line after) endpoint.line →
+        has_given_up (of_line line (sent_of setup w.gateway_took)) endpoint.post ≡ false → IsFair setup steps within →
+        AgentAlwaysHasRoom setup steps → ReachTheAgent setup steps line → HadItsTime setup steps within endpoint.post.pending →
+        w.gateway_took ≡ some ++ later → endpoint_at (plain setup some).endpoints line ≡ Some was →
+        serves (plain setup some).endpoints ≡ true → IsAskedWithin setup line some later asking →
+        (plain setup some).now + rounds_take (length was.line.quarantined.events) (2 * within) asking < now_in setup w →
+        (rest : List Observed) × (happened_in (observed_on line (agent_in setup w)) ≡ done_in (course_of setup line some) ++ rest) }
+    ensures fair_rests { (setup : Setup) (steps : List WorldStep) (within line : ℕ) (before after some later : List GatewayEvent)
+        (asking : ℕ) (was endpoint : Endpoint) → IsSetUp setup → steps_are_taken setup world_opening steps ≡ true →
+        let w = plain_world setup steps in HasNumbersLeft (own_in setup w) → w.gateway_took ≡ before ++ after →
+        endpoint_at (gateway_in setup w).endpoints line ≡ Some endpoint →
+        IsAskedForAll (course_of setup line before) (course_from setup (plain setup before) line after) endpoint.line →
+        has_given_up (of_line line (sent_of setup w.gateway_took)) endpoint.post ≡ false → IsFair setup steps within →
+        AgentAlwaysHasRoom setup steps → ReachTheAgent setup steps line → HadItsTime setup steps within endpoint.post.pending →
+        w.gateway_took ≡ some ++ later → endpoint_at (plain setup some).endpoints line ≡ Some was →
+        serves (plain setup some).endpoints ≡ true → IsAskedWithin setup line some later asking →
+        (plain setup some).now + rounds_take (length was.line.quarantined.events) (2 * within) asking < now_in setup w →
+        done_in (course_from setup (plain setup some) line later) ≡ [] →
+        done_in (course_of setup line w.gateway_took) ≡ happened_in (observed_on line (agent_in setup w)) }
 {}
 
 /// Each time that quarantined events occur one at least goes out of the quarantine: at a request for which the line waits, and at the
@@ -214,6 +238,19 @@ pub fn what_is_quarantined_goes_out_in_time()
         IsAnsweredWithin setup line before after answering → IsAskedWithin setup line before after asking →
         (plain setup before).now + rounds_take (length was.line.quarantined.events) answering asking < (plain setup (before ++ after)).now →
         done_in (course_from setup (plain setup before) line after) ≡ [] → of_telephone is.line.quarantined.events ≡ [] }
+{}
+
+/// Over a network that hands each packet over at most so many ms after it was sent a line of a gateway that serves waits for the answer
+/// to its command for twice that time at most, where it gives nothing up: where all that it sends goes to the agent, no K confirms it, and
+/// room is never wanting (RFC 3435, 3.5 and 4.4.1).
+pub fn a_fair_network_answers_each_notification_in_time()
+    ensures { (setup : Setup) (steps : List WorldStep) (within line : ℕ) (some later : List GatewayEvent) (endpoint : Endpoint) →
+        IsSetUp setup → steps_are_taken setup world_opening steps ≡ true → let w = plain_world setup steps in
+        HasNumbersLeft (own_in setup w) → IsFair setup steps within → AgentAlwaysHasRoom setup steps → ReachTheAgent setup steps line →
+        w.gateway_took ≡ some ++ later → serves (plain setup some).endpoints ≡ true →
+        endpoint_at (gateway_in setup w).endpoints line ≡ Some endpoint →
+        has_given_up (of_line line (sent_of setup w.gateway_took)) endpoint.post ≡ false →
+        IsAnsweredWithin setup line some later (2 * within) }
 {}
 
 /// Until a response to it comes, a command of a line's own, a notification or its announcement, and an announcement of the gateway

@@ -1,15 +1,18 @@
-use Rattle.std.proofs.Common.{◌≡◌, ℕ, zero, suc, true, false, List, [], ◌∷◌, Option, Some, codes, inl, refl, sym, ap, ◌∙◌, subst}
+use Rattle.std.proofs.Common.{◌≡◌, ℕ, zero, suc, true, false, List, [], ◌∷◌, Option, Some, codes, inl, inr, refl, sym, ap, ◌∙◌, subst}
 use Rattle.std.specs.Prelude.{Any, slice_get, unwrap_or}
 use Rattle.std.proofs.lemmas.Option.{none-some}
 use Rattle.transmission.specs.Texts.{texts_of}
 use Rattle.plain_machine.specs.Example.{two_lines}
+use Rattle.machine_laws.specs.Saying.{Begun}
 use Rattle.machine_laws.proofs.EachLemmas.{any_from_one}
 use Rattle.agent_core.specs.declared.packet.End.TheVariants.{GatewayEnd, AgentEnd}
 use Rattle.agent_core.specs.declared.packet.Packet.{Packet}
 use Rattle.agent_core.specs.declared.packet.Posted.{Posted}
 use Rattle.agent_core.specs.World.{gateway_address, plain_world}
+use Rattle.world_laws.specs.Reached.{own_in}
 use Rattle.delivery_laws.specs.Copies.{arrives}
-use Rattle.delivery_laws.specs.Example.{brought}
+use Rattle.delivery_laws.specs.Fairness.{GoesToAgent}
+use Rattle.delivery_laws.specs.Example.{brought, redirected}
 use Rattle.delivery_laws.proofs.Computing.{on_examples}
 use Rattle.delivery_laws.proofs.FairExamples.{fair_is}
 use Rattle.delivery_laws.proofs.examples.a_notification_is_brought.Goals as goal
@@ -44,9 +47,21 @@ elsewhere = codes "NTFY 10000000 aaln/1@rgw.example.net MGCP 1.0\r\nX: A0\r\nO: 
 inside_it : (text bytes : List ℕ) → texts_of bytes ≡ text ∷ [] → Any (λ (one : List ℕ). one ≡ text) (texts_of bytes)
 inside_it text bytes is = subst (Any (λ (one : List ℕ). one ≡ text)) (sym is) (any_from_one (λ (one : List ℕ). one ≡ text) (text ∷ []) (inl refl))
 
-pub returns-clause-goes_not : goal.returns-clause-goes_not
+goes_elsewhere : GoesToAgent two_lines (plain_world two_lines redirected) elsewhere → ⊥
 unfolding on_examples elsewhere
-returns-clause-goes_not c = λ goes.
+goes_elsewhere goes =
     let packet : Packet = record { moment = 1; sender = gateway_address two_lines; to = record { ip = record { octets = 127 ∷ 0 ∷ 0 ∷ 9 ∷ [] }; port = 2727 }; bytes = elsewhere } in
     let e : false ≡ true = goes 4 (record { end = GatewayEnd; packet = packet }) refl refl (inside_it elsewhere elsewhere refl) in
     absurd cc
+
+pub returns-clause-goes_not : goal.returns-clause-goes_not
+unfolding elsewhere
+returns-clause-goes_not c = goes_elsewhere
+
+it_began : Any (λ (one : Begun). one ≡ record { id = 10000000; moment = 1; text = elsewhere }) (own_in two_lines (plain_world two_lines redirected))
+unfolding on_examples elsewhere
+it_began =
+    any_from_one (λ (one : Begun). one ≡ record { id = 10000000; moment = 1; text = elsewhere }) (own_in two_lines (plain_world two_lines redirected)) (inr (inl refl))
+
+pub returns-clause-reaches_not : goal.returns-clause-reaches_not
+returns-clause-reaches_not c = λ reach. goes_elsewhere (reach (record { id = 10000000; moment = 1; text = elsewhere }) it_began refl).0
