@@ -186,7 +186,7 @@ pub fn who_is_unanswered_asks_again()
 
 /// What is quarantined goes out once the line is answered and asked, in either order, and one event at a time; in loop once it is
 /// answered. Where it isn't answered, or in step isn't asked, it stays. A line that waits for both no longer than 0 ms has nothing
-/// of it left after 0 ms.
+/// of it left after 0 ms. Before its gateway serves a line waits with nothing in flight.
 pub fn what_is_quarantined_goes_out()
     ensures held { left_at held ≡ Some (five ∷ six ∷ []) }
     ensures unasked { left_at (held ++ response 200 10000000 ∷ tick 1500 ∷ []) ≡ Some (five ∷ six ∷ []) }
@@ -199,6 +199,7 @@ pub fn what_is_quarantined_goes_out()
     ensures begins { (plain two_lines (ready ++ held)).now ≡ 1000 }
     ensures ends { (plain two_lines (ready ++ (held ++ freed))).now ≡ 1001 }
     ensures not_answered { ¬ IsAnsweredWithin two_lines 1 (ready ++ held) (in_step 8 ∷ tick 1001 ∷ []) 0 }
+    ensures not_serving { ¬ IsAnsweredWithin two_lines 1 [] [] 1000 }
     ensures not_asked { ¬ IsAskedWithin two_lines 1 (ready ++ held) (response 200 10000000 ∷ tick 1500 ∷ []) 499 }
     ensures most { rounds_take 256 1000 500 ≡ 384000 }
     ensures of_telephone { of_telephone (five ∷ Ended Ringing ∷ Happened (events.Letter Timer) ∷ []) ≡ five ∷ [] }

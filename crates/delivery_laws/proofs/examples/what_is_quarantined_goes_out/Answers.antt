@@ -1,4 +1,5 @@
 use Rattle.std.proofs.Common.{◌≡◌, ℕ, ◌+◌, ◌≤◌, [], ◌∷◌, ◌++◌, Option, Some, None, refl, ap, arith}
+use Rattle.std.proofs.lemmas.Option.{none-some}
 use Rattle.outbound.specs.Flight.{InFlight}
 use Rattle.plain_machine.specs.Event.{tick}
 use Rattle.plain_machine.specs.Example.{ready, response, two_lines}
@@ -33,3 +34,9 @@ pub returns-clause-not_asked : goal.returns-clause-not_asked
 unfolding on_examples
 returns-clause-not_asked c = λ asked.
     asked (response 200 10000000 ∷ []) (tick 1500 ∷ []) [] (endpoint_in 1 ((ready ++ held) ++ response 200 10000000 ∷ [])) refl refl refl (omega arith) refl
+
+pub returns-clause-not_serving : goal.returns-clause-not_serving
+unfolding on_examples
+returns-clause-not_serving c = λ answered.
+    let is = answered [] [] (endpoint_in 1 []) refl refl refl in
+    none-some is.flight is.flies
