@@ -1,0 +1,359 @@
+-- A line that hung up comes to rest.
+use Rattle.std.proofs.Common.{◌≡◌, ◌≢◌, ℕ, zero, suc, ◌+◌, ◌≤◌, Bool, true, false, List, [], ◌∷◌, Option, Some, None, refl, sym, ap, subst, ◌∙◌, inl, inr, ◌⊎◌, arith}
+use Rattle.std.specs.Prelude.{◌==◌, ◌&&◌, not, nat_lt, is_some, slice_get, slice_set, option_map, if◌then◌else◌}
+use Rattle.std.specs.List.{list_all}
+use Rattle.std.proofs.lemmas.Bool.{cases_eq, eq-eqb, ne_eqb, true≢false, and_parts, not-true}
+use Rattle.call_routing.specs.declared.phase.Part.{Part}
+use Rattle.call_routing.specs.declared.phase.Tone.{Tone}
+use Rattle.call_routing.specs.declared.phase.Tone.TheVariants.{Busy, Reorder}
+use Rattle.call_routing.specs.declared.phase.Phase.{Phase}
+use Rattle.call_routing.specs.declared.phase.Phase.TheVariants.{Resting, Dialling, Hearing, InCall}
+use Rattle.call_routing.specs.declared.told.Told.{Told}
+use Rattle.call_routing.specs.declared.told.Told.TheVariants.{OffHook, OnHook, Flash, Dialled, TimedOut}
+use Rattle.call_routing.specs.declared.command.Command.{Command}
+use Rattle.call_routing.specs.declared.command.Outcome.{Outcome}
+use Rattle.call_routing.specs.declared.line.Line.{Line}
+use Rattle.call_routing.specs.Phases.{other_end, left, rings, ringing_in, talks_in, is_free, is_in, waits}
+use Rattle.call_routing.specs.Calls.{CallState, joined, parted, cut_off, cut_off_in, turned, answered_by, picked_up, hearing, greatest_call, caller_of, begun, put_through, reached, dialled, dialled_in, given_up_in, timed_out, heard, failed}
+use Rattle.call_routing.specs.Line.{sent, landed, spent, is_given_up}
+use Rattle.call_routing.specs.Next.{is_ready, next_of}
+use Rattle.call_routing.specs.Exchange.{ExchangeState, opening, phase_of, line_of, changed, failing_on, told, answered, due, due_by, sent_by, sent_to}
+use Rattle.call_routing.specs.Turns.{Turn, tells, answers, sends, after_one, after, is_flying, is_in_flight, count_if, is_coded, count_turns, dials, leaves_alone, AreQuietFor, IsClear, IsAtRest}
+use Rattle.call_routing.proofs.ElementLemmas.{set_other, changed_here, changed_other}
+use Rattle.call_routing.proofs.PhaseLemmas.{AreMutual, same_part}
+use Rattle.call_routing.proofs.CallLaws.{sent_to_phases, one_mutual, always_mutual}
+use Rattle.call_routing.proofs.LineLemmas.{left_of, three_most, landed_less, sent_if, sent_no_more, clear_at_none, clear_at_idle}
+
+-- A line that rests goes on to rest
+
+module _ (phases : List Phase) (line : ℕ) (rests : slice_get phases line ≡ Some Resting) (named : AreMutual phases) where
+  -- neither end of a call is the line
+  not_in : (of : ℕ) (part : Part) → slice_get phases of ≡ Some (InCall part) → of ≢ line
+  not_in of part e same =
+      let both : ◌≡◌ {A = Option Phase} (Some (InCall part)) (Some Resting) = sym e ∙ ap (slice_get phases) same ∙ rests in
+      absurd cc
+
+  not_there : (of : ℕ) (part : Part) → slice_get phases of ≡ Some (InCall part) → part.other ≢ line
+  not_there of part e same =
+      let both : ◌≡◌ {A = Option Phase} (Some (InCall (other_end of part))) (Some Resting) =
+      sym (named of part e) ∙ ap (slice_get phases) same ∙ rests in
+      absurd cc
+
+  two_set : (of : ℕ) (part : Part) (one other : Phase) → slice_get phases of ≡ Some (InCall part)
+      → slice_get (slice_set (slice_set phases of one) part.other other) line ≡ Some Resting
+  two_set of part one other e =
+      set_other (slice_set phases of one) part.other line other (not_there of part e)
+      ∙ set_other phases of line one (not_in of part e)
+      ∙ rests
+
+  cut_rests_by : (tone : Tone) (of : ℕ) (found : Option Phase) → slice_get phases of ≡ found
+      → slice_get (cut_off_in tone phases of found) line ≡ Some Resting
+  cut_rests_by tone of (Some (InCall part)) e = two_set of part (left tone part) (left tone (other_end of part)) e
+  cut_rests_by tone of (Some Resting) e = rests
+  cut_rests_by tone of (Some Dialling) e = rests
+  cut_rests_by tone of (Some (Hearing other)) e = rests
+  cut_rests_by tone of None e = rests
+
+  cut_rests : (tone : Tone) (of : ℕ) → slice_get (cut_off tone phases of) line ≡ Some Resting
+  unfolding cut_off
+  cut_rests tone of = cut_rests_by tone of (slice_get phases of) refl
+
+  turned_rests : (tone : Tone) (of : ℕ) (phase : Phase) → of ≢ line → slice_get (turned tone phases of phase) line ≡ Some Resting
+  turned_rests tone of phase apart = set_other (cut_off tone phases of) of line phase apart ∙ cut_rests tone of
+
+  picked_ringing : (of : ℕ) (part : Part) (b : Bool) → slice_get phases of ≡ Some (InCall part) → of ≢ line
+      → slice_get (answered_by phases of (if b then Some part else None)) line ≡ Some Resting
+  picked_ringing of part true e apart =
+      two_set of part (InCall (record part { answered = true })) (InCall (other_end of (record part { answered = true }))) e
+  picked_ringing of part false e apart = turned_rests Busy of Dialling apart
+
+  picked_by : (of : ℕ) (found : Option Phase) → slice_get phases of ≡ found → of ≢ line
+      → slice_get (answered_by phases of (ringing_in found)) line ≡ Some Resting
+  picked_by of (Some (InCall part)) e apart = picked_ringing of part (rings part) e apart
+  picked_by of (Some Resting) e apart = turned_rests Busy of Dialling apart
+  picked_by of (Some Dialling) e apart = turned_rests Busy of Dialling apart
+  picked_by of (Some (Hearing tone)) e apart = turned_rests Busy of Dialling apart
+  picked_by of None e apart = turned_rests Busy of Dialling apart
+
+  pub picked_rests : (of : ℕ) → of ≢ line → slice_get (picked_up phases of) line ≡ Some Resting
+  unfolding picked_up
+  picked_rests of apart = picked_by of (slice_get phases of) refl apart
+
+  pub hung_rests : (of : ℕ) → of ≢ line → slice_get (turned Busy phases of Resting) line ≡ Some Resting
+  hung_rests of apart = turned_rests Busy of Resting apart
+
+  timed_call : (of : ℕ) (part : Part) (b : Bool) → slice_get phases of ≡ Some (InCall part)
+      → slice_get (if not b then parted Reorder phases of part else phases) line ≡ Some Resting
+  timed_call of part true e = rests
+  timed_call of part false e = two_set of part (left Reorder part) (left Reorder (other_end of part)) e
+
+  timed_by : (of : ℕ) (found : Option Phase) → slice_get phases of ≡ found → of ≢ line
+      → slice_get (if waits found then given_up_in phases of found else phases) line ≡ Some Resting
+  timed_by of (Some (InCall part)) e apart = timed_call of part part.answered e
+  timed_by of (Some Dialling) e apart = set_other phases of line (Hearing Reorder) apart ∙ rests
+  timed_by of (Some Resting) e apart = rests
+  timed_by of (Some (Hearing tone)) e apart = rests
+  timed_by of None e apart = rests
+
+  pub timed_rests : (of : ℕ) → of ≢ line → slice_get (timed_out phases of) line ≡ Some Resting
+  unfolding timed_out
+  timed_rests of apart = timed_by of (slice_get phases of) refl apart
+
+  failed_by : (of : ℕ) (b : Bool) → slice_get (if b then cut_off Reorder phases of else phases) line ≡ Some Resting
+  failed_by of true = cut_rests Reorder of
+  failed_by of false = rests
+
+  pub failed_rests : (of : ℕ) (call : Option ℕ) → slice_get (failed phases of call) line ≡ Some Resting
+  unfolding failed
+  failed_rests of None = rests
+  failed_rests of (Some call) = failed_by of (is_in call (slice_get phases of))
+
+-- digits that aren't the line's
+
+hearing_rests : (tone : Tone) (calls : CallState) (line of : ℕ) → slice_get calls.phases line ≡ Some Resting → of ≢ line
+    → slice_get (hearing tone calls of).phases line ≡ Some Resting
+hearing_rests tone calls line of rests apart = set_other calls.phases of line (Hearing tone) apart ∙ rests
+
+through_by : (calls : CallState) (line of other : ℕ) (b : Bool) → slice_get calls.phases line ≡ Some Resting → of ≢ line → other ≢ line
+    → slice_get (if b then begun calls of other else hearing Reorder calls of).phases line ≡ Some Resting
+through_by calls line of other true rests apart far =
+    let part = caller_of (calls.last + 1) other in
+    set_other (slice_set calls.phases of (InCall part)) other line (InCall (other_end of part)) far
+    ∙ set_other calls.phases of line (InCall part) apart
+    ∙ rests
+through_by calls line of other false rests apart far = hearing_rests Reorder calls line of rests apart
+
+through_rests : (calls : CallState) (line of other : ℕ) → slice_get calls.phases line ≡ Some Resting → of ≢ line → other ≢ line
+    → slice_get (put_through calls of other).phases line ≡ Some Resting
+unfolding put_through
+through_rests calls line of other rests apart far = through_by calls line of other (nat_lt calls.last greatest_call) rests apart far
+
+reached_by : (calls : CallState) (line of other : ℕ) (b : Bool) → slice_get calls.phases line ≡ Some Resting → of ≢ line → other ≢ line
+    → slice_get (if b then put_through calls of other else hearing Busy calls of).phases line ≡ Some Resting
+reached_by calls line of other true rests apart far = through_rests calls line of other rests apart far
+reached_by calls line of other false rests apart far = hearing_rests Busy calls line of rests apart
+
+is_far : (line other : ℕ) → dials line (Dialled (Some other)) ≡ false → other ≢ line
+is_far line other e same = true≢false (sym (eq-eqb other line same) ∙ e)
+
+reached_rests : (calls : CallState) (line of : ℕ) (to : Option ℕ) → slice_get calls.phases line ≡ Some Resting → of ≢ line
+    → dials line (Dialled to) ≡ false → slice_get (reached calls of to).phases line ≡ Some Resting
+unfolding reached
+reached_rests calls line of None rests apart far = hearing_rests Reorder calls line of rests apart
+reached_rests calls line of (Some other) rests apart far =
+    reached_by calls line of other (is_free (slice_get calls.phases other)) rests apart (is_far line other far)
+
+dialled_by : (calls : CallState) (line of : ℕ) (to : Option ℕ) (found : Option Phase) → slice_get calls.phases line ≡ Some Resting → of ≢ line
+    → dials line (Dialled to) ≡ false → slice_get (dialled_in calls of to found).phases line ≡ Some Resting
+dialled_by calls line of to (Some Dialling) rests apart far = reached_rests calls line of to rests apart far
+dialled_by calls line of to (Some Resting) rests apart far = rests
+dialled_by calls line of to (Some (Hearing tone)) rests apart far = rests
+dialled_by calls line of to (Some (InCall part)) rests apart far = rests
+dialled_by calls line of to None rests apart far = rests
+
+dialled_rests : (calls : CallState) (line of : ℕ) (to : Option ℕ) → slice_get calls.phases line ≡ Some Resting → of ≢ line
+    → dials line (Dialled to) ≡ false → slice_get (dialled calls of to).phases line ≡ Some Resting
+unfolding dialled
+dialled_rests calls line of to rests apart far = dialled_by calls line of to (slice_get calls.phases of) rests apart far
+
+heard_rests : (calls : CallState) (line of : ℕ) (event : Told) → slice_get calls.phases line ≡ Some Resting → AreMutual calls.phases → of ≢ line
+    → dials line event ≡ false → slice_get (heard calls of event).phases line ≡ Some Resting
+unfolding heard
+heard_rests calls line of OffHook rests named apart far = picked_rests calls.phases line rests named of apart
+heard_rests calls line of OnHook rests named apart far = hung_rests calls.phases line rests named of apart
+heard_rests calls line of Flash rests named apart far = rests
+heard_rests calls line of (Dialled to) rests named apart far = dialled_rests calls line of to rests apart far
+heard_rests calls line of TimedOut rests named apart far = timed_rests calls.phases line rests named of apart
+
+-- a telephone that isn't the line's, and doesn't dial the line
+apart_by : (line of : ℕ) (event : Told) → leaves_alone line (tells of event) ≡ true → (of ≢ line) × (dials line event ≡ false)
+apart_by line of event e =
+    let parts = and_parts (not (of == line)) (not (dials line event)) e in
+    let far : of ≢ line = λ (same : of ≡ line). true≢false (sym (eq-eqb of line same) ∙ not-true (of == line) parts.0) in
+    (far, not-true (dials line event) parts.1)
+
+one_rests : (exchange : ExchangeState) (line : ℕ) (turn : Turn) → phase_of exchange line ≡ Some Resting → AreMutual exchange.calls.phases
+    → leaves_alone line turn ≡ true → phase_of (after_one exchange turn) line ≡ Some Resting
+unfolding told answered
+one_rests exchange line (tells of event) rests named alone =
+    let apart = apart_by line of event alone in
+    heard_rests exchange.calls line of event rests named apart.0 apart.1
+one_rests exchange line (answers of outcome) rests named alone =
+    failed_rests exchange.calls.phases line rests named of (failing_on (line_of exchange of) outcome)
+one_rests exchange line (sends of) rests named alone =
+    ap (λ (phases : List Phase). slice_get phases line) (sent_to_phases exchange of) ∙ rests
+
+-- What it waits for gets less
+
+abbrev remaining_of : Option Line → ℕ
+remaining_of None = 0
+remaining_of (Some line) = left_of line
+
+abbrev remaining : ℕ → ExchangeState → ℕ
+remaining line exchange = remaining_of (line_of exchange line)
+
+remaining_most : (found : Option Line) → remaining_of found ≤ 3
+remaining_most None = omega arith
+remaining_most (Some line) = three_most line
+
+abbrev Lessens : ℕ → ExchangeState → Turn → Type 0
+Lessens line exchange turn = remaining line (after_one exchange turn) + count_if (is_coded line exchange turn) ≤ remaining line exchange
+
+no_less : (line : ℕ) (exchange : ExchangeState) (turn : Turn) → is_coded line exchange turn ≡ false
+    → line_of (after_one exchange turn) line ≡ line_of exchange line → Lessens line exchange turn
+no_less line exchange turn none same =
+    let zero_more : count_if (is_coded line exchange turn) ≡ 0 = ap count_if none in
+    let as_before : remaining line (after_one exchange turn) ≡ remaining line exchange = ap remaining_of same in
+    omega (arith, zero_more, as_before)
+
+landed_on : (outcome : Outcome) (found : Option Line)
+    → remaining_of (option_map (landed outcome) found) + count_if (is_flying found && not (is_given_up outcome)) ≤ remaining_of found
+landed_on outcome None = omega arith
+landed_on outcome (Some line) = landed_less outcome line
+
+answer_by : (line of : ℕ) (exchange : ExchangeState) (outcome : Outcome) → ((of ≡ line) ⊎ (of ≡ line → ⊥)) → Lessens line exchange (answers of outcome)
+unfolding answered
+answer_by line of exchange outcome (inl same) =
+    let coded : is_coded line exchange (answers of outcome) ≡ is_in_flight exchange line && not (is_given_up outcome) =
+    ap (λ (b : Bool). b && (is_in_flight exchange of && not (is_given_up outcome))) (eq-eqb of line same)
+    ∙ ap (λ (n : ℕ). is_in_flight exchange n && not (is_given_up outcome)) same in
+    let counted : count_if (is_coded line exchange (answers of outcome)) ≡ count_if (is_in_flight exchange line && not (is_given_up outcome)) =
+    ap count_if coded in
+    let left_then : remaining line (answered exchange of outcome) ≡ remaining_of (option_map (landed outcome) (slice_get exchange.lines line)) =
+    ap (λ (n : ℕ). remaining_of (slice_get (changed (landed outcome) exchange.lines n) line)) same
+    ∙ ap remaining_of (changed_here (landed outcome) exchange.lines line) in
+    let less = landed_on outcome (slice_get exchange.lines line) in
+    omega (arith, counted, left_then, less)
+answer_by line of exchange outcome (inr apart) =
+    no_less line exchange (answers of outcome)
+    (ap (λ (b : Bool). b && (is_in_flight exchange of && not (is_given_up outcome))) (ne_eqb of line apart))
+    (changed_other (landed outcome) exchange.lines of line apart)
+
+-- what is sent to a line that rests
+
+sent_line : (exchange : ExchangeState) (line : ℕ) (command : Option Command) (found : Option Line) → slice_get exchange.lines line ≡ found
+    → line_of (sent_by exchange line command) line ≡ option_map (sent_if command) found
+sent_line exchange line None None e = e
+sent_line exchange line None (Some is) e = e
+sent_line exchange line (Some command) None e = changed_here (sent command) exchange.lines line ∙ ap (option_map (sent command)) e
+sent_line exchange line (Some command) (Some is) e = changed_here (sent command) exchange.lines line ∙ ap (option_map (sent command)) e
+
+send_on : (exchange : ExchangeState) (found : Option Line) → remaining_of (option_map (sent_if (due_by exchange (Some Resting) found)) found) ≤ remaining_of found
+send_on exchange None = omega arith
+send_on exchange (Some is) = sent_no_more (is_ready exchange.lines (talks_in Resting)) is
+
+due_resting : (exchange : ExchangeState) (line : ℕ) → phase_of exchange line ≡ Some Resting → due exchange line ≡ due_by exchange (Some Resting) (line_of exchange line)
+unfolding due
+due_resting exchange line rests = ap (λ (phase : Option Phase). due_by exchange phase (line_of exchange line)) rests
+
+send_here : (line : ℕ) (exchange : ExchangeState) → phase_of exchange line ≡ Some Resting
+    → remaining line (sent_by exchange line (due exchange line)) ≤ remaining line exchange
+send_here line exchange rests =
+    let next = due_resting exchange line rests in
+    let then_is : remaining line (sent_by exchange line (due exchange line))
+    ≡ remaining_of (option_map (sent_if (due_by exchange (Some Resting) (line_of exchange line))) (line_of exchange line)) =
+    ap remaining_of (sent_line exchange line (due exchange line) (line_of exchange line) refl)
+    ∙ ap (λ (command : Option Command). remaining_of (option_map (sent_if command) (line_of exchange line))) next in
+    let less = send_on exchange (line_of exchange line) in
+    omega (arith, then_is, less)
+
+sent_far : (line of : ℕ) (exchange : ExchangeState) (command : Option Command) → of ≢ line → line_of (sent_by exchange of command) line ≡ line_of exchange line
+sent_far line of exchange None apart = refl
+sent_far line of exchange (Some command) apart = changed_other (sent command) exchange.lines of line apart
+
+send_by : (line of : ℕ) (exchange : ExchangeState) → phase_of exchange line ≡ Some Resting → ((of ≡ line) ⊎ (of ≡ line → ⊥)) → Lessens line exchange (sends of)
+unfolding sent_to
+send_by line of exchange rests (inl same) =
+    let here : remaining line (sent_by exchange of (due exchange of)) ≡ remaining line (sent_by exchange line (due exchange line)) =
+    ap (λ (n : ℕ). remaining line (sent_by exchange n (due exchange n))) same in
+    let less = send_here line exchange rests in
+    omega (arith, here, less)
+send_by line of exchange rests (inr apart) = no_less line exchange (sends of) refl (sent_far line of exchange (due exchange of) apart)
+
+lessens : (line : ℕ) (exchange : ExchangeState) (turn : Turn) → phase_of exchange line ≡ Some Resting → leaves_alone line turn ≡ true → Lessens line exchange turn
+unfolding told
+lessens line exchange (tells of event) rests alone =
+    no_less line exchange (tells of event) refl (changed_other spent exchange.lines of line (apart_by line of event alone).0)
+lessens line exchange (answers of outcome) rests alone = answer_by line of exchange outcome (cases_eq of line)
+lessens line exchange (sends of) rests alone = send_by line of exchange rests (cases_eq of line)
+
+-- All turns
+
+all_rest : (exchange : ExchangeState) (line : ℕ) (turns : List Turn) → phase_of exchange line ≡ Some Resting → AreMutual exchange.calls.phases
+    → AreQuietFor line turns → phase_of (after exchange turns) line ≡ Some Resting
+unfolding after
+all_rest exchange line [] rests named quiet = rests
+all_rest exchange line (turn ∷ turns) rests named quiet =
+    let parts = and_parts (leaves_alone line turn) (list_all (leaves_alone line) turns) quiet in
+    all_rest (after_one exchange turn) line turns (one_rests exchange line turn rests named parts.0) (one_mutual exchange turn named) parts.1
+
+all_lessen : (exchange : ExchangeState) (line : ℕ) (turns : List Turn) → phase_of exchange line ≡ Some Resting → AreMutual exchange.calls.phases
+    → AreQuietFor line turns → remaining line (after exchange turns) + count_turns (is_coded line) exchange turns ≤ remaining line exchange
+unfolding after count_turns
+all_lessen exchange line [] rests named quiet = omega arith
+all_lessen exchange line (turn ∷ turns) rests named quiet =
+    let parts = and_parts (leaves_alone line turn) (list_all (leaves_alone line) turns) quiet in
+    let one = lessens line exchange turn rests parts.0 in
+    let more =
+    all_lessen (after_one exchange turn) line turns (one_rests exchange line turn rests named parts.0) (one_mutual exchange turn named) parts.1 in
+    omega (arith, one, more)
+
+-- The laws
+
+pub stays_at_rest : (count last line : ℕ) (before turns : List Turn) → phase_of (after (opening count last) before) line ≡ Some Resting
+    → AreQuietFor line turns → phase_of (after (after (opening count last) before) turns) line ≡ Some Resting
+stays_at_rest count last line before turns rests quiet =
+    all_rest (after (opening count last) before) line turns rests (always_mutual count last before) quiet
+
+at_most_three : (exchange : ExchangeState) (line : ℕ) (turns : List Turn) → phase_of exchange line ≡ Some Resting → AreMutual exchange.calls.phases
+    → AreQuietFor line turns → count_turns (is_coded line) exchange turns ≤ 3
+at_most_three exchange line turns rests named quiet =
+    let less = all_lessen exchange line turns rests named quiet in
+    let most = remaining_most (line_of exchange line) in
+    omega (arith, less, most)
+
+pub three_at_most : (count last line : ℕ) (before turns : List Turn) → phase_of (after (opening count last) before) line ≡ Some Resting
+    → AreQuietFor line turns → count_turns (is_coded line) (after (opening count last) before) turns ≤ 3
+three_at_most count last line before turns rests quiet =
+    at_most_three (after (opening count last) before) line turns rests (always_mutual count last before) quiet
+
+clear_of : (found : Option Line) (is : Line) → remaining_of found ≤ 0 → found ≡ Some is → IsClear is
+clear_of None is none e = absurd cc
+clear_of (Some line) is none e =
+    let same : line ≡ is = cc in subst IsClear same (clear_at_none line none)
+
+nothing_left : (exchange : ExchangeState) (line : ℕ) (turns : List Turn) → phase_of exchange line ≡ Some Resting → AreMutual exchange.calls.phases
+    → AreQuietFor line turns → 3 ≤ count_turns (is_coded line) exchange turns → remaining line (after exchange turns) ≤ 0
+nothing_left exchange line turns rests named quiet three =
+    let less = all_lessen exchange line turns rests named quiet in
+    let most = remaining_most (line_of exchange line) in
+    omega (arith, less, most, three)
+
+pub rest_after_three : (count last line : ℕ) (before turns : List Turn) → phase_of (after (opening count last) before) line ≡ Some Resting
+    → AreQuietFor line turns → 3 ≤ count_turns (is_coded line) (after (opening count last) before) turns
+    → IsAtRest (after (after (opening count last) before) turns) line
+rest_after_three count last line before turns rests quiet three =
+    let exchange = after (opening count last) before in
+    let named = always_mutual count last before in
+    record {
+      no_call = all_rest exchange line turns rests named quiet;
+      clear = λ is e. clear_of (line_of (after exchange turns) line) is (nothing_left exchange line turns rests named quiet three) e;
+    }
+
+-- until then it goes on
+
+idle_of : (exchange : ExchangeState) (found : Option Line) (is : Line) → is_flying found ≡ false → due_by exchange (Some Resting) found ≡ None
+    → found ≡ Some is → IsClear is
+idle_of exchange None is free none e = absurd cc
+idle_of exchange (Some line) is free none e =
+    let same : line ≡ is = cc in subst IsClear same (clear_at_idle (is_ready exchange.lines (talks_in Resting)) line free none)
+
+pub rest_where_idle : (count last line : ℕ) (turns : List Turn) → phase_of (after (opening count last) turns) line ≡ Some Resting
+    → is_in_flight (after (opening count last) turns) line ≡ false → due (after (opening count last) turns) line ≡ None
+    → IsAtRest (after (opening count last) turns) line
+rest_where_idle count last line turns rests free none =
+    let exchange = after (opening count last) turns in
+    record {
+      no_call = rests;
+      clear = λ is e. idle_of exchange (line_of exchange line) is free (sym (due_resting exchange line rests) ∙ none) e;
+    }

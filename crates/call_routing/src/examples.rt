@@ -1,0 +1,249 @@
+//! Worked examples of the definitions, as theorems: each sentence of a definition has one that a slip in it breaks.
+#![tactic(auto, unfolding(crate::proofs::Computing::on_examples))]
+
+ghost use Rattle.std.specs.Prelude.{◌≡◌, ◌++◌, ◌∷◌, [], true, false, codes, Some, None};
+ghost use Rattle.mg_bytes.specs.declared.letter.Letter.TheVariants as keys;
+ghost use Rattle.mg_packages.specs.declared.event.LineEvent.TheVariants as events;
+ghost use Rattle.mg_packages.specs.declared.signal.Signal.TheVariants.{DialTone};
+ghost use Rattle.event_values.specs.declared.observed.Observed.TheVariants as observed;
+ghost use Rattle.call_routing.specs.Phases.{other_end};
+ghost use Rattle.call_routing.specs.Calls.{greatest_call, caller_of, put_through, all_resting};
+ghost use Rattle.call_routing.specs.Line.{is_success};
+ghost use Rattle.call_routing.specs.Numbers.{line_called, told_in};
+ghost use Rattle.call_routing.specs.Parameters.{verb_of, request_lines, creation_lines, change_lines, deletion_lines, parameters_of};
+ghost use Rattle.call_routing.specs.Exchange.{phase_of, due};
+ghost use Rattle.call_routing.specs.Turns.{tells, sends, after, is_sent, is_answered, is_coded, count_turns, commands_in, leaves_alone};
+ghost use Rattle.call_routing.specs.Example.{opened, all_sent, driven, coded, accepted, given_up, created_first, created_second, ready, dial, ring, pick_up, connect, hang_up, then_is, phase_then, sent_at, key};
+
+use crate::asked::Asked;
+use crate::command::Command;
+use crate::line::Leg;
+use crate::phase::{Phase, Side, Tone};
+use crate::told::Told;
+
+/// At the opening each line rests, and is asked for off hook. Once it is, nothing more is to be sent.
+pub fn lines_are_asked_for_off_hook_first()
+    ensures first { commands_in opened all_sent ≡ (0, Command.Ask Asked.Rest) ∷ (1, Command.Ask Asked.Rest)
+        ∷ (2, Command.Ask Asked.Rest) ∷ [] }
+    ensures then_none { commands_in ready all_sent ≡ [] }
+    ensures phase { phase_of ready 2 ≡ Some Phase.Resting }
+    ensures no_more { phase_of ready 3 ≡ None }
+    ensures no_line { due ready 3 ≡ None }
+    ensures given_up { commands_in opened (all_sent ++ given_up 1 ∷ all_sent) ≡ (0, Command.Ask Asked.Rest)
+        ∷ (1, Command.Ask Asked.Rest) ∷ (2, Command.Ask Asked.Rest) ∷ (1, Command.Ask Asked.Rest) ∷ [] }
+    ensures refused { commands_in opened (all_sent ++ coded 1 401 ∷ all_sent) ≡ (0, Command.Ask Asked.Rest)
+        ∷ (1, Command.Ask Asked.Rest) ∷ (2, Command.Ask Asked.Rest) ∷ [] }
+{}
+
+/// A whole call: off hook asks for digits; the number of a line that rests rings it, and its caller hears that.
+pub fn a_call_rings()
+    ensures off_hook { sent_at [] (tells 0 Told.OffHook) ≡ (0, Command.Ask Asked.Digits) ∷ [] }
+    ensures waits { sent_at (tells 0 Told.OffHook ∷ []) (tells 0 (Told.Dialled (Some 1)))
+        ≡ (1, Command.Ask Asked.Ring) ∷ [] }
+    ensures dialled { sent_at (tells 0 Told.OffHook ∷ accepted 0 ∷ []) (tells 0 (Told.Dialled (Some 1)))
+        ≡ (0, Command.Ask Asked.Ringback) ∷ (1, Command.Ask Asked.Ring) ∷ [] }
+    ensures caller { phase_then 0 ring ≡ Some (Phase.InCall (caller_of 1 1)) }
+    ensures called { phase_then 1 ring ≡ Some (Phase.InCall (other_end 0 (caller_of 1 1))) }
+    ensures side { other_end 0 (caller_of 7 1)
+        ≡ record { call = 7; other = 0; side = Side.Called; answered = false } }
+    ensures third { phase_then 2 ring ≡ Some Phase.Resting }
+{}
+
+/// The called line answers: the caller's connection comes first, then the called line's with the caller's description, then the
+/// caller's is given that of the called line. Requests follow where a line isn't waited for.
+pub fn an_answer_connects_both()
+    ensures off_hook { sent_at ring (tells 1 Told.OffHook)
+        ≡ (0, Command.Create 1 false) ∷ (1, Command.Ask Asked.Talk) ∷ [] }
+    ensures first { sent_at pick_up created_first
+        ≡ (0, Command.Ask Asked.Talk) ∷ (1, Command.Create 1 true) ∷ [] }
+    ensures second { sent_at (pick_up ++ created_first ∷ accepted 0 ∷ []) created_second
+        ≡ (0, Command.Modify 1) ∷ [] }
+    ensures done { sent_at (pick_up ++ created_first ∷ accepted 0 ∷ created_second ∷ []) (accepted 0) ≡ [] }
+    ensures waits { sent_at (ring ++ tells 1 Told.OffHook ∷ []) created_first ≡ (0, Command.Ask Asked.Talk) ∷ [] }
+    ensures talks { phase_then 1 connect ≡ Some (Phase.InCall (record { call = 1; other = 0; side = Side.Called; answered = true })) }
+    ensures flash { sent_at connect (tells 0 Told.Flash) ≡ (0, Command.Ask Asked.Talk) ∷ [] }
+{}
+
+/// One end hangs up: both connections are deleted; the other end hears the busy tone until it hangs up, too.
+pub fn on_hook_ends_a_call()
+    ensures first { sent_at connect (tells 0 Told.OnHook) ≡ (0, Command.Delete 1) ∷ (1, Command.Delete 1) ∷ [] }
+    ensures rests { sent_at (connect ++ tells 0 Told.OnHook ∷ []) (coded 0 250) ≡ (0, Command.Ask Asked.Rest) ∷ [] }
+    ensures hears { sent_at (connect ++ tells 0 Told.OnHook ∷ []) (coded 1 250) ≡ (1, Command.Ask Asked.BusyTone) ∷ [] }
+    ensures phase { phase_then 1 (connect ++ tells 0 Told.OnHook ∷ []) ≡ Some (Phase.Hearing Tone.Busy) }
+    ensures called { phase_then 0 (connect ++ tells 1 Told.OnHook ∷ []) ≡ Some (Phase.Hearing Tone.Busy) }
+    ensures both { phase_then 1 hang_up ≡ Some Phase.Resting }
+    ensures none { sent_at hang_up (tells 2 Told.Flash) ≡ (2, Command.Ask Asked.Rest) ∷ [] }
+    ensures refused { sent_at (connect ++ tells 0 Told.OnHook ∷ []) (coded 0 516) ≡ (0, Command.Ask Asked.Rest) ∷ [] }
+    ensures lost { sent_at (connect ++ tells 0 Told.OnHook ∷ []) (given_up 0) ≡ (0, Command.Delete 1) ∷ [] }
+{}
+
+/// Both ends hang up at once: both rest.
+pub fn both_ends_hang_up_at_once()
+    ensures caller { phase_then 0 (connect ++ tells 0 Told.OnHook ∷ tells 1 Told.OnHook ∷ []) ≡ Some Phase.Resting }
+    ensures called { phase_then 1 (connect ++ tells 0 Told.OnHook ∷ tells 1 Told.OnHook ∷ []) ≡ Some Phase.Resting }
+    ensures commands { commands_in (then_is connect) (tells 1 Told.OnHook ∷ tells 0 Told.OnHook ∷ all_sent)
+        ≡ (0, Command.Delete 1) ∷ (1, Command.Delete 1) ∷ [] }
+    ensures rest { sent_at (connect ++ tells 0 Told.OnHook ∷ tells 1 Told.OnHook ∷ coded 0 250 ∷ []) (coded 1 250)
+        ≡ (1, Command.Ask Asked.Rest) ∷ [] }
+{}
+
+/// A line that isn't free is busy, and so is one's own; a number that no line has is wrong. Then digits mean nothing more.
+pub fn busy_and_wrong_numbers_get_their_tones()
+    ensures busy { sent_at (connect ++ tells 2 Told.OffHook ∷ accepted 2 ∷ []) (tells 2 (Told.Dialled (Some 0)))
+        ≡ (2, Command.Ask Asked.BusyTone) ∷ [] }
+    ensures ringing { phase_then 2 (ring ++ tells 2 Told.OffHook ∷ tells 2 (Told.Dialled (Some 1)) ∷ [])
+        ≡ Some (Phase.Hearing Tone.Busy) }
+    ensures itself { sent_at (tells 0 Told.OffHook ∷ accepted 0 ∷ []) (tells 0 (Told.Dialled (Some 0)))
+        ≡ (0, Command.Ask Asked.BusyTone) ∷ [] }
+    ensures wrong { sent_at (tells 0 Told.OffHook ∷ accepted 0 ∷ []) (tells 0 (Told.Dialled None))
+        ≡ (0, Command.Ask Asked.ReorderTone) ∷ [] }
+    ensures no_line { phase_then 0 (tells 0 Told.OffHook ∷ tells 0 (Told.Dialled (Some 3)) ∷ [])
+        ≡ Some (Phase.Hearing Tone.Busy) }
+    ensures stays { phase_then 0 (connect ++ tells 0 (Told.Dialled (Some 2)) ∷ []) ≡ phase_then 0 connect }
+    ensures again { phase_then 0 (tells 0 Told.OffHook ∷ tells 0 (Told.Dialled None) ∷ tells 0 (Told.Dialled (Some 1)) ∷ [])
+        ≡ Some (Phase.Hearing Tone.Reorder) }
+    ensures resting { phase_then 0 (tells 0 (Told.Dialled (Some 1)) ∷ []) ≡ Some Phase.Resting }
+    ensures numbers { (put_through (all_resting 2 18446744073709551614) 0 1).last ≡ greatest_call }
+    ensures no_number { put_through (all_resting 2 greatest_call) 0 1
+        ≡ record { last = greatest_call; phases = Phase.Hearing Tone.Reorder ∷ Phase.Resting ∷ [] } }
+{}
+
+/// A caller that hangs up while the other line rings: both rest, and the ringing is stopped. A line that rings and answers then
+/// begins to dial.
+pub fn a_call_is_abandoned_while_it_rings()
+    ensures commands { sent_at ring (tells 0 Told.OnHook) ≡ (0, Command.Ask Asked.Rest) ∷ (1, Command.Ask Asked.Rest) ∷ [] }
+    ensures phase { phase_then 1 (ring ++ tells 0 Told.OnHook ∷ []) ≡ Some Phase.Resting }
+    ensures late { phase_then 1 (ring ++ tells 0 Told.OnHook ∷ tells 1 Told.OffHook ∷ []) ≡ Some Phase.Dialling }
+    ensures called { phase_then 0 (ring ++ tells 1 Told.OnHook ∷ []) ≡ Some (Phase.Hearing Tone.Busy) }
+{}
+
+/// Nobody answers, or nothing is dialled, for so long that the signal ends: reorder tone for the caller, and the called line
+/// rings no more. In a call that was answered, and at a tone, it means nothing.
+pub fn what_takes_too_long_ends()
+    ensures caller { sent_at ring (tells 0 Told.TimedOut)
+        ≡ (0, Command.Ask Asked.ReorderTone) ∷ (1, Command.Ask Asked.Rest) ∷ [] }
+    ensures called { sent_at ring (tells 1 Told.TimedOut)
+        ≡ (0, Command.Ask Asked.ReorderTone) ∷ (1, Command.Ask Asked.Rest) ∷ [] }
+    ensures nothing_dialled { phase_then 0 (tells 0 Told.OffHook ∷ tells 0 Told.TimedOut ∷ [])
+        ≡ Some (Phase.Hearing Tone.Reorder) }
+    ensures talking { phase_then 0 (connect ++ tells 0 Told.TimedOut ∷ []) ≡ phase_then 0 connect }
+    ensures resting { phase_then 0 (tells 0 Told.TimedOut ∷ []) ≡ Some Phase.Resting }
+    ensures busy { phase_then 0 (tells 0 Told.OffHook ∷ tells 0 (Told.Dialled (Some 0)) ∷ tells 0 Told.TimedOut ∷ [])
+        ≡ Some (Phase.Hearing Tone.Busy) }
+{}
+
+/// An answer is lost: CRCX is given up, so both ends hear the reorder tone. The connection may stand, so all of the call are
+/// deleted.
+pub fn a_lost_answer_ends_the_call()
+    ensures given_up { sent_at pick_up (given_up 0) ≡ (0, Command.Delete 1) ∷ (1, Command.Ask Asked.ReorderTone) ∷ [] }
+    ensures phase { phase_then 0 (pick_up ++ given_up 0 ∷ []) ≡ Some (Phase.Hearing Tone.Reorder) }
+    ensures refused { sent_at pick_up (coded 0 540) ≡ (0, Command.Ask Asked.ReorderTone) ∷ (1, Command.Ask Asked.ReorderTone) ∷ [] }
+    ensures unnamed { sent_at pick_up (coded 0 200) ≡ (0, Command.Delete 1) ∷ (1, Command.Ask Asked.ReorderTone) ∷ [] }
+    ensures other_end { sent_at (pick_up ++ created_first ∷ accepted 0 ∷ []) (given_up 1)
+        ≡ (0, Command.Delete 1) ∷ (1, Command.Delete 1) ∷ [] }
+    ensures change { sent_at (pick_up ++ created_first ∷ accepted 0 ∷ created_second ∷ []) (coded 0 527)
+        ≡ (0, Command.Delete 1) ∷ (1, Command.Delete 1) ∷ [] }
+    ensures change_lost { phase_then 1 (pick_up ++ created_first ∷ accepted 0 ∷ created_second ∷ given_up 0 ∷ [])
+        ≡ Some (Phase.Hearing Tone.Reorder) }
+    ensures request { phase_then 1 (ring ++ tells 1 Told.OffHook ∷ given_up 1 ∷ [])
+        ≡ phase_then 1 (ring ++ tells 1 Told.OffHook ∷ []) }
+    ensures late { phase_then 0 (pick_up ++ tells 0 Told.OnHook ∷ coded 0 540 ∷ []) ≡ Some Phase.Resting }
+    ensures late_connection { sent_at (pick_up ++ tells 0 Told.OnHook ∷ []) created_first ≡ (0, Command.Delete 1) ∷ [] }
+    ensures another_call { phase_then 0 (pick_up ++ tells 0 Told.OnHook ∷ tells 0 Told.OffHook ∷ tells 0 (Told.Dialled (Some 2))
+        ∷ given_up 0 ∷ []) ≡ Some (Phase.InCall (caller_of 2 2)) }
+{}
+
+/// On hook is lost, and off hook comes: the call is over for the other end, and the line begins to dial.
+pub fn off_hook_means_that_it_was_on_hook()
+    ensures dials { phase_then 0 (connect ++ tells 0 Told.OffHook ∷ []) ≡ Some Phase.Dialling }
+    ensures other { phase_then 1 (connect ++ tells 0 Told.OffHook ∷ []) ≡ Some (Phase.Hearing Tone.Busy) }
+    ensures caller { phase_then 1 (ring ++ tells 0 Told.OffHook ∷ []) ≡ Some Phase.Resting }
+    ensures tone { phase_then 0 (tells 0 Told.OffHook ∷ tells 0 (Told.Dialled None) ∷ tells 0 Told.OffHook ∷ [])
+        ≡ Some Phase.Dialling }
+{}
+
+/// What a line tells uses its request up, also one that is in flight then: the line is asked anew once that is answered.
+pub fn a_request_is_used_up()
+    ensures anew { sent_at [] (tells 0 Told.Flash) ≡ (0, Command.Ask Asked.Rest) ∷ [] }
+    ensures crossing { sent_at (tells 0 Told.Flash ∷ []) (tells 0 Told.Flash) ≡ [] }
+    ensures answered { sent_at (tells 0 Told.Flash ∷ tells 0 Told.Flash ∷ []) (accepted 0) ≡ (0, Command.Ask Asked.Rest) ∷ [] }
+    ensures once { sent_at (tells 0 Told.Flash ∷ []) (accepted 0) ≡ [] }
+    ensures nothing_in_flight { sent_at [] (accepted 0) ≡ [] }
+{}
+
+/// Return codes from 200 to 299 say that a command was executed.
+pub fn return_codes_of_200_to_299_are_success()
+    ensures below { is_success 199 ≡ false }
+    ensures first { is_success 200 ≡ true }
+    ensures deleted { is_success 250 ≡ true }
+    ensures last { is_success 299 ≡ true }
+    ensures above { is_success 300 ≡ false }
+{}
+
+/// Commands as they are written.
+pub fn commands_are_written()
+    ensures verbs { verb_of (Command.Ask Asked.Rest) ++ verb_of (Command.Create 1 false) ++ verb_of (Command.Modify 1)
+        ++ verb_of (Command.Delete 1) ≡ codes "RQNTCRCXMDCXDLCX" }
+    ensures rest { request_lines Asked.Rest (codes "xxx") ≡ codes "X: 1\r\nR: L/hd(N)\r\n" }
+    ensures digits { request_lines Asked.Digits (codes "xxx")
+        ≡ codes "X: 2\r\nR: L/hu(N),L/oc(N),D/[0-9ABCD*#T](D)\r\nS: L/dl\r\nD: xxx\r\n" }
+    ensures rings { request_lines Asked.Ring [] ≡ codes "X: 3\r\nR: L/hd(N),L/oc(N)\r\nS: L/rg\r\n" }
+    ensures ringback { request_lines Asked.Ringback [] ≡ codes "X: 4\r\nR: L/hu(N),G/oc(N)\r\nS: G/rt\r\n" }
+    ensures busy { request_lines Asked.BusyTone [] ≡ codes "X: 5\r\nR: L/hu(N)\r\nS: L/bz\r\n" }
+    ensures reorder { request_lines Asked.ReorderTone [] ≡ codes "X: 6\r\nR: L/hu(N)\r\nS: L/ro\r\n" }
+    ensures talk { request_lines Asked.Talk [] ≡ codes "X: 7\r\nR: L/hu(N)\r\n" }
+    ensures create { creation_lines 12 false (codes "v=0\r\n") ≡ codes "C: 12\r\nM: recvonly\r\n" }
+    ensures towards { creation_lines 12 true (codes "v=0\r\n") ≡ codes "C: 12\r\nM: sendrecv\r\n\r\nv=0\r\n" }
+    ensures modify { change_lines 12 (Leg.Standing 12 (codes "A") (codes "v=1\r\n")) (codes "v=0\r\n")
+        ≡ codes "C: 12\r\nI: A\r\nM: sendrecv\r\n\r\nv=0\r\n" }
+    ensures delete { deletion_lines 12 (Leg.Standing 12 (codes "A") (codes "v=1\r\n")) ≡ codes "C: 12\r\nI: A\r\n" }
+    ensures delete_all { deletion_lines 12 (Leg.Unknown 12) ≡ codes "C: 12\r\n" }
+{}
+
+/// Each end is given the description of the other end, with the number of their call.
+pub fn each_end_is_given_the_others_description()
+    ensures called { parameters_of (then_is (pick_up ++ created_first ∷ [])) 1 []
+        ≡ codes "C: 1\r\nM: sendrecv\r\n\r\nv=first\r\n" }
+    ensures caller { parameters_of (then_is (pick_up ++ created_first ∷ accepted 0 ∷ created_second ∷ [])) 0 []
+        ≡ codes "C: 1\r\nI: A\r\nM: sendrecv\r\n\r\nv=second\r\n" }
+    ensures first { parameters_of (then_is pick_up) 0 [] ≡ codes "C: 1\r\nM: recvonly\r\n" }
+    ensures asked { parameters_of (then_is (tells 0 Told.OffHook ∷ [])) 0 (codes "xx.T")
+        ≡ codes "X: 2\r\nR: L/hu(N),L/oc(N),D/[0-9ABCD*#T](D)\r\nS: L/dl\r\nD: xx.T\r\n" }
+    ensures idle { parameters_of ready 0 (codes "xx.T") ≡ [] }
+{}
+
+/// What the events of a notification tell.
+pub fn a_notification_tells_what_came_last()
+    ensures off_hook { told_in [] (observed.Happened events.OffHook ∷ []) ≡ Some Told.OffHook }
+    ensures on_hook { told_in [] (observed.Happened events.OnHook ∷ []) ≡ Some Told.OnHook }
+    ensures flash { told_in [] (observed.Happened events.Flash ∷ []) ≡ Some Told.Flash }
+    ensures dialled { told_in (codes "11" ∷ codes "12" ∷ []) (key keys.One ∷ key keys.Two ∷ []) ≡ Some (Told.Dialled (Some 1)) }
+    ensures timer { told_in (codes "11" ∷ codes "12" ∷ []) (key keys.One ∷ key keys.One ∷ key keys.Timer ∷ [])
+        ≡ Some (Told.Dialled (Some 0)) }
+    ensures longer { told_in (codes "11" ∷ codes "12" ∷ []) (key keys.One ∷ []) ≡ Some (Told.Dialled None) }
+    ensures twice { line_called (codes "1") (codes "2" ∷ codes "1" ∷ codes "1" ∷ []) ≡ Some 1 }
+    ensures hung_up { told_in (codes "1" ∷ []) (key keys.One ∷ observed.Happened events.OnHook ∷ []) ≡ Some Told.OnHook }
+    ensures keys_behind { told_in (codes "1" ∷ []) (observed.Happened events.OffHook ∷ key keys.One ∷ []) ≡ Some (Told.Dialled (Some 0)) }
+    ensures ended { told_in [] (observed.Ended DialTone ∷ []) ≡ Some Told.TimedOut }
+    ensures nothing { told_in [] [] ≡ None }
+{}
+
+/// What the laws count: commands sent and answered, and what leaves a line alone.
+pub fn turns_are_counted()
+    ensures sent { is_sent 1 opened (sends 1) ≡ true }
+    ensures not_sent { is_sent 1 ready (sends 1) ≡ false }
+    ensures of_another { is_sent 0 opened (sends 1) ≡ false }
+    ensures answered { is_answered 1 (after opened all_sent) (given_up 1) ≡ true }
+    ensures by_code { is_coded 1 (after opened all_sent) (coded 1 510) ≡ true }
+    ensures given_up { is_coded 1 (after opened all_sent) (given_up 1) ≡ false }
+    ensures stray { is_answered 1 ready (accepted 1) ≡ false }
+    ensures stray_code { is_coded 1 ready (accepted 1) ≡ false }
+    ensures anothers { is_coded 0 (after opened all_sent) (accepted 1) ≡ false }
+    ensures count { count_turns (is_sent 0) ready (driven hang_up) ≡ 7 }
+    ensures own { leaves_alone 0 (tells 0 Told.Flash) ≡ false }
+    ensures dialled { leaves_alone 0 (tells 1 (Told.Dialled (Some 0))) ≡ false }
+    ensures other { leaves_alone 0 (tells 1 (Told.Dialled (Some 1))) ≡ true }
+    ensures wrong { leaves_alone 0 (tells 1 (Told.Dialled None)) ≡ true }
+    ensures off_hook { leaves_alone 0 (tells 1 Told.OffHook) ≡ true }
+    ensures command { leaves_alone 0 (sends 0) ≡ true }
+{}

@@ -1,0 +1,72 @@
+//! Laws of calls, for every list of turns: whatever lines tell, whatever becomes of commands, in whatever order they are sent.
+//! Each function has an empty body: its clauses are the theorems.
+ghost use Rattle.std.specs.Prelude.{◌≡◌, ◌≢◌, ◌+◌, ◌≤◌, ℕ, List, true, false, Some, None};
+ghost use Rattle.call_routing.specs.declared.phase.Part.{Part};
+ghost use Rattle.call_routing.specs.declared.phase.Phase.{Phase};
+ghost use Rattle.call_routing.specs.declared.phase.Phase.TheVariants.{Resting, InCall};
+ghost use Rattle.call_routing.specs.declared.phase.Tone.TheVariants.{Busy};
+ghost use Rattle.call_routing.specs.declared.told.Told.TheVariants.{OnHook};
+ghost use Rattle.call_routing.specs.Phases.{other_end, left};
+ghost use Rattle.call_routing.specs.Exchange.{ExchangeState, opening, phase_of, told, due};
+ghost use Rattle.call_routing.specs.Turns.{Turn, after, is_in_flight, count_if, is_sent, is_answered, is_coded, count_turns, AreQuietFor, IsAtRest};
+
+/// Where a line is in a call, the line that it names is in the same call, from the other side, and names it.
+pub fn both_ends_of_a_call_name_each_other()
+    ensures { (count last line : ℕ) (turns : List Turn) (part : Part) →
+        phase_of (after (opening count last) turns) line ≡ Some (InCall part) →
+        phase_of (after (opening count last) turns) part.other ≡ Some (InCall (other_end line part)) }
+{}
+
+/// No line is at the other end of two lines' calls, and none is at both ends of one.
+pub fn a_line_is_in_at_most_one_call()
+    ensures one { (count last line other : ℕ) (turns : List Turn) (part its : Part) →
+        phase_of (after (opening count last) turns) line ≡ Some (InCall part) →
+        phase_of (after (opening count last) turns) other ≡ Some (InCall its) →
+        part.other ≡ its.other → line ≡ other }
+    ensures another { (count last line : ℕ) (turns : List Turn) (part : Part) →
+        phase_of (after (opening count last) turns) line ≡ Some (InCall part) → part.other ≢ line }
+{}
+
+/// On hook ends the call of a line, whatever its phase is: the line rests, and the other end hears the busy tone, or rings no
+/// more.
+pub fn on_hook_ends_the_call()
+    ensures here { (exchange : ExchangeState) (line : ℕ) (phase : Phase) → phase_of exchange line ≡ Some phase →
+        phase_of (told exchange line OnHook) line ≡ Some Resting }
+    ensures there { (count last line : ℕ) (turns : List Turn) (part : Part) →
+        phase_of (after (opening count last) turns) line ≡ Some (InCall part) →
+        phase_of (told (after (opening count last) turns) line OnHook) part.other
+        ≡ Some (left Busy (other_end line part)) }
+{}
+
+/// A line that rests comes to rest at its gateway too. As long as its telephone is left alone and nobody dials it, it stays in no
+/// call, and at most three of its commands are answered, by whatever return codes, whatever is given up in between, and whatever
+/// becomes of other lines. After three it has no connection, no signal and no command in flight. Until then something is in
+/// flight, or is to be sent.
+pub fn a_line_that_hung_up_comes_to_rest()
+    ensures no_call { (count last line : ℕ) (before turns : List Turn) →
+        phase_of (after (opening count last) before) line ≡ Some Resting → AreQuietFor line turns →
+        phase_of (after (after (opening count last) before) turns) line ≡ Some Resting }
+    ensures at_most { (count last line : ℕ) (before turns : List Turn) →
+        phase_of (after (opening count last) before) line ≡ Some Resting → AreQuietFor line turns →
+        count_turns (is_coded line) (after (opening count last) before) turns ≤ 3 }
+    ensures after_three { (count last line : ℕ) (before turns : List Turn) →
+        phase_of (after (opening count last) before) line ≡ Some Resting → AreQuietFor line turns →
+        3 ≤ count_turns (is_coded line) (after (opening count last) before) turns →
+        IsAtRest (after (after (opening count last) before) turns) line }
+    ensures goes_on { (count last line : ℕ) (turns : List Turn) →
+        phase_of (after (opening count last) turns) line ≡ Some Resting →
+        is_in_flight (after (opening count last) turns) line ≡ false →
+        due (after (opening count last) turns) line ≡ None →
+        IsAtRest (after (opening count last) turns) line }
+{}
+
+/// No command is sent to a line while one is in flight to it. So there were sent as many as something became of, and one more
+/// where one is in flight.
+pub fn no_command_is_sent_while_one_is_in_flight()
+    ensures none { (exchange : ExchangeState) (line : ℕ) → is_in_flight exchange line ≡ true →
+        due exchange line ≡ None }
+    ensures count { (count last line : ℕ) (turns : List Turn) →
+        count_turns (is_sent line) (opening count last) turns
+        ≡ count_turns (is_answered line) (opening count last) turns
+        + count_if (is_in_flight (after (opening count last) turns) line) }
+{}
