@@ -135,9 +135,9 @@ parted_mutual phases i its one other free free_too here named line part e =
 -- two come to be in a call that nobody else names
 
 module _ (phases : List Phase) (i : ℕ) (its : Part) (was that : Phase) (apart : i ≢ its.other)
-  (here : slice_get phases i ≡ Some was) (there : slice_get phases its.other ≡ Some that)
-  (nobody : (line : ℕ) (part : Part) → slice_get phases line ≡ Some (InCall part) → i ≢ line → its.other ≢ line → (i ≢ part.other) × (its.other ≢ part.other))
-  (named : AreMutual phases) where
+    (here : slice_get phases i ≡ Some was) (there : slice_get phases its.other ≡ Some that)
+    (nobody : (line : ℕ) (part : Part) → slice_get phases line ≡ Some (InCall part) → i ≢ line → its.other ≢ line → (i ≢ part.other) × (its.other ≢ part.other))
+    (named : AreMutual phases) where
   pub joined_there : slice_get (joined phases i its) its.other ≡ Some (InCall (other_end i its))
   joined_there =
       set_here (slice_set phases i (InCall its)) its.other (InCall (other_end i its)) that

@@ -12,18 +12,11 @@ pub enum Command {
     /// RQNT: the line is asked for this (RFC 3435, 2.3.3).
     Ask(Asked),
     /// CRCX: a connection for this call (RFC 3435, 2.3.5). It is joined where it is given the description of the other end.
-    Create {
-        call: u64,
-        joined: bool,
-    },
+    Create { call: u64, joined: bool },
     /// MDCX: the connection for this call is given the description of the other end (RFC 3435, 2.3.6).
-    Modify {
-        call: u64,
-    },
+    Modify { call: u64 },
     /// DLCX: no connection for this call any more (RFC 3435, 2.3.7).
-    Delete {
-        call: u64,
-    },
+    Delete { call: u64 },
 }
 
 impl Command {

@@ -125,12 +125,7 @@ fn put_creation(
     Ok(())
 }
 
-fn put_deletion(
-    alloc: Global,
-    out: &mut Vec<u8>,
-    call: u64,
-    leg: &Leg,
-) -> Result<(), OutOfMemory>
+fn put_deletion(alloc: Global, out: &mut Vec<u8>, call: u64, leg: &Leg) -> Result<(), OutOfMemory>
     ensures { OnOk result (out.new.items ≡ out.old.items ++ deletion_lines call leg.now) }
 {
     put_call(alloc, out, call)?;

@@ -113,13 +113,7 @@ pub(crate) fn ringing_in(phase: Option<Phase>) -> Option<Part>
     ensures { result ≡ ringing_in phase }
 {
     match phase {
-        Some(Phase::InCall(part)) => {
-            if rings(part) {
-                Some(part)
-            } else {
-                None
-            }
-        }
+        Some(Phase::InCall(part)) => { if rings(part) { Some(part) } else { None } }
         Some(Phase::Resting | Phase::Dialling | Phase::Hearing(_)) | None => None,
     }
 }
@@ -129,13 +123,7 @@ pub(crate) fn talks_in(phase: Phase) -> Option<Part>
     ensures { result ≡ talks_in phase }
 {
     match phase {
-        Phase::InCall(part) => {
-            if part.answered {
-                Some(part)
-            } else {
-                None
-            }
-        }
+        Phase::InCall(part) => { if part.answered { Some(part) } else { None } }
         Phase::Resting | Phase::Dialling | Phase::Hearing(_) => None,
     }
 }
