@@ -1,6 +1,6 @@
 -- No command is sent to a line while one is in flight to it.
-use Rattle.std.proofs.Common.{◌≡◌, ◌≢◌, ℕ, zero, suc, ◌+◌, Bool, true, false, List, [], ◌∷◌, replicate, Option, Some, None, refl, sym, ap, subst, ◌∙◌, inl, inr, ◌⊎◌, arith}
-use Rattle.std.specs.Prelude.{◌==◌, ◌&&◌, is_some, slice_get, option_map}
+use Rattle.std.proofs.Common.{◌≡◌, ◌≢◌, ℕ, zero, suc, ◌+◌, Bool, true, false, List, [], ◌∷◌, replicate, Option, Some, None, refl, sym, ap, ◌∙◌, inl, inr, ◌⊎◌, arith}
+use Rattle.std.specs.Prelude.{◌&&◌, is_some, slice_get, option_map}
 use Rattle.std.proofs.lemmas.Bool.{cases_eq, eq-eqb, ne_eqb, true≢false}
 use Rattle.call_routing.specs.declared.phase.Phase.{Phase}
 use Rattle.call_routing.specs.declared.told.Told.{Told}
@@ -9,7 +9,7 @@ use Rattle.call_routing.specs.declared.command.Outcome.{Outcome}
 use Rattle.call_routing.specs.declared.line.Line.{Line}
 use Rattle.call_routing.specs.Phases.{talks_in}
 use Rattle.call_routing.specs.Line.{new_line, sent, landed, spent}
-use Rattle.call_routing.specs.Next.{is_ready, next_of}
+use Rattle.call_routing.specs.Next.{is_ready}
 use Rattle.call_routing.specs.Exchange.{ExchangeState, opening, phase_of, line_of, changed, told, answered, due, due_by, sent_by, sent_to}
 use Rattle.call_routing.specs.Turns.{Turn, tells, answers, sends, after_one, after, is_flying, is_in_flight, count_if, is_sent, is_answered, count_turns}
 use Rattle.call_routing.proofs.ElementLemmas.{changed_here, changed_other}

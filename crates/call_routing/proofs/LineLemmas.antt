@@ -1,6 +1,6 @@
 -- How many answers a line that rests still waits for, and how that gets less.
-use Rattle.std.proofs.Common.{◌≡◌, ℕ, zero, suc, ◌+◌, ◌≤◌, Bool, true, false, Option, Some, None, refl, sym, ap, ◌∙◌, arith}
-use Rattle.std.specs.Prelude.{◌&&◌, ◌||◌, not, is_some, if◌then◌else◌}
+use Rattle.std.proofs.Common.{◌≡◌, ℕ, ◌+◌, ◌≤◌, Bool, true, false, Option, Some, None, refl, ap, arith}
+use Rattle.std.specs.Prelude.{◌&&◌, not, is_some, if◌then◌else◌}
 use Rattle.call_routing.specs.declared.asked.Asked.{Asked}
 use Rattle.call_routing.specs.declared.asked.Asked.TheVariants.{Rest, Digits, Ring, Ringback, BusyTone, ReorderTone, Talk}
 use Rattle.call_routing.specs.declared.phase.Phase.{Phase}

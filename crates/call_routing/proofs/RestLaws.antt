@@ -1,6 +1,6 @@
 -- A line that hung up comes to rest.
-use Rattle.std.proofs.Common.{◌≡◌, ◌≢◌, ℕ, zero, suc, ◌+◌, ◌≤◌, Bool, true, false, List, [], ◌∷◌, Option, Some, None, refl, sym, ap, subst, ◌∙◌, inl, inr, ◌⊎◌, arith}
-use Rattle.std.specs.Prelude.{◌==◌, ◌&&◌, not, nat_lt, is_some, slice_get, slice_set, option_map, if◌then◌else◌}
+use Rattle.std.proofs.Common.{◌≡◌, ◌≢◌, ℕ, ◌+◌, ◌≤◌, Bool, true, false, List, [], ◌∷◌, Option, Some, None, refl, sym, ap, subst, ◌∙◌, inl, inr, ◌⊎◌, arith}
+use Rattle.std.specs.Prelude.{◌==◌, ◌&&◌, not, nat_lt, slice_get, slice_set, option_map, if◌then◌else◌}
 use Rattle.std.specs.List.{list_all}
 use Rattle.std.proofs.lemmas.Bool.{cases_eq, eq-eqb, ne_eqb, true≢false, and_parts, not-true}
 use Rattle.call_routing.specs.declared.phase.Part.{Part}
@@ -14,13 +14,13 @@ use Rattle.call_routing.specs.declared.command.Command.{Command}
 use Rattle.call_routing.specs.declared.command.Outcome.{Outcome}
 use Rattle.call_routing.specs.declared.line.Line.{Line}
 use Rattle.call_routing.specs.Phases.{other_end, left, rings, ringing_in, talks_in, is_free, is_in, waits}
-use Rattle.call_routing.specs.Calls.{CallState, joined, parted, cut_off, cut_off_in, turned, answered_by, picked_up, hearing, greatest_call, caller_of, begun, put_through, reached, dialled, dialled_in, given_up_in, timed_out, heard, failed}
+use Rattle.call_routing.specs.Calls.{CallState, parted, cut_off, cut_off_in, turned, answered_by, picked_up, hearing, greatest_call, caller_of, begun, put_through, reached, dialled, dialled_in, given_up_in, timed_out, heard, failed}
 use Rattle.call_routing.specs.Line.{sent, landed, spent, is_given_up}
-use Rattle.call_routing.specs.Next.{is_ready, next_of}
+use Rattle.call_routing.specs.Next.{is_ready}
 use Rattle.call_routing.specs.Exchange.{ExchangeState, opening, phase_of, line_of, changed, failing_on, told, answered, due, due_by, sent_by, sent_to}
 use Rattle.call_routing.specs.Turns.{Turn, tells, answers, sends, after_one, after, is_flying, is_in_flight, count_if, is_coded, count_turns, dials, leaves_alone, AreQuietFor, IsClear, IsAtRest}
 use Rattle.call_routing.proofs.ElementLemmas.{set_other, changed_here, changed_other}
-use Rattle.call_routing.proofs.PhaseLemmas.{AreMutual, same_part}
+use Rattle.call_routing.proofs.PhaseLemmas.{AreMutual}
 use Rattle.call_routing.proofs.CallLaws.{sent_to_phases, one_mutual, always_mutual}
 use Rattle.call_routing.proofs.LineLemmas.{left_of, three_most, landed_less, sent_if, sent_no_more, clear_at_none, clear_at_idle}
 

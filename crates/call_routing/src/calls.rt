@@ -1,6 +1,6 @@
 //! The calls of an exchange.
 ghost use Rattle.std.specs.Prelude.{◌≡◌, ◌<◌, IfOk, slice_get, slice_set};
-ghost use Rattle.call_routing.specs.Calls.{all_resting, joined, parted, cut_off, turned, picked_up, hung_up, caller_of, put_through, reached, dialled, timed_out, heard, failed};
+ghost use Rattle.call_routing.specs.Calls.{all_resting, joined, parted, cut_off, turned, picked_up, put_through, reached, dialled, timed_out, heard, failed};
 
 use crate::phase::{Part, Phase, Side, Tone, is_free, is_in, left, other_end, ringing_in, waits};
 use crate::told::Told;

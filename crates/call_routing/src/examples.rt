@@ -13,7 +13,7 @@ ghost use Rattle.call_routing.specs.Numbers.{line_called, told_in};
 ghost use Rattle.call_routing.specs.Parameters.{verb_of, request_lines, creation_lines, change_lines, deletion_lines, parameters_of};
 ghost use Rattle.call_routing.specs.Exchange.{phase_of, due};
 ghost use Rattle.call_routing.specs.Turns.{tells, sends, after, is_sent, is_answered, is_coded, count_turns, commands_in, leaves_alone};
-ghost use Rattle.call_routing.specs.Example.{opened, all_sent, driven, coded, accepted, given_up, created_first, created_second, ready, dial, ring, pick_up, connect, hang_up, then_is, phase_then, sent_at, key};
+ghost use Rattle.call_routing.specs.Example.{opened, all_sent, driven, coded, accepted, given_up, created_first, created_second, ready, ring, pick_up, connect, hang_up, then_is, phase_then, sent_at, key};
 
 use crate::asked::Asked;
 use crate::command::Command;
