@@ -80,6 +80,6 @@ failing (Some (Create call joined)) outcome = if is_created outcome then None el
 failing (Some (Modify call)) outcome = if is_accepted outcome then None else Some call
 failing (Some (Delete call)) outcome = None
 
--- A line that told something has used its request up: it waits for another (RFC 3435, 4.4.1).
+-- A line that told something has used its request up, and waits for another (RFC 3435, 4.4.1).
 abbrev pub spent : Line → Line
 spent line = record line { asked = None }

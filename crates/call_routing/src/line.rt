@@ -101,7 +101,7 @@ impl Line {
         match command {
             Command::Ask(_) => {
                 if is_given_up(&outcome) {
-                    self.asked = None;
+                    self.spend();
                 }
             }
             Command::Create { call, .. } => self.create(call, outcome),
@@ -118,7 +118,8 @@ impl Line {
         }
     }
 
-    /// The line has told something: its request is used up (RFC 3435, 4.4.1).
+    /// The line isn't asked for anything any more, as far as is known: it has told something, and its request is used up (RFC
+    /// 3435, 4.4.1); or the request was given up.
     pub(crate) fn spend(&mut self)
         ensures { self.new ≡ spent self.old }
     {
