@@ -4,4 +4,5 @@ pub mod CallLaws
 pub mod LineLemmas
 pub mod FlightLaws
 pub mod RestLaws
+pub mod DescriptionLaws
 pub mod Computing

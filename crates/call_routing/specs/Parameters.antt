@@ -1,6 +1,6 @@
 -- Commands as they are written: the verb, the parameter lines, and the description behind them (RFC 3435, 2.3.3 to 2.3.7,
 -- 3.2.1 and 3.2.2). Which events and signals stand in a request is this exchange's profile.
-use Rattle.std.specs.Prelude.{ℕ, if◌then◌else◌, Bool, List, [], ◌++◌, Option, Some, None, codes, decimal, slice_get}
+use Rattle.std.specs.Prelude.{ℕ, if◌then◌else◌, Bool, true, false, List, [], ◌++◌, Option, Some, None, codes, decimal, slice_get}
 use Rattle.call_routing.specs.declared.phase.Phase.{Phase}
 use Rattle.call_routing.specs.declared.phase.Phase.TheVariants.{Resting, Dialling, Hearing, InCall}
 use Rattle.call_routing.specs.declared.asked.Asked.{Asked}
@@ -114,3 +114,19 @@ parameters_by (Some line) description map = flight_lines line.flight line.leg de
 -- what stands behind the command line of the command in flight to a line
 abbrev pub parameters_of : ExchangeState → ℕ → List ℕ → List ℕ
 parameters_of exchange line map = parameters_by (line_of exchange line) (description_of_other exchange line) map
+
+-- the call of which a command carries the description of the other end, if it carries one
+abbrev pub gives : Command → Option ℕ
+gives (Ask asked) = None
+gives (Create call true) = Some call
+gives (Create call false) = None
+gives (Modify call) = Some call
+gives (Delete call) = None
+
+abbrev pub leg_in : Option Line → Option Leg
+leg_in None = None
+leg_in (Some line) = Some line.leg
+
+-- the connection of a line
+abbrev pub leg_of : ExchangeState → ℕ → Option Leg
+leg_of exchange line = leg_in (line_of exchange line)

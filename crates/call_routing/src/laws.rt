@@ -6,7 +6,10 @@ ghost use Rattle.call_routing.specs.declared.phase.Phase.{Phase};
 ghost use Rattle.call_routing.specs.declared.phase.Phase.TheVariants.{Resting, InCall};
 ghost use Rattle.call_routing.specs.declared.phase.Tone.TheVariants.{Busy};
 ghost use Rattle.call_routing.specs.declared.told.Told.TheVariants.{OnHook};
+ghost use Rattle.call_routing.specs.declared.command.Command.{Command};
+ghost use Rattle.call_routing.specs.declared.line.Leg.TheVariants.{Standing};
 ghost use Rattle.call_routing.specs.Phases.{other_end, left};
+ghost use Rattle.call_routing.specs.Parameters.{gives, leg_of, description_of_other};
 ghost use Rattle.call_routing.specs.Exchange.{ExchangeState, opening, phase_of, told, due};
 ghost use Rattle.call_routing.specs.Turns.{Turn, after, is_in_flight, count_if, is_sent, is_answered, is_coded, count_turns, AreQuietFor, IsAtRest};
 
@@ -69,4 +72,13 @@ pub fn no_command_is_sent_while_one_is_in_flight()
         count_turns (is_sent line) (opening count last) turns
         ≡ count_turns (is_answered line) (opening count last) turns
         + count_if (is_in_flight (after (opening count last) turns) line) }
+{}
+
+/// Where CRCX or MDCX gives a line's connection the description of the other end, it is that of the connection that stands there
+/// for the same call.
+pub fn a_description_is_that_of_the_other_end()
+    ensures { (exchange : ExchangeState) (line call : ℕ) (part : Part) (command : Command) →
+        phase_of exchange line ≡ Some (InCall part) → due exchange line ≡ Some command →
+        gives command ≡ Some call → (connection : List ℕ)
+        × (leg_of exchange part.other ≡ Some (Standing call connection (description_of_other exchange line))) }
 {}
