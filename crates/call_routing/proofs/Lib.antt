@@ -1,8 +1,1 @@
 pub mod ElementLemmas
-pub mod PhaseLemmas
-pub mod CallLaws
-pub mod LineLemmas
-pub mod FlightLaws
-pub mod RestLaws
-pub mod DescriptionLaws
-pub mod Computing

@@ -6,5 +6,3 @@ pub mod Next
 pub mod Exchange
 pub mod Numbers
 pub mod Parameters
-pub mod Turns
-pub mod Example

@@ -4,15 +4,13 @@
 //! It is a state machine without a socket and a clock. What a line told, and what became of the commands to it, goes in; which
 //! command is to be sent to a line, and its parameters, comes out. The state says what each line should be, and the next
 //! command of a line is the first difference to what its gateway was told, so nothing is queued. `specs/` says what is meant,
-//! and `laws` what follows for every list of events.
+//! and the crate `call_laws` what follows for every list of events.
 #![tactic(auto)]
 
 mod asked;
 mod calls;
 mod command;
-pub mod examples;
 mod exchange;
-pub mod laws;
 mod line;
 mod next;
 mod number_plan;

@@ -16,7 +16,7 @@ use Rattle.call_routing.specs.Phases.{talks_in}
 use Rattle.call_routing.specs.Asking.{wanted_in, is_asked}
 use Rattle.call_routing.specs.Line.{sent, landed, landed_as, is_given_up, is_success}
 use Rattle.call_routing.specs.Next.{connection_next, request_or, next_of}
-use Rattle.call_routing.specs.Turns.{count_if, IsClear}
+use Rattle.call_laws.specs.Turns.{count_if, IsClear}
 
 -- the answers that a line that rests waits for: to the command in flight, to DLCX where a connection may stand then, and to RQNT
 -- where it isn't asked for off hook alone then

@@ -1,5 +1,5 @@
-use Rattle.call_routing.proofs.CallLaws.{rests_then, other_left_always}
-use Rattle.call_routing.proofs.laws.on_hook_ends_the_call.Goals as goal
+use Rattle.call_laws.proofs.CallLaws.{rests_then, other_left_always}
+use Rattle.call_laws.proofs.laws.on_hook_ends_the_call.Goals as goal
 
 pub returns-clause-here : goal.returns-clause-here
 returns-clause-here c = rests_then

@@ -5,7 +5,7 @@ use Rattle.call_routing.specs.Calls.{cut_off, picked_up, put_through, reached, d
 use Rattle.call_routing.specs.Line.{sent, landed}
 use Rattle.call_routing.specs.Next.{next_of}
 use Rattle.call_routing.specs.Exchange.{changed, told, answered, due, sent_to}
-use Rattle.call_routing.specs.Turns.{after, count_turns, commands_in}
+use Rattle.call_laws.specs.Turns.{after, count_turns, commands_in}
 
 unfoldable pub on_examples : ⊤
 unfolding byte_examples cut_off picked_up put_through reached dialled timed_out heard failed sent landed next_of changed told answered due sent_to after count_turns commands_in

@@ -12,14 +12,10 @@ ghost use Rattle.call_routing.specs.Line.{is_success};
 ghost use Rattle.call_routing.specs.Numbers.{line_called, told_in};
 ghost use Rattle.call_routing.specs.Parameters.{verb_of, request_lines, creation_lines, change_lines, deletion_lines, parameters_of};
 ghost use Rattle.call_routing.specs.Exchange.{phase_of, due};
-ghost use Rattle.call_routing.specs.Turns.{tells, sends, after, is_sent, is_answered, is_coded, count_turns, commands_in, leaves_alone};
-ghost use Rattle.call_routing.specs.Example.{opened, all_sent, driven, coded, accepted, given_up, created_first, created_second, ready, ring, pick_up, connect, hang_up, then_is, phase_then, sent_at, key};
+ghost use Rattle.call_laws.specs.Turns.{tells, sends, after, is_sent, is_answered, is_coded, count_turns, commands_in, leaves_alone};
+ghost use Rattle.call_laws.specs.Example.{opened, all_sent, driven, coded, accepted, given_up, created_first, created_second, ready, ring, pick_up, connect, hang_up, then_is, phase_then, sent_at, key};
 
-use crate::asked::Asked;
-use crate::command::Command;
-use crate::line::Leg;
-use crate::phase::{Phase, Side, Tone};
-use crate::told::Told;
+use call_routing::{Asked, Command, Leg, Phase, Side, Told, Tone};
 
 /// At the opening each line rests, and is asked for off hook. Once it is, nothing more is to be sent.
 pub fn lines_are_asked_for_off_hook_first()

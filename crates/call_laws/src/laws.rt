@@ -11,7 +11,7 @@ ghost use Rattle.call_routing.specs.declared.line.Leg.TheVariants.{Standing};
 ghost use Rattle.call_routing.specs.Phases.{other_end, left};
 ghost use Rattle.call_routing.specs.Parameters.{gives, leg_of, description_of_other};
 ghost use Rattle.call_routing.specs.Exchange.{ExchangeState, opening, phase_of, told, due};
-ghost use Rattle.call_routing.specs.Turns.{Turn, after, is_in_flight, count_if, is_sent, is_answered, is_coded, count_turns, AreQuietFor, IsAtRest};
+ghost use Rattle.call_laws.specs.Turns.{Turn, after, is_in_flight, count_if, is_sent, is_answered, is_coded, count_turns, AreQuietFor, IsAtRest};
 
 /// Where a line is in a call, the line that it names is in the same call, from the other side, and names it.
 pub fn both_ends_of_a_call_name_each_other()

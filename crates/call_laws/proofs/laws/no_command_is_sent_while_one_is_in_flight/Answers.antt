@@ -1,5 +1,5 @@
-use Rattle.call_routing.proofs.FlightLaws.{none_due, sent_as_answered}
-use Rattle.call_routing.proofs.laws.no_command_is_sent_while_one_is_in_flight.Goals as goal
+use Rattle.call_laws.proofs.FlightLaws.{none_due, sent_as_answered}
+use Rattle.call_laws.proofs.laws.no_command_is_sent_while_one_is_in_flight.Goals as goal
 
 pub returns-clause-none : goal.returns-clause-none
 returns-clause-none c = none_due

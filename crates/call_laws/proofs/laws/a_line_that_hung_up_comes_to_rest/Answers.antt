@@ -1,5 +1,5 @@
-use Rattle.call_routing.proofs.RestLaws.{stays_at_rest, three_at_most, rest_after_three, rest_where_idle}
-use Rattle.call_routing.proofs.laws.a_line_that_hung_up_comes_to_rest.Goals as goal
+use Rattle.call_laws.proofs.RestLaws.{stays_at_rest, three_at_most, rest_after_three, rest_where_idle}
+use Rattle.call_laws.proofs.laws.a_line_that_hung_up_comes_to_rest.Goals as goal
 
 pub returns-clause-no_call : goal.returns-clause-no_call
 returns-clause-no_call c = stays_at_rest

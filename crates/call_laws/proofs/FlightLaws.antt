@@ -11,9 +11,9 @@ use Rattle.call_routing.specs.Phases.{talks_in}
 use Rattle.call_routing.specs.Line.{new_line, sent, landed, spent}
 use Rattle.call_routing.specs.Next.{is_ready}
 use Rattle.call_routing.specs.Exchange.{ExchangeState, opening, phase_of, line_of, changed, told, answered, due, due_by, sent_by, sent_to}
-use Rattle.call_routing.specs.Turns.{Turn, tells, answers, sends, after_one, after, is_flying, is_in_flight, count_if, is_sent, is_answered, count_turns}
+use Rattle.call_laws.specs.Turns.{Turn, tells, answers, sends, after_one, after, is_flying, is_in_flight, count_if, is_sent, is_answered, count_turns}
 use Rattle.call_routing.proofs.ElementLemmas.{changed_here, changed_other}
-use Rattle.call_routing.proofs.LineLemmas.{landed_none, sent_flies, blocked, unblocked}
+use Rattle.call_laws.proofs.LineLemmas.{landed_none, sent_flies, blocked, unblocked}
 
 -- What is due
 

@@ -10,7 +10,7 @@ use Rattle.call_routing.specs.declared.told.Told.TheVariants.{OffHook, OnHook, D
 use Rattle.call_routing.specs.declared.command.Command.{Command}
 use Rattle.call_routing.specs.declared.command.Outcome.TheVariants.{Created, Answered, GivenUp}
 use Rattle.call_routing.specs.Exchange.{ExchangeState, opening, phase_of}
-use Rattle.call_routing.specs.Turns.{Turn, tells, answers, sends, after, commands_in}
+use Rattle.call_laws.specs.Turns.{Turn, tells, answers, sends, after, commands_in}
 
 -- an exchange of three lines
 abbrev pub opened : ExchangeState

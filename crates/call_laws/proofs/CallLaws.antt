@@ -12,9 +12,9 @@ use Rattle.call_routing.specs.declared.command.Command.{Command}
 use Rattle.call_routing.specs.Phases.{other_end, left, rings, ringing_in, is_in_call, is_free, is_in, waits}
 use Rattle.call_routing.specs.Calls.{CallState, joined, parted, cut_off, cut_off_in, turned, answered_by, picked_up, hearing, greatest_call, caller_of, begun, put_through, reached, dialled, dialled_in, given_up_in, timed_out, heard, failed}
 use Rattle.call_routing.specs.Exchange.{ExchangeState, opening, phase_of, line_of, failing_on, told, answered, due, sent_by, sent_to}
-use Rattle.call_routing.specs.Turns.{Turn, tells, answers, sends, after_one, after}
+use Rattle.call_laws.specs.Turns.{Turn, tells, answers, sends, after_one, after}
 use Rattle.call_routing.proofs.ElementLemmas.{set_here, set_other, set_still}
-use Rattle.call_routing.proofs.PhaseLemmas.{AreMutual, same_part, not_itself, left_free, free_here, free_still, unnamed, named_once, named_once_there, set_mutual, parted_mutual, joined_mutual, resting_mutual}
+use Rattle.call_laws.proofs.PhaseLemmas.{AreMutual, same_part, not_itself, left_free, free_here, free_still, unnamed, named_once, named_once_there, set_mutual, parted_mutual, joined_mutual, resting_mutual}
 
 -- A line that is in no call
 

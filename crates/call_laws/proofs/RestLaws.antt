@@ -18,11 +18,11 @@ use Rattle.call_routing.specs.Calls.{CallState, parted, cut_off, cut_off_in, tur
 use Rattle.call_routing.specs.Line.{sent, landed, spent, is_given_up}
 use Rattle.call_routing.specs.Next.{is_ready}
 use Rattle.call_routing.specs.Exchange.{ExchangeState, opening, phase_of, line_of, changed, failing_on, told, answered, due, due_by, sent_by, sent_to}
-use Rattle.call_routing.specs.Turns.{Turn, tells, answers, sends, after_one, after, is_flying, is_in_flight, count_if, is_coded, count_turns, dials, leaves_alone, AreQuietFor, IsClear, IsAtRest}
+use Rattle.call_laws.specs.Turns.{Turn, tells, answers, sends, after_one, after, is_flying, is_in_flight, count_if, is_coded, count_turns, dials, leaves_alone, AreQuietFor, IsClear, IsAtRest}
 use Rattle.call_routing.proofs.ElementLemmas.{set_other, changed_here, changed_other}
-use Rattle.call_routing.proofs.PhaseLemmas.{AreMutual}
-use Rattle.call_routing.proofs.CallLaws.{sent_to_phases, one_mutual, always_mutual}
-use Rattle.call_routing.proofs.LineLemmas.{left_of, three_most, landed_less, sent_if, sent_no_more, clear_at_none, clear_at_idle}
+use Rattle.call_laws.proofs.PhaseLemmas.{AreMutual}
+use Rattle.call_laws.proofs.CallLaws.{sent_to_phases, one_mutual, always_mutual}
+use Rattle.call_laws.proofs.LineLemmas.{left_of, three_most, landed_less, sent_if, sent_no_more, clear_at_none, clear_at_idle}
 
 -- A line that rests goes on to rest
 

@@ -1,0 +1,7 @@
+pub mod PhaseLemmas
+pub mod CallLaws
+pub mod LineLemmas
+pub mod FlightLaws
+pub mod RestLaws
+pub mod DescriptionLaws
+pub mod Computing
