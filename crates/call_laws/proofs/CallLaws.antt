@@ -1,17 +1,20 @@
 -- Both ends of a call name each other, whatever happens.
 use Rattle.std.proofs.Common.{◌≡◌, ◌≢◌, ℕ, ◌+◌, Bool, true, false, List, [], ◌∷◌, Option, Some, None, refl, sym, ap, subst, ◌∙◌}
 use Rattle.std.specs.Prelude.{not, nat_lt, slice_get, slice_set, if◌then◌else◌}
+use Rattle.mg_packages.specs.declared.hook.Hook.{Hook}
+use Rattle.mg_packages.specs.declared.hook.Hook.TheVariants as hooks
 use Rattle.call_routing.specs.declared.phase.Part.{Part}
 use Rattle.call_routing.specs.declared.phase.Tone.{Tone}
 use Rattle.call_routing.specs.declared.phase.Tone.TheVariants.{Busy, Reorder}
 use Rattle.call_routing.specs.declared.phase.Phase.{Phase}
 use Rattle.call_routing.specs.declared.phase.Phase.TheVariants.{Resting, Dialling, Hearing, InCall}
 use Rattle.call_routing.specs.declared.told.Told.{Told}
-use Rattle.call_routing.specs.declared.told.Told.TheVariants.{OffHook, OnHook, Flash, Dialled, TimedOut}
+use Rattle.call_routing.specs.declared.told.Told.TheVariants.{OffHook, OnHook, Flash, Dialled, TimedOut, Restarted, Disconnected}
 use Rattle.call_routing.specs.declared.command.Command.{Command}
 use Rattle.call_routing.specs.Phases.{other_end, left, rings, ringing_in, is_in_call, is_free, is_in, waits}
-use Rattle.call_routing.specs.Calls.{CallState, joined, parted, cut_off, cut_off_in, turned, answered_by, picked_up, hearing, greatest_call, caller_of, begun, put_through, reached, dialled, dialled_in, given_up_in, timed_out, heard, failed}
-use Rattle.call_routing.specs.Exchange.{ExchangeState, opening, phase_of, line_of, failing_on, told, answered, due, sent_by, sent_to}
+use Rattle.call_routing.specs.Calls.{CallState, joined, parted, cut_off, cut_off_in, turned, answered_by, picked_up, hearing, greatest_call, caller_of, begun, put_through, reached, dialled, dialled_in, given_up_in, timed_out, heard, failed, found, found_in}
+use Rattle.call_routing.specs.Line.{failing, finding}
+use Rattle.call_routing.specs.Exchange.{ExchangeState, opening, phase_of, line_of, flight_in, told, answered, due, sent_by, sent_to}
 use Rattle.call_laws.specs.Turns.{Turn, tells, answers, sends, after_one, after}
 use Rattle.call_routing.proofs.ElementLemmas.{set_here, set_other, set_still}
 use Rattle.call_laws.proofs.PhaseLemmas.{AreMutual, same_part, not_itself, left_free, free_here, free_still, unnamed, named_once, named_once_there, set_mutual, parted_mutual, joined_mutual, resting_mutual}
@@ -176,15 +179,40 @@ heard_mutual calls line OnHook named = turned_mutual Busy calls.phases line Rest
 heard_mutual calls line Flash named = named
 heard_mutual calls line (Dialled to) named = dialled_mutual calls line to named
 heard_mutual calls line TimedOut named = timed_mutual calls.phases line named
+heard_mutual calls line Restarted named = turned_mutual Reorder calls.phases line Resting refl named
+heard_mutual calls line Disconnected named = named
 
 failed_by : (phases : List Phase) (line : ℕ) (b : Bool) → AreMutual phases → AreMutual (if b then cut_off Reorder phases line else phases)
 failed_by phases line true named = cut_mutual Reorder phases line named
 failed_by phases line false named = named
 
-failed_mutual : (phases : List Phase) (line : ℕ) (call : Option ℕ) → AreMutual phases → AreMutual (failed phases line call)
+pub failed_mutual : (phases : List Phase) (line : ℕ) (call : Option ℕ) → AreMutual phases → AreMutual (failed phases line call)
 unfolding failed
 failed_mutual phases line None named = named
 failed_mutual phases line (Some call) named = failed_by phases line (is_in call (slice_get phases line)) named
+
+found_free : (phases : List Phase) (line : ℕ) (hook : Hook) → AreMutual phases → AreMutual (found_in phases line hook None)
+found_free phases line hooks.OnHook named = turned_mutual Busy phases line Resting refl named
+found_free phases line hooks.OffHook named = named
+
+found_ringing : (phases : List Phase) (line : ℕ) (hook : Hook) (part : Part) (b : Bool) → slice_get phases line ≡ Some (InCall part) → AreMutual phases
+    → AreMutual (found_in phases line hook (if b then Some part else None))
+found_ringing phases line hook part false e named = found_free phases line hook named
+found_ringing phases line hooks.OnHook part true e named = named
+found_ringing phases line hooks.OffHook part true e named = over_mutual Busy phases line part e named
+
+found_by : (phases : List Phase) (line : ℕ) (hook : Hook) (at : Option Phase) → slice_get phases line ≡ at → AreMutual phases
+    → AreMutual (found_in phases line hook (ringing_in at))
+found_by phases line hook (Some (InCall part)) e named = found_ringing phases line hook part (rings part) e named
+found_by phases line hook (Some Resting) e named = found_free phases line hook named
+found_by phases line hook (Some Dialling) e named = found_free phases line hook named
+found_by phases line hook (Some (Hearing tone)) e named = found_free phases line hook named
+found_by phases line hook None e named = found_free phases line hook named
+
+found_mutual : (phases : List Phase) (line : ℕ) (hook : Option Hook) → AreMutual phases → AreMutual (found phases line hook)
+unfolding found
+found_mutual phases line None named = named
+found_mutual phases line (Some hook) named = found_by phases line hook (slice_get phases line) refl named
 
 -- Turns
 
@@ -200,7 +228,9 @@ pub one_mutual : (exchange : ExchangeState) (turn : Turn) → AreMutual exchange
 unfolding told answered
 one_mutual exchange (tells line event) named = heard_mutual exchange.calls line event named
 one_mutual exchange (answers line outcome) named =
-    failed_mutual exchange.calls.phases line (failing_on (line_of exchange line) outcome) named
+    let flight = flight_in (line_of exchange line) in
+    let call = failing flight outcome in
+    found_mutual (failed exchange.calls.phases line call) line (finding flight outcome) (failed_mutual exchange.calls.phases line call named)
 one_mutual exchange (sends line) named = subst AreMutual (sym (sent_to_phases exchange line)) named
 
 pub after_mutual : (exchange : ExchangeState) (turns : List Turn) → AreMutual exchange.calls.phases → AreMutual (after exchange turns).calls.phases
@@ -252,6 +282,11 @@ pub rests_then : (exchange : ExchangeState) (line : ℕ) (phase : Phase) → pha
 unfolding told heard
 rests_then exchange line phase e = turned_here Busy exchange.calls.phases line phase Resting e
 
+pub rests_after_restart : (exchange : ExchangeState) (line : ℕ) (phase : Phase) → phase_of exchange line ≡ Some phase
+    → phase_of (told exchange line Restarted) line ≡ Some Resting
+unfolding told heard
+rests_after_restart exchange line phase e = turned_here Reorder exchange.calls.phases line phase Resting e
+
 cut_there : (tone : Tone) (phases : List Phase) (line : ℕ) (part : Part) → slice_get phases line ≡ Some (InCall part) → AreMutual phases
     → slice_get (cut_off tone phases line) part.other ≡ Some (left tone (other_end line part))
 unfolding cut_off
@@ -261,14 +296,26 @@ cut_there tone phases line part e named =
     ∙ set_here (slice_set phases line (left tone part)) part.other (left tone (other_end line part)) (InCall (other_end line part))
     (set_other phases line part.other (left tone part) apart ∙ named line part e)
 
-pub other_left : (exchange : ExchangeState) (line : ℕ) (part : Part) → AreMutual exchange.calls.phases → phase_of exchange line ≡ Some (InCall part)
+turned_there : (tone : Tone) (phases : List Phase) (line : ℕ) (part : Part) → slice_get phases line ≡ Some (InCall part) → AreMutual phases
+    → slice_get (turned tone phases line Resting) part.other ≡ Some (left tone (other_end line part))
+turned_there tone phases line part e named =
+    set_other (cut_off tone phases line) line part.other Resting (λ (same : line ≡ part.other). not_itself phases line part named e (sym same))
+    ∙ cut_there tone phases line part e named
+
+other_left : (exchange : ExchangeState) (line : ℕ) (part : Part) → AreMutual exchange.calls.phases → phase_of exchange line ≡ Some (InCall part)
     → phase_of (told exchange line OnHook) part.other ≡ Some (left Busy (other_end line part))
 unfolding told heard
-other_left exchange line part named e =
-    let phases = exchange.calls.phases in
-    set_other (cut_off Busy phases line) line part.other Resting (λ (same : line ≡ part.other). not_itself phases line part named e (sym same))
-    ∙ cut_there Busy phases line part e named
+other_left exchange line part named e = turned_there Busy exchange.calls.phases line part e named
+
+left_by_restart : (exchange : ExchangeState) (line : ℕ) (part : Part) → AreMutual exchange.calls.phases → phase_of exchange line ≡ Some (InCall part)
+    → phase_of (told exchange line Restarted) part.other ≡ Some (left Reorder (other_end line part))
+unfolding told heard
+left_by_restart exchange line part named e = turned_there Reorder exchange.calls.phases line part e named
 
 pub other_left_always : (count last line : ℕ) (turns : List Turn) (part : Part) → phase_of (after (opening count last) turns) line ≡ Some (InCall part)
     → phase_of (told (after (opening count last) turns) line OnHook) part.other ≡ Some (left Busy (other_end line part))
 other_left_always count last line turns part e = other_left (after (opening count last) turns) line part (always_mutual count last turns) e
+
+pub left_by_restart_always : (count last line : ℕ) (turns : List Turn) (part : Part) → phase_of (after (opening count last) turns) line ≡ Some (InCall part)
+    → phase_of (told (after (opening count last) turns) line Restarted) part.other ≡ Some (left Reorder (other_end line part))
+left_by_restart_always count last line turns part e = left_by_restart (after (opening count last) turns) line part (always_mutual count last turns) e

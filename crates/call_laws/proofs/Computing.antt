@@ -1,12 +1,12 @@
 -- The definitions opened, so that worked examples compute.
 use Rattle.std.specs.Prelude.{⊤}
 use Rattle.mg_bytes.proofs.Computing.{on_examples as byte_examples}
-use Rattle.call_routing.specs.Calls.{cut_off, picked_up, put_through, reached, dialled, timed_out, heard, failed}
+use Rattle.call_routing.specs.Calls.{cut_off, picked_up, put_through, reached, dialled, timed_out, heard, failed, found}
 use Rattle.call_routing.specs.Line.{sent, landed}
 use Rattle.call_routing.specs.Next.{next_of}
 use Rattle.call_routing.specs.Exchange.{changed, told, answered, due, sent_to}
 use Rattle.call_laws.specs.Turns.{after, count_turns, commands_in}
 
 unfoldable pub on_examples : ⊤
-unfolding byte_examples cut_off picked_up put_through reached dialled timed_out heard failed sent landed next_of changed told answered due sent_to after count_turns commands_in
+unfolding byte_examples cut_off picked_up put_through reached dialled timed_out heard failed found sent landed next_of changed told answered due sent_to after count_turns commands_in
 on_examples = tt

@@ -3,25 +3,27 @@ use Rattle.std.proofs.Common.{◌≡◌, ◌≢◌, ℕ, ◌+◌, ◌≤◌, Boo
 use Rattle.std.specs.Prelude.{◌==◌, ◌&&◌, not, nat_lt, slice_get, slice_set, option_map, if◌then◌else◌}
 use Rattle.std.specs.List.{list_all}
 use Rattle.std.proofs.lemmas.Bool.{cases_eq, eq-eqb, ne_eqb, true≢false, and_parts, not-true}
+use Rattle.mg_packages.specs.declared.hook.Hook.{Hook}
+use Rattle.mg_packages.specs.declared.hook.Hook.TheVariants as hooks
 use Rattle.call_routing.specs.declared.phase.Part.{Part}
 use Rattle.call_routing.specs.declared.phase.Tone.{Tone}
 use Rattle.call_routing.specs.declared.phase.Tone.TheVariants.{Busy, Reorder}
 use Rattle.call_routing.specs.declared.phase.Phase.{Phase}
 use Rattle.call_routing.specs.declared.phase.Phase.TheVariants.{Resting, Dialling, Hearing, InCall}
 use Rattle.call_routing.specs.declared.told.Told.{Told}
-use Rattle.call_routing.specs.declared.told.Told.TheVariants.{OffHook, OnHook, Flash, Dialled, TimedOut}
+use Rattle.call_routing.specs.declared.told.Told.TheVariants.{OffHook, OnHook, Flash, Dialled, TimedOut, Restarted, Disconnected}
 use Rattle.call_routing.specs.declared.command.Command.{Command}
 use Rattle.call_routing.specs.declared.command.Outcome.{Outcome}
 use Rattle.call_routing.specs.declared.line.Line.{Line}
 use Rattle.call_routing.specs.Phases.{other_end, left, rings, ringing_in, talks_in, is_free, is_in, waits}
-use Rattle.call_routing.specs.Calls.{CallState, parted, cut_off, cut_off_in, turned, answered_by, picked_up, hearing, greatest_call, caller_of, begun, put_through, reached, dialled, dialled_in, given_up_in, timed_out, heard, failed}
-use Rattle.call_routing.specs.Line.{sent, landed, spent, is_given_up}
+use Rattle.call_routing.specs.Calls.{CallState, parted, cut_off, cut_off_in, turned, answered_by, picked_up, hearing, greatest_call, caller_of, begun, put_through, reached, dialled, dialled_in, given_up_in, timed_out, heard, failed, found, found_in}
+use Rattle.call_routing.specs.Line.{sent, landed, failing, finding, spent, is_given_up}
 use Rattle.call_routing.specs.Next.{is_ready}
-use Rattle.call_routing.specs.Exchange.{ExchangeState, opening, phase_of, line_of, changed, failing_on, told, answered, due, due_by, sent_by, sent_to}
+use Rattle.call_routing.specs.Exchange.{ExchangeState, opening, phase_of, line_of, changed, flight_in, told, answered, due, due_by, sent_by, sent_to}
 use Rattle.call_laws.specs.Turns.{Turn, tells, answers, sends, after_one, after, is_flying, is_in_flight, count_if, is_coded, count_turns, dials, leaves_alone, AreQuietFor, IsClear, IsAtRest}
-use Rattle.call_routing.proofs.ElementLemmas.{set_other, changed_here, changed_other}
+use Rattle.call_routing.proofs.ElementLemmas.{set_here, set_other, changed_here, changed_other}
 use Rattle.call_laws.proofs.PhaseLemmas.{AreMutual}
-use Rattle.call_laws.proofs.CallLaws.{sent_to_phases, one_mutual, always_mutual}
+use Rattle.call_laws.proofs.CallLaws.{failed_mutual, sent_to_phases, one_mutual, always_mutual}
 use Rattle.call_laws.proofs.LineLemmas.{left_of, three_most, landed_less, sent_if, sent_no_more, clear_at_none, clear_at_idle}
 
 -- A line that rests goes on to rest
@@ -82,6 +84,9 @@ module _ (phases : List Phase) (line : ℕ) (rests : slice_get phases line ≡ S
   pub hung_rests : (of : ℕ) → of ≢ line → slice_get (turned Busy phases of Resting) line ≡ Some Resting
   hung_rests of apart = turned_rests Busy of Resting apart
 
+  pub restarted_rests : (of : ℕ) → of ≢ line → slice_get (turned Reorder phases of Resting) line ≡ Some Resting
+  restarted_rests of apart = turned_rests Reorder of Resting apart
+
   timed_call : (of : ℕ) (part : Part) (b : Bool) → slice_get phases of ≡ Some (InCall part)
       → slice_get (if not b then parted Reorder phases of part else phases) line ≡ Some Resting
   timed_call of part true e = rests
@@ -107,6 +112,35 @@ module _ (phases : List Phase) (line : ℕ) (rests : slice_get phases line ≡ S
   unfolding failed
   failed_rests of None = rests
   failed_rests of (Some call) = failed_by of (is_in call (slice_get phases of))
+
+  hung_by : (of : ℕ) → ((of ≡ line) ⊎ (of ≡ line → ⊥)) → slice_get (turned Busy phases of Resting) line ≡ Some Resting
+  hung_by of (inl same) =
+      ap (λ (n : ℕ). slice_get (slice_set (cut_off Busy phases of) n Resting) line) same
+      ∙ set_here (cut_off Busy phases of) line Resting Resting (cut_rests Busy of)
+  hung_by of (inr apart) = turned_rests Busy of Resting apart
+
+  found_free : (of : ℕ) (hook : Hook) → slice_get (found_in phases of hook None) line ≡ Some Resting
+  found_free of hooks.OnHook = hung_by of (cases_eq of line)
+  found_free of hooks.OffHook = rests
+
+  found_ringing : (of : ℕ) (hook : Hook) (part : Part) (b : Bool) → slice_get phases of ≡ Some (InCall part)
+      → slice_get (found_in phases of hook (if b then Some part else None)) line ≡ Some Resting
+  found_ringing of hook part false e = found_free of hook
+  found_ringing of hooks.OnHook part true e = rests
+  found_ringing of hooks.OffHook part true e = two_set of part (left Busy part) (left Busy (other_end of part)) e
+
+  found_by : (of : ℕ) (hook : Hook) (at : Option Phase) → slice_get phases of ≡ at
+      → slice_get (found_in phases of hook (ringing_in at)) line ≡ Some Resting
+  found_by of hook (Some (InCall part)) e = found_ringing of hook part (rings part) e
+  found_by of hook (Some Resting) e = found_free of hook
+  found_by of hook (Some Dialling) e = found_free of hook
+  found_by of hook (Some (Hearing tone)) e = found_free of hook
+  found_by of hook None e = found_free of hook
+
+  pub found_rests : (of : ℕ) (hook : Option Hook) → slice_get (found phases of hook) line ≡ Some Resting
+  unfolding found
+  found_rests of None = rests
+  found_rests of (Some hook) = found_by of hook (slice_get phases of) refl
 
 -- digits that aren't the line's
 
@@ -164,6 +198,8 @@ heard_rests calls line of OnHook rests named apart far = hung_rests calls.phases
 heard_rests calls line of Flash rests named apart far = rests
 heard_rests calls line of (Dialled to) rests named apart far = dialled_rests calls line of to rests apart far
 heard_rests calls line of TimedOut rests named apart far = timed_rests calls.phases line rests named of apart
+heard_rests calls line of Restarted rests named apart far = restarted_rests calls.phases line rests named of apart
+heard_rests calls line of Disconnected rests named apart far = rests
 
 -- a telephone that isn't the line's, and doesn't dial the line
 apart_by : (line of : ℕ) (event : Told) → leaves_alone line (tells of event) ≡ true → (of ≢ line) × (dials line event ≡ false)
@@ -179,7 +215,10 @@ one_rests exchange line (tells of event) rests named alone =
     let apart = apart_by line of event alone in
     heard_rests exchange.calls line of event rests named apart.0 apart.1
 one_rests exchange line (answers of outcome) rests named alone =
-    failed_rests exchange.calls.phases line rests named of (failing_on (line_of exchange of) outcome)
+    let flight = flight_in (line_of exchange of) in
+    let call = failing flight outcome in
+    found_rests (failed exchange.calls.phases of call) line (failed_rests exchange.calls.phases line rests named of call)
+    (failed_mutual exchange.calls.phases of call named) of (finding flight outcome)
 one_rests exchange line (sends of) rests named alone =
     ap (λ (phases : List Phase). slice_get phases line) (sent_to_phases exchange of) ∙ rests
 

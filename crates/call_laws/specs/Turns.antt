@@ -3,7 +3,7 @@ use Rattle.std.specs.Prelude.{◌≡◌, ℕ, ◌+◌, ◌==◌, ◌&&◌, not, 
 use Rattle.std.specs.List.{list_all}
 use Rattle.call_routing.specs.declared.phase.Phase.TheVariants.{Resting}
 use Rattle.call_routing.specs.declared.told.Told.{Told}
-use Rattle.call_routing.specs.declared.told.Told.TheVariants.{OffHook, OnHook, Flash, Dialled, TimedOut}
+use Rattle.call_routing.specs.declared.told.Told.TheVariants.{OffHook, OnHook, Flash, Dialled, TimedOut, Restarted, Disconnected}
 use Rattle.call_routing.specs.declared.asked.Asked.TheVariants.{Rest}
 use Rattle.call_routing.specs.declared.command.Command.{Command}
 use Rattle.call_routing.specs.declared.command.Outcome.{Outcome}
@@ -91,6 +91,8 @@ dials line Flash = false
 dials line (Dialled None) = false
 dials line (Dialled (Some to)) = to == line
 dials line TimedOut = false
+dials line Restarted = false
+dials line Disconnected = false
 
 -- nothing is done at the line's telephone, and nobody dials the line
 abbrev pub leaves_alone : ℕ → Turn → Bool

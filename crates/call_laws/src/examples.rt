@@ -13,7 +13,7 @@ ghost use Rattle.call_routing.specs.Numbers.{line_called, told_in};
 ghost use Rattle.call_routing.specs.Parameters.{verb_of, request_lines, creation_lines, change_lines, deletion_lines, parameters_of};
 ghost use Rattle.call_routing.specs.Exchange.{phase_of, due};
 ghost use Rattle.call_laws.specs.Turns.{tells, sends, after, is_sent, is_answered, is_coded, count_turns, commands_in, leaves_alone};
-ghost use Rattle.call_laws.specs.Example.{opened, all_sent, driven, coded, accepted, given_up, created_first, created_second, ready, ring, pick_up, connect, hang_up, then_is, phase_then, sent_at, key};
+ghost use Rattle.call_laws.specs.Example.{opened, all_sent, driven, coded, accepted, given_up, created_first, created_second, ready, dial, ring, pick_up, connect, hang_up, then_is, phase_then, sent_at, key};
 
 use call_routing::{Asked, Command, Leg, Phase, Side, Told, Tone};
 
@@ -158,6 +158,34 @@ pub fn off_hook_means_that_it_was_on_hook()
         ≡ Some Phase.Dialling }
 {}
 
+/// A request that the hook state rules out tells it: the handset was put back before a tone was asked for, or lifted before the
+/// ringing was.
+pub fn a_refused_request_tells_the_hook_state()
+    ensures put_back { sent_at (tells 0 Told.OffHook ∷ []) (coded 0 402) ≡ (0, Command.Ask Asked.Rest) ∷ [] }
+    ensures rests { phase_then 0 (tells 0 Told.OffHook ∷ coded 0 402 ∷ []) ≡ Some Phase.Resting }
+    ensures caller { phase_then 1 (dial ++ coded 0 402 ∷ []) ≡ Some Phase.Resting }
+    ensures lifted { phase_then 0 (dial ++ coded 1 401 ∷ []) ≡ Some (Phase.Hearing Tone.Busy) }
+    ensures not_rung { phase_then 1 (dial ++ coded 1 401 ∷ []) ≡ Some Phase.Resting }
+    ensures answered { phase_then 1 (dial ++ tells 1 Told.OffHook ∷ coded 1 401 ∷ [])
+        ≡ phase_then 1 (dial ++ tells 1 Told.OffHook ∷ []) }
+    ensures rung { phase_then 0 (tells 0 Told.OffHook ∷ tells 0 Told.OnHook ∷ tells 2 Told.OffHook ∷ tells 2 (Told.Dialled (Some 0))
+        ∷ coded 0 402 ∷ []) ≡ Some (Phase.InCall (other_end 2 (caller_of 1 0))) }
+    ensures other_code { phase_then 0 (tells 0 Told.OffHook ∷ coded 0 400 ∷ []) ≡ Some Phase.Dialling }
+    ensures of_a_connection { phase_then 0 (pick_up ++ coded 0 402 ∷ []) ≡ Some (Phase.Hearing Tone.Reorder) }
+{}
+
+/// A gateway that restarts has forgotten what it was told: its lines rest, and are told all anew; a connection that it has no more is
+/// deleted none the less. A line that was disconnected is asked anew.
+pub fn a_restart_begins_anew()
+    ensures phase { phase_then 0 (connect ++ tells 0 Told.Restarted ∷ []) ≡ Some Phase.Resting }
+    ensures other { phase_then 1 (connect ++ tells 0 Told.Restarted ∷ []) ≡ Some (Phase.Hearing Tone.Reorder) }
+    ensures connection { sent_at connect (tells 0 Told.Restarted) ≡ (0, Command.Delete 1) ∷ (1, Command.Delete 1) ∷ [] }
+    ensures unknown { sent_at (connect ++ tells 0 Told.Restarted ∷ []) (coded 0 516) ≡ (0, Command.Ask Asked.Rest) ∷ [] }
+    ensures rests { sent_at [] (tells 2 Told.Restarted) ≡ (2, Command.Ask Asked.Rest) ∷ [] }
+    ensures disconnected { sent_at connect (tells 0 Told.Disconnected) ≡ (0, Command.Ask Asked.Talk) ∷ [] }
+    ensures goes_on { phase_then 0 (connect ++ tells 0 Told.Disconnected ∷ []) ≡ phase_then 0 connect }
+{}
+
 /// What a line tells uses its request up, also one that is in flight then: the line is asked anew once that is answered.
 pub fn a_request_is_used_up()
     ensures anew { sent_at [] (tells 0 Told.Flash) ≡ (0, Command.Ask Asked.Rest) ∷ [] }
@@ -241,5 +269,7 @@ pub fn turns_are_counted()
     ensures other { leaves_alone 0 (tells 1 (Told.Dialled (Some 1))) ≡ true }
     ensures wrong { leaves_alone 0 (tells 1 (Told.Dialled None)) ≡ true }
     ensures off_hook { leaves_alone 0 (tells 1 Told.OffHook) ≡ true }
+    ensures restart { leaves_alone 0 (tells 1 Told.Restarted) ≡ true }
+    ensures disconnected { leaves_alone 0 (tells 1 Told.Disconnected) ≡ true }
     ensures command { leaves_alone 0 (sends 0) ≡ true }
 {}

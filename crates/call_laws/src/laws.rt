@@ -4,8 +4,8 @@ ghost use Rattle.std.specs.Prelude.{◌≡◌, ◌≢◌, ◌+◌, ◌≤◌, �
 ghost use Rattle.call_routing.specs.declared.phase.Part.{Part};
 ghost use Rattle.call_routing.specs.declared.phase.Phase.{Phase};
 ghost use Rattle.call_routing.specs.declared.phase.Phase.TheVariants.{Resting, InCall};
-ghost use Rattle.call_routing.specs.declared.phase.Tone.TheVariants.{Busy};
-ghost use Rattle.call_routing.specs.declared.told.Told.TheVariants.{OnHook};
+ghost use Rattle.call_routing.specs.declared.phase.Tone.TheVariants.{Busy, Reorder};
+ghost use Rattle.call_routing.specs.declared.told.Told.TheVariants.{OnHook, Restarted};
 ghost use Rattle.call_routing.specs.declared.command.Command.{Command};
 ghost use Rattle.call_routing.specs.declared.line.Leg.TheVariants.{Standing};
 ghost use Rattle.call_routing.specs.Phases.{other_end, left};
@@ -39,6 +39,17 @@ pub fn on_hook_ends_the_call()
         phase_of (after (opening count last) turns) line ≡ Some (InCall part) →
         phase_of (told (after (opening count last) turns) line OnHook) part.other
         ≡ Some (left Busy (other_end line part)) }
+{}
+
+/// A restart of its gateway ends the call of a line, whatever its phase is: the line rests, and so comes to rest at its gateway
+/// (`a_line_that_hung_up_comes_to_rest`); the other end hears the reorder tone, or rings no more.
+pub fn a_restart_ends_the_call()
+    ensures here { (exchange : ExchangeState) (line : ℕ) (phase : Phase) → phase_of exchange line ≡ Some phase →
+        phase_of (told exchange line Restarted) line ≡ Some Resting }
+    ensures there { (count last line : ℕ) (turns : List Turn) (part : Part) →
+        phase_of (after (opening count last) turns) line ≡ Some (InCall part) →
+        phase_of (told (after (opening count last) turns) line Restarted) part.other
+        ≡ Some (left Reorder (other_end line part)) }
 {}
 
 /// A line that rests comes to rest at its gateway too. As long as its telephone is left alone and nobody dials it, it stays in no

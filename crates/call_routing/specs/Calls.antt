@@ -1,6 +1,8 @@
 -- The calls of an exchange: what telephones, and ends that can't be connected, make of the phases of its lines. The tones are
 -- this exchange's profile.
 use Rattle.std.specs.Prelude.{ℕ, ◌+◌, nat_lt, if◌then◌else◌, true, false, List, Option, Some, None, replicate, slice_get, slice_set}
+use Rattle.mg_packages.specs.declared.hook.Hook.{Hook}
+use Rattle.mg_packages.specs.declared.hook.Hook.TheVariants as hooks
 use Rattle.call_routing.specs.declared.phase.Side.TheVariants.{Caller}
 use Rattle.call_routing.specs.declared.phase.Part.{Part}
 use Rattle.call_routing.specs.declared.phase.Tone.{Tone}
@@ -8,7 +10,7 @@ use Rattle.call_routing.specs.declared.phase.Tone.TheVariants.{Busy, Reorder}
 use Rattle.call_routing.specs.declared.phase.Phase.{Phase}
 use Rattle.call_routing.specs.declared.phase.Phase.TheVariants.{Resting, Dialling, Hearing, InCall}
 use Rattle.call_routing.specs.declared.told.Told.{Told}
-use Rattle.call_routing.specs.declared.told.Told.TheVariants.{OffHook, OnHook, Flash, Dialled, TimedOut}
+use Rattle.call_routing.specs.declared.told.Told.TheVariants.{OffHook, OnHook, Flash, Dialled, TimedOut, Restarted, Disconnected}
 use Rattle.call_routing.specs.Phases.{other_end, left, ringing_in, is_free, is_in, waits}
 
 -- the number of the last call, and the phase of each line
@@ -118,6 +120,8 @@ heard calls line OnHook = record calls { phases = hung_up calls.phases line }
 heard calls line Flash = calls
 heard calls line (Dialled to) = dialled calls line to
 heard calls line TimedOut = record calls { phases = timed_out calls.phases line }
+heard calls line Restarted = record calls { phases = turned Reorder calls.phases line Resting }
+heard calls line Disconnected = calls
 
 -- Gateways
 
@@ -126,3 +130,15 @@ unfoldable pub failed : List Phase → ℕ → Option ℕ → List Phase
 failed phases line None = phases
 failed phases line (Some call) =
     if is_in call (slice_get phases line) then cut_off Reorder phases line else phases
+
+-- How the telephone was found by a request. One that lies on its hook and doesn't ring was hung up, and one that is off hook where it
+-- should ring is busy.
+abbrev pub found_in : List Phase → ℕ → Hook → Option Part → List Phase
+found_in phases line hooks.OnHook None = hung_up phases line
+found_in phases line hooks.OnHook (Some part) = phases
+found_in phases line hooks.OffHook None = phases
+found_in phases line hooks.OffHook (Some part) = parted Busy phases line part
+
+unfoldable pub found : List Phase → ℕ → Option Hook → List Phase
+found phases line None = phases
+found phases line (Some hook) = found_in phases line hook (ringing_in (slice_get phases line))

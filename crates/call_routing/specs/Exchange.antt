@@ -6,8 +6,8 @@ use Rattle.call_routing.specs.declared.phase.Phase.{Phase}
 use Rattle.call_routing.specs.declared.line.Line.{Line}
 use Rattle.call_routing.specs.declared.told.Told.{Told}
 use Rattle.call_routing.specs.Phases.{talks_in}
-use Rattle.call_routing.specs.Calls.{CallState, all_resting, heard, failed}
-use Rattle.call_routing.specs.Line.{new_line, sent, landed, failing, spent}
+use Rattle.call_routing.specs.Calls.{CallState, all_resting, heard, failed, found}
+use Rattle.call_routing.specs.Line.{new_line, sent, landed, failing, finding, spent}
 use Rattle.call_routing.specs.Next.{is_ready, next_of}
 
 -- the lines stand in one order in both
@@ -41,14 +41,19 @@ unfoldable pub told : ExchangeState → ℕ → Told → ExchangeState
 told exchange line event =
     record { calls = heard exchange.calls line event; lines = changed spent exchange.lines line }
 
-abbrev pub failing_on : Option Line → Outcome → Option ℕ
-failing_on None outcome = None
-failing_on (Some is) outcome = failing is.flight outcome
+-- the command in flight
+abbrev pub flight_in : Option Line → Option Command
+flight_in None = None
+flight_in (Some is) = is.flight
 
--- what became of the command in flight to a line: a call that can't be connected by that is over for both ends
+-- a call that can't be connected by what became of this command is over for both ends; and how it found the telephone
+abbrev pub settled : List Phase → ℕ → Option Command → Outcome → List Phase
+settled phases line flight outcome = found (failed phases line (failing flight outcome)) line (finding flight outcome)
+
+-- what became of the command in flight to a line
 unfoldable pub answered : ExchangeState → ℕ → Outcome → ExchangeState
 answered exchange line outcome = record {
-  calls = record exchange.calls { phases = failed exchange.calls.phases line (failing_on (line_of exchange line) outcome) };
+  calls = record exchange.calls { phases = settled exchange.calls.phases line (flight_in (line_of exchange line)) outcome };
   lines = changed (landed outcome) exchange.lines line;
 }
 

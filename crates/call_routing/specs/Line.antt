@@ -1,5 +1,7 @@
 -- What an exchange knows of a line at its gateway, and how that changes by the commands to it and what becomes of them.
-use Rattle.std.specs.Prelude.{ℕ, ◌&&◌, ◌||◌, nat_le, nat_lt, if◌then◌else◌, Bool, true, false, Option, Some, None}
+use Rattle.std.specs.Prelude.{ℕ, ◌==◌, ◌&&◌, ◌||◌, nat_le, nat_lt, if◌then◌else◌, Bool, true, false, Option, Some, None}
+use Rattle.mg_packages.specs.declared.hook.Hook.{Hook}
+use Rattle.mg_packages.specs.declared.hook.Hook.TheVariants.{OnHook, OffHook}
 use Rattle.call_routing.specs.declared.asked.Asked.{Asked}
 use Rattle.call_routing.specs.declared.command.Command.{Command}
 use Rattle.call_routing.specs.declared.command.Command.TheVariants.{Ask, Create, Modify, Delete}
@@ -79,6 +81,24 @@ failing (Some (Ask asked)) outcome = None
 failing (Some (Create call joined)) outcome = if is_created outcome then None else Some call
 failing (Some (Modify call)) outcome = if is_accepted outcome then None else Some call
 failing (Some (Delete call)) outcome = None
+
+-- A request that the hook state of the telephone rules out is refused by a code that tells it (RFC 3435, 2.4): off hook already, or
+-- on hook already.
+abbrev pub hook_told : ℕ → Option Hook
+hook_told code = if code == 401 then Some OffHook else (if code == 402 then Some OnHook else None)
+
+abbrev pub hook_in : Outcome → Option Hook
+hook_in (Created connection description) = None
+hook_in (Answered code) = hook_told code
+hook_in GivenUp = None
+
+-- how the telephone was found by that
+abbrev pub finding : Option Command → Outcome → Option Hook
+finding None outcome = None
+finding (Some (Ask asked)) outcome = hook_in outcome
+finding (Some (Create call joined)) outcome = None
+finding (Some (Modify call)) outcome = None
+finding (Some (Delete call)) outcome = None
 
 -- A line that told something has used its request up, and waits for another (RFC 3435, 4.4.1).
 abbrev pub spent : Line → Line

@@ -1,10 +1,11 @@
 //! The calls of an exchange.
 ghost use Rattle.std.specs.Prelude.{◌≡◌, ◌<◌, IfOk, slice_get, slice_set};
-ghost use Rattle.call_routing.specs.Calls.{all_resting, joined, parted, cut_off, turned, picked_up, put_through, reached, dialled, timed_out, heard, failed};
+ghost use Rattle.call_routing.specs.Calls.{all_resting, joined, parted, cut_off, turned, picked_up, put_through, reached, dialled, timed_out, heard, failed, found};
 
 use crate::phase::{Part, Phase, Side, Tone, is_free, is_in, left, other_end, ringing_in, waits};
 use crate::told::Told;
 use mg_bytes::OutOfMemory;
+use mg_packages::Hook;
 use std::alloc::Global;
 use std::marker::Model;
 
@@ -69,11 +70,11 @@ fn cut_off(phases: &mut Vec<Phase>, line: usize, tone: Tone)
     }
 }
 
-// The line goes to another phase, and a call that it was in is over: the other end hears the busy tone.
-fn turn_to(phases: &mut Vec<Phase>, line: usize, phase: Phase)
-    ensures { phases.new.items ≡ turned Tone.Busy phases.old.items line phase }
+// The line goes to another phase, and a call that it was in is over: the other end hears this tone.
+fn turn_to(phases: &mut Vec<Phase>, line: usize, phase: Phase, tone: Tone)
+    ensures { phases.new.items ≡ turned tone phases.old.items line phase }
 {
-    cut_off(phases, line, Tone::Busy);
+    cut_off(phases, line, tone);
     set_phase(phases, line, phase);
 }
 
@@ -91,7 +92,7 @@ fn pick_up(phases: &mut Vec<Phase>, line: usize)
                 ..part
             },
         ),
-        None => turn_to(phases, line, Phase::Dialling),
+        None => turn_to(phases, line, Phase::Dialling, Tone::Busy),
     }
 }
 
@@ -199,8 +200,9 @@ impl Calls {
     {
         match told {
             Told::OffHook => pick_up(&mut self.phases, line),
-            Told::OnHook => turn_to(&mut self.phases, line, Phase::Resting),
-            Told::Flash => {}
+            Told::OnHook => turn_to(&mut self.phases, line, Phase::Resting, Tone::Busy),
+            Told::Restarted => turn_to(&mut self.phases, line, Phase::Resting, Tone::Reorder),
+            Told::Flash | Told::Disconnected => {}
             Told::Dialled(to) => self.dial(line, to),
             Told::TimedOut => time_out(&mut self.phases, line),
         }
@@ -217,6 +219,22 @@ impl Calls {
         };
         if is_in(call, phase_at(&self.phases, line)) {
             cut_off(&mut self.phases, line, Tone::Reorder);
+        }
+    }
+
+    /// How the telephone of a line was found, if that is known: one on hook that doesn't ring was hung up, and one off hook that
+    /// should ring is busy. It takes no memory.
+    #[tactic(auto, unfolding(crate::specs::Calls::found))]
+    pub(crate) fn find(&mut self, line: usize, hook: Option<Hook>)
+        ensures { self.new ≡ record self.old { phases = found self.old.phases line hook } }
+    {
+        let Some(hook) = hook else {
+            return;
+        };
+        match (hook, ringing_in(phase_at(&self.phases, line))) {
+            (Hook::OnHook, None) => turn_to(&mut self.phases, line, Phase::Resting, Tone::Busy),
+            (Hook::OffHook, Some(part)) => part_ends(&mut self.phases, line, part, Tone::Busy),
+            (Hook::OnHook, Some(_)) | (Hook::OffHook, None) => {}
         }
     }
 }

@@ -1,12 +1,12 @@
 //! An exchange.
 ghost use Rattle.std.specs.Prelude.{◌≡◌, IfOk, option_copied, length, slice_get};
 ghost use Rattle.call_routing.specs.Line.{sent, landed, spent};
-ghost use Rattle.call_routing.specs.Exchange.{new_lines, opening, phase_of, line_of, changed, told, failing_on, answered, due, sent_to};
+ghost use Rattle.call_routing.specs.Exchange.{new_lines, opening, phase_of, line_of, changed, told, flight_in, answered, due, sent_to};
 ghost use Rattle.call_routing.specs.Parameters.{description_of_other, parameters_of};
 
 use crate::calls::Calls;
 use crate::command::{Command, Outcome};
-use crate::line::{Line, failing};
+use crate::line::{Line, failing, finding};
 use crate::next::{is_ready, next_of};
 use crate::parameters::{description_in, flight_lines};
 use crate::phase::{Phase, talks_in};
@@ -75,12 +75,12 @@ fn send_on(lines: &mut Vec<Line>, line: usize, command: Command)
     lines[line].send(command);
 }
 
-// The call that can't be connected by what became of the command in flight to a line.
-fn failing_on(lines: &[Line], line: usize, outcome: &Outcome) -> Option<u64>
-    ensures { result ≡ failing_on (slice_get lines.now line) outcome.now }
+// The command in flight to a line.
+fn flight_at(lines: &[Line], line: usize) -> Option<Command>
+    ensures { result ≡ flight_in (slice_get lines.now line) }
 {
     match lines.get(line) {
-        Some(one) => failing(one.flight, outcome),
+        Some(one) => one.flight,
         None => None,
     }
 }
@@ -133,13 +133,15 @@ impl Exchange {
         spend_on(&mut self.lines, line);
     }
 
-    /// What became of the command in flight to a line. Where none is, nothing happens.
+    /// What became of the command in flight to a line. Where none is, nothing happens. A request that was refused because the
+    /// telephone is on hook already, or off hook, tells that (402, 401; RFC 3435, 2.4).
     #[tactic(auto, unfolding(crate::specs::Exchange::answered))]
     pub fn answer(&mut self, line: usize, outcome: Outcome)
         ensures { self.new ≡ answered self.old line outcome }
     {
-        let call = failing_on(&self.lines, line, &outcome);
-        self.calls.fail(line, call);
+        let flight = flight_at(&self.lines, line);
+        self.calls.fail(line, failing(flight, &outcome));
+        self.calls.find(line, finding(flight, &outcome));
         land_on(&mut self.lines, line, outcome);
     }
 

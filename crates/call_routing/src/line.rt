@@ -1,10 +1,11 @@
 //! A line, as its gateway has it.
 ghost use Rattle.std.specs.Prelude.{◌≡◌};
-ghost use Rattle.call_routing.specs.Line.{new_line, sent, landed, failing, spent, created_then};
+ghost use Rattle.call_routing.specs.Line.{new_line, sent, landed, failing, hook_in, finding, spent, created_then};
 
 use crate::asked::Asked;
 use crate::command::{Command, Outcome, is_accepted, is_created, is_given_up, is_success};
 use mg_bytes::{Identifier, Text};
+use mg_packages::Hook;
 
 /// The connection of a line.
 #[derive(Drop)]
@@ -147,5 +148,34 @@ pub(crate) fn failing(flight: Option<Command>, outcome: &Outcome) -> Option<u64>
             }
         }
         Some(Command::Ask(_) | Command::Delete { .. }) | None => None,
+    }
+}
+
+// The hook state of the telephone, by which it was refused what it was asked for (RFC 3435, 2.4).
+fn hook_in(outcome: &Outcome) -> Option<Hook>
+    ensures { result ≡ hook_in outcome.now }
+{
+    match outcome {
+        Outcome::Answered(code) => {
+            if *code == 401 {
+                Some(Hook::OffHook)
+            } else if *code == 402 {
+                Some(Hook::OnHook)
+            } else {
+                None
+            }
+        }
+        Outcome::Created { .. } | Outcome::GivenUp => None,
+    }
+}
+
+// How the telephone was found by this command.
+pub(crate) fn finding(flight: Option<Command>, outcome: &Outcome) -> Option<Hook>
+    ensures { result ≡ finding flight outcome.now }
+{
+    match flight {
+        Some(Command::Ask(_)) => hook_in(outcome),
+        Some(Command::Create { .. } | Command::Modify { .. } | Command::Delete { .. }) | None =>
+            None,
     }
 }

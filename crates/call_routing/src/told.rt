@@ -22,6 +22,11 @@ pub enum Told {
     /// A signal of the line ended by its time (`L/oc`, `G/oc`): its dial tone, or the ringing of its call. Or its owner's own
     /// time for that is over.
     TimedOut,
+    /// Its gateway restarted (RSIP; RFC 3435, 2.3.12): the line rests, and is told all anew. It is to be told of each line.
+    Restarted,
+    /// It lost its call agent, and has it again (RSIP with `disconnected`; RFC 3435, 4.4.7): what it told last may be lost, so it is
+    /// asked anew.
+    Disconnected,
 }
 
 // The event that was told last.
