@@ -5,6 +5,7 @@
 
 mod bytes;
 mod capturing;
+mod checks;
 mod commands;
 mod descriptions;
 mod logged;
@@ -59,6 +60,9 @@ fn put_answer(alloc: Global, out: &mut Vec<u8>, call: &str, value: &[u8]) -> io:
         return done;
     }
     if let Some(done) = capturing::put_answer(alloc, out, call, value) {
+        return done;
+    }
+    if let Some(done) = checks::put_answer(alloc, out, call, value) {
         return done;
     }
     if let Some(done) = logged::put_answer(alloc, out, call, value) {

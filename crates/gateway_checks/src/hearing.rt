@@ -1,0 +1,86 @@
+//! What a text that comes is to a call agent.
+ghost use Rattle.std.specs.Prelude.{◌≡◌};
+ghost use Rattle.gateway_checks.specs.Judging.{is_provisional};
+
+use mg_bytes::OutOfMemory;
+use mgcp_text::{Message, TextFault, param_at, read_message};
+use piggyback::parts;
+use std::alloc::{AllocError, Global};
+
+/// What a text is.
+#[derive(Clone, Copy)]
+pub(crate) enum Heard {
+    /// The response to the command with this id, with this return code.
+    Answer { id: u32, code: u16 },
+    /// A response behind which the answer is still to come (RFC 3435, 3.5.6).
+    Provisional,
+    /// A command of the gateway's, which wants a response.
+    Command { id: u32 },
+    /// No message.
+    Nothing,
+}
+
+/// Whether the answer is still to come behind a response with this return code (RFC 3435, 2.4).
+pub(crate) fn is_provisional(code: u16) -> bool
+    ensures { result ≡ is_provisional code }
+{
+    100 <= code && code <= 199
+}
+
+fn heard_in(message: &Message<'_>) -> Heard {
+    match message {
+        Message::Response { code, .. } if is_provisional(*code) => Heard::Provisional,
+        Message::Response { code, id, .. } => Heard::Answer {
+            id: id.number(),
+            code: *code,
+        },
+        Message::Command { id, .. } => Heard::Command { id: id.number() },
+    }
+}
+
+/// What a text is.
+pub(crate) fn hear_text(alloc: Global, text: &[u8]) -> Result<Heard, OutOfMemory> {
+    match read_message(alloc, text) {
+        Ok(message) => Ok(heard_in(&message)),
+        Err(TextFault::OutOfMemory) => Err(AllocError),
+        Err(_) => Ok(Heard::Nothing),
+    }
+}
+
+// The value of the first parameter with this code.
+fn value_in(
+    alloc: Global,
+    message: &Message<'_>,
+    code: &str,
+) -> Result<Option<String>, OutOfMemory> {
+    match param_at(code.as_bytes(), message.params()) {
+        Some(param) => Ok(Some(String::from_utf8_lossy(alloc, param.value.as_slice())?)),
+        None => Ok(None),
+    }
+}
+
+/// The value of the first parameter with this code in a text.
+pub(crate) fn value_of(
+    alloc: Global,
+    text: &[u8],
+    code: &str,
+) -> Result<Option<String>, OutOfMemory> {
+    match read_message(alloc, text) {
+        Ok(message) => value_in(alloc, &message, code),
+        Err(TextFault::OutOfMemory) => Err(AllocError),
+        Err(_) => Ok(None),
+    }
+}
+
+/// Puts the responses to the commands of a datagram: a gateway that announces itself waits for one.
+pub fn put_responses(alloc: Global, out: &mut String, datagram: &[u8]) -> Result<(), OutOfMemory> {
+    for text in parts(datagram) {
+        if let Heard::Command { id } = hear_text(alloc, text)? {
+            if !out.is_empty() {
+                out.push_str(".\r\n")?;
+            }
+            write!(out, "200 {id} OK\r\n")?;
+        }
+    }
+    Ok(())
+}

@@ -1,0 +1,129 @@
+//! What the names in braces stand for.
+use mg_bytes::OutOfMemory;
+use std::alloc::Global;
+
+// A session description: G.711 to and from the machine's own address.
+const SDP: &str =
+    "v=0 / o=- 1 1 IN IP4 127.0.0.1 / s=- / c=IN IP4 127.0.0.1 / t=0 0 / m=audio 40000 RTP/AVP 0 8";
+
+/// A value that an answer gave, and its name.
+#[derive(Drop)]
+struct Kept<'a> {
+    name: &'a str,
+    value: String,
+}
+
+/// What the names of a check stand for.
+#[derive(Drop)]
+pub struct Names<'a> {
+    alloc: Global,
+    domain: &'a str,
+    local: &'a str,
+    other: &'a str,
+    // The number before its first transaction id, which is that of its call.
+    base: u32,
+    kept: Vec<Kept<'a>>,
+}
+
+impl<'a> Names<'a> {
+    /// The names of a check at this line of a domain, with another line; its transaction ids are the nine behind `base`.
+    pub fn new(
+        alloc: Global,
+        domain: &'a str,
+        local: &'a str,
+        other: &'a str,
+        base: u32,
+    ) -> Names<'a> {
+        Names {
+            alloc,
+            domain,
+            local,
+            other,
+            base,
+            kept: Vec::new(alloc),
+        }
+    }
+
+    /// Whether an id isn't one of an earlier check's: those have the thousand before.
+    pub(crate) fn is_own(&self, id: u32) -> bool {
+        id >= self.base || id < self.base.saturating_sub(1000)
+    }
+
+    /// Gives a value a name.
+    pub(crate) fn keep(&mut self, name: &'a str, value: String) -> Result<(), OutOfMemory> {
+        self.kept.push(Kept { name, value })?;
+        Ok(())
+    }
+
+    // Puts the value that has a name; the name in its braces where none has it.
+    fn put_kept(&self, out: &mut String, name: &str) -> Result<(), OutOfMemory> {
+        for kept in &self.kept {
+            if kept.name == name {
+                return out.push_str(kept.value.as_str());
+            }
+        }
+        write!(out, "{{{name}}}")
+    }
+
+    // Puts the line's name in upper case.
+    fn put_upper(&self, out: &mut String) -> Result<(), OutOfMemory> {
+        for letter in self.local.chars() {
+            out.push(letter.to_ascii_uppercase())?;
+        }
+        out.push('@')?;
+        for letter in self.domain.chars() {
+            out.push(letter.to_ascii_uppercase())?;
+        }
+        Ok(())
+    }
+
+    // Puts what a name stands for.
+    fn put(&self, out: &mut String, name: &str) -> Result<(), OutOfMemory> {
+        if let Ok(digit) = name.parse::<u32>() {
+            let id = self.base.saturating_add(digit);
+            return write!(out, "{id}");
+        }
+        match name {
+            "line" => write!(out, "{}@{}", self.local, self.domain),
+            "LINE" => self.put_upper(out),
+            "other" => write!(out, "{}@{}", self.other, self.domain),
+            "local" => out.push_str(self.local),
+            "domain" => out.push_str(self.domain),
+            "call" => write!(out, "{}", self.base),
+            "sdp" => out.push_str(SDP),
+            _ => self.put_kept(out, name),
+        }
+    }
+
+    /// A text with what its names stand for.
+    pub(crate) fn filled(&self, text: &str) -> Result<String, OutOfMemory> {
+        let mut out = String::new(self.alloc);
+        let mut pieces = text.split('{');
+        out.push_str(pieces.next().unwrap_or(""))?;
+        for piece in pieces {
+            let (name, after) = piece.split_once('}').unwrap_or((piece, ""));
+            self.put(&mut out, name)?;
+            out.push_str(after)?;
+        }
+        Ok(out)
+    }
+
+    /// The transaction id that a text says; 0 where it says none.
+    pub(crate) fn id_in(&self, text: &str) -> Result<u32, OutOfMemory> {
+        let digits = self.filled(text)?;
+        Ok(digits.parse::<u32>().unwrap_or(0))
+    }
+
+    /// The bytes of a datagram that a step sends: each of its lines ends in CRLF, or as its text says.
+    pub(crate) fn datagram(&self, text: &str) -> Result<Vec<u8>, OutOfMemory> {
+        let alloc = self.alloc;
+        let mut text = self.filled(text)?;
+        text = text.replace(alloc, " / ", "\r\n")?;
+        text = text.replace(alloc, "\\t", "\t")?;
+        text = text.replace(alloc, "\\n", "\n")?;
+        if !text.ends_with('\n') {
+            text.push_str("\r\n")?;
+        }
+        Vec::from_slice(alloc, text.as_bytes())
+    }
+}

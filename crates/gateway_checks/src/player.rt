@@ -1,0 +1,383 @@
+//! Plays a check: what is to be sent, until when something is waited for, and what comes of it.
+ghost use Rattle.std.specs.Prelude.{◌≡◌, ◌+◌, min, true, false, Some, None, IfSome};
+ghost use Rattle.gateway_checks.specs.Judging.{judged, settled, verdict_of};
+
+use crate::check::Check;
+use crate::dialogue::put_said;
+use crate::hearing::{Heard, hear_text, value_of};
+use crate::inbox::{Arrived, Inbox};
+use crate::judging::{Fault, Verdict, judged, settled, verdict_of};
+use crate::names::Names;
+use crate::socket::Socket;
+use crate::step::{Step, step_of};
+use mg_bytes::{OutOfMemory, same_no_case};
+use piggyback::parts;
+use std::alloc::Global;
+
+// So long an answer is waited for, in ms.
+const ANSWER_TIME: u64 = 2000;
+
+// No check has more steps, those that undo it among them.
+const MOST_STEPS: u32 = 1000;
+
+/// What a player asks of who plays it.
+#[derive(Clone, Copy)]
+pub enum Turn {
+    /// What `sent` gives is to be sent from this socket.
+    Send { from: Socket },
+    /// What comes until this moment is to be given to it, in ms.
+    Wait { until: u64 },
+    /// The check is over.
+    Over,
+}
+
+/// A check that is played at a gateway. After an error it isn't used any more.
+#[derive(Drop)]
+pub struct Player<'a> {
+    alloc: Global,
+    names: Names<'a>,
+    is_open: bool,
+    // The lines that are left, those that undo it, and whether these are played.
+    lines: &'a str,
+    undo: &'a str,
+    is_undoing: bool,
+    // The step that isn't done yet, with its line, and until when it waits.
+    step: Option<Step<'a>>,
+    line: &'a str,
+    until: Option<u64>,
+    // What was sent last, from where, and the answers.
+    sent: Vec<u8>,
+    from: Socket,
+    inbox: Inbox,
+    // What is at fault, and what was said.
+    fault: Option<Fault>,
+    said: String,
+    due: String,
+}
+
+// Whether a code is among these, which have `|` between them.
+fn is_among(codes: &str, code: u16) -> bool {
+    for word in codes.split('|') {
+        if let Ok(number) = word.parse::<u16>()
+            && number == code
+        {
+            return true;
+        }
+    }
+    false
+}
+
+impl<'a> Player<'a> {
+    /// A check at its beginning.
+    pub fn new(alloc: Global, check: &Check<'a>, names: Names<'a>) -> Player<'a> {
+        Player {
+            alloc,
+            names,
+            is_open: check.is_open(),
+            lines: check.steps,
+            undo: check.undo,
+            is_undoing: false,
+            step: None,
+            line: "",
+            until: None,
+            sent: Vec::new(alloc),
+            from: Socket::First,
+            inbox: Inbox::new(alloc),
+            fault: None,
+            said: String::new(alloc),
+            due: String::new(alloc),
+        }
+    }
+
+    /// What is to be sent.
+    pub fn sent(&self) -> &[u8] {
+        self.sent.as_slice()
+    }
+
+    /// What comes of the check, as far as it has been played.
+    pub fn verdict(&self) -> Verdict
+        ensures { result ≡ verdict_of self.now.is_open self.now.fault }
+    {
+        verdict_of(self.is_open, self.fault)
+    }
+
+    /// What was said, a line for each datagram; and what was due where that isn't what came.
+    pub fn said(&self) -> &str {
+        self.said.as_str()
+    }
+
+    /// What was due where something else came; empty where nothing did.
+    pub fn due(&self) -> &str {
+        self.due.as_str()
+    }
+
+    /// Whether the gateway has answered what was asked.
+    pub fn has_answer(&self) -> bool {
+        !self.inbox.last().is_empty()
+    }
+
+    // Notes what came or went; what undoes the check isn't told.
+    fn note(&mut self, mark: &str, bytes: &[u8]) -> Result<(), OutOfMemory>
+        ensures { self.new.fault ≡ self.old.fault }
+    {
+        if self.is_undoing {
+            return Ok(());
+        }
+        put_said(&mut self.said, mark, bytes)
+    }
+
+    // The step is done, with this fault in it or none. The first fault is told; those of steps that undo the check don't
+    // count.
+    fn finish(&mut self, fault: Option<Fault>) -> Result<(), OutOfMemory>
+        ensures counts { self.old.is_undoing ≡ false → self.new.fault ≡ settled self.old.fault fault }
+        ensures undoes { self.old.is_undoing ≡ true → self.new.fault ≡ self.old.fault }
+    {
+        self.step = None;
+        if self.is_undoing {
+            return Ok(());
+        }
+        let was_faultless = self.fault.is_none();
+        self.fault = settled(self.fault, fault);
+        if was_faultless && fault.is_some() {
+            self.due = self.names.filled(self.line)?;
+            put_said(&mut self.said, "! due: ", self.due.as_bytes())?;
+        }
+        Ok(())
+    }
+
+    // The step is done, and met or not.
+    fn finish_met(&mut self, is_met: bool) -> Result<Option<Turn>, OutOfMemory>
+        ensures counts { self.old.is_undoing ≡ false
+            → self.new.fault ≡ settled self.old.fault (judged is_met false 0) }
+        ensures undoes { self.old.is_undoing ≡ true → self.new.fault ≡ self.old.fault }
+    {
+        self.finish(judged(is_met, false, 0))?;
+        Ok(None)
+    }
+
+    // The step that is to be played, if one is left. The first fault ends the check, and what undoes it comes last.
+    fn next_step(&mut self) -> Option<Step<'a>> {
+        if self.step.is_some() {
+            return self.step;
+        }
+        if !self.is_undoing && (self.fault.is_some() || self.lines.is_empty()) {
+            self.is_undoing = true;
+            self.lines = self.undo;
+        }
+        if self.lines.is_empty() {
+            return None;
+        }
+        let (line, lines) = self.lines.split_once('\n').unwrap_or((self.lines, ""));
+        self.lines = lines;
+        self.line = line;
+        self.until = None;
+        self.step = Some(step_of(line));
+        self.step
+    }
+
+    /// What is asked for at this moment, in ms. It is asked again once that was done.
+    pub fn turn(&mut self, now: u64) -> Result<Turn, OutOfMemory> {
+        for _ in 0..MOST_STEPS {
+            let Some(step) = self.next_step() else {
+                return Ok(Turn::Over);
+            };
+            if let Some(turn) = self.play(step, now)? {
+                return Ok(turn);
+            }
+        }
+        Ok(Turn::Over)
+    }
+
+    // Plays a step: what it asks for, or nothing where it is done.
+    fn play(&mut self, step: Step<'a>, now: u64) -> Result<Option<Turn>, OutOfMemory> {
+        match step {
+            Step::Send { from, text } => self.send(from, text),
+            Step::SendAgain { from } => self.send_now(from),
+            Step::Answer {
+                codes,
+                id,
+                is_optional,
+            } => self.answered(codes, id, is_optional, now),
+            Step::Same { id } => self.answered_again(id, now),
+            Step::Silence { ms } => self.silent(ms, now),
+            Step::Wait { ms } => self.waited(ms, now),
+            Step::Has { code, value } => self.has(code, value),
+            Step::Unlike { code, value } => self.unlike(code, value),
+            Step::Tells { text } => self.tells(text),
+            Step::Keep { name, code } => self.keep(name, code),
+            Step::Unknown => self.finish_met(false),
+        }
+    }
+
+    // What is there goes out from a socket.
+    fn send_now(&mut self, from: Socket) -> Result<Option<Turn>, OutOfMemory> {
+        self.from = from;
+        let mark = if from.is_second() { ">> " } else { "> " };
+        if !self.is_undoing {
+            put_said(&mut self.said, mark, self.sent.as_slice())?;
+        }
+        self.finish(None)?;
+        Ok(Some(Turn::Send { from }))
+    }
+
+    fn send(&mut self, from: Socket, text: &str) -> Result<Option<Turn>, OutOfMemory> {
+        self.sent = self.names.datagram(text)?;
+        self.send_now(from)
+    }
+
+    // Until when this step waits, which has begun now if it hasn't before.
+    fn deadline(&mut self, ms: u64, now: u64) -> u64
+        ensures stands { self.new.until ≡ Some result }
+        ensures stays { IfSome self.old.until (λ until. result ≡ until) }
+        ensures begins { self.old.until ≡ None → result ≡ min (now + ms) 18446744073709551615 }
+    {
+        match self.until {
+            Some(until) => until,
+            None => {
+                let until = now.saturating_add(ms);
+                self.until = Some(until);
+                until
+            }
+        }
+    }
+
+    // Waits for an answer; where none came in time the step isn't met.
+    fn await_answer(&mut self, now: u64) -> Result<Option<Turn>, OutOfMemory> {
+        let until = self.deadline(ANSWER_TIME, now);
+        if now < until {
+            return Ok(Some(Turn::Wait { until }));
+        }
+        self.finish_met(false)
+    }
+
+    // The answer with this id is to come, with one of these codes.
+    fn answered(
+        &mut self,
+        codes: &str,
+        id: &str,
+        is_optional: bool,
+        now: u64,
+    ) -> Result<Option<Turn>, OutOfMemory> {
+        let id = self.names.id_in(id)?;
+        let from = self.from;
+        match self.inbox.take(from, id)? {
+            Some(arrived) => {
+                let code = arrived.code;
+                self.inbox.keep(arrived)?;
+                self.finish(judged(is_among(codes, code), is_optional, code))?;
+                Ok(None)
+            }
+            None => self.await_answer(now),
+        }
+    }
+
+    // The answer with this id is to come again as it first came.
+    fn answered_again(&mut self, id: &str, now: u64) -> Result<Option<Turn>, OutOfMemory> {
+        let id = self.names.id_in(id)?;
+        let from = self.from;
+        match self.inbox.take(from, id)? {
+            Some(arrived) => {
+                let is_same = arrived.text.as_slice() == self.inbox.first_of(id);
+                self.finish_met(is_same)
+            }
+            None => self.await_answer(now),
+        }
+    }
+
+    // Nothing is to come for so long.
+    fn silent(&mut self, ms: u64, now: u64) -> Result<Option<Turn>, OutOfMemory> {
+        let until = self.deadline(ms, now);
+        if now < until && self.inbox.is_empty() {
+            return Ok(Some(Turn::Wait { until }));
+        }
+        let is_silent = self.inbox.is_empty();
+        if is_silent {
+            self.note("(nothing comes)", &[])?;
+        }
+        self.finish_met(is_silent)
+    }
+
+    // So long nothing is asked.
+    fn waited(&mut self, ms: u64, now: u64) -> Result<Option<Turn>, OutOfMemory> {
+        let until = self.deadline(ms, now);
+        if now < until {
+            return Ok(Some(Turn::Wait { until }));
+        }
+        self.finish_met(true)
+    }
+
+    // Whether a parameter of the last answer is this text, if it is there.
+    fn is_value(&self, code: &str, value: &str) -> Result<Option<bool>, OutOfMemory> {
+        let wanted = self.names.filled(value)?;
+        match value_of(self.alloc, self.inbox.last(), code)? {
+            Some(value) => Ok(Some(same_no_case(value.as_bytes(), wanted.as_bytes()))),
+            None => Ok(None),
+        }
+    }
+
+    fn has(&mut self, code: &str, value: &str) -> Result<Option<Turn>, OutOfMemory> {
+        let is_met = match self.is_value(code, value)? {
+            Some(is_value) => is_value || value.is_empty(),
+            None => false,
+        };
+        self.finish_met(is_met)
+    }
+
+    fn unlike(&mut self, code: &str, value: &str) -> Result<Option<Turn>, OutOfMemory> {
+        let is_met = match self.is_value(code, value)? {
+            Some(is_value) => !is_value,
+            None => false,
+        };
+        self.finish_met(is_met)
+    }
+
+    fn tells(&mut self, text: &str) -> Result<Option<Turn>, OutOfMemory> {
+        let answer = String::from_utf8_lossy(self.alloc, self.inbox.last())?;
+        let is_met = answer.as_str().contains(text);
+        self.finish_met(is_met)
+    }
+
+    fn keep(&mut self, name: &'a str, code: &str) -> Result<Option<Turn>, OutOfMemory> {
+        match value_of(self.alloc, self.inbox.last(), code)? {
+            Some(value) => {
+                self.names.keep(name, value)?;
+                self.finish_met(true)
+            }
+            None => self.finish_met(false),
+        }
+    }
+
+    // Whether an answer is waited for, and not silence.
+    fn awaits_answer(&self) -> bool {
+        match self.step {
+            Some(Step::Silence { .. } | Step::Wait { .. }) => false,
+            _ => true,
+        }
+    }
+
+    // A text has come to a socket. What is no message counts as an answer to nothing; behind a provisional response the
+    // answer is waited for anew (RFC 3435, 3.5.6).
+    fn hear(&mut self, at: Socket, text: &[u8]) -> Result<(), OutOfMemory> {
+        let (id, code) = match hear_text(self.alloc, text)? {
+            Heard::Answer { id, code } if self.names.is_own(id) => (id, code),
+            Heard::Answer { .. } | Heard::Command { .. } => return Ok(()),
+            Heard::Provisional if self.awaits_answer() => {
+                self.until = None;
+                return Ok(());
+            }
+            Heard::Provisional | Heard::Nothing => (0, 0),
+        };
+        let text = Vec::from_slice(self.alloc, text)?;
+        self.inbox.put(Arrived { at, id, code, text })
+    }
+
+    /// A datagram has come to a socket.
+    pub fn take(&mut self, at: Socket, datagram: &[u8]) -> Result<(), OutOfMemory> {
+        let mark = if at.is_second() { "<< " } else { "< " };
+        self.note(mark, datagram)?;
+        for text in parts(datagram) {
+            self.hear(at, text)?;
+        }
+        Ok(())
+    }
+}

@@ -1,0 +1,82 @@
+//! What is told of checks.
+ghost use Rattle.std.specs.Prelude.{◌≡◌, ◌==◌, if◌then◌else◌};
+
+use crate::check::Check;
+use crate::judging::Verdict;
+use mg_bytes::OutOfMemory;
+
+/// How many checks have come to what.
+#[derive(Clone, Copy)]
+pub struct Tally {
+    pub passed: u32,
+    pub failed: u32,
+    pub not_supported: u32,
+    pub not_played: u32,
+}
+
+impl Tally {
+    /// None yet.
+    pub const NONE: Tally = Tally {
+        passed: 0,
+        failed: 0,
+        not_supported: 0,
+        not_played: 0,
+    };
+
+    /// Counts a check, which came to this verdict, or wasn't played.
+    pub fn count(&mut self, verdict: Option<Verdict>) {
+        let number = match verdict {
+            Some(Verdict::Passed) => &mut self.passed,
+            Some(Verdict::Failed) => &mut self.failed,
+            Some(Verdict::NotSupported) => &mut self.not_supported,
+            None => &mut self.not_played,
+        };
+        *number = number.saturating_add(1);
+    }
+
+    /// The exit status: 0 where no check failed, 1 where one did.
+    pub fn status(&self) -> u8
+        ensures { result ≡ (if self.now.failed == 0 then 0 else 1) }
+    {
+        if self.failed == 0 { 0 } else { 1 }
+    }
+}
+
+/// What a verdict is called.
+pub fn word_of(verdict: Option<Verdict>) -> &'static str {
+    match verdict {
+        Some(Verdict::Passed) => "pass",
+        Some(Verdict::Failed) => "FAIL",
+        Some(Verdict::NotSupported) => "not supported",
+        None => "not played",
+    }
+}
+
+/// Puts a check: its verdict, its rule, and what was said.
+pub fn put_check(
+    out: &mut String,
+    check: &Check<'_>,
+    verdict: Option<Verdict>,
+    said: &str,
+) -> Result<(), OutOfMemory> {
+    let word = word_of(verdict);
+    write!(
+        out,
+        "{word:<14}{} ({}): {}\n",
+        check.name, check.sections, check.rule
+    )?;
+    for line in said.lines() {
+        write!(out, "    {line}\n")?;
+    }
+    Ok(())
+}
+
+/// Puts how many checks have come to what.
+pub fn put_tally(out: &mut String, tally: &Tally) -> Result<(), OutOfMemory> {
+    write!(out, "{} pass, {} fail, ", tally.passed, tally.failed)?;
+    write!(
+        out,
+        "{} not supported, {} not played\n",
+        tally.not_supported, tally.not_played
+    )
+}

@@ -1,0 +1,100 @@
+//! A step of a check, as a line of its text says it. The head of `checks.rt` has them all.
+use crate::socket::Socket;
+
+/// A step.
+#[derive(Clone, Copy)]
+pub(crate) enum Step<'a> {
+    /// This text is sent.
+    Send {
+        from: Socket,
+        text: &'a str,
+    },
+    /// What was sent last is sent again.
+    SendAgain {
+        from: Socket,
+    },
+    /// The answer with this id comes, with one of these codes.
+    Answer {
+        codes: &'a str,
+        id: &'a str,
+        is_optional: bool,
+    },
+    /// The answer with this id comes again.
+    Same {
+        id: &'a str,
+    },
+    /// No answer comes for so long, in ms.
+    Silence {
+        ms: u64,
+    },
+    /// So long nothing is asked, in ms.
+    Wait {
+        ms: u64,
+    },
+    /// The last answer has this parameter, and this value in it; without a value any.
+    Has {
+        code: &'a str,
+        value: &'a str,
+    },
+    /// It has this parameter with another value.
+    Unlike {
+        code: &'a str,
+        value: &'a str,
+    },
+    /// It holds this text.
+    Tells {
+        text: &'a str,
+    },
+    /// Its parameter's value has this name from here on.
+    Keep {
+        name: &'a str,
+        code: &'a str,
+    },
+    /// The line is no step.
+    Unknown,
+}
+
+// What is sent from a socket: a text, or the last one again.
+fn sent(from: Socket, text: &str) -> Step<'_> {
+    match text {
+        "again" => Step::SendAgain { from },
+        _ => Step::Send { from, text },
+    }
+}
+
+// So long, where these are digits.
+fn so_long(digits: &str) -> u64 {
+    digits.parse::<u64>().unwrap_or(0)
+}
+
+/// The step that a line is.
+pub(crate) fn step_of(line: &str) -> Step<'_> {
+    let (word, rest) = line.split_once(' ').unwrap_or((line, ""));
+    let (first, second) = rest.split_once(' ').unwrap_or((rest, ""));
+    match word {
+        ">" => sent(Socket::First, rest),
+        ">>" => sent(Socket::Second, rest),
+        "<" | "<?" => Step::Answer {
+            codes: first,
+            id: second,
+            is_optional: word == "<?",
+        },
+        "same" => Step::Same { id: rest },
+        "silence" => Step::Silence { ms: so_long(rest) },
+        "wait" => Step::Wait { ms: so_long(rest) },
+        "has" => Step::Has {
+            code: first,
+            value: second,
+        },
+        "unlike" => Step::Unlike {
+            code: first,
+            value: second,
+        },
+        "tells" => Step::Tells { text: rest },
+        "keep" => Step::Keep {
+            name: first,
+            code: second,
+        },
+        _ => Step::Unknown,
+    }
+}
