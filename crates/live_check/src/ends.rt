@@ -1,0 +1,168 @@
+//! The two sockets, and the clock.
+use crate::ending::Ending;
+use gateway_checks::{Player, SOCKETS, Socket, Turn, put_responses};
+use mio::net::UdpSocket;
+use mio::{Events, Interest, Poll, Token};
+use std::alloc::Global;
+use std::io;
+use std::net::{Ipv4Addr, Net, SocketAddr, SocketAddrV4};
+use std::rt::Clock;
+use std::time::{Duration, Instant};
+
+// The room for a datagram; what is longer is cut off.
+const ROOM: usize = 4096;
+
+/// The ends of a talk with a gateway.
+#[derive(Drop)]
+pub(crate) struct Ends<'a, R> {
+    rt: &'a R,
+    alloc: Global,
+    gateway: SocketAddrV4,
+    first: UdpSocket,
+    second: UdpSocket,
+    poll: Poll,
+    events: Events,
+    start: Instant,
+}
+
+// Two sockets, of which the first has this address, and what tells of them.
+fn opened<R: Net>(
+    rt: &R,
+    alloc: Global,
+    listen: SocketAddrV4,
+) -> io::Result<(UdpSocket, UdpSocket, Poll, Events)> {
+    let any = SocketAddrV4::new(Ipv4Addr::UNSPECIFIED, 0);
+    let mut first = UdpSocket::bind(rt, SocketAddr::V4(listen))?;
+    let mut second = UdpSocket::bind(rt, SocketAddr::V4(any))?;
+    let events = Events::with_capacity(alloc, 2)?;
+    let poll = Poll::new(rt)?;
+    poll.registry()
+        .register(&mut first, Token(0), Interest::READABLE)?;
+    poll.registry()
+        .register(&mut second, Token(1), Interest::READABLE)?;
+    Ok((first, second, poll, events))
+}
+
+impl<'a, R: Net + Clock> Ends<'a, R> {
+    /// Opens the sockets: the first at this address. Moments count from now.
+    pub fn open(
+        rt: &'a R,
+        alloc: Global,
+        gateway: SocketAddrV4,
+        listen: SocketAddrV4,
+    ) -> Result<Ends<'a, R>, Ending> {
+        let Ok((first, second, poll, events)) = opened(rt, alloc, listen) else {
+            return Err(Ending::Unbound { address: listen });
+        };
+        let Ok(start) = Instant::now(rt) else {
+            return Err(Ending::System);
+        };
+        Ok(Ends {
+            rt,
+            alloc,
+            gateway,
+            first,
+            second,
+            poll,
+            events,
+            start,
+        })
+    }
+
+    fn socket(&self, which: Socket) -> &UdpSocket {
+        match which {
+            Socket::First => &self.first,
+            Socket::Second => &self.second,
+        }
+    }
+
+    /// The moment, in ms.
+    pub fn now(&self) -> Result<u64, Ending> {
+        match self.start.elapsed(self.rt) {
+            Ok(passed) => Ok(u64::try_from(passed.as_millis()).unwrap_or(u64::MAX)),
+            Err(_) => Err(Ending::System),
+        }
+    }
+
+    // Sends to the gateway. What finds no room counts as lost in the network.
+    fn send(&self, from: Socket, bytes: &[u8]) -> Result<(), Ending> {
+        match self
+            .socket(from)
+            .send_to(bytes, SocketAddr::V4(self.gateway))
+        {
+            Ok(_) => Ok(()),
+            Err(e) if e.kind() == io::ErrorKind::WouldBlock => Ok(()),
+            Err(_) => Err(Ending::NoAnswer {
+                address: self.gateway,
+            }),
+        }
+    }
+
+    // Gives the player a datagram that has come to a socket, and answers the gateway's commands in it.
+    fn give(&self, player: &mut Player<'_>, at: Socket, datagram: &[u8]) -> Result<(), Ending> {
+        let mut responses = String::new(self.alloc);
+        put_responses(self.alloc, &mut responses, datagram)?;
+        if !responses.is_empty() {
+            self.send(at, responses.as_bytes())?;
+        }
+        player.take(at, datagram)?;
+        Ok(())
+    }
+
+    // Waits until something comes, or this moment.
+    fn wait(&mut self, until: u64) -> Result<(), Ending> {
+        let left = until.saturating_sub(self.now()?);
+        match self
+            .poll
+            .poll(&mut self.events, Some(Duration::from_millis(left)))
+        {
+            Ok(()) => Ok(()),
+            Err(e) if e.kind() == io::ErrorKind::Interrupted => Ok(()),
+            Err(_) => Err(Ending::System),
+        }
+    }
+
+    // Gives the player what has come to a socket, of the gateway's; whether anything has.
+    fn look(&self, player: &mut Player<'_>, at: Socket) -> Result<bool, Ending> {
+        let mut room = [0u8; ROOM];
+        match self.socket(at).recv_from(&mut room) {
+            Ok((len, SocketAddr::V4(source)))
+                if source.ip().octets() == self.gateway.ip().octets() => {
+                self.give(player, at, &room[..len])?;
+                Ok(true)
+            }
+            Ok(_) => Ok(true),
+            // Nothing is there, or a datagram before wasn't delivered.
+            Err(_) => Ok(false),
+        }
+    }
+
+    // Gives the player what comes next, but waits no longer than until this moment.
+    fn hear(&mut self, player: &mut Player<'_>, until: u64) -> Result<(), Ending> {
+        for at in SOCKETS.iter() {
+            if self.look(player, *at)? {
+                return Ok(());
+            }
+        }
+        self.wait(until)
+    }
+
+    /// Plays a check to its end.
+    pub fn play(&mut self, player: &mut Player<'_>) -> Result<(), Ending> {
+        for _ in 0..u64::MAX {
+            let now = self.now()?;
+            match player.turn(now)? {
+                Turn::Send { from } => self.send(from, player.sent())?,
+                Turn::Wait { until } => self.hear(player, until)?,
+                Turn::Over => return Ok(()),
+            }
+        }
+        Ok(())
+    }
+
+    /// Waits for so long, in ms.
+    pub fn rest(&mut self, ms: u64) -> Result<(), Ending> {
+        let until = self.now()?.saturating_add(ms);
+        self.wait(until)
+    }
+}
