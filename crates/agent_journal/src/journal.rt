@@ -1,0 +1,226 @@
+//! What is told of the conversation: on standard output, in the log, in a capture, and in counts.
+use crate::tally::{Tally, count};
+use crate::text::header_word;
+use captures::{Packet, put_head, put_packet};
+use event_values::{Observed, write_observed};
+use exchange_log::{Note, Stamp, Way, put_given_up, put_message, put_note};
+use live_ends::Record;
+use mg_bytes::{OutOfMemory, lines};
+use mgcp_text::{Message, TextFault, read_message};
+use piggyback::parts;
+use std::alloc::Global;
+use std::net::SocketAddrV4;
+use transmission::texts;
+
+/// What is told, and was counted.
+#[derive(Drop)]
+pub struct Journal {
+    alloc: Global,
+    // The address of the socket for gateways.
+    here: SocketAddrV4,
+    /// What happened, on standard output.
+    pub told: Record,
+    /// The log, for people, on standard error.
+    pub log: Record,
+    /// The capture, for a file.
+    pub capture: Record,
+    pub tally: Tally,
+}
+
+// Each byte that isn't printable ASCII is told as a dot.
+fn put_plain(out: &mut Vec<u8>, bytes: &[u8]) -> Result<(), OutOfMemory> {
+    for byte in bytes {
+        let is_plain = *byte >= b' ' && *byte <= b'~';
+        out.push(if is_plain { *byte } else { b'.' })?;
+    }
+    Ok(())
+}
+
+// A line of these pieces.
+fn put_line(out: &mut Vec<u8>, pieces: &[&[u8]]) -> Result<(), OutOfMemory> {
+    for piece in pieces {
+        put_plain(out, piece)?;
+    }
+    out.push(b'\n')?;
+    Ok(())
+}
+
+// The lines of a text in one, with bars between them.
+fn joined(alloc: Global, text: &[u8]) -> Result<Vec<u8>, OutOfMemory> {
+    let mut all = Vec::new(alloc);
+    for line in lines(text) {
+        if !line.is_empty() {
+            if !all.is_empty() {
+                all.extend_from_slice(b" | ")?;
+            }
+            all.extend_from_slice(line)?;
+        }
+    }
+    Ok(all)
+}
+
+// What is noted of a text in its place, if anything is.
+fn note_for(read: &Result<Message<'_>, TextFault>, is_repeat: bool) -> Option<Note> {
+    match read {
+        Err(TextFault::NoHeader) => Some(Note::Unreadable),
+        Ok(Message::Command { id, .. }) => {
+            if is_repeat {
+                Some(Note::SentAgain(*id))
+            } else {
+                None
+            }
+        }
+        Ok(Message::Response { .. }) | Err(_) => None,
+    }
+}
+
+impl Journal {
+    /// A journal with a log and a capture where they are asked for; the socket for gateways is here.
+    pub fn new(alloc: Global, has_log: bool, has_capture: bool, here: SocketAddrV4) -> Journal {
+        let mut capture = Record::new(alloc, has_capture);
+        if has_capture && put_head(&mut capture.out).is_err() {
+            capture.refuse();
+        }
+        Journal {
+            alloc,
+            here,
+            told: Record::new(alloc, true),
+            log: Record::new(alloc, has_log),
+            capture,
+            tally: Tally::NOTHING,
+        }
+    }
+
+    /// Tells a line of these pieces.
+    pub fn tell(&mut self, pieces: &[&[u8]]) {
+        if self.told.is_on() && put_line(&mut self.told.out, pieces).is_err() {
+            self.told.refuse();
+        }
+    }
+
+    /// A command was answered by this text.
+    pub fn tell_answer(&mut self, command: &[u8], text: &[u8]) {
+        count(&mut self.tally.answered);
+        match joined(self.alloc, text) {
+            Ok(text) => {
+                let name = header_word(command, 2);
+                self.tell(&[
+                    b"answer ".as_slice(),
+                    name,
+                    b" ".as_slice(),
+                    text.as_slice(),
+                ]);
+            }
+            Err(_) => self.told.refuse(),
+        }
+    }
+
+    /// A notification of an endpoint was taken.
+    pub fn tell_notification(&mut self, name: &[u8], observed: &[Observed]) {
+        count(&mut self.tally.notifications);
+        match write_observed(self.alloc, observed) {
+            Ok(events) => {
+                self.tell(&[
+                    b"notify ".as_slice(),
+                    name,
+                    b" ".as_slice(),
+                    events.as_bytes(),
+                ]);
+            }
+            Err(_) => self.told.refuse(),
+        }
+    }
+
+    /// An announcement of endpoints came, of this kind.
+    pub fn tell_announcement(&mut self, name: &[u8], method: &[u8]) {
+        count(&mut self.tally.announcements);
+        self.tell(&[b"announce ".as_slice(), name, b" ".as_slice(), method]);
+    }
+
+    /// A command was given up, which went to this address.
+    pub fn tell_given_up(&mut self, time: u64, to: SocketAddrV4, command: &[u8]) {
+        count(&mut self.tally.given_up);
+        self.tell(&[
+            b"given up ".as_slice(),
+            header_word(command, 0),
+            b" ".as_slice(),
+            header_word(command, 1),
+            b" ".as_slice(),
+            header_word(command, 2),
+        ]);
+        let stamp = Stamp {
+            moment: time,
+            peer: to,
+        };
+        if self.log.is_on()
+            && put_given_up(self.alloc, &mut self.log.out, stamp, command).is_err()
+        {
+            self.log.refuse();
+        }
+    }
+
+    /// Puts a note into the log.
+    pub fn note(&mut self, stamp: Stamp, note: Note) {
+        if self.log.is_on() && put_note(self.alloc, &mut self.log.out, stamp, note).is_err() {
+            self.log.refuse();
+        }
+    }
+
+    // Puts a text that came or is sent into the log.
+    fn log_text(&mut self, stamp: Stamp, way: Way, is_repeat: bool, text: &[u8]) {
+        let read = read_message(self.alloc, text);
+        if let Some(note) = note_for(&read, is_repeat) {
+            self.note(stamp, note);
+            return;
+        }
+        if put_message(self.alloc, &mut self.log.out, stamp, way, text, None).is_err() {
+            self.log.refuse();
+        }
+    }
+
+    fn put_capture(&mut self, moment: u64, from: SocketAddrV4, to: SocketAddrV4, bytes: &[u8]) {
+        let packet = Packet {
+            moment,
+            from,
+            to,
+            bytes,
+        };
+        if self.capture.is_on() && put_packet(self.alloc, &mut self.capture.out, &packet).is_err() {
+            self.capture.refuse();
+        }
+    }
+
+    /// A datagram came. The time is microseconds since 1970.
+    pub fn came(&mut self, time: u64, peer: SocketAddrV4, bytes: &[u8]) {
+        count(&mut self.tally.datagrams_in);
+        self.put_capture(time, peer, self.here, bytes);
+        if !self.log.is_on() {
+            return;
+        }
+        let stamp = Stamp { moment: time, peer };
+        let Some(mut rest) = texts(bytes) else {
+            let length = bytes.len();
+            self.note(stamp, Note::TooLong { length });
+            return;
+        };
+        while let Some(text) = rest.next() {
+            self.log_text(stamp, Way::Came, false, text);
+        }
+    }
+
+    /// A datagram is sent, again or for the first time. The time is microseconds since 1970.
+    pub fn sent(&mut self, time: u64, peer: SocketAddrV4, bytes: &[u8], is_repeat: bool) {
+        count(&mut self.tally.datagrams_out);
+        if is_repeat {
+            count(&mut self.tally.again);
+        }
+        self.put_capture(time, self.here, peer, bytes);
+        if !self.log.is_on() {
+            return;
+        }
+        let stamp = Stamp { moment: time, peer };
+        for text in parts(bytes) {
+            self.log_text(stamp, Way::Sent, is_repeat, text);
+        }
+    }
+}

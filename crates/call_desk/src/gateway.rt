@@ -1,0 +1,121 @@
+//! A gateway that a call agent works with.
+use crate::flight::Flight;
+use agent_journal::copied;
+use call_agent::{Agent, IssueFault, Issued};
+use mg_bytes::{OutOfMemory, Text};
+use mgcp_text::TransactionId;
+use plain_machine::{Event, Outputs, Refusal};
+use routes::Route;
+use std::alloc::Global;
+use std::net::SocketAddrV4;
+
+// The clock of an agent goes on by no more than this at once, in ms.
+const LONGEST_TICK: u64 = 1000;
+
+// How long an announcement with the same id is a repeat, from the first on, in ms (RFC 3435, 3.5.1).
+const REPEAT_TIME: u64 = 30_000;
+
+// Ids begin up to here, so that enough are left.
+const FIRST_IDS: u64 = 900_000_000;
+
+/// A gateway, with the agent that works with it.
+#[derive(Drop)]
+pub struct Gateway {
+    pub agent: Agent,
+    pub address: SocketAddrV4,
+    /// What stands behind the `@` of its endpoints' names.
+    pub domain: Text,
+    /// The place of its first line among those of all gateways, and how many it has.
+    pub first: usize,
+    pub lines: u16,
+    // What isn't answered yet, in the order in which it was issued.
+    flights: Vec<Flight>,
+    // The moment of the agent's clock, in ms.
+    ticked: u64,
+    // The id of the last announcement, and when it came.
+    announced: Option<(u32, u64)>,
+}
+
+impl Gateway {
+    /// A gateway at this address with this domain and so many lines, of which the first has this place. The agent has this address of
+    /// its own. It is this time of day, in ms: an agent that is started again issues its commands behind the ids of the one before, of
+    /// which the gateway may know some still. An error is for want of memory only.
+    pub fn new(
+        alloc: Global,
+        own: SocketAddrV4,
+        address: SocketAddrV4,
+        domain: &[u8],
+        first: usize,
+        lines: u16,
+        time: u64,
+    ) -> Result<Gateway, OutOfMemory> {
+        let kept = copied(alloc, domain)?;
+        let domain = copied(alloc, domain)?;
+        let first_id = (time % FIRST_IDS) as u32 + 1;
+        let agent = Agent::new(alloc, Route::One(own), address, domain, lines, first_id)?;
+        Ok(Gateway {
+            agent,
+            address,
+            domain: kept,
+            first,
+            lines,
+            flights: Vec::new(alloc),
+            ticked: 0,
+            announced: None,
+        })
+    }
+
+    /// Issues a command; to the line at this place, where an exchange sends it. After an error nothing is to be sent.
+    pub(crate) fn issue(
+        &mut self,
+        alloc: Global,
+        verb: &[u8],
+        name: &[u8],
+        rest: &[u8],
+        line: Option<usize>,
+    ) -> Result<Issued, IssueFault> {
+        let issued = self.agent.issue(verb, name, rest)?;
+        let flight = Flight::begin(alloc, &issued, line)?;
+        match self.flights.push(flight) {
+            Ok(()) => Ok(issued),
+            Err(_) => Err(IssueFault::OutOfMemory),
+        }
+    }
+
+    /// The clock goes on to this moment (in ms), but by no more than a second: what is sent.
+    pub fn tick(&mut self, moment: u64) -> Result<Outputs, Refusal> {
+        let moment = moment.min(self.ticked.saturating_add(LONGEST_TICK));
+        let outputs = self.agent.step(Event::Tick { moment })?;
+        self.ticked = moment;
+        Ok(outputs)
+    }
+
+    /// The command that a response with this id and return code answers; without a response, the next one that is given up by now. It
+    /// isn't in flight any more.
+    pub(crate) fn ended(&mut self, response: Option<(TransactionId, u16)>) -> Option<Flight> {
+        let now = self.ticked;
+        for place in 0..self.flights.len() {
+            let is_over = match self.flights.get_mut(place) {
+                Some(flight) => flight.is_over(&response, now),
+                None => false,
+            };
+            if is_over && place < self.flights.len() {
+                return Some(self.flights.remove(place));
+            }
+        }
+        None
+    }
+
+    /// Something is announced under this id: whether that is new.
+    pub(crate) fn announces(&mut self, id: TransactionId) -> bool {
+        let now = self.ticked;
+        if let Some((last, first)) = self.announced
+            && last == id.number()
+            && now.saturating_sub(first) < REPEAT_TIME
+        {
+            return false;
+        }
+        self.announced = Some((id.number(), now));
+        true
+    }
+}

@@ -1,0 +1,403 @@
+//! The gateways that a call agent works with, and their lines.
+use crate::flight::Flight;
+use crate::gateway::Gateway;
+use crate::office::{Office, Order};
+use crate::typed::{TypedFault, typed_in};
+use agent_journal::{Journal, Station, copied};
+use call_agent::{IssueFault, Issued};
+use call_routing::NumberPlan;
+use endpoint_names::{Pattern, read_name, write_name};
+use mg_bytes::{OutOfMemory, Sequence, Text, same_no_case, split_once};
+use mgcp_text::{Message, Param, TransactionId, Verb, param_at, read_message};
+use plain_machine::{Event, Outputs, Refusal};
+use std::alloc::Global;
+use std::net::SocketAddrV4;
+
+/// The gateways, the lines of all of them, and where calls are routed the exchange.
+#[derive(Drop)]
+pub struct Switchboard {
+    alloc: Global,
+    gateways: Vec<Gateway>,
+    stations: Vec<Station>,
+    office: Option<Office>,
+}
+
+// Puts a line behind the others.
+fn put_station(
+    alloc: Global,
+    stations: &mut Vec<Station>,
+    gateway: usize,
+    line: u16,
+    domain: &[u8],
+    number: &[u8],
+) -> Result<(), OutOfMemory> {
+    let name = write_name(alloc, Pattern::One(line), domain)?;
+    let number = copied(alloc, number)?;
+    stations.push(Station {
+        gateway,
+        line,
+        name,
+        number,
+        taken: 0,
+    })?;
+    Ok(())
+}
+
+// The numbers of the lines, in their order.
+fn plan_of(alloc: Global, stations: &[Station]) -> Result<NumberPlan, OutOfMemory> {
+    let mut numbers = Vec::new(alloc);
+    for station in stations {
+        numbers.push(copied(alloc, station.number.as_bytes())?)?;
+    }
+    Ok(NumberPlan::of(numbers))
+}
+
+// The whole name of an endpoint.
+fn whole_name(alloc: Global, local: &[u8], domain: &[u8]) -> Result<Vec<u8>, OutOfMemory> {
+    let mut name = Vec::from_slice(alloc, local)?;
+    name.push(b'@')?;
+    name.extend_from_slice(domain)?;
+    Ok(name)
+}
+
+// The least of two moments.
+fn earlier(one: Option<u64>, other: Option<u64>) -> Option<u64> {
+    match (one, other) {
+        (Some(one), Some(other)) => Some(one.min(other)),
+        (Some(one), None) => Some(one),
+        (None, other) => other,
+    }
+}
+
+impl Switchboard {
+    /// No gateways, and no exchange.
+    pub fn new(alloc: Global) -> Switchboard {
+        Switchboard {
+            alloc,
+            gateways: Vec::new(alloc),
+            stations: Vec::new(alloc),
+            office: None,
+        }
+    }
+
+    /// Adds a gateway behind the others, with a line for each number. The agent has this address of its own; it is this time of day,
+    /// in ms. An error is for want of memory only.
+    pub fn add(
+        &mut self,
+        own: SocketAddrV4,
+        address: SocketAddrV4,
+        domain: &[u8],
+        numbers: &[Text],
+        time: u64,
+    ) -> Result<(), OutOfMemory> {
+        let place = self.gateways.len();
+        let first = self.stations.len();
+        let lines = u16::try_from(numbers.len()).unwrap_or(u16::MAX);
+        let gateway = Gateway::new(self.alloc, own, address, domain, first, lines, time)?;
+        self.gateways.push(gateway)?;
+        let mut line: u16 = 0;
+        for number in numbers {
+            line = line.saturating_add(1);
+            let number = number.as_bytes();
+            put_station(self.alloc, &mut self.stations, place, line, domain, number)?;
+        }
+        Ok(())
+    }
+
+    /// Opens an exchange for the lines that there are, which are dialled by this map. An error is for want of memory only.
+    pub fn open(&mut self, map: &[u8]) -> Result<(), OutOfMemory> {
+        let plan = plan_of(self.alloc, &self.stations)?;
+        let map = copied(self.alloc, map)?;
+        let office = Office::new(self.alloc, self.stations.len(), plan, map)?;
+        self.office = Some(office);
+        Ok(())
+    }
+
+    /// How many gateways there are.
+    pub fn gateways(&self) -> usize {
+        self.gateways.len()
+    }
+
+    /// How many lines all gateways have.
+    pub fn lines(&self) -> usize {
+        self.stations.len()
+    }
+
+    /// The agent of the gateway at this place hears a datagram: what is sent.
+    pub fn step(
+        &mut self,
+        place: usize,
+        source: SocketAddrV4,
+        bytes: &[u8],
+    ) -> Result<Outputs, Refusal> {
+        match self.gateways.get_mut(place) {
+            Some(gateway) => gateway.agent.step(Event::Datagram { source, bytes }),
+            None => Ok(Sequence::new(self.alloc)),
+        }
+    }
+
+    /// The clock of the agent of the gateway at this place goes on to this moment (in ms), but by no more than a second: what is sent.
+    pub fn tick(&mut self, place: usize, moment: u64) -> Result<Outputs, Refusal> {
+        match self.gateways.get_mut(place) {
+            Some(gateway) => gateway.tick(moment),
+            None => Ok(Sequence::new(self.alloc)),
+        }
+    }
+
+    /// The place of the gateway at this address.
+    pub fn place_of(&self, address: SocketAddrV4) -> Option<usize> {
+        self.gateways
+            .iter()
+            .position(|gateway| gateway.address == address)
+    }
+
+    // The place of the gateway that an endpoint's name means, and the name without its domain. Where there is one gateway alone its
+    // domain may be left out.
+    fn meant<'t>(&self, name: &'t [u8]) -> Option<(usize, &'t [u8])> {
+        let Some((local, domain)) = split_once(name, b'@') else {
+            return if self.gateways.len() == 1 {
+                Some((0, name))
+            } else {
+                None
+            };
+        };
+        let place = self
+            .gateways
+            .iter()
+            .position(|gateway| same_no_case(gateway.domain.as_bytes(), domain))?;
+        Some((place, local))
+    }
+
+    /// The moment at which something falls due next at an agent, in ms.
+    pub fn next_due(&self) -> Option<u64> {
+        let mut least = None;
+        for gateway in self.gateways.iter() {
+            least = earlier(least, gateway.agent.next_due());
+        }
+        least
+    }
+
+    /// Issues a command that was typed (`typed_text`): what is to be sent.
+    pub fn issue_typed(&mut self, text: &[u8]) -> Result<Issued, TypedFault> {
+        let Some(typed) = typed_in(text) else {
+            return Err(TypedFault::Unknown);
+        };
+        let Some((place, local)) = self.meant(typed.name) else {
+            return Err(TypedFault::NoSuchGateway);
+        };
+        let Some(gateway) = self.gateways.get_mut(place) else {
+            return Err(TypedFault::NoSuchGateway);
+        };
+        let Ok(name) = whole_name(self.alloc, local, gateway.domain.as_bytes()) else {
+            return Err(TypedFault::OutOfMemory);
+        };
+        match gateway.issue(self.alloc, typed.verb, name.as_slice(), typed.rest, None) {
+            Ok(issued) => Ok(issued),
+            Err(IssueFault::OutOfMemory) => Err(TypedFault::OutOfMemory),
+            Err(IssueFault::NoMoreIds) => Err(TypedFault::NoMoreIds),
+            Err(IssueFault::BadCommand) => Err(TypedFault::BadCommand),
+        }
+    }
+
+    // What a line is to be sent now, if it is to be sent anything.
+    fn order_of(&mut self, line: usize) -> Result<Option<Order>, OutOfMemory> {
+        match &mut self.office {
+            Some(office) => office.order(self.alloc, line),
+            None => Ok(None),
+        }
+    }
+
+    // Issues a command of the exchange to a line.
+    fn issue(&mut self, line: usize, order: &Order) -> Result<Issued, IssueFault> {
+        let Some(station) = self.stations.get(line) else {
+            return Err(IssueFault::BadCommand);
+        };
+        let Some(gateway) = self.gateways.get_mut(station.gateway) else {
+            return Err(IssueFault::BadCommand);
+        };
+        let name = station.name.as_bytes();
+        let rest = order.rest.as_bytes();
+        gateway.issue(self.alloc, order.verb, name, rest, Some(line))
+    }
+
+    // The command in flight to a line was given up, or couldn't be issued.
+    fn forget(&mut self, line: usize) {
+        if let Some(office) = &mut self.office {
+            office.given_up(line);
+        }
+    }
+
+    /// Issues what the line at this place is to be sent now: what is to be sent, if anything is. Where it can't be issued it counts as
+    /// given up.
+    pub fn issue_next(&mut self, line: usize) -> Result<Option<Issued>, IssueFault> {
+        let issued = match self.order_of(line) {
+            Ok(None) => return Ok(None),
+            Ok(Some(order)) => self.issue(line, &order),
+            Err(_) => Err(IssueFault::OutOfMemory),
+        };
+        match issued {
+            Ok(issued) => Ok(Some(issued)),
+            Err(fault) => {
+                self.forget(line);
+                Err(fault)
+            }
+        }
+    }
+
+    /// Tells how the lines stand, where that has changed.
+    pub fn show(&mut self, journal: &mut Journal) {
+        let Some(office) = &mut self.office else {
+            return;
+        };
+        for line in 0..self.stations.len() {
+            office.show(self.alloc, journal, &self.stations, line);
+        }
+    }
+
+    // The command that a response with this id and return code answers; without a response, the next one that is given up.
+    fn ended(&mut self, place: usize, response: Option<(TransactionId, u16)>) -> Option<Flight> {
+        let gateway = self.gateways.get_mut(place)?;
+        gateway.ended(response)
+    }
+
+    /// The next command to the gateway at this place that is given up by now is so: whether there is one. It is this time, in
+    /// microseconds since 1970.
+    pub fn give_up(&mut self, journal: &mut Journal, place: usize, time: u64) -> bool {
+        let Some(flight) = self.ended(place, None) else {
+            return false;
+        };
+        journal.tell_given_up(time, flight.pending.to(), flight.pending.text());
+        if let Some(line) = flight.line {
+            self.forget(line);
+        }
+        true
+    }
+
+    // A response came from the gateway at this place.
+    fn hear_response(
+        &mut self,
+        journal: &mut Journal,
+        place: usize,
+        id: TransactionId,
+        code: u16,
+        text: &[u8],
+    ) {
+        let Some(flight) = self.ended(place, Some((id, code))) else {
+            return;
+        };
+        journal.tell_answer(flight.pending.text(), text);
+        let Some(line) = flight.line else {
+            return;
+        };
+        if let Some(office) = &mut self.office {
+            office.answered(self.alloc, line, code, text);
+        }
+    }
+
+    // The lines of a gateway that a name means are there again, or lost their agent.
+    fn announce(&mut self, place: usize, name: &[u8], is_restart: bool) {
+        let Some(gateway) = self.gateways.get(place) else {
+            return;
+        };
+        let Ok(pattern) = read_name(name, gateway.domain.as_bytes(), gateway.lines) else {
+            return;
+        };
+        let Some(office) = &mut self.office else {
+            return;
+        };
+        for before in 0..gateway.lines {
+            let is_meant = match pattern {
+                Pattern::One(line) => line == before.saturating_add(1),
+                Pattern::All | Pattern::Any => true,
+            };
+            if is_meant {
+                let line = gateway.first.saturating_add(usize::from(before));
+                office.announced(line, is_restart);
+            }
+        }
+    }
+
+    // An announcement came (RFC 3435, 2.3.12).
+    fn hear_announcement(
+        &mut self,
+        journal: &mut Journal,
+        place: usize,
+        id: TransactionId,
+        name: &[u8],
+        params: &[Param<'_>],
+    ) {
+        let is_new = match self.gateways.get_mut(place) {
+            Some(gateway) => gateway.announces(id),
+            None => false,
+        };
+        if !is_new {
+            return;
+        }
+        let method = match param_at(b"RM", params) {
+            Some(param) => param.value.as_slice(),
+            None => b"restart",
+        };
+        journal.tell_announcement(name, method);
+        if same_no_case(method, b"restart") {
+            self.announce(place, name, true);
+        } else if same_no_case(method, b"disconnected") {
+            self.announce(place, name, false);
+        }
+    }
+
+    /// A text came from the gateway at this place, of which its agent has heard.
+    pub fn hear(&mut self, journal: &mut Journal, place: usize, text: &[u8]) {
+        let Ok(message) = read_message(self.alloc, text) else {
+            return;
+        };
+        match &message {
+            Message::Response { code, id, .. } => {
+                self.hear_response(journal, place, *id, *code, text);
+            }
+            Message::Command {
+                verb: Verb::Rsip,
+                id,
+                name,
+                params,
+                ..
+            } => self.hear_announcement(journal, place, *id, name.as_slice(), params.as_slice()),
+            Message::Command { .. } => {}
+        }
+    }
+
+    /// Takes what a line of the gateway at this place has told and wasn't taken yet, of the first that has told something: whether
+    /// there is one.
+    pub fn take(&mut self, journal: &mut Journal, place: usize) -> bool {
+        let (first, lines) = match self.gateways.get(place) {
+            Some(gateway) => (gateway.first, usize::from(gateway.lines)),
+            None => (0, 0),
+        };
+        for line in first..first.saturating_add(lines) {
+            if self.take_of(journal, place, line) {
+                return true;
+            }
+        }
+        false
+    }
+
+    // Takes what a line has told and wasn't taken yet: whether there was anything.
+    fn take_of(&mut self, journal: &mut Journal, place: usize, line: usize) -> bool {
+        let Some(gateway) = self.gateways.get(place) else {
+            return false;
+        };
+        let Some(station) = self.stations.get_mut(line) else {
+            return false;
+        };
+        let observed = gateway.agent.taken(station.line);
+        let told = observed.get(station.taken..).unwrap_or(&[]);
+        if told.is_empty() {
+            return false;
+        }
+        station.taken = observed.len();
+        journal.tell_notification(station.name.as_bytes(), told);
+        if let Some(office) = &mut self.office {
+            office.told(self.alloc, line, told);
+        }
+        true
+    }
+}

@@ -1,0 +1,130 @@
+//! How the program ends: its status, and what it says then.
+use crate::help::{HELP, USAGE, VERSIONS, put_pieces};
+use crate::words::WordFault;
+use agent_config::{ConfigFault, ConfigRefusal};
+use bad_network::SpoilingFault;
+use std::fmt;
+use std::net::SocketAddrV4;
+
+/// How the program ends.
+#[derive(Drop)]
+pub enum Ending<'a> {
+    /// The call agent served up to the moment that was asked for.
+    Served,
+    /// The words ask how it is used.
+    Help,
+    /// The words ask for its version.
+    Version,
+    /// The words of the command line are other words.
+    Usage,
+    /// What stands behind this word isn't an address.
+    BadAddress {
+        word: &'static str,
+    },
+    /// What stands behind `--network` says no network.
+    BadNetwork {
+        fault: SpoilingFault,
+    },
+    /// The configuration in this file is refused.
+    Config {
+        file: &'a str,
+        refusal: ConfigRefusal,
+    },
+    /// This file can't be read.
+    Unreadable {
+        file: &'a str,
+    },
+    /// This file can't be written.
+    Unwritable {
+        file: &'a str,
+    },
+    /// No socket can be had at the address that this word asks for.
+    Unbound {
+        word: &'static str,
+        address: SocketAddrV4,
+    },
+    /// The clock can't be read.
+    Clock,
+    /// Standard output or standard error can't be written.
+    Write,
+    /// Memory was refused.
+    OutOfMemory,
+}
+
+impl<'a> Ending<'a> {
+    /// The exit status: 0 served or told, 2 words or a configuration that are refused, 3 memory, a
+    /// file, a socket or a stream.
+    pub fn status(&self) -> u8 {
+        match self {
+            Ending::Served | Ending::Help | Ending::Version => 0,
+            Ending::Usage
+            | Ending::BadAddress { .. }
+            | Ending::BadNetwork { .. }
+            | Ending::Config { .. } => 2,
+            Ending::Unreadable { .. }
+            | Ending::Unwritable { .. }
+            | Ending::Unbound { .. }
+            | Ending::Clock
+            | Ending::Write
+            | Ending::OutOfMemory => 3,
+        }
+    }
+}
+
+impl<'a> From<WordFault> for Ending<'a> {
+    fn from(fault: WordFault) -> Ending<'a> {
+        match fault {
+            WordFault::OutOfMemory => Ending::OutOfMemory,
+            WordFault::Usage => Ending::Usage,
+            WordFault::Help => Ending::Help,
+            WordFault::Version => Ending::Version,
+            WordFault::BadAddress { word } => Ending::BadAddress { word },
+            WordFault::BadNetwork { fault } => Ending::BadNetwork { fault },
+        }
+    }
+}
+
+/// How the program ends by a configuration that is refused.
+pub fn config_ending(file: &str, refusal: ConfigRefusal) -> Ending<'_> {
+    match refusal.fault {
+        ConfigFault::OutOfMemory => Ending::OutOfMemory,
+        _ => Ending::Config { file, refusal },
+    }
+}
+
+// What is written of a configuration.
+fn put_config<W: fmt::Write>(
+    f: &mut fmt::Formatter<W>,
+    file: &str,
+    refusal: &ConfigRefusal,
+) -> fmt::Result {
+    let number = refusal.fault as u8;
+    let name = refusal.fault.name();
+    write!(f, "{file}: config {number} {name}")?;
+    match &refusal.key {
+        Some(key) => put_pieces(f, &[": ", key.as_str(), "\n"]),
+        None => f.write_str("\n"),
+    }
+}
+
+// What is written: on standard output what the words ask, else a line on standard error, or nothing
+// where it served.
+impl<'a> fmt::Display for Ending<'a> {
+    fn fmt<W: fmt::Write>(&self, f: &mut fmt::Formatter<W>) -> fmt::Result {
+        match self {
+            Ending::Served => Ok(()),
+            Ending::Help => put_pieces(f, &HELP),
+            Ending::Version => put_pieces(f, &VERSIONS),
+            Ending::Usage => put_pieces(f, &[USAGE, "\n"]),
+            Ending::BadAddress { word } => put_pieces(f, &[*word, ": no address a.b.c.d:port\n"]),
+            Ending::BadNetwork { fault } => put_pieces(f, &["--network: ", fault.text(), "\n"]),
+            Ending::Config { file, refusal } => put_config(f, *file, refusal),
+            Ending::Unreadable { file } => put_pieces(f, &[*file, ": read fault\n"]),
+            Ending::Unwritable { file } => put_pieces(f, &[*file, ": write fault\n"]),
+            Ending::Unbound { word, address } => writeln!(f, "{word} {address}: no socket"),
+            Ending::Clock => f.write_str("clock fault\n"),
+            Ending::Write => f.write_str("write fault\n"),
+            Ending::OutOfMemory => f.write_str("out of memory\n"),
+        }
+    }
+}

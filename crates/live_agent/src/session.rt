@@ -1,0 +1,318 @@
+//! Serves gateways and whoever types commands, a turn at a time.
+use crate::wire::Wire;
+use agent_journal::{Journal, count};
+use bad_network::{Packet, Way};
+use call_agent::Issued;
+use call_desk::{Switchboard, TypedFault, typed_text};
+use mg_bytes::{OutOfMemory, put_decimal};
+use std::alloc::Global;
+use std::net::{Net, SocketAddrV4};
+use std::rt::{Clock, Files};
+use std::{io, str};
+use transmission::texts;
+
+// So many datagrams, and so many typed commands, are taken in a turn, and so many packets handed out.
+const BATCH: u8 = 64;
+
+// The room for a datagram: one byte more than any that is taken (RFC 3435, 3.5.4).
+const ROOM: usize = 4001;
+
+// What is answered to who types.
+const DONE: &[u8] = b"done\n";
+
+const OUT_OF_MEMORY: &[u8] = b"! 1 OutOfMemory\n";
+
+// A command was issued.
+fn send_issued<R: Net + Clock>(wire: &mut Wire<'_, R>, issued: &Issued) {
+    count(&mut wire.journal.tally.commands);
+    wire.send(issued.datagram.to, issued.datagram.bytes.as_bytes(), false);
+}
+
+// Tells how the lines stand, and sends them what they are to be sent.
+fn settle<R: Net + Clock>(board: &mut Switchboard, wire: &mut Wire<'_, R>) {
+    board.show(&mut wire.journal);
+    for line in 0..board.lines() {
+        match board.issue_next(line) {
+            Ok(Some(issued)) => send_issued(wire, &issued),
+            Ok(None) => {}
+            Err(_) => count(&mut wire.journal.tally.refused),
+        }
+    }
+}
+
+// The agent of a gateway hears a datagram: whether it did.
+fn agent_hears<R: Net + Clock>(
+    board: &mut Switchboard,
+    wire: &mut Wire<'_, R>,
+    place: usize,
+    source: SocketAddrV4,
+    bytes: &[u8],
+) -> bool {
+    match board.step(place, source, bytes) {
+        Ok(outputs) => {
+            wire.send_all(outputs.as_slice(), false);
+            true
+        }
+        Err(_) => {
+            count(&mut wire.journal.tally.refused);
+            false
+        }
+    }
+}
+
+// What the agent of a gateway heard is dealt with, a text and a line at a time.
+fn deal_with<R: Net + Clock>(
+    board: &mut Switchboard,
+    wire: &mut Wire<'_, R>,
+    place: usize,
+    bytes: &[u8],
+) {
+    let Some(mut rest) = texts(bytes) else {
+        return;
+    };
+    while let Some(text) = rest.next() {
+        board.hear(&mut wire.journal, place, text);
+        settle(board, wire);
+    }
+}
+
+// What the lines of a gateway told is taken, a line at a time.
+fn take_told<R: Net + Clock>(board: &mut Switchboard, wire: &mut Wire<'_, R>, place: usize) {
+    for _ in 0..u16::MAX {
+        if !board.take(&mut wire.journal, place) {
+            return;
+        }
+        settle(board, wire);
+    }
+}
+
+// A datagram is heard.
+fn hear<R: Net + Clock>(
+    board: &mut Switchboard,
+    wire: &mut Wire<'_, R>,
+    source: SocketAddrV4,
+    bytes: &[u8],
+) {
+    let time = wire.clock.now().time;
+    wire.journal.came(time, source, bytes);
+    let Some(place) = board.place_of(source) else {
+        count(&mut wire.journal.tally.strange);
+        return;
+    };
+    if agent_hears(board, wire, place, source, bytes) {
+        deal_with(board, wire, place, bytes);
+        take_told(board, wire, place);
+    }
+}
+
+// Takes what has come.
+fn receive<R: Net + Clock>(board: &mut Switchboard, wire: &mut Wire<'_, R>) {
+    let mut room = [0u8; ROOM];
+    for _ in 0..BATCH {
+        let Some((source, len)) = wire.receive(&mut room) else {
+            return;
+        };
+        let bytes = room.get(..len).unwrap_or(&[]);
+        if !wire.is_spoilt(source, bytes) {
+            hear(board, wire, source, bytes);
+        }
+    }
+}
+
+// Takes and sends what the bad network hands out.
+fn hand_out<R: Net + Clock>(board: &mut Switchboard, wire: &mut Wire<'_, R>) {
+    for _ in 0..BATCH {
+        let Some(packet) = wire.handed_out() else {
+            return;
+        };
+        let Packet {
+            way,
+            peer,
+            bytes,
+            ..
+        } = packet;
+        match way {
+            Way::In => hear(board, wire, peer, bytes.as_bytes()),
+            Way::Out => wire.transmit(peer, bytes.as_bytes()),
+        }
+    }
+}
+
+// What is answered where a command isn't issued.
+fn fault_text(fault: TypedFault) -> &'static [u8] {
+    match fault {
+        TypedFault::OutOfMemory => OUT_OF_MEMORY,
+        TypedFault::NoMoreIds => b"! 2 NoMoreIds\n",
+        TypedFault::BadCommand => b"! 3 BadCommand\n",
+        TypedFault::NoSuchGateway => b"! 4 NoSuchGateway\n",
+        TypedFault::Unknown => b"? VERB NAME, counts, or stop\n",
+    }
+}
+
+// What is answered where a command is issued.
+fn issued_text(alloc: Global, id: u32) -> Result<Vec<u8>, OutOfMemory> {
+    let mut text = Vec::from_slice(alloc, b"issued ")?;
+    put_decimal(alloc, &mut text, u64::from(id))?;
+    text.push(b'\n')?;
+    Ok(text)
+}
+
+// Issues a command that was typed, and answers that.
+fn answer_typed<R: Net + Clock>(
+    alloc: Global,
+    board: &mut Switchboard,
+    wire: &mut Wire<'_, R>,
+    text: &[u8],
+) {
+    match board.issue_typed(text) {
+        Ok(issued) => {
+            send_issued(wire, &issued);
+            match issued_text(alloc, issued.id) {
+                Ok(text) => wire.control.answer_all(text.as_slice()),
+                Err(_) => wire.control.answer_all(OUT_OF_MEMORY),
+            }
+        }
+        Err(fault) => wire.control.answer_all(fault_text(fault)),
+    }
+}
+
+// Answers what was counted so far.
+fn answer_counts<R: Net + Clock>(alloc: Global, wire: &mut Wire<'_, R>) {
+    match wire.journal.tally.text(alloc) {
+        Ok(text) => wire.control.answer(text.as_bytes()),
+        Err(_) => wire.control.answer(OUT_OF_MEMORY),
+    }
+}
+
+// What is typed next, if anything is.
+#[derive(Drop)]
+enum Request {
+    Counts,
+    Stop,
+    Command { text: Vec<u8> },
+    OutOfMemory,
+}
+
+fn request_of<R: Net + Clock>(alloc: Global, wire: &Wire<'_, R>) -> Option<Request> {
+    let line = wire.control.line()?;
+    match line {
+        b"counts" => Some(Request::Counts),
+        b"stop" | b"quit" => Some(Request::Stop),
+        _ => match typed_text(alloc, line, wire.control.rest()) {
+            Ok(text) => Some(Request::Command { text }),
+            Err(_) => Some(Request::OutOfMemory),
+        },
+    }
+}
+
+// Answers what is typed.
+fn answer_requests<R: Net + Clock>(alloc: Global, board: &mut Switchboard, wire: &mut Wire<'_, R>) {
+    for _ in 0..BATCH {
+        if wire.ready.commands {
+            wire.ready.commands = wire.control.look();
+        }
+        match request_of(alloc, wire) {
+            None => return,
+            Some(Request::Counts) => answer_counts(alloc, wire),
+            Some(Request::Stop) => {
+                wire.control.answer(DONE);
+                wire.end = Some(0);
+            }
+            Some(Request::Command { text }) => answer_typed(alloc, board, wire, text.as_slice()),
+            Some(Request::OutOfMemory) => wire.control.answer_all(OUT_OF_MEMORY),
+        }
+    }
+}
+
+// What is given up by now of the commands to a gateway.
+fn give_up<R: Net + Clock>(board: &mut Switchboard, wire: &mut Wire<'_, R>, place: usize) {
+    let time = wire.clock.now().time;
+    for _ in 0..u16::MAX {
+        if !board.give_up(&mut wire.journal, place, time) {
+            return;
+        }
+        settle(board, wire);
+    }
+}
+
+// The clock of a gateway's agent goes on.
+fn tick<R: Net + Clock>(
+    board: &mut Switchboard,
+    wire: &mut Wire<'_, R>,
+    place: usize,
+    moment: u64,
+) {
+    match board.tick(place, moment) {
+        Ok(outputs) => wire.send_all(outputs.as_slice(), true),
+        Err(_) => count(&mut wire.journal.tally.refused),
+    }
+    give_up(board, wire, place);
+}
+
+// A turn: the clock goes on, and what has come is dealt with.
+fn turn<R: Net + Clock>(
+    alloc: Global,
+    board: &mut Switchboard,
+    wire: &mut Wire<'_, R>,
+) -> io::Result<()> {
+    let moment = wire.clock.moment()?;
+    if moment > wire.clock.ticked() {
+        wire.clock.set(moment);
+        for place in 0..board.gateways() {
+            tick(board, wire, place, moment);
+        }
+    }
+    receive(board, wire);
+    answer_requests(alloc, board, wire);
+    settle(board, wire);
+    hand_out(board, wire);
+    Ok(())
+}
+
+// Writes text on standard error: whether it could be written.
+fn is_written<R: Eprint>(rt: &R, bytes: &[u8]) -> bool {
+    match str::from_utf8(bytes) {
+        Ok(text) => eprint!(rt; "{text}").is_ok(),
+        Err(_) => false,
+    }
+}
+
+/// Writes what was recorded and isn't written yet.
+pub fn write_records<R: Files + Print + Eprint>(
+    rt: &R,
+    journal: &mut Journal,
+    capture: &mut Option<R::File>,
+) {
+    journal.told.write(&mut io::writer(rt));
+    if !journal.log.out.is_empty() {
+        if is_written(rt, journal.log.out.as_slice()) {
+            journal.log.out.clear();
+        } else {
+            journal.log.fail();
+        }
+    }
+    if let Some(file) = capture {
+        journal.capture.write(file);
+    }
+}
+
+/// Serves until the end comes. An error is of the clock.
+pub fn serve<R: Files + Net + Clock + Print + Eprint>(
+    rt: &R,
+    alloc: Global,
+    board: &mut Switchboard,
+    wire: &mut Wire<'_, R>,
+    capture: &mut Option<R::File>,
+) -> io::Result<()> {
+    for _ in 0..u64::MAX {
+        if wire.is_over() {
+            return Ok(());
+        }
+        turn(alloc, board, wire)?;
+        write_records(rt, &mut wire.journal, capture);
+        if wire.wait(board.next_due()).is_err() {
+            count(&mut wire.journal.tally.receive_faults);
+        }
+    }
+    Ok(())
+}

@@ -1,0 +1,156 @@
+//! The wire: a socket for datagrams, a socket for commands, the clock, and a bad network, where one lies between.
+use agent_journal::{Journal, count};
+use bad_network::{BadNetwork, Fate, Packet, Way};
+use exchange_log::{Note, Stamp};
+use live_ends::{CommandSocket, LONGEST_TICK, LiveClock, Readiness};
+use mio::net::UdpSocket;
+use plain_machine::OutDatagram;
+use std::io;
+use std::io::ErrorKind;
+use std::net::{Net, SocketAddr, SocketAddrV4};
+use std::rt::Clock;
+
+// Where nothing falls due it wakes so often, in ms, and what failed is tried again no sooner than that.
+const LONGEST_WAIT: u64 = 1000;
+
+const SHORTEST_WAIT: u64 = 1;
+
+/// A wire over the machine's network and clock.
+#[derive(Drop)]
+pub struct Wire<'a, R> {
+    pub socket: UdpSocket,
+    pub control: CommandSocket,
+    pub clock: LiveClock<'a, R>,
+    pub ready: Readiness,
+    /// The network that spoils what comes and what is sent, where there is one.
+    pub network: Option<BadNetwork>,
+    pub journal: Journal,
+    /// The moment at which it ends, in ms.
+    pub end: Option<u64>,
+}
+
+// What becomes of a packet is counted, and noted in the log.
+fn note_fate(journal: &mut Journal, stamp: Stamp, fate: Fate) {
+    match fate {
+        Fate::Lost => {
+            count(&mut journal.tally.lost);
+            journal.note(stamp, Note::Lost);
+        }
+        Fate::Once { late: 0 } => {}
+        Fate::Once { late } => {
+            count(&mut journal.tally.late);
+            journal.note(stamp, Note::Late { ms: late });
+        }
+        Fate::Twice { first, second } => {
+            count(&mut journal.tally.copied);
+            journal.note(stamp, Note::Copied { first, second });
+        }
+    }
+}
+
+impl<'a, R: Net + Clock> Wire<'a, R> {
+    /// Whether its end has come.
+    pub fn is_over(&self) -> bool {
+        match self.end {
+            Some(end) => self.clock.ticked() >= end,
+            None => false,
+        }
+    }
+
+    /// A datagram, where one has come: who sent it, and its length. One without a port can't be answered, and doesn't count.
+    pub fn receive(&mut self, room: &mut [u8]) -> Option<(SocketAddrV4, usize)> {
+        if !self.ready.socket {
+            return None;
+        }
+        match self.socket.recv_from(room) {
+            Ok((len, SocketAddr::V4(source))) if source.port() > 0 => Some((source, len)),
+            Ok(_) => None,
+            Err(e) if e.kind() == ErrorKind::Interrupted => None,
+            Err(e) => {
+                self.ready.socket = false;
+                if e.kind() != ErrorKind::WouldBlock {
+                    count(&mut self.journal.tally.receive_faults);
+                }
+                None
+            }
+        }
+    }
+
+    // Offers a packet to the network that spoils it: whether there is one.
+    fn offer(&mut self, way: Way, peer: SocketAddrV4, bytes: &[u8]) -> bool {
+        let now = self.clock.now();
+        let stamp = Stamp {
+            moment: now.time,
+            peer,
+        };
+        let Some(network) = &mut self.network else {
+            return false;
+        };
+        match network.offer(way, peer, bytes, now.clock) {
+            Ok(fate) => note_fate(&mut self.journal, stamp, fate),
+            Err(_) => count(&mut self.journal.tally.refused),
+        }
+        true
+    }
+
+    /// What has come is offered to the network that spoils it: whether there is one.
+    pub fn is_spoilt(&mut self, peer: SocketAddrV4, bytes: &[u8]) -> bool {
+        self.offer(Way::In, peer, bytes)
+    }
+
+    /// What the network hands out next, if something is due.
+    pub fn handed_out(&mut self) -> Option<Packet> {
+        let now = self.clock.ticked();
+        match &mut self.network {
+            Some(network) => network.take_due(now),
+            None => None,
+        }
+    }
+
+    /// Puts a datagram onto the machine's network.
+    pub fn transmit(&mut self, to: SocketAddrV4, bytes: &[u8]) {
+        match self.socket.send_to(bytes, SocketAddr::V4(to)) {
+            Ok(len) if len == bytes.len() => {}
+            Ok(_) | Err(_) => count(&mut self.journal.tally.send_faults),
+        }
+    }
+
+    /// Sends a datagram, for the first time or again.
+    pub fn send(&mut self, to: SocketAddrV4, bytes: &[u8], is_repeat: bool) {
+        let time = self.clock.now().time;
+        self.journal.sent(time, to, bytes, is_repeat);
+        if !self.offer(Way::Out, to, bytes) {
+            self.transmit(to, bytes);
+        }
+    }
+
+    /// Sends datagrams, for the first time or again.
+    pub fn send_all(&mut self, datagrams: &[OutDatagram], is_repeat: bool) {
+        for datagram in datagrams {
+            self.send(datagram.to, datagram.bytes.as_bytes(), is_repeat);
+        }
+    }
+
+    // How long nothing is to be done, in ms, if nothing comes and something else falls due at this moment.
+    fn idle_time(&self, due: u64) -> io::Result<u64> {
+        let now = self.clock.moment()?;
+        let ticked = self.clock.ticked();
+        let handed_out = match &self.network {
+            Some(network) => network.next_due().unwrap_or(u64::MAX),
+            None => u64::MAX,
+        };
+        let is_behind = now.saturating_sub(ticked) >= LONGEST_TICK;
+        if self.ready.is_any() || handed_out <= ticked || is_behind {
+            return Ok(0);
+        }
+        let end = self.end.unwrap_or(u64::MAX);
+        let left = due.min(handed_out).min(end).saturating_sub(now);
+        Ok(left.clamp(SHORTEST_WAIT, LONGEST_WAIT))
+    }
+
+    /// Waits until something comes or falls due. What the wire doesn't know of does so at this moment, in ms.
+    pub fn wait(&mut self, due: Option<u64>) -> io::Result<()> {
+        let longest = self.idle_time(due.unwrap_or(u64::MAX))?;
+        self.ready.wait(longest)
+    }
+}

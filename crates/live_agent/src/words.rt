@@ -1,0 +1,168 @@
+//! Reads the words of the command line.
+use crate::help::{CONTROL, VERSION};
+use bad_network::{Spoiling, SpoilingFault};
+use clap::error::ErrorKind;
+use clap::{Arg, ArgAction, ArgMatches, Command};
+use std::alloc::{AllocError, Global};
+use std::net::SocketAddrV4;
+
+/// What the program is asked to do.
+#[derive(Drop)]
+pub struct Settings<'a> {
+    /// The file that has the configuration.
+    pub config: &'a str,
+    /// The address of the socket for gateways, where it isn't the configuration's own; port 0 is any free one.
+    pub listen: Option<SocketAddrV4>,
+    /// The address of the socket for commands; port 0 is any free one.
+    pub control: SocketAddrV4,
+    /// Whether calls are routed.
+    pub route: bool,
+    /// Whether what is said is written to standard error, for people.
+    pub log: bool,
+    /// The file that datagrams are captured into.
+    pub capture: Option<&'a str>,
+    /// How the network is spoilt.
+    pub network: Option<Spoiling>,
+    /// The moment at which it ends, in ms.
+    pub stop_after: Option<u64>,
+}
+
+/// Why the program doesn't serve as the words say.
+#[derive(Clone, Copy)]
+pub enum WordFault {
+    /// Memory was refused.
+    OutOfMemory,
+    /// They are other words.
+    Usage,
+    /// They ask how the program is used.
+    Help,
+    /// They ask for its version.
+    Version,
+    /// What stands behind this word isn't an address.
+    BadAddress { word: &'static str },
+    /// What stands behind `--network` says no network.
+    BadNetwork { fault: SpoilingFault },
+}
+
+impl From<AllocError> for WordFault {
+    fn from(_refused: AllocError) -> WordFault {
+        WordFault::OutOfMemory
+    }
+}
+
+// A word of the command line.
+#[derive(Clone, Copy)]
+enum Word {
+    Config,
+    Listen,
+    Control,
+    Route,
+    Log,
+    Capture,
+    Network,
+    StopAfter,
+}
+
+const WORDS: [Word; 8] = [
+    Word::Config,
+    Word::Listen,
+    Word::Control,
+    Word::Route,
+    Word::Log,
+    Word::Capture,
+    Word::Network,
+    Word::StopAfter,
+];
+
+fn flag_word<'a>(alloc: Global, name: &'a str) -> Arg<'a> {
+    Arg::new(alloc, name).long(name).action(ArgAction::SetTrue)
+}
+
+// What clap is told of a word.
+fn arg_of<'a>(alloc: Global, word: Word) -> Arg<'a> {
+    match word {
+        Word::Config => Arg::new(alloc, "config").required(true),
+        Word::Listen => Arg::new(alloc, "listen").long("listen"),
+        Word::Control => Arg::new(alloc, "control")
+            .long("control")
+            .default_value(CONTROL),
+        Word::Route => flag_word(alloc, "route"),
+        Word::Log => flag_word(alloc, "log"),
+        Word::Capture => Arg::new(alloc, "capture").long("capture"),
+        Word::Network => Arg::new(alloc, "network").long("network"),
+        Word::StopAfter => Arg::new(alloc, "stop-after")
+            .long("stop-after")
+            .value_parser(clap::value_parser!(u64)),
+    }
+}
+
+fn command<'a>(alloc: Global) -> Result<Command<'a>, AllocError> {
+    let mut command = Command::new(alloc, "rgca").version(VERSION);
+    for word in WORDS.iter() {
+        command = command.arg(arg_of(alloc, *word))?;
+    }
+    Ok(command)
+}
+
+// The address behind a word, if that stands there.
+fn address_behind(
+    matches: &ArgMatches<'_>,
+    name: &str,
+    word: &'static str,
+) -> Result<Option<SocketAddrV4>, WordFault> {
+    let Some(text) = matches.get_str(name) else {
+        return Ok(None);
+    };
+    match text.parse::<SocketAddrV4>() {
+        Ok(address) => Ok(Some(address)),
+        Err(_) => Err(WordFault::BadAddress { word }),
+    }
+}
+
+// How the network is spoilt, if the word for that stands there.
+fn spoiling_behind(matches: &ArgMatches<'_>) -> Result<Option<Spoiling>, WordFault> {
+    let Some(text) = matches.get_str("network") else {
+        return Ok(None);
+    };
+    match Spoiling::read(text.as_bytes()) {
+        Ok(spoiling) => Ok(Some(spoiling)),
+        Err(fault) => Err(WordFault::BadNetwork { fault }),
+    }
+}
+
+// Why no settings are found in words, by the kind of clap's error.
+fn fault_of(kind: ErrorKind) -> WordFault {
+    match kind {
+        ErrorKind::OutOfMemory => WordFault::OutOfMemory,
+        ErrorKind::DisplayHelp => WordFault::Help,
+        ErrorKind::DisplayVersion => WordFault::Version,
+        _ => WordFault::Usage,
+    }
+}
+
+fn settings_in<'a>(matches: &ArgMatches<'a>) -> Result<Settings<'a>, WordFault> {
+    let Some(config) = matches.get_str("config") else {
+        return Err(WordFault::Usage);
+    };
+    let Some(control) = address_behind(matches, "control", "--control")? else {
+        return Err(WordFault::Usage);
+    };
+    Ok(Settings {
+        config,
+        listen: address_behind(matches, "listen", "--listen")?,
+        control,
+        route: matches.get_flag("route"),
+        log: matches.get_flag("log"),
+        capture: matches.get_str("capture"),
+        network: spoiling_behind(matches)?,
+        stop_after: matches.get_one::<u64>("stop-after"),
+    })
+}
+
+/// Reads the words of a command line, of which the first is the program's name.
+pub fn read_words(alloc: Global, words: &[String]) -> Result<Settings<'_>, WordFault> {
+    match command(alloc)?.try_get_matches_from(words) {
+        Ok(matches) => settings_in(&matches),
+        Err(fault) => Err(fault_of(fault.kind())),
+    }
+}
