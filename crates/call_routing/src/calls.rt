@@ -132,13 +132,6 @@ impl Calls {
         Ok(Calls { last, phases })
     }
 
-    /// The number of the last call.
-    pub(crate) fn last(&self) -> u64
-        ensures { result ≡ self.now.last }
-    {
-        self.last
-    }
-
     /// The phase of a line; `None` of one that there isn't.
     pub(crate) fn phase(&self, line: usize) -> Option<Phase>
         ensures { result ≡ slice_get self.now.phases line }

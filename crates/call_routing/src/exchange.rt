@@ -1,5 +1,5 @@
 //! An exchange.
-ghost use Rattle.std.specs.Prelude.{◌≡◌, IfOk, option_copied, length, slice_get};
+ghost use Rattle.std.specs.Prelude.{◌≡◌, IfOk, option_copied, slice_get};
 ghost use Rattle.call_routing.specs.Line.{sent, landed, spent};
 ghost use Rattle.call_routing.specs.Exchange.{new_lines, opening, phase_of, line_of, changed, told, flight_in, answered, due, sent_to};
 ghost use Rattle.call_routing.specs.Parameters.{description_of_other, parameters_of};
@@ -94,20 +94,6 @@ impl Exchange {
         let calls = Calls::new(alloc, count, last)?;
         let lines = new_lines(alloc, count)?;
         Ok(Exchange { calls, lines })
-    }
-
-    /// How many lines there are.
-    pub fn count(&self) -> usize
-        ensures { result ≡ length self.now.lines }
-    {
-        self.lines.len()
-    }
-
-    /// The number of the last call.
-    pub fn last_call(&self) -> u64
-        ensures { result ≡ self.now.calls.last }
-    {
-        self.calls.last()
     }
 
     /// The phase of a line; `None` of one that there isn't.
