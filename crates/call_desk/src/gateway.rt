@@ -1,6 +1,6 @@
 //! A gateway that a call agent works with.
 use crate::flight::Flight;
-use agent_journal::copied;
+use agent_texts::copied;
 use call_agent::{Agent, IssueFault, Issued};
 use mg_bytes::{OutOfMemory, Text};
 use mgcp_text::TransactionId;

@@ -1,5 +1,5 @@
 //! The exchange in the program's hands: which command each line is sent, and what its answer means for the line's calls.
-use agent_journal::{Journal, Standing, Station, copied, standing_of, tell_change};
+use agent_texts::{Journal, Standing, Station, copied, standing_of, tell_change};
 use call_routing::{Command, Exchange, NumberPlan, Outcome, Phase, Side, Told, told_in};
 use event_values::Observed;
 use mg_bytes::{Identifier, OutOfMemory, Text, list_items, same_no_case};
@@ -53,15 +53,23 @@ pub struct Order {
     pub rest: Text,
 }
 
-// Whether a telephone is off the hook, as the values of ES tell it (RFC 3435, 2.3.10).
-fn hook_in(params: &[Param<'_>]) -> Option<bool> {
-    let states = param_at(b"ES", params)?;
-    for state in list_items(states.value.as_slice()) {
-        if same_no_case(state, b"L/hd") || same_no_case(state, b"hd") {
-            return Some(true);
-        }
-        if same_no_case(state, b"L/hu") || same_no_case(state, b"hu") {
-            return Some(false);
+// Whether a telephone is off the hook, as a value of ES tells it (RFC 3435, 2.3.10).
+fn hook_of(state: &[u8]) -> Option<bool> {
+    if same_no_case(state, b"L/hd") || same_no_case(state, b"hd") {
+        Some(true)
+    } else if same_no_case(state, b"L/hu") || same_no_case(state, b"hu") {
+        Some(false)
+    } else {
+        None
+    }
+}
+
+// The same of all its values.
+fn hook_in(states: &[u8]) -> Option<bool> {
+    for state in list_items(states) {
+        let hook = hook_of(state);
+        if hook.is_some() {
+            return hook;
         }
     }
     None
@@ -70,7 +78,7 @@ fn hook_in(params: &[Param<'_>]) -> Option<bool> {
 // What an audit tells of a hook; nothing where memory is refused.
 fn audited_hook(alloc: Global, text: &[u8]) -> Option<bool> {
     match read_message(alloc, text) {
-        Ok(message) => hook_in(message.params()),
+        Ok(message) => hook_in(param_at(b"ES", message.params())?.value.as_slice()),
         Err(_) => None,
     }
 }
@@ -100,36 +108,42 @@ fn told_by(hook: Option<bool>, phase: Option<Phase>) -> Told {
     }
 }
 
-// The connection that the answer to a CRCX tells of, if it does.
-fn created_by(alloc: Global, message: &Message<'_>) -> Result<Option<Outcome>, OutOfMemory> {
-    let Message::Response { params, body, .. } = message else {
-        return Ok(None);
-    };
-    let Some(param) = param_at(b"I", params.as_slice()) else {
-        return Ok(None);
-    };
-    let Some(connection) = Identifier::of(param.value.as_slice()) else {
-        return Ok(None);
-    };
-    if body.as_slice().is_empty() {
-        return Ok(None);
+// The connection that an answer to a CRCX names.
+fn connection_in(params: &[Param<'_>]) -> Option<Identifier> {
+    Identifier::of(param_at(b"I", params)?.value.as_slice())
+}
+
+// What a CRCX created, where its answer has this body; the code alone where it names no connection, or describes none.
+fn created(
+    alloc: Global,
+    code: u16,
+    connection: Option<Identifier>,
+    body: &[u8],
+) -> Result<Outcome, OutOfMemory> {
+    match connection {
+        Some(connection) if !body.is_empty() => Ok(Outcome::Created {
+            connection,
+            description: copied(alloc, body)?,
+        }),
+        _ => Ok(Outcome::Answered(code)),
     }
-    Ok(Some(Outcome::Created {
-        connection,
-        description: copied(alloc, body.as_slice())?,
-    }))
 }
 
 // What the answer to a CRCX says. Where memory is refused it counts as given up: then the connection is deleted again.
 fn creation(alloc: Global, code: u16, text: &[u8]) -> Outcome {
-    let Ok(message) = read_message(alloc, text) else {
-        return Outcome::GivenUp;
+    let created = match read_message(alloc, text) {
+        Ok(Message::Response { params, body, .. }) => {
+            created(
+                alloc,
+                code,
+                connection_in(params.as_slice()),
+                body.as_slice(),
+            )
+        }
+        Ok(Message::Command { .. }) => return Outcome::Answered(code),
+        Err(_) => return Outcome::GivenUp,
     };
-    match created_by(alloc, &message) {
-        Ok(Some(outcome)) => outcome,
-        Ok(None) => Outcome::Answered(code),
-        Err(_) => Outcome::GivenUp,
-    }
+    created.unwrap_or(Outcome::GivenUp)
 }
 
 impl Office {

@@ -3,7 +3,7 @@ use crate::flight::Flight;
 use crate::gateway::Gateway;
 use crate::office::{Office, Order};
 use crate::typed::{TypedFault, typed_in};
-use agent_journal::{Journal, Station, copied};
+use agent_texts::{AgentConfig, Journal, Station, copied};
 use call_agent::{IssueFault, Issued};
 use call_routing::NumberPlan;
 use endpoint_names::{Pattern, read_name, write_name};
@@ -31,13 +31,11 @@ fn put_station(
     domain: &[u8],
     number: &[u8],
 ) -> Result<(), OutOfMemory> {
-    let name = write_name(alloc, Pattern::One(line), domain)?;
-    let number = copied(alloc, number)?;
     stations.push(Station {
         gateway,
         line,
-        name,
-        number,
+        name: write_name(alloc, Pattern::One(line), domain)?,
+        number: copied(alloc, number)?,
         taken: 0,
     })?;
     Ok(())
@@ -70,8 +68,8 @@ fn earlier(one: Option<u64>, other: Option<u64>) -> Option<u64> {
 }
 
 impl Switchboard {
-    /// No gateways, and no exchange.
-    pub fn new(alloc: Global) -> Switchboard {
+    // No gateways, and no exchange.
+    fn new(alloc: Global) -> Switchboard {
         Switchboard {
             alloc,
             gateways: Vec::new(alloc),
@@ -80,9 +78,9 @@ impl Switchboard {
         }
     }
 
-    /// Adds a gateway behind the others, with a line for each number. The agent has this address of its own; it is this time of day,
-    /// in ms. An error is for want of memory only.
-    pub fn add(
+    // Adds a gateway behind the others, with a line for each number. The agent has this address of its own; it is this time of day, in
+    // ms.
+    fn add(
         &mut self,
         own: SocketAddrV4,
         address: SocketAddrV4,
@@ -104,14 +102,37 @@ impl Switchboard {
         Ok(())
     }
 
-    /// Opens an exchange for the lines that there are, which are dialled by this map. An error is for want of memory only.
-    pub fn open(&mut self, map: &[u8]) -> Result<(), OutOfMemory> {
+    // Opens an exchange for the lines that there are, which are dialled by this map.
+    fn open(&mut self, map: &[u8]) -> Result<(), OutOfMemory> {
         let plan = plan_of(self.alloc, &self.stations)?;
         let map = copied(self.alloc, map)?;
         let office = Office::new(self.alloc, self.stations.len(), plan, map)?;
         self.office = Some(office);
         Ok(())
     }
+
+    /// The gateways of a configuration, and an exchange for their lines where calls are routed. It is this time of day, in ms. An error
+    /// is for want of memory only.
+    pub fn of(
+        alloc: Global,
+        config: &AgentConfig,
+        is_routed: bool,
+        time: u64,
+    ) -> Result<Switchboard, OutOfMemory> {
+        let mut board = Switchboard::new(alloc);
+        for gateway in config.gateways.iter() {
+            let domain = gateway.domain.as_bytes();
+            let numbers = gateway.numbers.as_slice();
+            board.add(config.own, gateway.address, domain, numbers, time)?;
+        }
+        if let (true, Some(map)) = (is_routed, &config.map) {
+            board.open(map.as_bytes())?;
+        }
+        Ok(board)
+    }
+
+    /// Lets it go. Where it is dropped instead, the drops of all its parts are checked once more.
+    pub fn close(self) {}
 
     /// How many gateways there are.
     pub fn gateways(&self) -> usize {
@@ -273,6 +294,13 @@ impl Switchboard {
         true
     }
 
+    // The exchange's command to a line was answered.
+    fn answer(&mut self, line: usize, code: u16, text: &[u8]) {
+        if let Some(office) = &mut self.office {
+            office.answered(self.alloc, line, code, text);
+        }
+    }
+
     // A response came from the gateway at this place.
     fn hear_response(
         &mut self,
@@ -286,11 +314,8 @@ impl Switchboard {
             return;
         };
         journal.tell_answer(flight.pending.text(), text);
-        let Some(line) = flight.line else {
-            return;
-        };
-        if let Some(office) = &mut self.office {
-            office.answered(self.alloc, line, code, text);
+        if let Some(line) = flight.line {
+            self.answer(line, code, text);
         }
     }
 

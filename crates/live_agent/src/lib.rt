@@ -1,17 +1,21 @@
-//! A call agent on a live network: what the program `rgca` does.
+//! A call agent on a live network: what the program `rgca` serves, and how it checks a gateway.
 //!
 //! Behind one socket is an agent for each gateway, which issues what is typed at a socket for commands. Where that is asked for,
-//! calls are routed between the lines of all gateways, and a bad network lies between. What all that means is in `call_desk`; here are
-//! the words, the configuration, the sockets and the clock.
+//! calls are routed between the lines of all gateways, and a bad network lies between. What all that means is in `call_desk`, and
+//! what is asked of a gateway in `gateway_checks`; here are the sockets and the clock.
 #![tactic(auto)]
 
-mod app;
-mod ending;
-mod help;
+mod check_fault;
+mod checking;
+mod ends;
+mod json;
+mod serve_fault;
+mod serving;
 mod session;
 mod wire;
-mod words;
 
-pub use crate::app::run;
-pub use crate::ending::Ending;
-pub use crate::words::{Settings, WordFault, read_words};
+pub use crate::check_fault::CheckFault;
+pub use crate::checking::{CheckSettings, check_gateway};
+pub use crate::serve_fault::ServeFault;
+pub use crate::serving::serve_agent;
+pub use crate::wire::WireSettings;

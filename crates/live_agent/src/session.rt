@@ -1,6 +1,6 @@
 //! Serves gateways and whoever types commands, a turn at a time.
 use crate::wire::Wire;
-use agent_journal::{Journal, count};
+use agent_texts::{Journal, count};
 use bad_network::{Packet, Way};
 use call_agent::Issued;
 use call_desk::{Switchboard, TypedFault, typed_text};

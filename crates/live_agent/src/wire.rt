@@ -1,10 +1,12 @@
 //! The wire: a socket for datagrams, a socket for commands, the clock, and a bad network, where one lies between.
-use agent_journal::{Journal, count};
-use bad_network::{BadNetwork, Fate, Packet, Way};
+use crate::serve_fault::ServeFault;
+use agent_texts::{Journal, count};
+use bad_network::{BadNetwork, Fate, Packet, Spoiling, Way};
 use exchange_log::{Note, Stamp};
 use live_ends::{CommandSocket, LONGEST_TICK, LiveClock, Readiness};
 use mio::net::UdpSocket;
 use plain_machine::OutDatagram;
+use std::alloc::Global;
 use std::io;
 use std::io::ErrorKind;
 use std::net::{Net, SocketAddr, SocketAddrV4};
@@ -14,6 +16,21 @@ use std::rt::Clock;
 const LONGEST_WAIT: u64 = 1000;
 
 const SHORTEST_WAIT: u64 = 1;
+
+/// How a wire is opened.
+#[derive(Clone, Copy)]
+pub struct WireSettings {
+    /// The address of the socket for gateways; port 0 is any free one.
+    pub listen: SocketAddrV4,
+    /// The address of the socket for commands; port 0 is any free one.
+    pub control: SocketAddrV4,
+    /// How the network is spoilt, where it is.
+    pub network: Option<Spoiling>,
+    pub has_log: bool,
+    pub has_capture: bool,
+    /// The moment at which it ends, in ms.
+    pub end: Option<u64>,
+}
 
 /// A wire over the machine's network and clock.
 #[derive(Drop)]
@@ -31,24 +48,76 @@ pub struct Wire<'a, R> {
 
 // What becomes of a packet is counted, and noted in the log.
 fn note_fate(journal: &mut Journal, stamp: Stamp, fate: Fate) {
-    match fate {
-        Fate::Lost => {
-            count(&mut journal.tally.lost);
-            journal.note(stamp, Note::Lost);
-        }
-        Fate::Once { late: 0 } => {}
-        Fate::Once { late } => {
-            count(&mut journal.tally.late);
-            journal.note(stamp, Note::Late { ms: late });
-        }
-        Fate::Twice { first, second } => {
-            count(&mut journal.tally.copied);
-            journal.note(stamp, Note::Copied { first, second });
-        }
+    let tally = &mut journal.tally;
+    let (number, note) = match fate {
+        Fate::Lost => (&mut tally.lost, Note::Lost),
+        Fate::Once { late: 0 } => return,
+        Fate::Once { late } => (&mut tally.late, Note::Late { ms: late }),
+        Fate::Twice { first, second } => (&mut tally.copied, Note::Copied { first, second }),
+    };
+    count(number);
+    journal.note(stamp, note);
+}
+
+// What went wrong with a socket.
+fn socket_fault(fault: &io::Error, otherwise: ServeFault) -> ServeFault {
+    if fault.kind() == ErrorKind::OutOfMemory {
+        return ServeFault::OutOfMemory;
+    }
+    otherwise
+}
+
+// The address of the socket for gateways.
+fn here_of(socket: &UdpSocket, listen: SocketAddrV4) -> SocketAddrV4 {
+    match socket.local_addr() {
+        Ok(SocketAddr::V4(here)) => here,
+        _ => listen,
+    }
+}
+
+// The network that spoils what comes and what is sent, where one is asked for.
+fn network_of(alloc: Global, spoiling: Option<Spoiling>) -> Option<BadNetwork> {
+    match spoiling {
+        Some(spoiling) => Some(BadNetwork::new(alloc, spoiling)),
+        None => None,
     }
 }
 
 impl<'a, R: Net + Clock> Wire<'a, R> {
+    /// Opens the sockets, and starts the clock.
+    pub fn open(
+        rt: &'a R,
+        alloc: Global,
+        settings: WireSettings,
+    ) -> Result<Wire<'a, R>, ServeFault> {
+        let Ok(clock) = LiveClock::start(rt) else {
+            return Err(ServeFault::Clock);
+        };
+        let mut socket = match UdpSocket::bind(rt, SocketAddr::V4(settings.listen)) {
+            Ok(socket) => socket,
+            Err(e) => return Err(socket_fault(&e, ServeFault::Listen)),
+        };
+        let mut control = match CommandSocket::open(rt, alloc, settings.control) {
+            Ok(control) => control,
+            Err(e) => return Err(socket_fault(&e, ServeFault::Control)),
+        };
+        match Readiness::watch(rt, alloc, &mut socket, &mut control) {
+            Ok(ready) => {
+                let here = here_of(&socket, settings.listen);
+                Ok(Wire {
+                    socket,
+                    control,
+                    clock,
+                    ready,
+                    network: network_of(alloc, settings.network),
+                    journal: Journal::new(alloc, settings.has_log, settings.has_capture, here),
+                    end: settings.end,
+                })
+            }
+            Err(e) => Err(socket_fault(&e, ServeFault::Listen)),
+        }
+    }
+
     /// Whether its end has come.
     pub fn is_over(&self) -> bool {
         match self.end {

@@ -1,8 +1,14 @@
-//! The program `rgca`.
+//! The program `rgca`: its words, its exit statuses and its texts, and what it opens, serves and checks.
 #![tactic(auto)]
+
+mod app;
+mod check_words;
+mod ending;
+mod help;
+mod words;
 
 use std::process::ExitCode;
 
 fn main(rt: HostRuntime) -> ExitCode {
-    ExitCode::from(live_agent::run(&rt))
+    ExitCode::from(app::run(&rt))
 }

@@ -1,10 +1,9 @@
 //! Reads the configuration of a call agent from TOML.
 use crate::config_fault::{ConfigFault, ConfigRefusal, refused};
-use agent_journal::copied;
+use crate::text::copied;
 use digit_map::{MapFault, read_map};
 use endpoint_names::is_domain;
 use mg_bytes::Text;
-use plain_machine::MOST_LINES;
 use std::alloc::{AllocError, Global};
 use std::collections::BTreeMap;
 use std::net::SocketAddrV4;
@@ -12,6 +11,9 @@ use toml::{Table, Value};
 
 // So many gateways are served at most.
 const MOST_GATEWAYS: usize = 1024;
+
+// So many lines a gateway has at most.
+const MOST_NUMBERS: usize = 96;
 
 // So many keys are a number at most.
 const LONGEST_NUMBER: usize = 32;
@@ -128,7 +130,7 @@ fn numbers_of(
             Err(_) => return Err(ConfigFault::OutOfMemory),
         }
     }
-    if numbers.is_empty() || numbers.len() > usize::from(MOST_LINES) {
+    if numbers.is_empty() || numbers.len() > MOST_NUMBERS {
         return Err(ConfigFault::BadNumbers);
     }
     Ok(numbers)

@@ -27,7 +27,7 @@ pub struct Settings<'a> {
     pub stop_after: Option<u64>,
 }
 
-/// Why the program doesn't serve as the words say.
+/// Why the program doesn't do what the words say.
 #[derive(Clone, Copy)]
 pub enum WordFault {
     /// Memory was refused.
@@ -74,7 +74,8 @@ const WORDS: [Word; 8] = [
     Word::StopAfter,
 ];
 
-fn flag_word<'a>(alloc: Global, name: &'a str) -> Arg<'a> {
+/// A word with nothing behind it.
+pub fn flag_word<'a>(alloc: Global, name: &'a str) -> Arg<'a> {
     Arg::new(alloc, name).long(name).action(ArgAction::SetTrue)
 }
 
@@ -104,8 +105,8 @@ fn command<'a>(alloc: Global) -> Result<Command<'a>, AllocError> {
     Ok(command)
 }
 
-// The address behind a word, if that stands there.
-fn address_behind(
+/// The address behind a word, if that stands there.
+pub fn address_behind(
     matches: &ArgMatches<'_>,
     name: &str,
     word: &'static str,
@@ -130,8 +131,8 @@ fn spoiling_behind(matches: &ArgMatches<'_>) -> Result<Option<Spoiling>, WordFau
     }
 }
 
-// Why no settings are found in words, by the kind of clap's error.
-fn fault_of(kind: ErrorKind) -> WordFault {
+/// Why no settings are found in words, by the kind of clap's error.
+pub fn fault_of(kind: ErrorKind) -> WordFault {
     match kind {
         ErrorKind::OutOfMemory => WordFault::OutOfMemory,
         ErrorKind::DisplayHelp => WordFault::Help,

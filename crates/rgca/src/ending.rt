@@ -1,8 +1,9 @@
 //! How the program ends: its status, and what it says then.
-use crate::help::{HELP, USAGE, VERSIONS, put_pieces};
+use crate::help::{CHECK_HELP, CHECK_USAGE, HELP, USAGE, VERSIONS, put_pieces};
 use crate::words::WordFault;
-use agent_config::{ConfigFault, ConfigRefusal};
+use agent_texts::{ConfigFault, ConfigRefusal};
 use bad_network::SpoilingFault;
+use live_agent::CheckFault;
 use std::fmt;
 use std::net::SocketAddrV4;
 
@@ -11,12 +12,20 @@ use std::net::SocketAddrV4;
 pub enum Ending<'a> {
     /// The call agent served up to the moment that was asked for.
     Served,
+    /// A gateway was checked, which has this exit status.
+    Checked {
+        status: u8,
+    },
     /// The words ask how it is used.
     Help,
+    /// The words ask how a check is asked for.
+    CheckHelp,
     /// The words ask for its version.
     Version,
     /// The words of the command line are other words.
     Usage,
+    /// The words behind `check` are other words.
+    CheckUsage,
     /// What stands behind this word isn't an address.
     BadAddress {
         word: &'static str,
@@ -43,8 +52,18 @@ pub enum Ending<'a> {
         word: &'static str,
         address: SocketAddrV4,
     },
+    /// The gateway at this address can't be checked: it doesn't answer.
+    NoAnswer {
+        address: SocketAddrV4,
+    },
+    /// The gateway at this address can't be checked: no call agent has answered its announcement yet.
+    NotServing {
+        address: SocketAddrV4,
+    },
     /// The clock can't be read.
     Clock,
+    /// The clock, or what tells of sockets, failed in a check.
+    System,
     /// Standard output or standard error can't be written.
     Write,
     /// Memory was refused.
@@ -53,18 +72,23 @@ pub enum Ending<'a> {
 
 impl<'a> Ending<'a> {
     /// The exit status: 0 served or told, 2 words or a configuration that are refused, 3 memory, a
-    /// file, a socket or a stream.
+    /// file, a socket or a stream, or a gateway that can't be checked; else that of a check.
     pub fn status(&self) -> u8 {
         match self {
-            Ending::Served | Ending::Help | Ending::Version => 0,
+            Ending::Served | Ending::Help | Ending::CheckHelp | Ending::Version => 0,
+            Ending::Checked { status } => *status,
             Ending::Usage
+            | Ending::CheckUsage
             | Ending::BadAddress { .. }
             | Ending::BadNetwork { .. }
             | Ending::Config { .. } => 2,
             Ending::Unreadable { .. }
             | Ending::Unwritable { .. }
             | Ending::Unbound { .. }
+            | Ending::NoAnswer { .. }
+            | Ending::NotServing { .. }
             | Ending::Clock
+            | Ending::System
             | Ending::Write
             | Ending::OutOfMemory => 3,
         }
@@ -80,6 +104,31 @@ impl<'a> From<WordFault> for Ending<'a> {
             WordFault::Version => Ending::Version,
             WordFault::BadAddress { word } => Ending::BadAddress { word },
             WordFault::BadNetwork { fault } => Ending::BadNetwork { fault },
+        }
+    }
+}
+
+/// How the program ends by words behind `check`.
+pub fn check_words_ending<'a>(fault: WordFault) -> Ending<'a> {
+    match fault {
+        WordFault::Usage => Ending::CheckUsage,
+        WordFault::Help => Ending::CheckHelp,
+        other => Ending::from(other),
+    }
+}
+
+impl<'a> From<CheckFault> for Ending<'a> {
+    fn from(fault: CheckFault) -> Ending<'a> {
+        match fault {
+            CheckFault::Unbound { address } => Ending::Unbound {
+                word: "--listen",
+                address,
+            },
+            CheckFault::NoAnswer { address } => Ending::NoAnswer { address },
+            CheckFault::NotServing { address } => Ending::NotServing { address },
+            CheckFault::System => Ending::System,
+            CheckFault::Write => Ending::Write,
+            CheckFault::OutOfMemory => Ending::OutOfMemory,
         }
     }
 }
@@ -108,21 +157,31 @@ fn put_config<W: fmt::Write>(
 }
 
 // What is written: on standard output what the words ask, else a line on standard error, or nothing
-// where it served.
+// where it served or checked.
 impl<'a> fmt::Display for Ending<'a> {
     fn fmt<W: fmt::Write>(&self, f: &mut fmt::Formatter<W>) -> fmt::Result {
         match self {
-            Ending::Served => Ok(()),
+            Ending::Served | Ending::Checked { .. } => Ok(()),
             Ending::Help => put_pieces(f, &HELP),
+            Ending::CheckHelp => put_pieces(f, &CHECK_HELP),
             Ending::Version => put_pieces(f, &VERSIONS),
             Ending::Usage => put_pieces(f, &[USAGE, "\n"]),
+            Ending::CheckUsage => put_pieces(f, &[CHECK_USAGE, "\n"]),
             Ending::BadAddress { word } => put_pieces(f, &[*word, ": no address a.b.c.d:port\n"]),
             Ending::BadNetwork { fault } => put_pieces(f, &["--network: ", fault.text(), "\n"]),
             Ending::Config { file, refusal } => put_config(f, *file, refusal),
             Ending::Unreadable { file } => put_pieces(f, &[*file, ": read fault\n"]),
             Ending::Unwritable { file } => put_pieces(f, &[*file, ": write fault\n"]),
             Ending::Unbound { word, address } => writeln!(f, "{word} {address}: no socket"),
+            Ending::NoAnswer { address } => writeln!(f, "{address}: no answer"),
+            Ending::NotServing { address } => {
+                writeln!(
+                    f,
+                    "{address}: 405, it waits for its call agent (--listen answers for that)"
+                )
+            }
             Ending::Clock => f.write_str("clock fault\n"),
+            Ending::System => f.write_str("clock or socket fault\n"),
             Ending::Write => f.write_str("write fault\n"),
             Ending::OutOfMemory => f.write_str("out of memory\n"),
         }

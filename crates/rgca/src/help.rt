@@ -57,6 +57,33 @@ More: the manual page rgca(1).
 /// How the program is used, in pieces.
 pub const HELP: [&str; 4] = [USAGE, ABOVE, CONTROL, BELOW];
 
+/// The words behind `check`, in a line.
+pub const CHECK_USAGE: &str =
+    "usage: rgca check ADDRESS --domain D --line NAME [--more-lines NAME..] [--slow] [--json] [--listen ADDRESS]";
+
+// What they say, from the end of the first line on.
+const CHECK_BELOW: &str = "
+
+Checks an MGCP gateway as RFC 3435 asks, without anyone at its telephones. Its lines should be on hook, and no other call
+agent at work on them. What is changed is undone: connections are deleted, and an empty request ends the checks.
+
+  ADDRESS             of the gateway, a.b.c.d:port
+  --domain D          of its endpoint names
+  --line NAME         the local name of a line, as aaln/1
+  --more-lines NAME   of another one, for checks that need two
+  --slow              checks that wait for half a minute too
+  --json              the report as JSON
+  --listen ADDRESS    where it sends from, which is the call agent that the gateway is configured for; else any free port.
+                      What the gateway sends is answered.
+  --help              this
+
+A check that fails tells what was due. `not supported` is what a gateway may leave out, or what the RFC leaves open.
+The status is 0 where none failed, 1 where one did, 2 for other words, 3 where nothing can be checked.
+";
+
+/// How a check is asked for, in pieces.
+pub const CHECK_HELP: [&str; 2] = [CHECK_USAGE, CHECK_BELOW];
+
 /// The version of the program, and of its protocol, in pieces.
 pub const VERSIONS: [&str; 3] = ["rgca ", VERSION, "\nMGCP 1.0 (RFC 3435)\n"];
 

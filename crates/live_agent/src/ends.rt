@@ -1,5 +1,5 @@
-//! The two sockets, and the clock.
-use crate::ending::Ending;
+//! The two sockets of a check, and the clock.
+use crate::check_fault::CheckFault;
 use gateway_checks::{Player, SOCKETS, Socket, Turn, put_responses};
 use mio::net::UdpSocket;
 use mio::{Events, Interest, Poll, Token};
@@ -25,6 +25,19 @@ pub(crate) struct Ends<'a, R> {
     start: Instant,
 }
 
+// A socket at this address, of which the poll tells under this token.
+fn watched<R: Net>(
+    rt: &R,
+    poll: &Poll,
+    address: SocketAddrV4,
+    token: Token,
+) -> io::Result<UdpSocket> {
+    let mut socket = UdpSocket::bind(rt, SocketAddr::V4(address))?;
+    poll.registry()
+        .register(&mut socket, token, Interest::READABLE)?;
+    Ok(socket)
+}
+
 // Two sockets, of which the first has this address, and what tells of them.
 fn opened<R: Net>(
     rt: &R,
@@ -32,14 +45,10 @@ fn opened<R: Net>(
     listen: SocketAddrV4,
 ) -> io::Result<(UdpSocket, UdpSocket, Poll, Events)> {
     let any = SocketAddrV4::new(Ipv4Addr::UNSPECIFIED, 0);
-    let mut first = UdpSocket::bind(rt, SocketAddr::V4(listen))?;
-    let mut second = UdpSocket::bind(rt, SocketAddr::V4(any))?;
     let events = Events::with_capacity(alloc, 2)?;
     let poll = Poll::new(rt)?;
-    poll.registry()
-        .register(&mut first, Token(0), Interest::READABLE)?;
-    poll.registry()
-        .register(&mut second, Token(1), Interest::READABLE)?;
+    let first = watched(rt, &poll, listen, Token(0))?;
+    let second = watched(rt, &poll, any, Token(1))?;
     Ok((first, second, poll, events))
 }
 
@@ -50,12 +59,12 @@ impl<'a, R: Net + Clock> Ends<'a, R> {
         alloc: Global,
         gateway: SocketAddrV4,
         listen: SocketAddrV4,
-    ) -> Result<Ends<'a, R>, Ending> {
+    ) -> Result<Ends<'a, R>, CheckFault> {
         let Ok((first, second, poll, events)) = opened(rt, alloc, listen) else {
-            return Err(Ending::Unbound { address: listen });
+            return Err(CheckFault::Unbound { address: listen });
         };
         let Ok(start) = Instant::now(rt) else {
-            return Err(Ending::System);
+            return Err(CheckFault::System);
         };
         Ok(Ends {
             rt,
@@ -77,29 +86,29 @@ impl<'a, R: Net + Clock> Ends<'a, R> {
     }
 
     /// The moment, in ms.
-    pub fn now(&self) -> Result<u64, Ending> {
+    pub fn now(&self) -> Result<u64, CheckFault> {
         match self.start.elapsed(self.rt) {
             Ok(passed) => Ok(u64::try_from(passed.as_millis()).unwrap_or(u64::MAX)),
-            Err(_) => Err(Ending::System),
+            Err(_) => Err(CheckFault::System),
         }
     }
 
     // Sends to the gateway. What finds no room counts as lost in the network.
-    fn send(&self, from: Socket, bytes: &[u8]) -> Result<(), Ending> {
+    fn send(&self, from: Socket, bytes: &[u8]) -> Result<(), CheckFault> {
         match self
             .socket(from)
             .send_to(bytes, SocketAddr::V4(self.gateway))
         {
             Ok(_) => Ok(()),
             Err(e) if e.kind() == io::ErrorKind::WouldBlock => Ok(()),
-            Err(_) => Err(Ending::NoAnswer {
+            Err(_) => Err(CheckFault::NoAnswer {
                 address: self.gateway,
             }),
         }
     }
 
     // Gives the player a datagram that has come to a socket, and answers the gateway's commands in it.
-    fn give(&self, player: &mut Player<'_>, at: Socket, datagram: &[u8]) -> Result<(), Ending> {
+    fn give(&self, player: &mut Player<'_>, at: Socket, datagram: &[u8]) -> Result<(), CheckFault> {
         let mut responses = String::new(self.alloc);
         put_responses(self.alloc, &mut responses, datagram)?;
         if !responses.is_empty() {
@@ -110,7 +119,7 @@ impl<'a, R: Net + Clock> Ends<'a, R> {
     }
 
     // Waits until something comes, or this moment.
-    fn wait(&mut self, until: u64) -> Result<(), Ending> {
+    fn wait(&mut self, until: u64) -> Result<(), CheckFault> {
         let left = until.saturating_sub(self.now()?);
         match self
             .poll
@@ -118,12 +127,12 @@ impl<'a, R: Net + Clock> Ends<'a, R> {
         {
             Ok(()) => Ok(()),
             Err(e) if e.kind() == io::ErrorKind::Interrupted => Ok(()),
-            Err(_) => Err(Ending::System),
+            Err(_) => Err(CheckFault::System),
         }
     }
 
     // Gives the player what has come to a socket, of the gateway's; whether anything has.
-    fn look(&self, player: &mut Player<'_>, at: Socket) -> Result<bool, Ending> {
+    fn look(&self, player: &mut Player<'_>, at: Socket) -> Result<bool, CheckFault> {
         let mut room = [0u8; ROOM];
         match self.socket(at).recv_from(&mut room) {
             Ok((len, SocketAddr::V4(source)))
@@ -138,7 +147,7 @@ impl<'a, R: Net + Clock> Ends<'a, R> {
     }
 
     // Gives the player what comes next, but waits no longer than until this moment.
-    fn hear(&mut self, player: &mut Player<'_>, until: u64) -> Result<(), Ending> {
+    fn hear(&mut self, player: &mut Player<'_>, until: u64) -> Result<(), CheckFault> {
         for at in SOCKETS.iter() {
             if self.look(player, *at)? {
                 return Ok(());
@@ -148,7 +157,7 @@ impl<'a, R: Net + Clock> Ends<'a, R> {
     }
 
     /// Plays a check to its end.
-    pub fn play(&mut self, player: &mut Player<'_>) -> Result<(), Ending> {
+    pub fn play(&mut self, player: &mut Player<'_>) -> Result<(), CheckFault> {
         for _ in 0..u64::MAX {
             let now = self.now()?;
             match player.turn(now)? {
@@ -161,7 +170,7 @@ impl<'a, R: Net + Clock> Ends<'a, R> {
     }
 
     /// Waits for so long, in ms.
-    pub fn rest(&mut self, ms: u64) -> Result<(), Ending> {
+    pub fn rest(&mut self, ms: u64) -> Result<(), CheckFault> {
         let until = self.now()?.saturating_add(ms);
         self.wait(until)
     }

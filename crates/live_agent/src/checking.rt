@@ -1,8 +1,7 @@
 //! Plays all checks at a gateway, and reports.
-use crate::ending::{Ending, tell};
+use crate::check_fault::CheckFault;
 use crate::ends::Ends;
 use crate::json::{check_value, report_text};
-use crate::words::{Settings, command, ending_of, settings_in};
 use gateway_checks::{
     Check, Names, Player, SERVES, Tally, Verdict, all_checks, check_of, put_check, put_tally,
 };
@@ -10,7 +9,7 @@ use mg_bytes::OutOfMemory;
 use serde_json::Value;
 use std::alloc::Global;
 use std::mem;
-use std::net::Net;
+use std::net::{Net, SocketAddrV4};
 use std::rt::Clock;
 use std::time::SystemTime;
 
@@ -20,11 +19,30 @@ const IDS: u32 = 10;
 // So often it is asked whether the gateway serves, a second each.
 const MOST_TRIES: u32 = 10;
 
+/// What is asked for.
+#[derive(Clone, Copy)]
+pub struct CheckSettings<'a> {
+    /// The gateway's address.
+    pub gateway: SocketAddrV4,
+    /// The domain of its endpoints.
+    pub domain: &'a str,
+    /// The local name of a line.
+    pub line: &'a str,
+    /// That of another one, if there is one.
+    pub other: Option<&'a str>,
+    /// Whether checks that take long are played too.
+    pub is_slow: bool,
+    /// Whether the report is JSON.
+    pub is_json: bool,
+    /// The address of the first socket.
+    pub listen: SocketAddrV4,
+}
+
 /// What is under way.
 #[derive(Drop)]
-struct Session<'a> {
+struct Checking<'a> {
     alloc: Global,
-    settings: Settings<'a>,
+    settings: CheckSettings<'a>,
     // The number before the ids of the next check.
     base: u32,
     tally: Tally,
@@ -44,14 +62,14 @@ fn first_base<R: Clock>(rt: &R) -> u32 {
     (milliseconds % 9_000_000 + 10_000) as u32
 }
 
-fn put_out<R: Print>(rt: &R, text: &str) -> Result<(), Ending> {
+fn put_out<R: Print>(rt: &R, text: &str) -> Result<(), CheckFault> {
     match print!(rt; "{text}") {
         Ok(()) => Ok(()),
-        Err(_) => Err(Ending::Write),
+        Err(_) => Err(CheckFault::Write),
     }
 }
 
-impl<'a> Session<'a> {
+impl<'a> Checking<'a> {
     // The player of the next check.
     fn player(&mut self, check: &Check<'static>) -> Player<'a> {
         let settings = self.settings;
@@ -86,7 +104,7 @@ impl<'a> Session<'a> {
         check: &Check<'_>,
         verdict: Option<Verdict>,
         said: &str,
-    ) -> Result<(), Ending> {
+    ) -> Result<(), CheckFault> {
         self.tally.count(verdict);
         if self.settings.is_json {
             self.note(check, verdict, said)?;
@@ -98,7 +116,7 @@ impl<'a> Session<'a> {
     }
 
     // Tells how many checks have come to what.
-    fn report_all<R: Print>(&mut self, rt: &R) -> Result<(), Ending> {
+    fn report_all<R: Print>(&mut self, rt: &R) -> Result<(), CheckFault> {
         let mut text = String::new(self.alloc);
         if self.settings.is_json {
             let values = mem::replace(&mut self.values, Vec::new(self.alloc));
@@ -111,83 +129,98 @@ impl<'a> Session<'a> {
     }
 }
 
+// Whether the gateway serves; where it doesn't a second passes.
+fn serves<R: Net + Clock>(
+    ends: &mut Ends<'_, R>,
+    player: &mut Player<'_>,
+    address: SocketAddrV4,
+) -> Result<bool, CheckFault> {
+    ends.play(player)?;
+    if !player.has_answer() {
+        return Err(CheckFault::NoAnswer { address });
+    }
+    match player.verdict() {
+        Verdict::Passed => {
+            ends.rest(1000)?;
+            Ok(false)
+        }
+        Verdict::NotSupported | Verdict::Failed => Ok(true),
+    }
+}
+
 // Waits until the gateway serves; else tells why nothing can be checked.
-fn find<R: Net + Clock>(session: &mut Session<'_>, ends: &mut Ends<'_, R>) -> Result<(), Ending> {
-    let address = session.settings.gateway;
+fn find<R: Net + Clock>(
+    checking: &mut Checking<'_>,
+    ends: &mut Ends<'_, R>,
+) -> Result<(), CheckFault> {
+    let address = checking.settings.gateway;
     for _ in 0..MOST_TRIES {
-        let mut player = session.player(&check_of(SERVES));
-        ends.play(&mut player)?;
-        match (player.has_answer(), player.verdict()) {
-            (false, _) => return Err(Ending::NoAnswer { address }),
-            (true, Verdict::Passed) => ends.rest(1000)?,
-            (true, _) => return Ok(()),
+        let mut player = checking.player(&check_of(SERVES));
+        match serves(ends, &mut player, address) {
+            Ok(true) => return Ok(()),
+            Ok(false) => {}
+            Err(fault) => return Err(fault),
         }
     }
-    Err(Ending::NotServing { address })
+    Err(CheckFault::NotServing { address })
+}
+
+// Plays a check to its end, and reports what came of it.
+fn play_one<R: Net + Clock + Print>(
+    rt: &R,
+    checking: &mut Checking<'_>,
+    ends: &mut Ends<'_, R>,
+    check: &Check<'static>,
+    player: &mut Player<'_>,
+) -> Result<(), CheckFault> {
+    ends.play(player)?;
+    checking.report(rt, check, Some(player.verdict()), player.said())
 }
 
 // Plays a check, where it is asked for.
 fn check_one<R: Net + Clock + Print>(
     rt: &R,
-    session: &mut Session<'_>,
+    checking: &mut Checking<'_>,
     ends: &mut Ends<'_, R>,
     check: &Check<'static>,
-) -> Result<(), Ending> {
-    if !session.is_asked(check) {
-        return session.report(rt, check, None, "");
+) -> Result<(), CheckFault> {
+    if !checking.is_asked(check) {
+        return checking.report(rt, check, None, "");
     }
-    let mut player = session.player(check);
-    ends.play(&mut player)?;
-    session.report(rt, check, Some(player.verdict()), player.said())
+    let mut player = checking.player(check);
+    play_one(rt, checking, ends, check, &mut player)
 }
 
-// Plays all checks as the settings ask, and gives the exit status.
+// Plays all checks that are asked for, and gives the exit status.
 fn check_all<R: Net + Clock + Print>(
     rt: &R,
-    alloc: Global,
-    settings: Settings<'_>,
-) -> Result<u8, Ending> {
-    let mut ends = Ends::open(rt, alloc, settings.gateway, settings.listen)?;
-    let mut session = Session {
+    checking: &mut Checking<'_>,
+    ends: &mut Ends<'_, R>,
+) -> Result<u8, CheckFault> {
+    find(checking, ends)?;
+    for block in all_checks().split("\n= ").skip(1) {
+        check_one(rt, checking, ends, &check_of(block))?;
+    }
+    checking.report_all(rt)?;
+    Ok(checking.tally.status())
+}
+
+/// Checks a gateway as the settings ask, and gives the exit status: 0 where no check failed, 1 where one did. An error says why
+/// nothing can be checked.
+pub fn check_gateway<R: AllocGlobal + Net + Clock + Print>(
+    rt: &R,
+    settings: CheckSettings<'_>,
+) -> Result<u8, CheckFault> {
+    let alloc = rt.alloc();
+    let mut checking = Checking {
         alloc,
         settings,
         base: first_base(rt),
         tally: Tally::NONE,
         values: Vec::new(alloc),
     };
-    find(&mut session, &mut ends)?;
-    for block in all_checks().split("\n= ").skip(1) {
-        check_one(rt, &mut session, &mut ends, &check_of(block))?;
-    }
-    session.report_all(rt)?;
-    Ok(session.tally.status())
-}
-
-// The words as clap wants them: behind one that names the program.
-fn all_words(alloc: Global, words: &[String]) -> Result<Vec<&str>, OutOfMemory> {
-    let mut all = Vec::new(alloc);
-    all.push("check")?;
-    for word in words {
-        all.push(word.as_str())?;
-    }
-    Ok(all)
-}
-
-// Does what the words ask, and gives the exit status.
-fn checked<R: AllocGlobal + Net + Clock + Print>(rt: &R, words: &[String]) -> Result<u8, Ending> {
-    let alloc = rt.alloc();
-    let all = all_words(alloc, words)?;
-    match command(alloc)?.try_get_matches_from(all.as_slice()) {
-        Ok(matches) => check_all(rt, alloc, settings_in(&matches)?),
-        Err(fault) => Err(ending_of(fault.kind())),
-    }
-}
-
-/// Checks a gateway as the words behind `check` ask, and gives the exit status: 0 where no check failed, 1 where one did, 2
-/// where the words are others, 3 where nothing can be checked.
-pub fn run_checks<R: AllocGlobal + Net + Clock + Print + Eprint>(rt: &R, words: &[String]) -> u8 {
-    match checked(rt, words) {
-        Ok(status) => status,
-        Err(ending) => tell(rt, ending),
+    match Ends::open(rt, alloc, settings.gateway, settings.listen) {
+        Ok(mut ends) => check_all(rt, &mut checking, &mut ends),
+        Err(fault) => Err(fault),
     }
 }

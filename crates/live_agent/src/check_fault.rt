@@ -1,0 +1,26 @@
+//! Why a gateway can't be checked.
+use mg_bytes::OutOfMemory;
+use std::net::SocketAddrV4;
+
+/// Why a gateway can't be checked.
+#[derive(Clone, Copy)]
+pub enum CheckFault {
+    /// No socket can be had there.
+    Unbound { address: SocketAddrV4 },
+    /// Nothing can be sent to the gateway, or it doesn't answer.
+    NoAnswer { address: SocketAddrV4 },
+    /// It refuses with 405: no call agent has answered its announcement yet.
+    NotServing { address: SocketAddrV4 },
+    /// The clock, or what tells of sockets, failed.
+    System,
+    /// The report can't be written.
+    Write,
+    /// Memory was refused.
+    OutOfMemory,
+}
+
+impl From<OutOfMemory> for CheckFault {
+    fn from(_refused: OutOfMemory) -> CheckFault {
+        CheckFault::OutOfMemory
+    }
+}
