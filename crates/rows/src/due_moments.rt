@@ -8,60 +8,67 @@
 //! - `keep` and `back`: the table as it was once.
 use crate::keeping::{Kept, Thing};
 use mg_packages::SIGNALS;
-use scenario_files::{Row, unread};
+use scenario_files::{Row, range_in};
 use std::alloc::Global;
 use std::io;
-use std::io::Write;
 use timers::{Due, DueItem, DueKind, LineDue, comes_before};
 
 // How many lines the table has beside the gateway itself.
 const LINES: u16 = 96;
 
+// The kinds that a row says by one word.
+const KINDS: [(&str, DueKind); 3] = [
+    ("T", DueKind::OfLine(LineDue::DigitTimer)),
+    ("message", DueKind::Resend),
+    ("announcement", DueKind::Announce),
+];
+
 /// A kind of some lines.
 #[derive(Clone, Copy)]
 struct Places {
-    first: u16,
-    last: u16,
+    first: u32,
+    last: u32,
     kind: DueKind,
 }
 
 // `T` or `signal 8`.
 fn kind_of(row: &mut Row<'_>) -> Option<DueKind> {
-    match row.before(" ") {
-        "T" => Some(DueKind::OfLine(LineDue::DigitTimer)),
-        "signal" => {
-            let place = row.before(" ").parse::<usize>().ok()?;
-            let signal = SIGNALS.get(place)?;
-            Some(DueKind::OfLine(LineDue::SignalEnd(*signal)))
-        }
-        "message" => Some(DueKind::Resend),
-        "announcement" => Some(DueKind::Announce),
-        _ => None,
+    let word = row.before(" ");
+    if word == "signal" {
+        let signal = SIGNALS.get(row.number() as usize)?;
+        return Some(DueKind::OfLine(LineDue::SignalEnd(*signal)));
     }
+    for (name, kind) in &KINDS {
+        if *name == word {
+            return Some(*kind);
+        }
+    }
+    None
 }
 
 // `1 T` or `0-32 signal 8`.
 fn places_of(row: &mut Row<'_>) -> Option<Places> {
-    let lines = row.before(" ");
-    let (first, last) = lines.split_once('-').unwrap_or((lines, lines));
-    Some(Places {
-        first: first.parse::<u16>().ok()?,
-        last: last.parse::<u16>().ok()?,
-        kind: kind_of(row)?,
-    })
+    let (first, last) = range_in(row.before(" "))?;
+    let kind = kind_of(row)?;
+    Some(Places { first, last, kind })
 }
 
 // What is due first.
-fn put_least(out: &mut Vec<u8>, due: &Due) -> io::Result<()> {
+fn put_least(row: &mut Row<'_>, due: &Due) {
     let Some(item) = due.least() else {
-        return out.write_all(b"-");
+        return row.put(b"-");
     };
-    write!(out, "{} {} ", item.moment, item.line)?;
+    row.put_shown(item.moment);
+    row.put(b" ");
+    row.put_shown(item.line);
     match item.kind {
-        DueKind::OfLine(LineDue::DigitTimer) => out.write_all(b"T"),
-        DueKind::OfLine(LineDue::SignalEnd(signal)) => write!(out, "signal {}", signal as u8),
-        DueKind::Resend => out.write_all(b"message"),
-        DueKind::Announce => out.write_all(b"announcement"),
+        DueKind::OfLine(LineDue::DigitTimer) => row.put(b" T"),
+        DueKind::OfLine(LineDue::SignalEnd(signal)) => {
+            row.put(b" signal ");
+            row.put_shown(signal as u8);
+        }
+        DueKind::Resend => row.put(b" message"),
+        DueKind::Announce => row.put(b" announcement"),
     }
 }
 
@@ -87,18 +94,32 @@ fn fallen(due: &mut Due, most: u32) -> u32 {
     most
 }
 
-// A moment for each of these places, as `0-32 signal 8 600`; without a moment they are cleared.
-fn set_all(due: &mut Due, places: Places, moment: Option<u32>) -> io::Result<()> {
+// A moment for a kind of this line; without a moment it is cleared. There is no such row where the table has no such line.
+fn set(due: &mut Due, row: &mut Row<'_>, line: u32, kind: DueKind, moment: Option<u32>) {
+    let Ok(line) = u16::try_from(line) else {
+        return row.unread();
+    };
+    if !due.has_place(line) {
+        return row.unread();
+    }
+    match moment {
+        Some(moment) => due.set(line, kind, u64::from(moment)),
+        None => due.clear(line, kind),
+    }
+}
+
+// The same for each of these places, as `0-32 signal 8 600` says.
+fn set_all(due: &mut Due, row: &mut Row<'_>, is_cleared: bool) {
+    let Some(places) = places_of(row) else {
+        return row.unread();
+    };
+    let moment = if is_cleared { None } else { Some(row.number()) };
     for line in places.first..=places.last {
-        if !due.has_place(line) {
-            return Err(unread());
-        }
-        match moment {
-            Some(moment) => due.set(line, places.kind, u64::from(moment)),
-            None => due.clear(line, places.kind),
+        set(due, row, line, places.kind, moment);
+        if row.is_unread {
+            return;
         }
     }
-    Ok(())
 }
 
 impl Thing for Due {
@@ -106,20 +127,16 @@ impl Thing for Due {
         Ok(Due::new(alloc, LINES)?)
     }
 
-    fn turn(&mut self, _alloc: Global, out: &mut Vec<u8>, row: &mut Row<'_>) -> io::Result<()> {
+    fn turn(&mut self, row: &mut Row<'_>) {
         match row.before(" ") {
-            "set" => {
-                let places = places_of(row).ok_or(unread())?;
-                let moment = row.number()?;
-                set_all(self, places, Some(moment))
-            }
-            "clear" => set_all(self, places_of(row).ok_or(unread())?, None),
-            "least" => put_least(out, self),
+            "set" => set_all(self, row, false),
+            "clear" => set_all(self, row, true),
+            "least" => put_least(row, self),
             "falls" => {
-                let most = row.left().parse::<u32>().unwrap_or(0);
-                write!(out, "{}", fallen(self, most))
+                let most = row.left.parse::<u32>().unwrap_or(0);
+                row.put_shown(fallen(self, most));
             }
-            _ => Err(unread()),
+            _ => row.unread(),
         }
     }
 }

@@ -1,17 +1,14 @@
 //! Events as rows spell them.
-use event_syntax::{Observed, read_observed, write_observed};
-use scenario_files::{or_unread, unread};
-use std::alloc::Global;
-use std::io;
-use std::io::Write;
+use event_syntax::{Observed, read_observed};
+use scenario_files::Row;
 
-/// An event as O spells it: `L/hd`, or `L/oc(L/dl)` at the end of a signal.
-pub fn observed_of(alloc: Global, text: &str) -> io::Result<Observed> {
-    let list = or_unread(read_observed(alloc, text.as_bytes()))?;
-    list.as_slice().first().copied().ok_or(unread())
-}
-
-/// Puts events as O spells them.
-pub fn put_events(alloc: Global, out: &mut Vec<u8>, events: &[Observed]) -> io::Result<()> {
-    out.write_all(write_observed(alloc, events)?.as_bytes())
+/// An event as O spells it: `L/hd`, or `L/oc(L/dl)` at the end of a signal. Where it spells none there is no such row.
+pub fn observed_of(row: &mut Row<'_>, text: &str) -> Option<Observed> {
+    match read_observed(row.alloc, text.as_bytes()) {
+        Ok(list) => list.as_slice().first().copied(),
+        Err(fault) => {
+            row.fault(fault);
+            None
+        }
+    }
 }

@@ -10,61 +10,48 @@
 //!   so far.
 use crate::keeping::Thing;
 use history::{History, IdSpan, Look};
-use mg_bytes::{Sequence, Text, decimal};
-use scenario_files::{Row, again, range_in, unread};
+use mg_bytes::{OutOfMemory, Sequence, Text};
+use scenario_files::{Row, again, range_in};
 use std::alloc::Global;
 use std::io;
-use std::io::Write;
 
 // `7` or `1-4096`.
-fn ids_of(text: &str) -> io::Result<IdSpan> {
-    let (first, last) = range_in(text).ok_or(unread())?;
-    Ok(IdSpan { first, last })
-}
-
-// `at 1000` or `every 10`: the number behind this word.
-fn behind(word: &str, row: &mut Row<'_>) -> io::Result<u64> {
-    if row.before(" ") != word {
-        return Err(unread());
-    }
-    decimal(row.before(" ").as_bytes()).ok_or(unread())
+fn ids_of(row: &mut Row<'_>, text: &str) -> IdSpan {
+    let Some((first, last)) = range_in(text) else {
+        row.unread();
+        return IdSpan { first: 1, last: 0 };
+    };
+    IdSpan { first, last }
 }
 
 /// Commands that come one by one.
-#[derive(Drop)]
+#[derive(Clone, Copy)]
 struct Run {
     ids: IdSpan,
     /// How many ms lie between two of them.
-    wait: u64,
+    wait: u32,
     /// Whether each confirms all so far.
     confirming: bool,
     /// So many firsts are kept at most.
-    most: usize,
+    most: u32,
 }
 
 // `1-20000 every 10 holding 3000` or `1-4999 every 100 confirming holding 300`.
-fn run_of(row: &mut Row<'_>) -> io::Result<Run> {
-    let ids = ids_of(row.before(" "))?;
-    let wait = behind("every", row)?;
-    let confirming = row.left().starts_with("confirming ");
+fn run_of(row: &mut Row<'_>) -> Run {
+    let first = row.before(" ");
+    let ids = ids_of(row, first);
+    let wait = row.number_behind("every");
+    let confirming = row.left.starts_with("confirming ");
     if confirming {
         row.before(" ");
     }
-    Ok(Run {
+    let most = row.number_behind("holding");
+    Run {
         ids,
         wait,
         confirming,
-        most: behind("holding", row)? as usize,
-    })
-}
-
-// `1-7,9`.
-fn spans_of(alloc: Global, named: &str) -> io::Result<Sequence<IdSpan>> {
-    let mut spans = Sequence::new(alloc);
-    for ids in named.split(',') {
-        spans.push(ids_of(ids)?)?;
+        most,
     }
-    Ok(spans)
 }
 
 fn told(history: &History, id: u32, now: u64) -> &'static str {
@@ -78,95 +65,108 @@ fn told(history: &History, id: u32, now: u64) -> &'static str {
 }
 
 // Keeps a command with its answer, the bytes of its id.
-fn keep(history: &mut History, alloc: Global, id: u32, moment: u64) -> io::Result<()> {
+fn keep(history: &mut History, alloc: Global, id: u32, moment: u64) -> Result<(), OutOfMemory> {
     let answer = Text::of(id.to_be_bytes().to_vec(alloc)?);
-    Ok(history.first(id, moment, answer)?)
+    history.first(id, moment, answer)
 }
 
 // Of several commands each is kept again where memory was refused.
-fn keep_all(history: &mut History, alloc: Global, row: &mut Row<'_>) -> io::Result<()> {
-    let (ids, moment) = (ids_of(row.before(" "))?, behind("at", row)?);
+fn keep_all(history: &mut History, row: &mut Row<'_>) {
+    let first = row.before(" ");
+    let ids = ids_of(row, first);
+    let moment = u64::from(row.number_behind("at"));
     for id in ids.first..=ids.last {
-        again!(keep(history, alloc, id, moment))?;
+        if again!(keep(history, row.alloc, id, moment)).is_err() {
+            return row.refuse();
+        }
     }
-    Ok(())
 }
 
-// A K names all ids from this one to that.
-fn confirm_all(history: &mut History, alloc: Global, first: u32, last: u32) -> io::Result<()> {
+// `1-7,9`: a K names these.
+fn confirm(history: &mut History, row: &mut Row<'_>) {
+    let mut spans = Sequence::new(row.alloc);
+    for written in row.rest().split(',') {
+        let ids = ids_of(row, written);
+        if spans.push(ids).is_err() {
+            return row.refuse();
+        }
+    }
+    if history.confirm(spans).is_err() {
+        row.refuse();
+    }
+}
+
+// A K names all these.
+fn confirm_all(history: &mut History, alloc: Global, ids: IdSpan) -> Result<(), OutOfMemory> {
     let mut spans = Sequence::new(alloc);
-    spans.push(IdSpan { first, last })?;
-    Ok(history.confirm(spans)?)
+    spans.push(ids)?;
+    history.confirm(spans)
 }
 
 // Puts what commands with these ids are, where one is something else than the row says, and says whether one is.
-fn put_unlike(
-    history: &History,
-    out: &mut Vec<u8>,
-    ids: IdSpan,
-    now: u64,
-    wanted: &str,
-) -> io::Result<bool> {
+fn put_unlike(history: &History, row: &mut Row<'_>, ids: IdSpan, now: u64, wanted: &str) -> bool {
     for id in ids.first..=ids.last {
         let given = told(history, id, now);
         if given != wanted {
-            write!(out, "{given} for {id}")?;
-            return Ok(true);
+            row.put(given.as_bytes());
+            row.put(b" for ");
+            row.put_shown(id);
+            return true;
         }
     }
-    Ok(false)
+    false
+}
+
+// A command of a run is kept, and maybe confirms all so far. It is done again where memory was refused.
+fn take(history: &mut History, row: &mut Row<'_>, run: Run, id: u32, now: u64) {
+    let first = run.ids.first;
+    let so_far = IdSpan { first, last: id };
+    if run.confirming && again!(confirm_all(history, row.alloc, so_far)).is_err() {
+        return row.refuse();
+    }
+    if again!(keep(history, row.alloc, id, now)).is_err() {
+        row.refuse();
+    }
 }
 
 // One command of a run: it is new, and is kept. Says whether it is otherwise, and puts that.
-fn put_come(
-    history: &mut History,
-    alloc: Global,
-    out: &mut Vec<u8>,
-    run: &Run,
-    id: u32,
-) -> io::Result<bool> {
-    let now = u64::from(id).saturating_mul(run.wait);
+fn put_come(history: &mut History, row: &mut Row<'_>, run: Run, id: u32) -> bool {
+    let now = u64::from(id).saturating_mul(u64::from(run.wait));
     history.purge(now);
     let held = history.len();
-    if held > run.most {
-        write!(out, "{held} at {now}")?;
-        return Ok(true);
+    if held > run.most as usize {
+        row.put_shown(held);
+        row.put(b" at ");
+        row.put_shown(now);
+        return true;
     }
     let alone = IdSpan {
         first: id,
         last: id,
     };
-    if put_unlike(history, out, alone, now, "new")? {
-        return Ok(true);
+    if put_unlike(history, row, alone, now, "new") {
+        return true;
     }
-    if run.confirming {
-        again!(confirm_all(history, alloc, run.ids.first, id))?;
-    }
-    again!(keep(history, alloc, id, now))?;
-    Ok(false)
+    take(history, row, run, id, now);
+    row.is_refused
 }
 
 // `run 1-20000 every 10 holding 3000`.
-fn put_run(
-    history: &mut History,
-    alloc: Global,
-    out: &mut Vec<u8>,
-    row: &mut Row<'_>,
-) -> io::Result<()> {
-    let run = run_of(row)?;
+fn put_run(history: &mut History, row: &mut Row<'_>) {
+    let run = run_of(row);
     for id in run.ids.first..=run.ids.last {
-        if put_come(history, alloc, out, &run, id)? {
-            return Ok(());
+        if put_come(history, row, run, id) {
+            return;
         }
     }
-    Ok(())
 }
 
 // `7 at 30999 again`: what commands with these ids are.
-fn put_look(history: &History, out: &mut Vec<u8>, ids: &str, row: &mut Row<'_>) -> io::Result<()> {
-    let (ids, now) = (ids_of(ids)?, behind("at", row)?);
-    put_unlike(history, out, ids, now, row.rest())?;
-    Ok(())
+fn put_look(history: &History, row: &mut Row<'_>, ids: &str) {
+    let ids = ids_of(row, ids);
+    let now = u64::from(row.number_behind("at"));
+    let wanted = row.rest();
+    put_unlike(history, row, ids, now, wanted);
 }
 
 impl Thing for History {
@@ -174,16 +174,15 @@ impl Thing for History {
         Ok(History::new(alloc))
     }
 
-    fn turn(&mut self, alloc: Global, out: &mut Vec<u8>, row: &mut Row<'_>) -> io::Result<()> {
+    fn turn(&mut self, row: &mut Row<'_>) {
         match row.before(" ") {
-            "first" => keep_all(self, alloc, row)?,
-            "confirm" => self.confirm(spans_of(alloc, row.rest())?)?,
-            "purge" => self.purge(u64::from(row.number()?)),
+            "first" => keep_all(self, row),
+            "confirm" => confirm(self, row),
+            "purge" => self.purge(u64::from(row.number())),
             "undo" => self.undo(),
-            "run" => put_run(self, alloc, out, row)?,
-            "holds" => write!(out, "{}", self.len())?,
-            ids => put_look(self, out, ids, row)?,
+            "run" => put_run(self, row),
+            "holds" => row.put_shown(self.len()),
+            ids => put_look(self, row, ids),
         }
-        Ok(())
     }
 }

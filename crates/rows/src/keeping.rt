@@ -1,5 +1,4 @@
 //! Things that rows go on with. Some can be kept as they are, and come back: `keep` and `back` of each such kind.
-use crate::texts::unless_said;
 use scenario_files::{Row, Scenario};
 use std::alloc::Global;
 use std::io;
@@ -9,11 +8,11 @@ pub trait Thing {
     /// What it is under a new title.
     fn begin(alloc: Global) -> io::Result<Self>;
 
-    /// Puts what a row gives, which it must say with what is left of it.
-    fn turn(&mut self, alloc: Global, out: &mut Vec<u8>, row: &mut Row<'_>) -> io::Result<()>;
+    /// Plays a row.
+    fn turn(&mut self, row: &mut Row<'_>);
 }
 
-/// A thing that can be kept. After an error in a turn it isn't used any more.
+/// A thing that can be kept. Where a turn was refused memory it isn't used any more.
 pub trait Kept: Thing {
     /// The same once more.
     fn copy(&self, alloc: Global) -> io::Result<Self>;
@@ -21,13 +20,12 @@ pub trait Kept: Thing {
 
 // What a row gives that it doesn't say, played at a thing.
 fn unlike<T: Thing>(thing: &mut T, alloc: Global, row: &str) -> io::Result<Option<String>> {
-    let mut out = Vec::new(alloc);
-    let mut left = Row::of(row);
-    let done = thing.turn(alloc, &mut out, &mut left);
-    unless_said(alloc, done, &out, left.left())
+    let mut row = Row::of(alloc, row);
+    thing.turn(&mut row);
+    row.unlike()
 }
 
-/// A thing that can't be kept. A turn changes it last, so after an error it is as it was.
+/// A thing that can't be kept. A turn changes it last, so where memory was refused it is as it was.
 #[derive(Drop)]
 pub struct Going<T> {
     thing: T,

@@ -42,17 +42,18 @@ impl Kinds for Rows {
         kind: &str,
         text: &str,
     ) -> io::Result<Option<Count>> {
-        Ok(Some(match kind {
-            "values" => told::<Values, R>(rt, text)?,
-            "line" => told::<Keeping<Line>, R>(rt, text)?,
-            "request" => told::<Going<RequestScenario>, R>(rt, text)?,
-            "signals" => told::<Going<SignalSet>, R>(rt, text)?,
-            "quarantine" => told::<Keeping<Buffer>, R>(rt, text)?,
-            "message" => told::<Keeping<MessageScenario>, R>(rt, text)?,
-            "history" => told::<Going<History>, R>(rt, text)?,
-            "connections" => told::<Keeping<ConnectionsScenario>, R>(rt, text)?,
-            "moments" => told::<Keeping<Due>, R>(rt, text)?,
+        let told = match kind {
+            "values" => told::<Values, R>(rt, text),
+            "line" => told::<Keeping<Line>, R>(rt, text),
+            "request" => told::<Going<RequestScenario>, R>(rt, text),
+            "signals" => told::<Going<SignalSet>, R>(rt, text),
+            "quarantine" => told::<Keeping<Buffer>, R>(rt, text),
+            "message" => told::<Keeping<MessageScenario>, R>(rt, text),
+            "history" => told::<Going<History>, R>(rt, text),
+            "connections" => told::<Keeping<ConnectionsScenario>, R>(rt, text),
+            "moments" => told::<Keeping<Due>, R>(rt, text),
             _ => return Ok(None),
-        }))
+        };
+        Ok(Some(told?))
     }
 }

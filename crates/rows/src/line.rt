@@ -17,9 +17,8 @@ mod shown;
 
 use crate::keeping::{Kept, Thing};
 use crate::requests;
-use crate::texts::{put_code, put_judged, unless_fields};
+use crate::texts::unless_fields;
 use acts::{act_of, due_of};
-use mg_bytes::CodeFault;
 use mg_line::Line;
 use parameters::request_of;
 use scenario_files::Row;
@@ -27,120 +26,95 @@ use shown::{put_notice, put_state};
 use std::alloc::Global;
 use std::io;
 
-// The code of a row that can't be played.
-const NO_TURN: CodeFault = CodeFault::Code(0);
+// What a row gives whose turn can't be played.
+const NO_TURN: &[u8] = b"0";
 
 // A request with these parameters; a code where the line refuses it.
-fn ask(
-    line: &mut Line,
-    alloc: Global,
-    out: &mut Vec<u8>,
-    fields: &str,
-    moment: u64,
-) -> Result<(), CodeFault>
+fn ask(line: &mut Line, row: &mut Row<'_>, moment: u64)
     requires { moment < 2 ^ 62 }
 {
-    let request = request_of(alloc, fields)?;
-    match line.check(&request) {
-        Some(code) => Err(CodeFault::Code(code)),
-        None => put_notice(alloc, out, line.request(&request, moment)),
+    let fields = row.parameters();
+    match request_of(row.alloc, fields) {
+        Ok(request) => match line.check(&request) {
+            Some(code) => row.put_shown(code),
+            None => put_notice(row, line.request(&request, moment)),
+        },
+        Err(fault) => row.put_code(fault),
     }
 }
 
 // An act that the hook state allows: it is done, or isn't heeded.
-fn act(
-    line: &mut Line,
-    alloc: Global,
-    out: &mut Vec<u8>,
-    word: &str,
-    moment: u64,
-    is_heeded: bool,
-) -> Result<(), CodeFault>
+fn act(line: &mut Line, row: &mut Row<'_>, word: &str, moment: u64, is_heeded: bool)
     requires { moment < 2 ^ 62 }
 {
-    let act = act_of(word).ok_or(NO_TURN)?;
+    let Some(act) = act_of(word) else {
+        return row.put(NO_TURN);
+    };
     if !line.takes(act) {
-        return Err(NO_TURN);
+        row.put(NO_TURN);
+    } else if is_heeded {
+        put_notice(row, line.phone(act, moment));
+    } else if line.heeds(act) {
+        row.put(NO_TURN);
+    } else {
+        line.pass_over(act);
     }
-    if is_heeded {
-        return put_notice(alloc, out, line.phone(act, moment));
-    }
-    if line.heeds(act) {
-        return Err(NO_TURN);
-    }
-    line.pass_over(act);
-    Ok(())
 }
 
-fn fall(
-    line: &mut Line,
-    alloc: Global,
-    out: &mut Vec<u8>,
-    word: &str,
-    moment: u64,
-) -> Result<(), CodeFault>
+fn fall(line: &mut Line, row: &mut Row<'_>, word: &str, moment: u64)
     requires { moment < 2 ^ 62 }
 {
-    let due = due_of(word).ok_or(NO_TURN)?;
-    if line.due() != Some((moment, due)) {
-        return Err(NO_TURN);
+    match due_of(word) {
+        Some(due) if line.due() == Some((moment, due)) => {
+            put_notice(row, line.fire(due, moment));
+        }
+        _ => row.put(NO_TURN),
     }
-    put_notice(alloc, out, line.fire(due, moment))
 }
 
 // A turn at this moment.
-fn go_on(
-    line: &mut Line,
-    alloc: Global,
-    out: &mut Vec<u8>,
-    moment: u64,
-    row: &mut Row<'_>,
-) -> Result<(), CodeFault>
+fn go_on(line: &mut Line, row: &mut Row<'_>, moment: u64)
     requires { moment < 2 ^ 62 }
 {
     let words = row.before("  ");
     let (word, what) = words.split_once(' ').unwrap_or((words, ""));
     match word {
-        "asks" => ask(line, alloc, out, row.parameters(), moment),
-        "idles" => act(line, alloc, out, what, moment, false),
-        "falls" => fall(line, alloc, out, what, moment),
-        "answered" => put_notice(alloc, out, line.answered(moment)),
-        "opened" => put_notice(alloc, out, line.opened(moment)),
-        _ => act(line, alloc, out, words, moment, true),
+        "asks" => ask(line, row, moment),
+        "idles" => act(line, row, what, moment, false),
+        "falls" => fall(line, row, what, moment),
+        "answered" => put_notice(row, line.answered(moment)),
+        "opened" => put_notice(row, line.opened(moment)),
+        _ => act(line, row, words, moment, true),
     }
 }
 
 // What the line says to a question, by its hook state or its request.
-fn put_answer(line: &Line, alloc: Global, out: &mut Vec<u8>, question: &str) -> io::Result<()> {
+fn put_answer(line: &Line, row: &mut Row<'_>, question: &str) {
     let (word, act) = question.split_once(' ').unwrap_or((question, ""));
     match act_of(act) {
-        Some(act) if word == "takes" => put_judged(out, line.takes(act)),
-        Some(act) if word == "heeds" => put_judged(out, line.heeds(act)),
-        _ => requests::put_answer(alloc, out, line.requests(), question),
+        Some(act) if word == "takes" => row.put_judged(line.takes(act)),
+        Some(act) if word == "heeds" => row.put_judged(line.heeds(act)),
+        _ => requests::put_answer(row, line.requests(), question),
     }
 }
 
 // The line as it opens: a function of its own, since a check pays for a whole line at each step that holds one.
-fn open(line: &mut Line, alloc: Global) -> io::Result<()> {
-    *line = Line::new(alloc)?;
-    Ok(())
+fn open(line: &mut Line, row: &mut Row<'_>) {
+    match Line::new(row.alloc) {
+        Ok(new) => *line = new,
+        Err(_) => row.refuse(),
+    }
 }
 
 // A row without a moment.
-fn put_shown(
-    line: &mut Line,
-    alloc: Global,
-    out: &mut Vec<u8>,
-    row: &mut Row<'_>,
-) -> io::Result<()> {
+fn put_shown(line: &mut Line, row: &mut Row<'_>) {
     match row.before("  ") {
-        "opening" => open(line, alloc),
+        "opening" => open(line, row),
         "is" => {
-            put_state(alloc, out, line)?;
-            unless_fields(out, row);
-            Ok(())
+            put_state(row, line);
+            unless_fields(row);
         }
-        question => put_answer(line, alloc, out, question),
+        question => put_answer(line, row, question),
     }
 }
 
@@ -151,15 +125,14 @@ impl Thing for Line {
         Ok(line)
     }
 
-    fn turn(&mut self, alloc: Global, out: &mut Vec<u8>, row: &mut Row<'_>) -> io::Result<()> {
-        let (first, _) = row.left().split_once(' ').unwrap_or(("", ""));
-        let Ok(moment) = first.parse::<u32>() else {
-            return put_shown(self, alloc, out, row);
-        };
-        row.before(" ");
-        match go_on(self, alloc, out, u64::from(moment), row) {
-            Ok(()) => Ok(()),
-            Err(fault) => put_code(out, fault),
+    fn turn(&mut self, row: &mut Row<'_>) {
+        let (first, rest) = row.left.split_once(' ').unwrap_or(("", ""));
+        match first.parse::<u32>() {
+            Ok(moment) => {
+                row.left = rest.trim_start();
+                go_on(self, row, u64::from(moment));
+            }
+            Err(_) => put_shown(self, row),
         }
     }
 }

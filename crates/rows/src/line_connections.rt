@@ -14,42 +14,48 @@
 mod asked;
 
 use crate::keeping::{Kept, Thing};
-use crate::texts::{put_code, unless_fields, words_of};
+use crate::texts::{unless_fields, words_of};
 use asked::{change_of, creation_of, deletion_of, identifier_in};
 use connections::{Audited, Connections, Created, Encoding, mode_text, read_encoding};
 use mg_bytes::CodeFault;
-use scenario_files::{Row, unread};
+use scenario_files::Row;
 use sdp_subset::{Session, write_sdp};
 use std::alloc::Global;
 use std::io;
-use std::io::Write;
 use std::net::Ipv4Addr;
 
 // Puts the lines of a description, a field each.
-fn put_description(alloc: Global, out: &mut Vec<u8>, description: &Session) -> io::Result<()> {
-    let text = write_sdp(alloc, description)?;
+fn put_description(row: &mut Row<'_>, description: &Session) {
+    let Ok(text) = write_sdp(row.alloc, description) else {
+        return row.refuse();
+    };
     let lines = words_of(text.as_bytes()).trim_end();
-    let fields = lines.replace(alloc, "\r\n", "  ")?;
-    out.write_all(fields.as_bytes())
+    match lines.replace(row.alloc, "\r\n", "  ") {
+        Ok(fields) => row.put(fields.as_bytes()),
+        Err(_) => row.refuse(),
+    }
 }
 
 // What can be read of a connection, and its description.
-fn put_audited(alloc: Global, out: &mut Vec<u8>, audited: &Audited) -> io::Result<()> {
+fn put_audited(row: &mut Row<'_>, audited: &Audited) {
     let connection = &audited.connection;
-    let call = words_of(connection.call.as_slice());
-    let mode = words_of(mode_text(connection.mode));
-    let known = match &connection.remote {
-        Some(_) => "known",
-        None => "unknown",
-    };
-    write!(out, "C {call}  M {mode}  RTP {known}  ")?;
-    put_description(alloc, out, &audited.description)
+    row.put(b"C ");
+    row.put(connection.call.as_slice());
+    row.put(b"  M ");
+    row.put(mode_text(connection.mode));
+    row.put(match &connection.remote {
+        Some(_) => b"  RTP known  ".as_slice(),
+        None => b"  RTP unknown  ".as_slice(),
+    });
+    put_description(row, &audited.description);
 }
 
 // The number of a connection, and its description.
-fn put_created(alloc: Global, out: &mut Vec<u8>, created: &Created) -> io::Result<()> {
-    write!(out, "I {}  ", created.number)?;
-    put_description(alloc, out, &created.description)
+fn put_created(row: &mut Row<'_>, created: &Created) {
+    row.put(b"I ");
+    row.put_shown(created.number);
+    row.put(b"  ");
+    put_description(row, &created.description);
 }
 
 /// The connections of a line, its encoding, and the last answer.
@@ -79,56 +85,63 @@ impl ConnectionsScenario {
         self.line.delete(&deletion_of(fields)?)
     }
 
-    fn put_creation(&mut self, alloc: Global, out: &mut Vec<u8>, fields: &str) -> io::Result<()> {
-        match self.create(alloc, fields) {
-            Ok(created) => put_created(alloc, out, &created),
-            Err(fault) => put_code(out, fault),
+    fn put_creation(&mut self, row: &mut Row<'_>, fields: &str) {
+        match self.create(row.alloc, fields) {
+            Ok(created) => put_created(row, &created),
+            Err(fault) => row.put_code(fault),
         }
     }
 
-    fn put_change(&mut self, alloc: Global, out: &mut Vec<u8>, fields: &str) -> io::Result<()> {
-        match self.modify(alloc, fields) {
-            Ok(Some(description)) => put_description(alloc, out, &description),
-            Ok(None) => out.write_all(b"-"),
-            Err(fault) => put_code(out, fault),
+    fn put_change(&mut self, row: &mut Row<'_>, fields: &str) {
+        match self.modify(row.alloc, fields) {
+            Ok(Some(description)) => put_description(row, &description),
+            Ok(None) => row.put(b"-"),
+            Err(fault) => row.put_code(fault),
         }
     }
 
-    fn put_audit(&self, alloc: Global, out: &mut Vec<u8>, fields: &str) -> io::Result<()> {
+    fn put_audit(&self, row: &mut Row<'_>, fields: &str) {
         match self.audit(fields) {
-            Ok(audited) => put_audited(alloc, out, &audited),
-            Err(fault) => put_code(out, fault),
+            Ok(audited) => put_audited(row, &audited),
+            Err(fault) => row.put_code(fault),
         }
     }
 
-    fn put_deletion(&mut self, out: &mut Vec<u8>, fields: &str) -> io::Result<()> {
+    fn put_deletion(&mut self, row: &mut Row<'_>, fields: &str) {
         match self.delete(fields) {
-            Ok(()) => out.write_all(b"-"),
-            Err(fault) => put_code(out, fault),
+            Ok(()) => row.put(b"-"),
+            Err(fault) => row.put_code(fault),
         }
     }
 
     // The answer to a command, where a row doesn't say fields of it; a return code is always said.
-    fn answer(&mut self, out: &mut Vec<u8>, row: &mut Row<'_>) -> io::Result<()> {
+    fn answer(&mut self, row: &mut Row<'_>) {
         self.answer.clear();
-        self.answer.extend_from_slice(out)?;
-        if row.left().is_empty() && words_of(out).parse::<u32>().is_err() {
-            out.clear();
-        } else {
-            unless_fields(out, row);
+        if self.answer.extend_from_slice(&row.given).is_err() {
+            row.refuse();
         }
-        Ok(())
+        if row.left.is_empty() && words_of(&row.given).parse::<u32>().is_err() {
+            row.given.clear();
+        } else {
+            unless_fields(row);
+        }
     }
 
-    fn put_places(&self, out: &mut Vec<u8>) -> io::Result<()> {
+    fn put_places(&self, row: &mut Row<'_>) {
         for held in self.line.list() {
-            let number = match held {
+            row.put(b" ");
+            row.put_shown(match held {
                 Some(connection) => connection.number,
                 None => 0,
-            };
-            write!(out, " {number}")?;
+            });
         }
-        Ok(())
+    }
+
+    fn set_encoding(&mut self, row: &mut Row<'_>) {
+        match read_encoding(row.rest().as_bytes()) {
+            Some(encoding) => self.encoding = encoding,
+            None => row.unread(),
+        }
     }
 }
 
@@ -141,21 +154,23 @@ impl Thing for ConnectionsScenario {
         })
     }
 
-    fn turn(&mut self, alloc: Global, out: &mut Vec<u8>, row: &mut Row<'_>) -> io::Result<()> {
-        match row.before(" ") {
-            "create" => self.put_creation(alloc, out, row.parameters())?,
-            "modify" => self.put_change(alloc, out, row.parameters())?,
-            "audit" => self.put_audit(alloc, out, row.parameters())?,
-            "delete" => self.put_deletion(out, row.parameters())?,
-            "answer" => return out.write_all(&self.answer),
-            "places" => return self.put_places(out),
-            "encoding" => {
-                self.encoding = read_encoding(row.rest().as_bytes()).ok_or(unread())?;
-                return Ok(());
-            }
-            _ => return Err(unread()),
+    fn turn(&mut self, row: &mut Row<'_>) {
+        let word = row.before(" ");
+        match word {
+            "encoding" => return self.set_encoding(row),
+            "answer" => return row.put(&self.answer),
+            "places" => return self.put_places(row),
+            _ => {}
         }
-        self.answer(out, row)
+        let fields = row.parameters();
+        match word {
+            "create" => self.put_creation(row, fields),
+            "modify" => self.put_change(row, fields),
+            "audit" => self.put_audit(row, fields),
+            "delete" => self.put_deletion(row, fields),
+            _ => row.unread(),
+        }
+        self.answer(row);
     }
 }
 

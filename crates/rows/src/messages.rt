@@ -14,26 +14,18 @@ use crate::keeping::{Kept, Thing};
 use mgcp_text::TransactionId;
 use outbound::{Pending, Repeat, Reply};
 use routes::Route;
-use scenario_files::{Row, said, unread, value_of};
+use scenario_files::{Row, said, value_of};
 use std::alloc::Global;
 use std::io;
-use std::io::Write;
 use std::net::{Ipv4Addr, SocketAddrV4};
 
-fn id_in(row: &mut Row<'_>) -> io::Result<TransactionId> {
-    let number = row.number()?;
+fn id_in(row: &mut Row<'_>) -> TransactionId {
+    let number = row.number();
     if number < 1 || number > 999_999_999 {
-        return Err(unread());
+        row.unread();
+        return TransactionId::of(1);
     }
-    Ok(TransactionId::of(number))
-}
-
-// `at 1200`.
-fn moment_in(row: &mut Row<'_>) -> io::Result<u32> {
-    match row.before(" ") {
-        "at" => row.number(),
-        _ => Err(unread()),
-    }
+    TransactionId::of(number)
 }
 
 // The address 127.0.0.n, port 2727.
@@ -60,43 +52,50 @@ pub struct MessageScenario {
 
 impl MessageScenario {
     // `10000000 at 1000  TEXT`.
-    fn begins(&mut self, alloc: Global, row: &mut Row<'_>) -> io::Result<()> {
-        let (id, moment) = (id_in(row)?, u64::from(moment_in(row)?));
-        let text = value_of(alloc, row.rest().trim_start())?;
+    fn begins(&mut self, row: &mut Row<'_>) -> io::Result<()> {
+        let (id, moment) = (id_in(row), u64::from(row.number_behind("at")));
+        let text = value_of(row.alloc, row.rest().trim_start())?;
         let route = route_to(self.hosts);
-        self.message = Pending::begin(alloc, id, route, text.as_bytes(), moment)?;
+        self.message = Pending::begin(row.alloc, id, route, text.as_bytes(), moment)?;
         Ok(())
     }
 
     // `1500`: what it does then.
-    fn repeat(&mut self, row: &mut Row<'_>) -> io::Result<&'static str> {
-        let moment = u64::from(row.number()?);
+    fn repeat(&mut self, row: &mut Row<'_>) -> &'static str {
+        let moment = u64::from(row.number());
         if self.message.due() != moment {
-            return Ok("not due");
+            return "not due";
         }
-        Ok(match self.message.repeat(moment) {
+        match self.message.repeat(moment) {
             Repeat::Sent => "sent",
             Repeat::GivenUp => "given up",
-        })
+        }
     }
 
     // `10000000 100 at 1200`: what the response is to it.
-    fn answer(&mut self, row: &mut Row<'_>) -> io::Result<&'static str> {
-        let id = id_in(row)?;
-        let code = row.before(" ").parse::<u16>().ok().ok_or(unread())?;
-        let moment = u64::from(moment_in(row)?);
-        Ok(match self.message.answer(id, code, moment) {
+    fn answer(&mut self, row: &mut Row<'_>) -> &'static str {
+        let id = id_in(row);
+        let Ok(code) = u16::try_from(row.number()) else {
+            return "no code";
+        };
+        let moment = u64::from(row.number_behind("at"));
+        match self.message.answer(id, code, moment) {
             Reply::Answered => "answered",
             Reply::Provisional => "provisional",
             Reply::Stranger => "stranger",
-        })
+        }
     }
 
     // Its id, where it was sent last, and its text.
-    fn put_state(&self, alloc: Global, out: &mut Vec<u8>) -> io::Result<()> {
-        let text = said(alloc, self.message.text())?;
-        let (id, to) = (self.message.id().number(), self.message.to());
-        write!(out, "{id}  {to}  {text}")
+    fn put_state(&self, row: &mut Row<'_>) {
+        row.put_shown(self.message.id().number());
+        row.put(b"  ");
+        row.put_shown(self.message.to());
+        row.put(b"  ");
+        match said(row.alloc, self.message.text()) {
+            Ok(text) => row.put(text.as_bytes()),
+            Err(_) => row.refuse(),
+        }
     }
 }
 
@@ -106,19 +105,26 @@ impl Thing for MessageScenario {
         Ok(MessageScenario { message, hosts: 1 })
     }
 
-    fn turn(&mut self, alloc: Global, out: &mut Vec<u8>, row: &mut Row<'_>) -> io::Result<()> {
+    fn turn(&mut self, row: &mut Row<'_>) {
         match row.before(" ") {
-            "hosts" => {
-                self.hosts = row.number()?;
-                Ok(())
+            "hosts" => self.hosts = row.number(),
+            "begins" => {
+                if self.begins(row).is_err() {
+                    row.refuse();
+                }
             }
-            "begins" => self.begins(alloc, row),
-            "repeat" => out.write_all(self.repeat(row)?.as_bytes()),
-            "answer" => out.write_all(self.answer(row)?.as_bytes()),
-            "due" => write!(out, "{}", self.message.due()),
-            "to" => write!(out, "{}", self.message.to()),
-            "is" => self.put_state(alloc, out),
-            _ => Err(unread()),
+            "repeat" => {
+                let becomes = self.repeat(row);
+                row.put(becomes.as_bytes());
+            }
+            "answer" => {
+                let reply = self.answer(row);
+                row.put(reply.as_bytes());
+            }
+            "due" => row.put_shown(self.message.due()),
+            "to" => row.put_shown(self.message.to()),
+            "is" => self.put_state(row),
+            _ => row.unread(),
         }
     }
 }

@@ -5,35 +5,48 @@
 //! - `holds 64`, `lost 1`: so many are held, and so many found no room;
 //! - `into 2`: it goes on as its copy, in a quarantine that had room for so many, and held one event;
 //! - `keep` and `back`: the quarantine as it was once.
-use crate::events::{observed_of, put_events};
+use crate::events::observed_of;
 use crate::keeping::{Kept, Thing};
+use event_syntax::write_observed;
 use event_values::Observed;
+use mg_bytes::OutOfMemory;
 use mg_line::MOST_QUARANTINED;
 use quarantine::Buffer;
-use scenario_files::{Row, unread};
+use scenario_files::Row;
 use std::alloc::Global;
 use std::io;
-use std::io::Write;
 
-// A new one with room for so many, as many as the row says.
-fn with_room(alloc: Global, row: &mut Row<'_>) -> io::Result<Buffer> {
-    Ok(Buffer::new(alloc, row.number()? as usize)?)
-}
-
-// `take`: what came first.
-fn put_taken(alloc: Global, out: &mut Vec<u8>, taken: Option<Observed>) -> io::Result<()> {
-    match taken {
-        Some(first) => put_events(alloc, out, &[first]),
-        None => out.write_all(b"-"),
+// `L/hf`: this event comes.
+fn hold(buffer: &mut Buffer, row: &mut Row<'_>) {
+    let word = row.rest();
+    match observed_of(row, word) {
+        Some(event) => buffer.hold(event),
+        None => row.unread(),
     }
 }
 
-// `into 2`: its copy in another quarantine.
-fn into_other(alloc: Global, buffer: &Buffer, row: &mut Row<'_>) -> io::Result<Buffer> {
-    let mut other = with_room(alloc, row)?;
+// What came first.
+fn put_taken(row: &mut Row<'_>, taken: Option<Observed>) {
+    match taken {
+        Some(first) => row.put_text(write_observed(row.alloc, &[first])),
+        None => row.put(b"-"),
+    }
+}
+
+// Its copy in another quarantine, with room for so many, which held one event.
+fn copy_into(alloc: Global, buffer: &Buffer, room: u32) -> Result<Buffer, OutOfMemory> {
+    let mut other = Buffer::new(alloc, room as usize)?;
     other.hold(Observed::default());
     other.try_copy_from(buffer)?;
     Ok(other)
+}
+
+// Another quarantine stands in its place.
+fn become_other(buffer: &mut Buffer, row: &mut Row<'_>, other: Result<Buffer, OutOfMemory>) {
+    match other {
+        Ok(other) => *buffer = other,
+        Err(_) => row.refuse(),
+    }
 }
 
 impl Thing for Buffer {
@@ -41,18 +54,23 @@ impl Thing for Buffer {
         Ok(Buffer::new(alloc, MOST_QUARANTINED)?)
     }
 
-    fn turn(&mut self, alloc: Global, out: &mut Vec<u8>, row: &mut Row<'_>) -> io::Result<()> {
+    fn turn(&mut self, row: &mut Row<'_>) {
         match row.before(" ") {
-            "room" => *self = with_room(alloc, row)?,
-            "hold" => self.hold(observed_of(alloc, row.rest())?),
+            "room" => {
+                let room = row.number() as usize;
+                become_other(self, row, Buffer::new(row.alloc, room));
+            }
+            "into" => {
+                let room = row.number();
+                become_other(self, row, copy_into(row.alloc, self, room));
+            }
+            "hold" => hold(self, row),
             "clear" => self.clear(),
-            "into" => *self = into_other(alloc, self, row)?,
-            "take" => return put_taken(alloc, out, self.take()),
-            "holds" => return write!(out, "{}", self.iter().count()),
-            "lost" => return write!(out, "{}", self.lost()),
-            _ => return Err(unread()),
+            "take" => put_taken(row, self.take()),
+            "holds" => row.put_shown(self.iter().count()),
+            "lost" => row.put_shown(self.lost()),
+            _ => row.unread(),
         }
-        Ok(())
     }
 }
 

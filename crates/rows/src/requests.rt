@@ -9,17 +9,15 @@
 use crate::events::observed_of;
 use crate::keeping::Thing;
 use crate::line::parameters::events_of;
-use crate::texts::{put_judged, words_of};
 use event_requests::{Decision, Doing, EventRequest, decide};
 use event_syntax::{Action, Embedding, Observed, write_signals};
 use mg_packages::event_of;
-use scenario_files::{Row, or_unread, unread};
+use scenario_files::Row;
 use std::alloc::Global;
 use std::io;
-use std::io::Write;
 
 // What is done, as a row says it.
-fn put_decision(out: &mut Vec<u8>, decision: Decision<'_>) -> io::Result<()> {
+fn put_decision(row: &mut Row<'_>, decision: Decision<'_>) {
     let done = match decision.doing {
         Doing::Plain(Action::Notify) => "notify",
         Doing::Plain(Action::Accumulate) => "accumulate",
@@ -28,65 +26,61 @@ fn put_decision(out: &mut Vec<u8>, decision: Decision<'_>) -> io::Result<()> {
         Doing::Embed(_) => "embed",
         Doing::AccumulateAndEmbed(_) => "accumulate,embed",
     };
-    let keep = if decision.keep { ",keep" } else { "" };
-    write!(out, "{done}{keep}")
+    row.put(done.as_bytes());
+    if decision.keep {
+        row.put(b",keep");
+    }
 }
 
 // What a request says of an event that occurs: `at` it, or `keeps`.
-fn put_answer_at(
-    out: &mut Vec<u8>,
-    request: &EventRequest,
-    word: &str,
-    event: Observed,
-) -> io::Result<()> {
+fn put_answer_at(row: &mut Row<'_>, request: &EventRequest, word: &str, event: Observed) {
     match word {
-        "at" => put_decision(out, decide(request, event)),
-        "keeps" => put_judged(out, request.is_kept(event)),
-        _ => Err(unread()),
+        "at" => put_decision(row, decide(request, event)),
+        "keeps" => row.put_judged(request.is_kept(event)),
+        _ => row.unread(),
     }
 }
 
 // `requested L/hd`.
-fn put_requested(out: &mut Vec<u8>, request: &EventRequest, event: &str) -> io::Result<()> {
+fn put_requested(row: &mut Row<'_>, request: &EventRequest, event: &str) {
     match event_of(event.as_bytes()) {
-        Ok(event) => put_judged(out, request.is_requested(event)),
-        Err(_) => Err(unread()),
+        Ok(event) => row.put_judged(request.is_requested(event)),
+        Err(_) => row.unread(),
     }
 }
 
 // `lacks map`, or `lacks map with D`.
-fn put_lacking(out: &mut Vec<u8>, request: &EventRequest, what: &str) -> io::Result<()> {
+fn put_lacking(row: &mut Row<'_>, request: &EventRequest, what: &str) {
     match what {
-        "map" => put_judged(out, request.lacks_map(false)),
-        "map with D" => put_judged(out, request.lacks_map(true)),
-        _ => Err(unread()),
+        "map" => row.put_judged(request.lacks_map(false)),
+        "map with D" => row.put_judged(request.lacks_map(true)),
+        _ => row.unread(),
     }
 }
 
 /// Puts what a request says to a question: `at L/hd`, `requested L/hd`, `keeps L/hd` or `lacks map`.
-pub fn put_answer(
-    alloc: Global,
-    out: &mut Vec<u8>,
-    request: &EventRequest,
-    question: &str,
-) -> io::Result<()> {
+pub fn put_answer(row: &mut Row<'_>, request: &EventRequest, question: &str) {
     let (word, event) = question.split_once(' ').unwrap_or((question, ""));
     match word {
-        "lacks" => put_lacking(out, request, event),
-        "requested" => put_requested(out, request, event),
-        _ => put_answer_at(out, request, word, observed_of(alloc, event)?),
+        "lacks" => put_lacking(row, request, event),
+        "requested" => put_requested(row, request, event),
+        _ => match observed_of(row, event) {
+            Some(event) => put_answer_at(row, request, word, event),
+            None => row.unread(),
+        },
     }
 }
 
 // The S and the D of an embedded request.
-fn put_embedding(alloc: Global, out: &mut Vec<u8>, embedding: &Embedding) -> io::Result<()> {
+fn put_embedding(row: &mut Row<'_>, embedding: &Embedding) {
     let request = embedding.request();
-    let signals = write_signals(alloc, request.signals.as_slice())?;
-    let map = match &request.map {
-        Some(map) => words_of(map.as_bytes()),
-        None => "-",
-    };
-    write!(out, "S {}  D {map}", words_of(signals.as_bytes()))
+    row.put(b"S ");
+    row.put_text(write_signals(row.alloc, request.signals.as_slice()));
+    row.put(b"  D ");
+    match &request.map {
+        Some(map) => row.put(map.as_bytes()),
+        None => row.put(b"-"),
+    }
 }
 
 /// What is asked for.
@@ -97,26 +91,38 @@ pub struct RequestScenario {
 
 impl RequestScenario {
     // The request that is embedded at this event takes effect: its S and its D.
-    fn take_effect(&mut self, alloc: Global, out: &mut Vec<u8>, event: &str) -> io::Result<()> {
-        let decision = decide(&self.request, observed_of(alloc, event)?);
-        let (Doing::Embed(embedding) | Doing::AccumulateAndEmbed(embedding)) = decision.doing else {
-            return out.write_all(b"nothing is embedded");
+    fn take_effect(&mut self, row: &mut Row<'_>, event: &str) {
+        let Some(event) = observed_of(row, event) else {
+            return row.unread();
         };
-        put_embedding(alloc, out, embedding)?;
-        self.request = self.request.embedded(embedding)?;
-        Ok(())
+        let (Doing::Embed(embedding) | Doing::AccumulateAndEmbed(embedding)) = decide(
+            &self.request,
+            event,
+        ).doing
+        else {
+            return row.put(b"nothing is embedded");
+        };
+        put_embedding(row, embedding);
+        match self.request.embedded(embedding) {
+            Ok(request) if !row.is_refused => self.request = request,
+            _ => row.refuse(),
+        }
     }
 
     // What the request says to a question, and a copy of it where that says something else.
-    fn put_answer(&self, alloc: Global, out: &mut Vec<u8>, question: &str) -> io::Result<()> {
-        put_answer(alloc, out, &self.request, question)?;
-        let mut given = Vec::new(alloc);
-        let copy = self.request.try_copy()?;
-        put_answer(alloc, &mut given, &copy, question)?;
-        if given.as_slice() == out.as_slice() {
-            return Ok(());
+    fn put_answer(&self, row: &mut Row<'_>, question: &str) {
+        put_answer(row, &self.request, question);
+        let Ok(copy) = self.request.try_copy() else {
+            return row.refuse();
+        };
+        let mut of_copy = Row::of(row.alloc, "");
+        put_answer(&mut of_copy, &copy, question);
+        if of_copy.is_refused {
+            row.refuse();
+        } else if of_copy.given.as_slice() != row.given.as_slice() {
+            row.put(b", and of a copy ");
+            row.put(&of_copy.given);
         }
-        write!(out, ", and of a copy {}", words_of(&given))
     }
 }
 
@@ -126,15 +132,18 @@ impl Thing for RequestScenario {
         Ok(RequestScenario { request })
     }
 
-    fn turn(&mut self, alloc: Global, out: &mut Vec<u8>, row: &mut Row<'_>) -> io::Result<()> {
+    fn turn(&mut self, row: &mut Row<'_>) {
         let question = row.before("  ");
         if question == "asks" {
-            self.request = or_unread(events_of(alloc, row.rest()))?;
-            return Ok(());
+            match events_of(row.alloc, row.rest()) {
+                Ok(request) => self.request = request,
+                Err(fault) => row.fault(fault),
+            }
+            return;
         }
         match question.strip_prefix("after ") {
-            Some(event) => self.take_effect(alloc, out, event),
-            None => self.put_answer(alloc, out, question),
+            Some(event) => self.take_effect(row, event),
+            None => self.put_answer(row, question),
         }
     }
 }

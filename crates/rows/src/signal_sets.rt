@@ -6,69 +6,79 @@
 //! - `active  L/rg 181000  L/vmwi -` the active signals with their ends; `active` there is none;
 //! - `refused on  L/dl  402` the return code with which an S is refused on hook; `-` where it isn't.
 use crate::keeping::Thing;
-use crate::texts::words_of;
 use event_syntax::read_signals;
 use mg_packages::{Hook, signal_name, signal_of};
-use scenario_files::{Row, or_unread, unread};
+use scenario_files::Row;
 use signals::{SignalSet, refused};
 use std::alloc::Global;
 use std::io;
-use std::io::Write;
 
-fn hook_of(word: &str) -> io::Result<Hook> {
-    match word {
-        "on" => Ok(Hook::OnHook),
-        "off" => Ok(Hook::OffHook),
-        _ => Err(unread()),
+// `on` or `off`, up to the next field.
+fn hook_of(row: &mut Row<'_>) -> Hook {
+    match row.before("  ") {
+        "on" => Hook::OnHook,
+        "off" => Hook::OffHook,
+        _ => {
+            row.unread();
+            Hook::OnHook
+        }
     }
 }
 
 // What ends first.
-fn put_due(out: &mut Vec<u8>, set: &SignalSet) -> io::Result<()> {
+fn put_due(row: &mut Row<'_>, set: &SignalSet) {
     match set.next_due() {
-        Some((moment, signal)) => write!(out, "{moment} {}", words_of(signal_name(signal))),
-        None => out.write_all(b"-"),
+        Some((moment, signal)) => {
+            row.put_shown(moment);
+            row.put(b" ");
+            row.put(signal_name(signal));
+        }
+        None => row.put(b"-"),
     }
 }
 
 // The active signals, a field each.
-fn put_active(out: &mut Vec<u8>, set: &SignalSet) -> io::Result<()> {
+fn put_active(row: &mut Row<'_>, set: &SignalSet) {
     for active in set.list().as_slice() {
-        let name = words_of(signal_name(active.signal));
+        row.put(b"  ");
+        row.put(signal_name(active.signal));
+        row.put(b" ");
         match active.end {
-            Some(end) => write!(out, "  {name} {end}")?,
-            None => write!(out, "  {name} -")?,
+            Some(end) => row.put_shown(end),
+            None => row.put(b"-"),
         }
     }
-    Ok(())
 }
 
 // `on  L/dl`: the return code of this S in this state of the hook.
-fn put_refusal(out: &mut Vec<u8>, row: &mut Row<'_>) -> io::Result<()> {
-    let hook = hook_of(row.before("  "))?;
-    let requests = or_unread(read_signals(row.before("  ").as_bytes()))?;
-    match refused(requests.as_slice(), hook) {
-        Some(code) => write!(out, "{code}"),
-        None => out.write_all(b"-"),
+fn put_refusal(row: &mut Row<'_>) {
+    let hook = hook_of(row);
+    match read_signals(row.before("  ").as_bytes()) {
+        Ok(requests) => match refused(requests.as_slice(), hook) {
+            Some(code) => row.put_shown(code),
+            None => row.put(b"-"),
+        },
+        Err(fault) => row.fault(fault),
     }
 }
 
 // `1000 on  S: L/rg` takes effect at this moment.
-fn apply(set: &mut SignalSet, moment: &str, row: &mut Row<'_>) -> io::Result<()> {
-    let moment = moment.parse::<u32>().ok().ok_or(unread())?;
-    let hook = hook_of(row.before("  "))?;
+fn apply(set: &mut SignalSet, row: &mut Row<'_>, moment: u32) {
+    let hook = hook_of(row);
     let value = row.rest();
     let value = value.strip_prefix("S: ").unwrap_or(value);
-    let requests = or_unread(read_signals(value.as_bytes()))?;
-    set.apply(requests.as_slice(), hook, u64::from(moment));
-    Ok(())
+    match read_signals(value.as_bytes()) {
+        Ok(requests) => set.apply(requests.as_slice(), hook, u64::from(moment)),
+        Err(fault) => row.fault(fault),
+    }
 }
 
-// `expire L/dl`.
-fn expire(set: &mut SignalSet, signal: &str) -> io::Result<()> {
-    let signal = signal_of(signal.as_bytes()).ok().ok_or(unread())?;
-    set.expire(signal);
-    Ok(())
+// `L/dl`.
+fn expire(set: &mut SignalSet, row: &mut Row<'_>) {
+    match signal_of(row.rest().as_bytes()) {
+        Ok(signal) => set.expire(signal),
+        Err(_) => row.unread(),
+    }
 }
 
 impl Thing for SignalSet {
@@ -76,21 +86,18 @@ impl Thing for SignalSet {
         Ok(SignalSet::new())
     }
 
-    fn turn(&mut self, _alloc: Global, out: &mut Vec<u8>, row: &mut Row<'_>) -> io::Result<()> {
+    fn turn(&mut self, row: &mut Row<'_>) {
         match row.before(" ") {
-            "hook" => {
-                self.hook_changed(hook_of(row.rest())?);
-                Ok(())
-            }
-            "expire" => expire(self, row.rest()),
-            "stop" => {
-                self.stop_timeouts();
-                Ok(())
-            }
-            "due" => put_due(out, self),
-            "active" => put_active(out, self),
-            "refused" => put_refusal(out, row),
-            moment => apply(self, moment, row),
+            "hook" => self.hook_changed(hook_of(row)),
+            "expire" => expire(self, row),
+            "stop" => self.stop_timeouts(),
+            "due" => put_due(row, self),
+            "active" => put_active(row, self),
+            "refused" => put_refusal(row),
+            moment => match moment.parse::<u32>() {
+                Ok(moment) => apply(self, row, moment),
+                Err(_) => row.unread(),
+            },
         }
     }
 }

@@ -16,11 +16,9 @@ mod packing;
 mod shown;
 mod spelled;
 
-use crate::texts::unless_said;
-use scenario_files::{Scenario, bytes_of, said, unread};
+use scenario_files::{Row, Scenario, bytes_of, said};
 use std::alloc::Global;
 use std::io;
-use std::io::Write;
 
 /// Rows that stand alone.
 #[derive(Drop)]
@@ -36,50 +34,30 @@ pub fn numbered(call: &str) -> (&str, u16) {
     (call, 0)
 }
 
-// Puts what a call gives of a value; each of the modules knows calls of its own.
-fn put_answer(alloc: Global, out: &mut Vec<u8>, call: &str, value: &[u8]) -> io::Result<()> {
-    if let Some(done) = spelled::put_answer(alloc, out, call, value) {
-        return done;
-    }
-    if let Some(done) = maps::put_answer(alloc, out, call, value) {
-        return done;
-    }
-    if let Some(done) = commands::put_answer(alloc, out, call, value) {
-        return done;
-    }
-    if let Some(done) = descriptions::put_answer(alloc, out, call, value) {
-        return done;
-    }
-    if let Some(done) = bytes::put_answer(alloc, out, call, value) {
-        return done;
-    }
-    if let Some(done) = names::put_answer(alloc, out, call, value) {
-        return done;
-    }
-    if let Some(done) = packing::put_answer(alloc, out, call, value) {
-        return done;
-    }
-    if let Some(done) = capturing::put_answer(alloc, out, call, value) {
-        return done;
-    }
-    if let Some(done) = checks::put_answer(alloc, out, call, value) {
-        return done;
-    }
-    if let Some(done) = logged::put_answer(alloc, out, call, value) {
-        return done;
-    }
-    if let Some(done) = shown::put_answer(alloc, out, call, value) {
-        return done;
-    }
-    messages::put_answer(alloc, out, call, value).unwrap_or(Err(unread()))
+// Puts what a call gives of a value, and says whether there is such a call; each of the modules knows calls of its own.
+fn put_answer(row: &mut Row<'_>, call: &str, value: &[u8]) -> bool {
+    spelled::put_answer(row, call, value)
+        || maps::put_answer(row, call, value)
+        || commands::put_answer(row, call, value)
+        || descriptions::put_answer(row, call, value)
+        || bytes::put_answer(row, call, value)
+        || names::put_answer(row, call, value)
+        || packing::put_answer(row, call, value)
+        || capturing::put_answer(row, call, value)
+        || checks::put_answer(row, call, value)
+        || logged::put_answer(row, call, value)
+        || shown::put_answer(row, call, value)
+        || messages::put_answer(row, call, value)
 }
 
 // What a call gives of a value, as a row says it.
-fn given(alloc: Global, call: &str, field: &str) -> io::Result<String> {
-    let value = bytes_of(alloc, field)?;
-    let mut out = Vec::new(alloc);
-    put_answer(alloc, &mut out, call, &value)?;
-    said(alloc, &out)
+fn given(row: &mut Row<'_>, call: &str, field: &str) -> io::Result<String> {
+    let value = bytes_of(row.alloc, field)?;
+    row.given.clear();
+    if !put_answer(row, call, &value) {
+        row.unread();
+    }
+    said(row.alloc, &row.given)
 }
 
 // Whether a row says this answer.
@@ -91,20 +69,20 @@ fn is_said(answer: &str, wanted: &str) -> bool {
 }
 
 // Puts what a call gives of one of the values that the row doesn't say, with its place; else what the row says.
-fn put_given(
-    alloc: Global,
-    out: &mut Vec<u8>,
-    call: &str,
-    values: &str,
-    wanted: &str,
-) -> io::Result<()> {
+fn put_given(row: &mut Row<'_>, call: &str, values: &str, wanted: &str) -> io::Result<()> {
     for (place, field) in values.split("  ").enumerate() {
-        let given = given(alloc, call, field)?;
+        let given = given(row, call, field)?;
         if !is_said(given.as_str(), wanted) {
-            return write!(out, "{given} for value {}", place.saturating_add(1));
+            row.given.clear();
+            row.put(given.as_bytes());
+            row.put(b" for value ");
+            row.put_shown(place.saturating_add(1));
+            return Ok(());
         }
     }
-    out.write_all(wanted.as_bytes())
+    row.given.clear();
+    row.put(wanted.as_bytes());
+    Ok(())
 }
 
 impl Scenario for Values {
@@ -115,13 +93,13 @@ impl Scenario for Values {
     fn unlike(&mut self, alloc: Global, row: &str) -> io::Result<Option<String>> {
         let (rest, wanted) = row.rsplit_once("  ").unwrap_or((row, ""));
         let (call, values) = rest.split_once("  ").unwrap_or((rest, ""));
-        let mut out = Vec::new(alloc);
-        let done = match call {
-            "verdict" | "in range" => maps::put_answer_of_two(alloc, &mut out, call, values),
+        let mut row = Row::of(alloc, wanted);
+        match call {
+            "verdict" | "in range" => maps::put_answer_of_two(&mut row, call, values)?,
             // Without a value the row would say nothing of the call.
-            _ if values.is_empty() => Err(unread()),
-            _ => put_given(alloc, &mut out, call, values, wanted),
-        };
-        unless_said(alloc, done, &out, wanted)
+            _ if values.is_empty() => row.unread(),
+            _ => put_given(&mut row, call, values, wanted)?,
+        }
+        row.unlike()
     }
 }

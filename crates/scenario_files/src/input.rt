@@ -1,14 +1,15 @@
 //! The input of the program that a scenario stands for.
 use crate::settings::SETTINGS;
-use crate::texts::value_of;
+use crate::texts::{put_line, value_of};
 use crate::written::WrittenScenario;
 use std::alloc::Global;
 use std::io;
 
 // The first word of a line of the settings.
 fn key_of(line: &str) -> &str {
-    let word = line.split(' ').next().unwrap_or("");
-    word.split('\\').next().unwrap_or("")
+    let (word, _) = line.split_once(' ').unwrap_or((line, ""));
+    let (key, _) = word.split_once('\\').unwrap_or((word, ""));
+    key
 }
 
 // What stands in the place of a usual line: the change of its key, or nothing where `no KEY` takes it out.
@@ -37,7 +38,7 @@ fn is_further(change: &str) -> bool {
 
 fn put_setting(alloc: Global, out: &mut String, line: &str) -> io::Result<()> {
     let line = value_of(alloc, line)?;
-    Ok(writeln!(out, "{line}")?)
+    put_line(out, line.as_str())
 }
 
 // The usual settings with a scenario's changes.
@@ -76,6 +77,7 @@ pub fn input_of(alloc: Global, scenario: &WrittenScenario) -> io::Result<String>
     } else {
         SCRIPT
     };
-    write!(input, "{before}{}", scenario.script)?;
+    input.push_str(before)?;
+    input.push_str(scenario.script.as_str())?;
     Ok(input)
 }

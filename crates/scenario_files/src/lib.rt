@@ -26,12 +26,10 @@ pub use crate::files::{Kinds, play};
 pub use crate::input::input_of;
 pub use crate::lists::item_at;
 pub use crate::numbers::{number_in, range_in};
-pub use crate::row::{Row, unread};
+pub use crate::row::Row;
 pub use crate::rows::{Scenario, told};
 pub use crate::settings::SETTINGS;
-pub use crate::texts::{bytes_of, in_full, or_none, put_piece, said, value_of, yes_or_no};
+pub use crate::texts::{bytes_of, in_full, said, value_of, yes_or_no};
 pub use crate::titles::Pieces;
-pub use crate::turns::{
-    code_text, no_such_row, or_unread, unless_left, unless_number, unless_said, unless_told,
-};
+pub use crate::turns::{no_such_row, unless_number, unless_said, unless_told};
 pub use crate::written::{WrittenScenario, read_scenario};

@@ -1,8 +1,13 @@
 //! Short forms in what is told.
 use mg_bytes::decimal;
 use std::alloc::Global;
-use std::fmt::Display;
 use std::io;
+
+/// Puts a line with its end.
+pub fn put_line(out: &mut String, line: &str) -> io::Result<()> {
+    out.push_str(line)?;
+    Ok(out.push('\n')?)
+}
 
 // What stands behind a `{`: `64*1}`, and the text behind it.
 fn put_times(out: &mut String, piece: &str) -> io::Result<()> {
@@ -30,36 +35,41 @@ pub fn in_full(alloc: Global, text: &str) -> io::Result<String> {
 
 // The byte that a short form is, whose letters stand behind a `\`, and what follows it.
 fn short_form(piece: &str) -> Option<(u8, &str)> {
-    if let Some(digits) = piece.strip_prefix('x') {
-        let (digits, rest) = digits.split_at_checked(2)?;
-        return Some((u8::from_str_radix(digits, 16).ok()?, rest));
-    }
     let (letter, rest) = piece.split_at_checked(1)?;
     match letter {
         "s" => Some((b' ', rest)),
         "t" => Some((b'\t', rest)),
         "n" => Some((b'\n', rest)),
+        "x" => hexadecimal_byte(rest),
         _ => None,
     }
 }
 
+// The byte with these two digits in front, and what follows them.
+fn hexadecimal_byte(text: &str) -> Option<(u8, &str)> {
+    let (digits, rest) = text.split_at_checked(2)?;
+    Some((u8::from_str_radix(digits, 16).ok()?, rest))
+}
+
 // Puts what stands behind a `\`: the byte that its short form is, and what follows it.
 fn put_short(out: &mut Vec<u8>, piece: &str) -> io::Result<()> {
-    let rest = match short_form(piece) {
-        Some((byte, rest)) => {
-            out.push(byte)?;
-            rest
-        }
-        None => piece,
+    let Some((byte, rest)) = short_form(piece) else {
+        return Ok(out.extend_from_slice(piece.as_bytes())?);
     };
+    out.push(byte)?;
     Ok(out.extend_from_slice(rest.as_bytes())?)
+}
+
+// A text without the short forms that are no single byte.
+fn without_pairs(alloc: Global, field: &str) -> io::Result<String> {
+    let text = field.replace(alloc, "''", "")?;
+    Ok(text.as_str().replace(alloc, "¶", "\r\n")?)
 }
 
 /// A value as its bytes: `''` is nothing, `\s` a blank, `\t` a tab, `\n` a line end, `¶` one of two bytes, and `\xff` the
 /// byte with these hexadecimal digits.
 pub fn bytes_of(alloc: Global, field: &str) -> io::Result<Vec<u8>> {
-    let mut text = field.replace(alloc, "''", "")?;
-    text = text.replace(alloc, "¶", "\r\n")?;
+    let text = without_pairs(alloc, field)?;
     let mut out = Vec::new(alloc);
     let mut pieces = text.as_str().split('\\');
     out.extend_from_slice(pieces.next().unwrap_or("").as_bytes())?;
@@ -78,20 +88,6 @@ pub fn said(alloc: Global, bytes: &[u8]) -> io::Result<String> {
     text = text.replace(alloc, "\r\n", "¶")?;
     text = text.replace(alloc, "\t", "\\t")?;
     Ok(text.replace(alloc, "\n", "\\n")?)
-}
-
-/// Adds a piece to what a row says: each has a `|` behind it.
-pub fn put_piece(out: &mut Vec<u8>, piece: &[u8]) -> io::Result<()> {
-    out.extend_from_slice(piece)?;
-    Ok(out.push(b'|')?)
-}
-
-/// A value as a row says it, `none` where there is none.
-pub fn or_none<T: Display + Copy>(alloc: Global, value: Option<T>) -> io::Result<String> {
-    match value {
-        Some(value) => Ok(format!(in alloc; "{value}")?),
-        None => Ok("none".to_string(alloc)?),
-    }
 }
 
 /// A judgement as a row says it.

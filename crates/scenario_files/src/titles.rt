@@ -1,5 +1,6 @@
 //! Lines under titles, some of which stand once, as pieces, and are put in where they are named.
 use crate::numbers::number_in;
+use crate::texts::put_line;
 use std::alloc::Global;
 use std::io;
 
@@ -20,20 +21,22 @@ fn lines_of<'a>(pieces: &'a [Piece], name: &str) -> &'a str {
     "no such piece\n"
 }
 
-// Lines with a value in each place that this mark has.
-fn with_value(alloc: Global, lines: &str, mark: usize, value: &str) -> io::Result<String> {
-    let mark = format!(in alloc; "{{{mark}}}")?;
-    Ok(lines.replace(alloc, mark.as_str(), value)?)
+// Puts these values, which have a `|` between them, into the places `{1}`, `{2}` and so on of a text.
+fn fill(alloc: Global, text: &mut String, values: &str) -> io::Result<()> {
+    for (place, value) in values.split('|').enumerate() {
+        let mark = format!(in alloc; "{{{}}}", place.wrapping_add(1))?;
+        *text = text.replace(alloc, mark.as_str(), value.trim())?;
+    }
+    Ok(())
 }
 
 // What `do` puts in: the lines of a name, with a value in each place `{1}`, `{2}` and so on.
 fn put_done(alloc: Global, pieces: &[Piece], out: &mut String, call: &str) -> io::Result<()> {
-    let mut words = call.split('|');
-    let name = words.next().unwrap_or("").trim();
-    let mut text = lines_of(pieces, name).to_string(alloc)?;
-    for (place, word) in words.enumerate() {
-        text = with_value(alloc, text.as_str(), place.wrapping_add(1), word.trim())?;
-    }
+    let Some((name, values)) = call.split_once('|') else {
+        return Ok(out.push_str(lines_of(pieces, call.trim()))?);
+    };
+    let mut text = lines_of(pieces, name.trim()).to_string(alloc)?;
+    fill(alloc, &mut text, values)?;
     Ok(out.push_str(text.as_str())?)
 }
 
@@ -63,7 +66,7 @@ fn put_expanded(alloc: Global, pieces: &[Piece], out: &mut String, line: &str) -
     if let Some(call) = line.strip_prefix("each ") {
         return put_each(alloc, pieces, out, call);
     }
-    Ok(writeln!(out, "{line}")?)
+    put_line(out, line)
 }
 
 // The lines with all that they put in.

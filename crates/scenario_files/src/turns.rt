@@ -1,8 +1,5 @@
 //! What a row gives, as it is told.
-use crate::again::refused;
-use crate::row::{Row, unread};
-use crate::texts::{bytes_of, or_none, said};
-use mg_bytes::CodeFault;
+use crate::texts::{bytes_of, said};
 use std::alloc::Global;
 use std::io;
 
@@ -20,7 +17,10 @@ pub fn unless_number(
     number: Option<u64>,
     wanted: &str,
 ) -> io::Result<Option<String>> {
-    let given = or_none(alloc, number)?;
+    let Some(number) = number else {
+        return unless_said(alloc, "none", wanted);
+    };
+    let given = format!(in alloc; "{number}")?;
     unless_said(alloc, given.as_str(), wanted)
 }
 
@@ -41,41 +41,7 @@ pub fn unless_told(
     }
 }
 
-/// What a row gives where that isn't what is left of it, whatever blanks stand before both.
-pub fn unless_left(
-    alloc: Global,
-    given: io::Result<String>,
-    row: &Row<'_>,
-) -> io::Result<Option<String>> {
-    match given {
-        Ok(given) => Ok(if given.as_str().trim_start() == row.left().trim_start() {
-            None
-        } else {
-            Some(given)
-        }),
-        Err(fault) if fault.kind() == io::ErrorKind::InvalidInput => no_such_row(alloc),
-        Err(fault) => Err(fault),
-    }
-}
-
 /// What is said of a row that can't be read.
 pub fn no_such_row(alloc: Global) -> io::Result<Option<String>> {
     Ok(Some("no such row".to_string(alloc)?))
-}
-
-/// A return code as a row says it; want of memory is an error.
-pub fn code_text(alloc: Global, fault: CodeFault) -> io::Result<String> {
-    match fault {
-        CodeFault::Code(code) => Ok(format!(in alloc; "{code}")?),
-        CodeFault::OutOfMemory => Err(refused()),
-    }
-}
-
-/// What is read of a row; where there is a fault, there is no such row.
-pub fn or_unread<T: Drop>(read: Result<T, CodeFault>) -> io::Result<T> {
-    match read {
-        Ok(read) => Ok(read),
-        Err(CodeFault::Code(_)) => Err(unread()),
-        Err(CodeFault::OutOfMemory) => Err(refused()),
-    }
 }

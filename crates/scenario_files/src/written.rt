@@ -1,9 +1,12 @@
 //! A scenario as it is written: its script, and what it says that is printed.
-use crate::texts::in_full;
+use crate::texts::{in_full, put_line};
 use std::alloc::Global;
 use std::io;
 
 const AGENT: &str = "127.0.0.1:2727";
+
+// What stands behind the moment of a datagram that goes there.
+const AGENT_BEHIND: &str = " 127.0.0.1:2727";
 
 // A mark, which stands before a cause: a step that no gateway has the line for, and what it prints.
 const MARK: &str = "show 65535";
@@ -30,10 +33,6 @@ enum LinePlace {
     InSent,
 }
 
-fn put_line(out: &mut String, line: &str) -> io::Result<()> {
-    Ok(writeln!(out, "{line}")?)
-}
-
 // The first words of a line that is printed, where it is no datagram.
 const PRINTED: [&str; 7] = [
     "! ",
@@ -46,7 +45,12 @@ const PRINTED: [&str; 7] = [
 ];
 
 fn is_printed(line: &str) -> bool {
-    PRINTED.iter().any(|first| line.starts_with(*first))
+    for first in &PRINTED {
+        if line.starts_with(*first) {
+            return true;
+        }
+    }
+    false
 }
 
 impl WrittenScenario {
@@ -61,16 +65,17 @@ impl WrittenScenario {
 
     fn put_heard(&mut self, from: &str) -> io::Result<LinePlace> {
         self.put_mark()?;
-        writeln!(self.script, "from {from}")?;
+        self.script.push_str("from ")?;
+        put_line(&mut self.script, from)?;
         Ok(LinePlace::InHeard)
     }
 
-    fn put_sent(&mut self, rest: &str) -> io::Result<LinePlace> {
-        if rest.contains(' ') {
-            writeln!(self.printed, "> {rest}")?;
-        } else {
-            writeln!(self.printed, "> {rest} {AGENT}")?;
-        }
+    fn put_sent(&mut self, line: &str, rest: &str) -> io::Result<LinePlace> {
+        self.printed.push_str(line)?;
+        put_line(
+            &mut self.printed,
+            if rest.contains(' ') { "" } else { AGENT_BEHIND },
+        )?;
         Ok(LinePlace::InSent)
     }
 
@@ -94,7 +99,7 @@ impl WrittenScenario {
             return self.put_heard(from);
         }
         if let Some(rest) = line.strip_prefix("> ") {
-            return self.put_sent(rest);
+            return self.put_sent(line, rest);
         }
         if line == "opening" {
             self.is_at_opening = true;

@@ -4,10 +4,8 @@
 //! `B 200 1 OK¶` where one comes to the second socket. Transaction ids are 1 to 9, the call is 0, the lines are aaln/1 and
 //! aaln/2 at rgw.example.net. The answer is `pass`, or `fail: ` or `not supported: ` with the step that isn't met.
 use gateway_checks::{Names, Player, Socket, Turn, Verdict, check_named};
-use scenario_files::unread;
-use std::alloc::Global;
-use std::io;
-use std::io::Write;
+use mg_bytes::OutOfMemory;
+use scenario_files::Row;
 
 // No check has more turns.
 const MOST_TURNS: u32 = 100;
@@ -21,7 +19,7 @@ fn arrival_of(item: &[u8]) -> (Socket, &[u8]) {
 }
 
 // Plays a check to its end, where this comes.
-fn play(player: &mut Player<'_>, came: &[u8]) -> io::Result<()> {
+fn play(player: &mut Player<'_>, came: &[u8]) -> Result<(), OutOfMemory> {
     let mut items = came.split(|byte| *byte == b'|');
     let mut now = 0;
     for _ in 0..MOST_TURNS {
@@ -40,26 +38,32 @@ fn play(player: &mut Player<'_>, came: &[u8]) -> io::Result<()> {
     Ok(())
 }
 
-// Puts what comes of a check.
-fn put_verdict(alloc: Global, out: &mut Vec<u8>, name: &str, came: &[u8]) -> io::Result<()> {
-    let check = check_named(name).ok_or(unread())?;
-    let names = Names::new(alloc, "rgw.example.net", "aaln/1", "aaln/2", 0);
-    let mut player = Player::new(alloc, &check, names);
-    play(&mut player, came)?;
-    match player.verdict() {
-        Verdict::Passed => out.write_all(b"pass"),
-        Verdict::Failed => write!(out, "fail: {}", player.due()),
-        Verdict::NotSupported => write!(out, "not supported: {}", player.due()),
+// Puts what comes of a check. Where there is none of this name there is no such row.
+fn put_verdict(row: &mut Row<'_>, name: &str, came: &[u8]) {
+    let Some(check) = check_named(name) else {
+        row.unread();
+        return;
+    };
+    let names = Names::new(row.alloc, "rgw.example.net", "aaln/1", "aaln/2", 0);
+    let mut player = Player::new(row.alloc, &check, names);
+    if play(&mut player, came).is_err() {
+        row.refuse();
+        return;
     }
+    let word = match player.verdict() {
+        Verdict::Passed => b"pass".as_slice(),
+        Verdict::Failed => b"fail: ".as_slice(),
+        Verdict::NotSupported => b"not supported: ".as_slice(),
+    };
+    row.put(word);
+    row.put(player.due().as_bytes());
 }
 
-/// Puts what a call gives; nothing where there is no such call here.
-pub fn put_answer(
-    alloc: Global,
-    out: &mut Vec<u8>,
-    call: &str,
-    value: &[u8],
-) -> Option<io::Result<()>> {
-    let name = call.strip_prefix("check ")?;
-    Some(put_verdict(alloc, out, name, value))
+/// Puts what a call gives, and says whether there is such a call here.
+pub fn put_answer(row: &mut Row<'_>, call: &str, value: &[u8]) -> bool {
+    let Some(name) = call.strip_prefix("check ") else {
+        return false;
+    };
+    put_verdict(row, name, value);
+    true
 }

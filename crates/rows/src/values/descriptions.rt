@@ -1,19 +1,19 @@
 //! Calls about session descriptions.
+use scenario_files::Row;
 use sdp_subset::{Origin, Session, read_sdp, write_sdp};
-use std::alloc::Global;
-use std::io;
-use std::io::Write;
 
 // Where a stream is received, and its payload types.
-fn put_offered(out: &mut Vec<u8>, session: &Session) -> io::Result<()> {
-    write!(out, "{}:{}", session.address, session.port)?;
+fn put_offered(row: &mut Row<'_>, session: &Session) {
+    row.put_shown(session.address);
+    row.put(b":");
+    row.put_shown(session.port);
     for payload in session.payloads.as_slice() {
-        write!(out, " {payload}")?;
+        row.put(b" ");
+        row.put_shown(*payload);
     }
     if session.origin.is_some() || session.ptime.is_some() {
-        return out.write_all(b" of its own");
+        row.put(b" of its own");
     }
-    Ok(())
 }
 
 // The number of an origin, its version and a packet time: `1 2 20`.
@@ -28,33 +28,32 @@ fn own_of(numbers: &str) -> Option<(Origin, u16)> {
 }
 
 // A description as it is written again, with an origin and a packet time where these are given.
-fn put_written(
-    alloc: Global,
-    out: &mut Vec<u8>,
-    session: &mut Session,
-    own: Option<(Origin, u16)>,
-) -> io::Result<()> {
+fn put_written(row: &mut Row<'_>, session: &mut Session, own: Option<(Origin, u16)>) {
     if let Some((origin, ptime)) = own {
         session.origin = Some(origin);
         session.ptime = Some(ptime);
     }
-    out.write_all(write_sdp(alloc, session)?.as_bytes())
+    row.put_text(write_sdp(row.alloc, session));
 }
 
-/// Puts what a call gives; nothing where there is no such call here.
-pub fn put_answer(
-    alloc: Global,
-    out: &mut Vec<u8>,
-    call: &str,
-    value: &[u8],
-) -> Option<io::Result<()>> {
-    let own = match call {
-        "description" | "written description" => None,
-        _ => Some(own_of(call.strip_prefix("own description ")?)?),
-    };
-    Some(match read_sdp(value) {
-        Ok(session) if call == "description" => put_offered(out, &session),
-        Ok(mut session) => put_written(alloc, out, &mut session, own),
-        Err(_) => out.write_all(b"refused"),
-    })
+// What a call gives of a description, with this origin and packet time where they are given.
+fn put_of(row: &mut Row<'_>, call: &str, value: &[u8], own: Option<(Origin, u16)>) {
+    match read_sdp(value) {
+        Ok(session) if call == "description" => put_offered(row, &session),
+        Ok(mut session) => put_written(row, &mut session, own),
+        Err(_) => row.put(b"refused"),
+    }
+}
+
+/// Puts what a call gives; no where there is no such call here.
+pub fn put_answer(row: &mut Row<'_>, call: &str, value: &[u8]) -> bool {
+    if call == "description" || call == "written description" {
+        put_of(row, call, value, None);
+        return true;
+    }
+    let own = own_of(call.strip_prefix("own description ").unwrap_or(""));
+    if own.is_some() {
+        put_of(row, call, value, own);
+    }
+    own.is_some()
 }

@@ -1,119 +1,102 @@
 //! Calls about the log of a live gateway: the line that each puts.
 use crate::values::capturing::{address_of, number_of, parted};
 use exchange_log::{Note, Stamp, Way, put_given_up, put_message, put_note, put_refused};
+use mg_bytes::OutOfMemory;
 use mgcp_text::TransactionId;
-use scenario_files::unread;
-use std::alloc::Global;
-use std::io;
+use scenario_files::Row;
 
-fn id_of(digits: &[u8]) -> io::Result<TransactionId> {
-    let number = number_of(digits)?;
+fn id_of(row: &mut Row<'_>, digits: &[u8]) -> TransactionId {
+    let number = number_of(row, digits);
     if number < 1 || number > 999_999_999 {
-        return Err(unread());
+        row.unread();
+        return TransactionId::of(1);
     }
-    Ok(TransactionId::of(number as u32))
+    TransactionId::of(number as u32)
 }
 
-// How long was waited: `-` or digits.
-fn waited_of(word: &[u8]) -> io::Result<Option<u64>> {
-    match word {
-        b"-" => Ok(None),
-        _ => Ok(Some(number_of(word)?)),
-    }
-}
-
-// `12 TEXT`: how long was waited, and the message.
-fn put_told(
-    alloc: Global,
-    out: &mut Vec<u8>,
-    stamp: Stamp,
-    way: Way,
-    value: &[u8],
-) -> io::Result<()> {
-    let (waited, text) = parted(value)?;
-    let waited = waited_of(waited)?;
-    put_message(alloc, out, stamp, way, text, waited)?;
-    Ok(())
+// `12 TEXT`: how long was waited, `-` or digits, and the message.
+fn put_told(row: &mut Row<'_>, stamp: Stamp, way: Way, value: &[u8]) -> Result<(), OutOfMemory> {
+    let (word, text) = parted(row, value);
+    let waited = match word {
+        b"-" => None,
+        _ => Some(number_of(row, word)),
+    };
+    put_message(row.alloc, &mut row.given, stamp, way, text, waited)
 }
 
 // `1207 WHY`.
-fn put_why(alloc: Global, out: &mut Vec<u8>, stamp: Stamp, value: &[u8]) -> io::Result<()> {
-    let (id, why) = parted(value)?;
-    let id = id_of(id)?;
-    put_refused(alloc, out, stamp, id, why)?;
-    Ok(())
+fn put_why(row: &mut Row<'_>, stamp: Stamp, value: &[u8]) -> Result<(), OutOfMemory> {
+    let (id, why) = parted(row, value);
+    let id = id_of(row, id);
+    put_refused(row.alloc, &mut row.given, stamp, id, why)
 }
 
 // `1207 401`: the command, and the code by which it is refused.
-fn refused_by(value: &[u8]) -> io::Result<Note> {
-    let (id, code) = parted(value)?;
-    let code = number_of(code)?;
+fn refused_by(row: &mut Row<'_>, value: &[u8]) -> Note {
+    let (id, code) = parted(row, value);
+    let code = number_of(row, code);
+    let id = id_of(row, id);
     if code > 999 {
-        return Err(unread());
+        row.unread();
+        return Note::Unanswered(id);
     }
-    Ok(Note::Refused {
-        id: id_of(id)?,
+    Note::Refused {
+        id,
         code: code as u16,
-    })
+    }
 }
 
 // `answered again 1205` and so on.
-fn note_of(call: &str, value: &[u8]) -> io::Result<Note> {
-    Ok(match call {
-        "log answered again" => Note::AnsweredAgain(id_of(value)?),
-        "log unanswered" => Note::Unanswered(id_of(value)?),
-        "log sent again" => Note::SentAgain(id_of(value)?),
-        "log refused by" => refused_by(value)?,
+fn note_of(row: &mut Row<'_>, call: &str, value: &[u8]) -> Note {
+    match call {
+        "log answered again" => Note::AnsweredAgain(id_of(row, value)),
+        "log unanswered" => Note::Unanswered(id_of(row, value)),
+        "log sent again" => Note::SentAgain(id_of(row, value)),
+        "log refused by" => refused_by(row, value),
         "log too long" => Note::TooLong {
-            length: number_of(value)? as usize,
+            length: number_of(row, value) as usize,
         },
         "log unreadable" => Note::Unreadable,
         "log out of memory" => Note::OutOfMemory,
-        _ => return Err(unread()),
-    })
+        _ => {
+            row.unread();
+            Note::Unreadable
+        }
+    }
 }
 
 // Puts the line of a call whose value goes on behind its stamp.
-fn put_line(
-    alloc: Global,
-    out: &mut Vec<u8>,
-    call: &str,
-    stamp: Stamp,
-    value: &[u8],
-) -> io::Result<()> {
+fn put_line(row: &mut Row<'_>, call: &str, stamp: Stamp, value: &[u8]) -> Result<(), OutOfMemory> {
     match call {
-        "log came" => put_told(alloc, out, stamp, Way::Came, value),
-        "log sent" => put_told(alloc, out, stamp, Way::Sent, value),
-        "log given up" => Ok(put_given_up(alloc, out, stamp, value)?),
-        "log refused" => put_why(alloc, out, stamp, value),
+        "log came" => put_told(row, stamp, Way::Came, value),
+        "log sent" => put_told(row, stamp, Way::Sent, value),
+        "log given up" => put_given_up(row.alloc, &mut row.given, stamp, value),
+        "log refused" => put_why(row, stamp, value),
         _ => {
-            let note = note_of(call, value)?;
-            Ok(put_note(alloc, out, stamp, note)?)
+            let note = note_of(row, call, value);
+            put_note(row.alloc, &mut row.given, stamp, note)
         }
     }
 }
 
 // `43387123456 10.0.0.7:2727`, the moment and the other end, and what stands behind them.
-fn put_logged(alloc: Global, out: &mut Vec<u8>, call: &str, value: &[u8]) -> io::Result<()> {
-    let (moment, rest) = parted(value)?;
-    let (peer, rest) = parted(rest)?;
+fn put_logged(row: &mut Row<'_>, call: &str, value: &[u8]) {
+    let (moment, rest) = parted(row, value);
+    let (peer, rest) = parted(row, rest);
     let stamp = Stamp {
-        moment: number_of(moment)?,
-        peer: address_of(peer)?,
+        moment: number_of(row, moment),
+        peer: address_of(row, peer),
     };
-    put_line(alloc, out, call, stamp, rest)
+    if put_line(row, call, stamp, rest).is_err() {
+        row.refuse();
+    }
 }
 
-/// Puts what a call gives; nothing where there is no such call here.
-pub fn put_answer(
-    alloc: Global,
-    out: &mut Vec<u8>,
-    call: &str,
-    value: &[u8],
-) -> Option<io::Result<()>> {
-    if call.starts_with("log ") {
-        Some(put_logged(alloc, out, call, value))
-    } else {
-        None
+/// Puts what a call gives; no where there is no such call here.
+pub fn put_answer(row: &mut Row<'_>, call: &str, value: &[u8]) -> bool {
+    let is_known = call.starts_with("log ");
+    if is_known {
+        put_logged(row, call, value);
     }
+    is_known
 }

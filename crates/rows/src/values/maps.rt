@@ -8,17 +8,15 @@
 ghost use Rattle.std.specs.Prelude.{◌≤◌, length};
 ghost use Rattle.digit_map.specs.Verdict.{most_letters};
 
-use crate::texts::{put_code, put_judged};
 use digit_map::{
     MOST_LETTERS, MapChange, MapFault, MapText, Matcher, SlowMap, Verdict, is_in_range, is_range,
     read_change, read_map,
 };
 use digit_map_bits::{Compiled, Dialling};
 use mg_bytes::{CodeFault, Letter, OutOfMemory, letter_of};
-use scenario_files::{bytes_of, refused, yes_or_no};
+use scenario_files::{Row, bytes_of, refused, yes_or_no};
 use std::alloc::Global;
 use std::io;
-use std::io::Write;
 
 // What is dialled; nothing where that has another sign, or more than 64.
 fn letters_of(alloc: Global, dialled: &[u8]) -> Result<Option<Vec<Letter>>, OutOfMemory> {
@@ -134,61 +132,55 @@ fn in_range(range: &[u8], key: &[u8]) -> &'static str {
 }
 
 /// Puts the answer of a call of two values: of `verdict` or `in range`.
-pub fn put_answer_of_two(
-    alloc: Global,
-    out: &mut Vec<u8>,
-    call: &str,
-    fields: &str,
-) -> io::Result<()> {
+pub fn put_answer_of_two(row: &mut Row<'_>, call: &str, fields: &str) -> io::Result<()> {
     let (one, other) = fields.split_once("  ").unwrap_or((fields, ""));
-    let (one, other) = (bytes_of(alloc, one)?, bytes_of(alloc, other)?);
+    let (one, other) = (bytes_of(row.alloc, one)?, bytes_of(row.alloc, other)?);
     let given = match call {
-        "verdict" => verdict(alloc, &one, &other)?,
+        "verdict" => verdict(row.alloc, &one, &other)?,
         _ => in_range(&one, &other),
     };
-    out.write_all(given.as_bytes())
+    row.put(given.as_bytes());
+    Ok(())
 }
 
 // Puts a map, by a copy of it.
-fn put_map(out: &mut Vec<u8>, map: &MapText) -> Result<(), CodeFault> {
-    Ok(out.extend_from_slice(map.try_copy()?.as_bytes())?)
+fn put_map(row: &mut Row<'_>, map: &MapText) {
+    match map.try_copy() {
+        Ok(copy) => row.put(copy.as_bytes()),
+        Err(_) => row.refuse(),
+    }
 }
 
-// What a D makes of the map that stands.
-fn put_change(alloc: Global, out: &mut Vec<u8>, value: &[u8]) -> Result<(), CodeFault> {
+// A map without its blanks, or a code.
+fn put_read(row: &mut Row<'_>, value: &[u8]) {
+    match read_map(row.alloc, value) {
+        Ok(map) => put_map(row, &map),
+        Err(fault) => row.put_code(CodeFault::from(fault)),
+    }
+}
+
+// What a D makes of the map that stands, or a code.
+fn put_change(row: &mut Row<'_>, value: &[u8]) {
     let named = if value == b"-".as_slice() {
         None
     } else {
         Some(value)
     };
-    match read_change(alloc, named)? {
-        MapChange::Keep => Ok(out.extend_from_slice(b"keep")?),
-        MapChange::Remove => Ok(out.extend_from_slice(b"remove")?),
-        MapChange::Replace(map) => put_map(out, &map),
+    match read_change(row.alloc, named) {
+        Ok(MapChange::Keep) => row.put(b"keep"),
+        Ok(MapChange::Remove) => row.put(b"remove"),
+        Ok(MapChange::Replace(map)) => put_map(row, &map),
+        Err(fault) => row.put_code(CodeFault::from(fault)),
     }
 }
 
-// The answer of `map` or `change`, or a code.
-fn put_read(alloc: Global, out: &mut Vec<u8>, call: &str, value: &[u8]) -> Result<(), CodeFault> {
+/// Puts the answer of a call of one value; no where there is no such call here.
+pub fn put_answer(row: &mut Row<'_>, call: &str, value: &[u8]) -> bool {
     match call {
-        "map" => put_map(out, &read_map(alloc, value)?),
-        _ => put_change(alloc, out, value),
+        "map" => put_read(row, value),
+        "change" => put_change(row, value),
+        "range" => row.put_judged(is_range(value)),
+        _ => return false,
     }
-}
-
-/// Puts the answer of a call of one value; nothing where there is no such call here.
-pub fn put_answer(
-    alloc: Global,
-    out: &mut Vec<u8>,
-    call: &str,
-    value: &[u8],
-) -> Option<io::Result<()>> {
-    match call {
-        "map" | "change" => Some(match put_read(alloc, out, call, value) {
-            Ok(()) => Ok(()),
-            Err(fault) => put_code(out, fault),
-        }),
-        "range" => Some(put_judged(out, is_range(value))),
-        _ => None,
-    }
+    true
 }

@@ -1,50 +1,49 @@
 //! Calls about names: of endpoints, of hosts and of call agents.
-use crate::texts::put_judged;
 use crate::values::numbered;
 use endpoint_names::{
     NameFault, Pattern, Table, TableFault, is_domain, matches, read_entity, read_name, write_name,
 };
 use routes::Route;
-use scenario_files::unread;
-use std::alloc::Global;
+use scenario_files::Row;
 use std::fmt::Display;
-use std::io;
-use std::io::Write;
 use std::net::Ipv4Addr;
 
 /// The domain of the endpoints.
 pub const DOMAIN: &[u8] = b"rgw.example.net";
 
 /// Puts the endpoints that a name means.
-pub fn put_pattern(out: &mut Vec<u8>, pattern: Pattern) -> io::Result<()> {
+pub fn put_pattern(row: &mut Row<'_>, pattern: Pattern) {
     match pattern {
-        Pattern::One(line) => write!(out, "line {line}"),
-        Pattern::All => out.write_all(b"all lines"),
-        Pattern::Any => out.write_all(b"any line"),
+        Pattern::One(line) => {
+            row.put(b"line ");
+            row.put_shown(line);
+        }
+        Pattern::All => row.put(b"all lines"),
+        Pattern::Any => row.put(b"any line"),
     }
 }
 
-fn put_fault(out: &mut Vec<u8>, fault: NameFault) -> io::Result<()> {
-    let text = match fault {
-        NameFault::Unknown => "unknown",
-        NameFault::TooComplicated => "too complicated",
-    };
-    write!(out, "{} {text}", fault as u8)
+fn put_fault(row: &mut Row<'_>, fault: NameFault) {
+    row.put_shown(fault as u8);
+    row.put(match fault {
+        NameFault::Unknown => b" unknown".as_slice(),
+        NameFault::TooComplicated => b" too complicated".as_slice(),
+    });
 }
 
 // What a name means on a gateway with so many lines.
-fn put_meaning(out: &mut Vec<u8>, name: &[u8], lines: u16) -> io::Result<()> {
+fn put_meaning(row: &mut Row<'_>, name: &[u8], lines: u16) {
     match read_name(name, DOMAIN, lines) {
-        Ok(pattern) => put_pattern(out, pattern),
-        Err(fault) => put_fault(out, fault),
+        Ok(pattern) => put_pattern(row, pattern),
+        Err(fault) => put_fault(row, fault),
     }
 }
 
 // The name that is written of what a name means.
-fn put_written(alloc: Global, out: &mut Vec<u8>, name: &[u8]) -> io::Result<()> {
+fn put_written(row: &mut Row<'_>, name: &[u8]) {
     match read_name(name, DOMAIN, 65535) {
-        Ok(pattern) => out.write_all(write_name(alloc, pattern, DOMAIN)?.as_bytes()),
-        Err(fault) => put_fault(out, fault),
+        Ok(pattern) => row.put_text(write_name(row.alloc, pattern, DOMAIN)),
+        Err(fault) => put_fault(row, fault),
     }
 }
 
@@ -55,106 +54,117 @@ fn means(name: &[u8], line: u16) -> bool {
     }
 }
 
+// Two addresses with a comma between them.
+fn put_two<A: Display + Copy>(row: &mut Row<'_>, one: A, other: A) {
+    row.put_shown(one);
+    row.put(b",");
+    row.put_shown(other);
+}
+
 // The addresses of a route, with commas between them, or `none`.
-fn put_route<A: Display + Copy>(out: &mut Vec<u8>, route: Option<Route<A>>) -> io::Result<()> {
+fn put_route<A: Display + Copy>(row: &mut Row<'_>, route: Option<Route<A>>) {
     match route {
-        None => out.write_all(b"none"),
-        Some(Route::One(a)) => write!(out, "{a}"),
-        Some(Route::Two(a, b)) => write!(out, "{a},{b}"),
-        Some(Route::Three(a, b, c)) => write!(out, "{a},{b},{c}"),
-        Some(Route::Four(a, b, c, d)) => write!(out, "{a},{b},{c},{d}"),
+        None => row.put(b"none"),
+        Some(Route::One(a)) => row.put_shown(a),
+        Some(Route::Two(a, b)) => put_two(row, a, b),
+        Some(Route::Three(a, b, c)) => {
+            put_two(row, a, b);
+            row.put(b",");
+            row.put_shown(c);
+        }
+        Some(Route::Four(a, b, c, d)) => {
+            put_two(row, a, b);
+            row.put(b",");
+            put_two(row, c, d);
+        }
     }
+}
+
+// The address 127.0.0.n.
+fn local(host: u8) -> Ipv4Addr {
+    Ipv4Addr::new(127, 0, 0, host)
 }
 
 // The route to 127.0.0.1 and those after it, so many in all.
 fn route_to(hosts: u16) -> Route<Ipv4Addr> {
-    let [one, two] = [Ipv4Addr::new(127, 0, 0, 1), Ipv4Addr::new(127, 0, 0, 2)];
-    let [three, four] = [Ipv4Addr::new(127, 0, 0, 3), Ipv4Addr::new(127, 0, 0, 4)];
     match hosts {
-        2 => Route::Two(one, two),
-        3 => Route::Three(one, two, three),
-        4 => Route::Four(one, two, three, four),
-        _ => Route::One(one),
+        2 => Route::Two(local(1), local(2)),
+        3 => Route::Three(local(1), local(2), local(3)),
+        4 => Route::Four(local(1), local(2), local(3), local(4)),
+        _ => Route::One(local(1)),
     }
 }
 
 // Puts so many hosts into a table: `h00` at 127.0.0.0, `h01` at 127.0.0.1, and so on.
-fn add_hosts(alloc: Global, table: &mut Table, count: u16) -> io::Result<()> {
+fn add_hosts(row: &mut Row<'_>, table: &mut Table, count: u16) {
     for place in 0..count {
-        let name = format!(in alloc; "h{place:02}")?;
+        let Ok(name) = format!(in row.alloc; "h{place:02}") else {
+            return row.refuse();
+        };
         let [_, octet] = place.to_be_bytes();
-        let added = table.add(name.as_bytes(), Route::One(Ipv4Addr::new(127, 0, 0, octet)));
-        added.ok().ok_or(unread())?;
+        if table
+            .add(name.as_bytes(), Route::One(local(octet)))
+            .is_err()
+        {
+            return row.unread();
+        }
     }
-    Ok(())
 }
 
 // What becomes of a host that is added to a table.
-fn put_added(out: &mut Vec<u8>, table: &mut Table, name: &[u8]) -> io::Result<()> {
+fn put_added(row: &mut Row<'_>, table: &mut Table, name: &[u8]) {
     let Err(fault) = table.add(name, Route::One(Ipv4Addr::LOCALHOST)) else {
-        return out.write_all(b"taken");
+        return row.put(b"taken");
     };
-    let text = match fault {
-        TableFault::NotADomain => "no domain",
-        TableFault::Twice => "twice",
-        TableFault::Full => "full",
-    };
-    write!(out, "{} {text}", fault as u8)
+    row.put_shown(fault as u8);
+    row.put(match fault {
+        TableFault::NotADomain => b" no domain".as_slice(),
+        TableFault::Twice => b" twice".as_slice(),
+        TableFault::Full => b" full".as_slice(),
+    });
 }
 
 // What a call gives of a host's name and a table of so many hosts.
-fn put_of_host(
-    alloc: Global,
-    out: &mut Vec<u8>,
-    call: &str,
-    name: &[u8],
-    count: u16,
-) -> io::Result<()> {
+fn put_of_host(row: &mut Row<'_>, call: &str, name: &[u8], count: u16) {
     let mut table = Table::new();
-    add_hosts(alloc, &mut table, count)?;
+    add_hosts(row, &mut table, count);
     match call {
-        "host added to" => put_added(out, &mut table, name),
-        _ => put_route(out, table.route_to(name)),
+        "host added to" => put_added(row, &mut table, name),
+        _ => put_route(row, table.route_to(name)),
     }
 }
 
-// The host ca.example.net with so many addresses; no host where that is 0.
-fn add_agent(table: &mut Table, hosts: u16) -> io::Result<()> {
-    if hosts > 0 {
-        let added = table.add(b"ca.example.net", route_to(hosts));
-        added.ok().ok_or(unread())?;
+// Where the entity is that a text names, by a table of hosts.
+fn put_entity(row: &mut Row<'_>, text: &[u8], table: &Table) {
+    match read_entity(text, table) {
+        Some(entity) if entity.text.as_bytes() != text => row.put(b"another text"),
+        Some(entity) => put_route(row, Some(entity.route)),
+        None => row.put(b"none"),
     }
-    Ok(())
 }
 
-// Where the entity is that a text names, where ca.example.net has so many addresses.
-fn put_place(out: &mut Vec<u8>, text: &[u8], hosts: u16) -> io::Result<()> {
+// The same where ca.example.net has so many addresses; there is no host where that is 0.
+fn put_place(row: &mut Row<'_>, text: &[u8], hosts: u16) {
     let mut table = Table::new();
-    add_agent(&mut table, hosts)?;
-    match read_entity(text, &table) {
-        Some(entity) if entity.text.as_bytes() != text => out.write_all(b"another text"),
-        Some(entity) => put_route(out, Some(entity.route)),
-        None => out.write_all(b"none"),
+    if hosts > 0 && table.add(b"ca.example.net", route_to(hosts)).is_err() {
+        return row.unread();
     }
+    put_entity(row, text, &table);
 }
 
-/// Puts what a call gives; nothing where there is no such call here.
-pub fn put_answer(
-    alloc: Global,
-    out: &mut Vec<u8>,
-    call: &str,
-    value: &[u8],
-) -> Option<io::Result<()>> {
+/// Puts what a call gives; no where there is no such call here.
+pub fn put_answer(row: &mut Row<'_>, call: &str, value: &[u8]) -> bool {
     let (call, number) = numbered(call);
-    Some(match call {
-        "name of" => put_meaning(out, value, number),
-        "written name" => put_written(alloc, out, value),
-        "means line" => put_judged(out, means(value, number)),
-        "domain" => put_judged(out, is_domain(value)),
-        "host added to" | "host among" => put_of_host(alloc, out, call, value, number),
-        "entity" => put_place(out, value, 1),
-        "entity at" => put_place(out, value, number),
-        "entity without hosts" => put_place(out, value, 0),
-        _ => return None,
-    })
+    match call {
+        "name of" => put_meaning(row, value, number),
+        "written name" => put_written(row, value),
+        "means line" => row.put_judged(means(value, number)),
+        "domain" => row.put_judged(is_domain(value)),
+        "host added to" | "host among" => put_of_host(row, call, value, number),
+        "entity" => put_place(row, value, 1),
+        "entity at" => put_place(row, value, number),
+        "entity without hosts" => put_place(row, value, 0),
+        _ => return false,
+    }
+    true
 }

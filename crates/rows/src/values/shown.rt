@@ -9,9 +9,8 @@ use page_answers::{
     CodeCount, ConnectionView, Counts, LineView, Picture, SignalView, VerbCount, metrics_text,
     state_text,
 };
-use scenario_files::unread;
+use scenario_files::Row;
 use std::alloc::Global;
-use std::io;
 
 // The count that a word names.
 fn count_of<'a>(counts: &'a mut Counts, key: &[u8]) -> Option<&'a mut u64> {
@@ -35,126 +34,154 @@ fn count_of<'a>(counts: &'a mut Counts, key: &[u8]) -> Option<&'a mut u64> {
 }
 
 // A code, a verb's place or a connection's number, which is below 1,000 here.
-fn small_number_of(digits: &[u8]) -> io::Result<u16> {
-    let number = number_of(digits)?;
+fn small_number_of(row: &mut Row<'_>, digits: &[u8]) -> u16 {
+    let number = number_of(row, digits);
     if number > 999 {
-        return Err(unread());
+        row.unread();
+        return 0;
     }
-    Ok(number as u16)
+    number as u16
 }
 
 // `6:2`: a verb's place or a code, and a number.
-fn pair_of(value: &[u8]) -> io::Result<(u16, u64)> {
-    let (place, number) = split_once(value, b':').ok_or(unread())?;
-    Ok((small_number_of(place)?, number_of(number)?))
+fn pair_of(row: &mut Row<'_>, value: &[u8]) -> (u16, u64) {
+    let (place, number) = split_once(value, b':').unwrap_or((value, b""));
+    (small_number_of(row, place), number_of(row, number))
 }
 
 // The end of a signal: `-` or digits.
-fn end_of(value: &[u8]) -> io::Result<Option<u64>> {
+fn end_of(row: &mut Row<'_>, value: &[u8]) -> Option<u64> {
     match value {
-        b"-" => Ok(None),
-        _ => Ok(Some(number_of(value)?)),
+        b"-" => None,
+        _ => Some(number_of(row, value)),
     }
 }
 
 // What a word tells of the line that was begun last.
-fn tell_line(lines: &mut [LineView], key: &[u8], value: &[u8]) -> io::Result<()> {
-    let line = lines.last_mut().ok_or(unread())?;
-    match key {
-        b"tone" => line.signals.push(SignalView {
-            name: b"L/dl",
-            end: end_of(value)?,
-        })?,
-        b"connection" => line.connections.push(ConnectionView {
-            number: u32::from(small_number_of(value)?),
-            mode: b"sendrecv",
-        })?,
-        _ => return Err(unread()),
+fn tell_line(row: &mut Row<'_>, line: &mut LineView, key: &[u8], value: &[u8]) {
+    let is_told = match key {
+        b"tone" => {
+            let end = end_of(row, value);
+            let signal = SignalView { name: b"L/dl", end };
+            line.signals.push(signal).is_ok()
+        }
+        b"connection" => {
+            let number = u32::from(small_number_of(row, value));
+            let connection = ConnectionView {
+                number,
+                mode: b"sendrecv",
+            };
+            line.connections.push(connection).is_ok()
+        }
+        _ => return row.unread(),
+    };
+    if !is_told {
+        row.refuse();
     }
-    Ok(())
 }
 
 // A word begins a line.
-fn begin_line(
-    alloc: Global,
-    lines: &mut Vec<LineView>,
-    is_off_hook: bool,
-    lost: u64,
-) -> io::Result<()> {
-    lines.push(LineView {
+fn begun(alloc: Global, is_off_hook: bool, lost: u64) -> LineView {
+    LineView {
         is_off_hook,
         signals: Vec::new(alloc),
         connections: Vec::new(alloc),
         lost,
-    })?;
-    Ok(())
+    }
 }
 
-fn tell(alloc: Global, picture: &mut Picture, key: &[u8], value: &[u8]) -> io::Result<()> {
-    if let Some(count) = count_of(&mut picture.counts, key) {
-        *count = number_of(value)?;
-        return Ok(());
-    }
-    match key {
-        b"clock" => picture.clock = number_of(value)?,
+// What a word tells of a list of the picture.
+fn tell_list(row: &mut Row<'_>, picture: &mut Picture, key: &[u8], value: &[u8]) {
+    let is_told = match key {
         b"verb" => {
-            let (place, number) = pair_of(value)?;
+            let (place, number) = pair_of(row, value);
             let verb = place.min(255) as u8;
-            picture.counts.commands.push(VerbCount { verb, number })?;
+            picture
+                .counts
+                .commands
+                .push(VerbCount { verb, number })
+                .is_ok()
         }
         b"code" => {
-            let (code, number) = pair_of(value)?;
-            picture.counts.answers.push(CodeCount { code, number })?;
+            let (code, number) = pair_of(row, value);
+            picture
+                .counts
+                .answers
+                .push(CodeCount { code, number })
+                .is_ok()
         }
         b"off" | b"on" => {
-            let lost = number_of(value)?;
-            begin_line(alloc, &mut picture.lines, key == b"off".as_slice(), lost)?;
+            let lost = number_of(row, value);
+            let line = begun(row.alloc, key == b"off".as_slice(), lost);
+            picture.lines.push(line).is_ok()
         }
-        _ => tell_line(&mut picture.lines, key, value)?,
+        _ => match picture.lines.last_mut() {
+            Some(line) => return tell_line(row, line, key, value),
+            None => return row.unread(),
+        },
+    };
+    if !is_told {
+        row.refuse();
     }
-    Ok(())
+}
+
+fn tell(row: &mut Row<'_>, picture: &mut Picture, key: &[u8], value: &[u8]) {
+    if key == b"clock".as_slice() {
+        picture.clock = number_of(row, value);
+        return;
+    }
+    match count_of(&mut picture.counts, key) {
+        Some(count) => *count = number_of(row, value),
+        None => tell_list(row, picture, key, value),
+    }
 }
 
 // The picture that these words tell.
-fn picture_of(alloc: Global, value: &[u8]) -> io::Result<Picture> {
-    let mut picture = Picture::new(alloc);
+fn picture_of(row: &mut Row<'_>, value: &[u8]) -> Picture {
+    let mut picture = Picture::new(row.alloc);
     for word in value.split(|byte| *byte == b' ') {
-        let (key, value) = split_once(word, b':').ok_or(unread())?;
-        tell(alloc, &mut picture, key, value)?;
+        match split_once(word, b':') {
+            Some((key, value)) => tell(row, &mut picture, key, value),
+            None => row.unread(),
+        }
     }
-    Ok(picture)
+    picture
 }
 
 // Puts a text with `<` and `>` in place of braces, which are short forms in rows.
-fn put_unbraced(out: &mut Vec<u8>, text: &[u8]) -> io::Result<()> {
+fn put_unbraced(row: &mut Row<'_>, text: &[u8]) {
     for byte in text {
-        out.push(match *byte {
+        let shown = match *byte {
             b'{' => b'<',
             b'}' => b'>',
             byte => byte,
-        })?;
-    }
-    Ok(())
-}
-
-fn put_shown(alloc: Global, out: &mut Vec<u8>, call: &str, value: &[u8]) -> io::Result<()> {
-    let picture = picture_of(alloc, value)?;
-    if call == "metrics" {
-        put_unbraced(out, &metrics_text(alloc, &picture)?)
-    } else {
-        put_unbraced(out, state_text(alloc, &picture, 1)?.as_bytes())
+        };
+        row.put(&[shown]);
     }
 }
 
-/// Puts what a call gives; nothing where there is no such call here.
-pub fn put_answer(
-    alloc: Global,
-    out: &mut Vec<u8>,
-    call: &str,
-    value: &[u8],
-) -> Option<io::Result<()>> {
+fn put_metrics(row: &mut Row<'_>, value: &[u8]) {
+    let picture = picture_of(row, value);
+    match metrics_text(row.alloc, &picture) {
+        Ok(text) => put_unbraced(row, &text),
+        Err(_) => row.refuse(),
+    }
+}
+
+fn put_state(row: &mut Row<'_>, value: &[u8]) {
+    let picture = picture_of(row, value);
+    match state_text(row.alloc, &picture, 1) {
+        Ok(text) => put_unbraced(row, text.as_bytes()),
+        Err(_) => row.refuse(),
+    }
+}
+
+/// Puts what a call gives; no where there is no such call here.
+pub fn put_answer(row: &mut Row<'_>, call: &str, value: &[u8]) -> bool {
     match call {
-        "metrics" | "state" => Some(put_shown(alloc, out, call, value)),
-        _ => None,
+        "metrics" => put_metrics(row, value),
+        "state" => put_state(row, value),
+        _ => return false,
     }
+    true
 }
