@@ -1,11 +1,21 @@
-//! Plays all scenarios: each file says in its first line which kind it has.
+//! Plays all scenarios: each file says in its first line which kind it has. Those of the program itself are played here.
+//!
+//! - `scripts`: scripts of the program, with what is printed beside what causes it.
+//! - `program`: a row a call of the program: its name, its values, and what it answers.
+//! - `streams`: an input whose streams give and take little at a time, and fail.
 //!
 //! What is told otherwise than it happens is printed under its title. `docs/SCENARIOS.md` says how scenarios are written.
 #![tactic(auto)]
 
+mod calls;
+mod played;
+mod scripts;
+mod streams;
+
+use crate::calls::Calls;
+use crate::streams::StreamScenario;
 use rows::Rows;
 use scenario_files::{Count, Kinds, play};
-use scenarios::Scenarios;
 use std::io;
 use std::net::Net;
 use std::process::ExitCode;
@@ -21,17 +31,29 @@ impl Kinds for All {
         kind: &str,
         text: &str,
     ) -> io::Result<Option<Count>> {
-        if let Some(count) = Rows::told(rt, kind, text)? {
-            return Ok(Some(count));
-        }
-        if let Some(count) = Scenarios::told(rt, kind, text)? {
-            return Ok(Some(count));
-        }
-        if let Some(count) = Gateways::told(rt, kind, text)? {
-            return Ok(Some(count));
-        }
-        Ends::told(rt, kind, text)
+        let told = match kind {
+            "scripts" => scripts::told(rt, text),
+            "program" => scenario_files::told::<Calls, R>(rt, text),
+            "streams" => scenario_files::told::<StreamScenario, R>(rt, text),
+            _ => return told_below(rt, kind, text),
+        };
+        Ok(Some(told?))
     }
+}
+
+// Tells a text of a kind that isn't about the program.
+fn told_below<R: AllocGlobal + Net + Print>(
+    rt: &R,
+    kind: &str,
+    text: &str,
+) -> io::Result<Option<Count>> {
+    if let Some(count) = Rows::told(rt, kind, text)? {
+        return Ok(Some(count));
+    }
+    if let Some(count) = Gateways::told(rt, kind, text)? {
+        return Ok(Some(count));
+    }
+    Ends::told(rt, kind, text)
 }
 
 fn main(rt: HostRuntime) -> io::Result<ExitCode> {

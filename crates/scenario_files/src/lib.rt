@@ -17,7 +17,6 @@ mod rows;
 mod settings;
 mod texts;
 mod titles;
-mod turns;
 mod written;
 
 pub use crate::again::refused;
@@ -29,7 +28,6 @@ pub use crate::numbers::{number_in, range_in};
 pub use crate::row::Row;
 pub use crate::rows::{Scenario, told};
 pub use crate::settings::SETTINGS;
-pub use crate::texts::{bytes_of, in_full, said, value_of, yes_or_no};
+pub use crate::texts::{bytes_of, in_full, put_line, said, value_of, yes_or_no};
 pub use crate::titles::Pieces;
-pub use crate::turns::{no_such_row, unless_number, unless_said, unless_told};
 pub use crate::written::{WrittenScenario, read_scenario};

@@ -3,8 +3,9 @@
 //!
 //! Neither reading nor putting can fail: the row keeps that a word couldn't be read, or that memory was refused, and what it
 //! gives says nothing then. So a kind of row asks for that only before it changes its state.
+use crate::again;
 use crate::again::refused;
-use crate::texts::yes_or_no;
+use crate::texts::{bytes_of, said, yes_or_no};
 use mg_bytes::{CodeFault, OutOfMemory, Text};
 use std::alloc::Global;
 use std::fmt::Display;
@@ -154,5 +155,17 @@ impl<'a> Row<'a> {
             return Ok(None);
         }
         Ok(Some(String::from_utf8_lossy(self.alloc, &self.given)?))
+    }
+
+    /// What is given, unless that is what is left, byte for byte, in short forms.
+    pub fn unlike_bytes(&self) -> io::Result<Option<String>> {
+        if self.is_refused || self.is_unread {
+            return self.unlike();
+        }
+        let wanted = again!(bytes_of(self.alloc, self.left))?;
+        if wanted.as_slice() == self.given.as_slice() {
+            return Ok(None);
+        }
+        Ok(Some(again!(said(self.alloc, &self.given))?))
     }
 }

@@ -24,10 +24,11 @@ impl Kinds for Gateways {
         kind: &str,
         text: &str,
     ) -> io::Result<Option<Count>> {
-        Ok(Some(match kind {
-            "refused" => refused::told(rt, text)?,
-            "sockets" => sockets::told(rt, text)?,
+        let told = match kind {
+            "refused" => refused::told(rt, text),
+            "sockets" => sockets::told(rt, text),
             _ => return Ok(None),
-        }))
+        };
+        Ok(Some(told?))
     }
 }

@@ -91,7 +91,7 @@ fn differing_at(
         }
         given = twins.gateway.step(event);
     }
-    if twins.follow(event, &given) {
+    if twins.follow(event, given) {
         return Ok(None);
     }
     Ok(Some("the gateway and its twin part"))
@@ -126,26 +126,17 @@ fn differing_twins(
     }
 }
 
-// The same of an input.
-fn differing(
-    alloc: Global,
-    input: &[u8],
-    next: Next<'_>,
-) -> io::Result<Option<(usize, &'static str)>> {
-    match scene_again(alloc, input)? {
-        Some(scene) => differing_twins(alloc, input, &scene.steps, next),
-        None => Ok(Some((0, UNPLAYED))),
-    }
-}
-
 // What differs under a title, three times.
 fn differing_under(
     alloc: Global,
     input: &[u8],
     otherwise: &[ScriptStep],
 ) -> io::Result<Option<(usize, &'static str)>> {
+    let Some(scene) = scene_again(alloc, input)? else {
+        return Ok(Some((0, UNPLAYED)));
+    };
     for next in [Next::Again, Next::Otherwise(otherwise)] {
-        let found = differing(alloc, input, next)?;
+        let found = differing_twins(alloc, input, &scene.steps, next)?;
         if found.is_some() {
             return Ok(found);
         }

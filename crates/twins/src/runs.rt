@@ -1,8 +1,8 @@
 //! All events of a script in one run, which goes on at its place where it was refused memory.
-use crate::twins::{are_same, event_of, is_same_datagram, scene_again, stepped};
+use crate::twins::{are_same, are_same_lists, event_of, scene_again, stepped};
 use gateway_core::{Event, Gateway, Outputs, Refusal};
 use rgw_play::ScriptStep;
-use scenario_files::{again, item_at};
+use scenario_files::again;
 use std::alloc::Global;
 use std::io;
 
@@ -30,6 +30,16 @@ impl<'s> Given<'s> {
         }
         Ok(())
     }
+
+    // A gateway takes the events of these steps one by one.
+    fn take_all(&mut self, gateway: &mut Gateway, steps: &'s [ScriptStep]) -> io::Result<()> {
+        for step in steps {
+            if let Some(event) = event_of(step, gateway.now()) {
+                self.take(gateway, event)?;
+            }
+        }
+        Ok(())
+    }
 }
 
 // The events of steps, which a gateway takes one by one.
@@ -39,12 +49,29 @@ fn one_by_one<'s>(
     steps: &'s [ScriptStep],
 ) -> io::Result<Given<'s>> {
     let mut given = again!(room(alloc, steps.len()))?;
-    for step in steps {
-        if let Some(event) = event_of(step, gateway.now()) {
-            given.take(gateway, event)?;
+    given.take_all(gateway, steps)?;
+    Ok(given)
+}
+
+// One run, whose outputs are kept: how many of the events are behind it where it stopped.
+fn run_once(
+    gateway: &mut Gateway,
+    given: &mut Vec<Outputs>,
+    events: &[Event<'_>],
+) -> io::Result<Option<usize>> {
+    match gateway.run(events) {
+        Ok(outputs) => {
+            given.push(outputs)?;
+            Ok(None)
+        }
+        Err(stopped) => {
+            given.push(stopped.outputs)?;
+            Ok(Some(match stopped.refusal {
+                Refusal::OutOfMemory => stopped.place,
+                _ => stopped.place.wrapping_add(1),
+            }))
         }
     }
-    Ok(given)
 }
 
 // What a gateway gives to events. A run that stops for want of memory goes on at its place, another one behind it.
@@ -57,46 +84,12 @@ fn in_one_run(
     let mut given: Vec<Outputs> = again!(Vec::with_capacity(alloc, most))?;
     let mut rest = events;
     for _ in 0..most {
-        let stopped = match gateway.run(rest) {
-            Ok(outputs) => {
-                given.push(outputs)?;
-                return Ok(given);
-            }
-            Err(stopped) => stopped,
-        };
-        given.push(stopped.outputs)?;
-        let passed = match stopped.refusal {
-            Refusal::OutOfMemory => stopped.place,
-            _ => stopped.place.wrapping_add(1),
+        let Some(passed) = run_once(gateway, &mut given, rest)? else {
+            return Ok(given);
         };
         rest = rest.get(passed..).unwrap_or(&[]);
     }
     Ok(given)
-}
-
-fn count_of(lists: &[Outputs]) -> usize {
-    let mut count = 0usize;
-    for outputs in lists {
-        count = count.wrapping_add(outputs.as_slice().len());
-    }
-    count
-}
-
-// Whether two lists of lists have the same datagrams, one list behind the other.
-fn are_same_lists(one: &[Outputs], other: &[Outputs]) -> bool {
-    let count = count_of(one);
-    if count != count_of(other) {
-        return false;
-    }
-    for place in 0..count {
-        let (Some(datagram), Some(twin)) = (item_at(one, place), item_at(other, place)) else {
-            return false;
-        };
-        if !is_same_datagram(datagram, twin) {
-            return false;
-        }
-    }
-    true
 }
 
 // Whether a gateway gives to all events of steps in one run what its twin gives to them one by one.

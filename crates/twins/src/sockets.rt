@@ -9,7 +9,7 @@
 use crate::twins::scene_of;
 use gateway_core::{DATAGRAM_ROOM, Gateway};
 use rgw_play::UdpWire;
-use scenario_files::{Count, SETTINGS, bytes_of, in_full, said};
+use scenario_files::{Count, Row, SETTINGS, bytes_of, in_full};
 use std::alloc::Global;
 use std::io;
 use std::net::{Ipv4Addr, Net, SocketAddrV4, UdpSocket};
@@ -52,30 +52,33 @@ fn both_ends<R: AllocGlobal + Net>(rt: &R) -> io::Result<Ends> {
 
 impl Ends {
     // What the agent gets.
-    fn received(&self, alloc: Global) -> io::Result<String> {
+    fn put_received(&self, row: &mut Row<'_>) {
         let mut room = [0u8; DATAGRAM_ROOM];
         match self.agent.recv(&mut room) {
             Ok(len) => match room.get(..len) {
-                Some(bytes) => said(alloc, bytes),
-                None => Ok("more than there is room for".to_string(alloc)?),
+                Some(bytes) => row.put(bytes),
+                None => row.put(b"more than there is room for"),
             },
-            Err(_) => Ok("none".to_string(alloc)?),
+            Err(_) => row.put(b"none"),
         }
     }
 
     // What comes of a datagram of the agent's, and a turn.
-    fn answer(&mut self, alloc: Global, datagram: &str) -> io::Result<String> {
-        let bytes = bytes_of(alloc, datagram)?;
+    fn turn(&mut self, row: &mut Row<'_>) -> io::Result<()> {
+        let bytes = bytes_of(row.alloc, row.before("  "))?;
         if !bytes.is_empty() {
             self.agent.send(&bytes)?;
         }
-        let served = self.gateway.serve(&mut self.wire, 1);
-        if served.receive_faults > 0 {
-            let received = self.wire.receive_faults();
-            let sent = self.wire.send_faults();
-            return Ok(format!(in alloc; "fault: {received} not received, {sent} not sent")?);
+        if self.gateway.serve(&mut self.wire, 1).receive_faults == 0 {
+            self.put_received(row);
+            return Ok(());
         }
-        self.received(alloc)
+        row.put(b"fault: ");
+        row.put_shown(self.wire.receive_faults());
+        row.put(b" not received, ");
+        row.put_shown(self.wire.send_faults());
+        row.put(b" not sent");
+        Ok(())
     }
 }
 
@@ -84,15 +87,15 @@ fn is_told<R: AllocGlobal + Print>(
     rt: &R,
     ends: &mut Ends,
     title: &str,
-    row: &str,
+    written: &str,
 ) -> io::Result<bool> {
-    let full = in_full(rt.alloc(), row)?;
-    let (datagram, wanted) = full.as_str().split_once("  ").unwrap_or((row, ""));
-    let given = ends.answer(rt.alloc(), datagram)?;
-    if given.as_str() == wanted {
+    let full = in_full(rt.alloc(), written)?;
+    let mut row = Row::of(rt.alloc(), full.as_str());
+    ends.turn(&mut row)?;
+    let Some(given) = row.unlike_bytes()? else {
         return Ok(true);
-    }
-    println!(rt; "{title}: {row}\n  gives {given}")?;
+    };
+    println!(rt; "{title}: {written}\n  gives {given}")?;
     Ok(false)
 }
 

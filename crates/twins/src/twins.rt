@@ -5,9 +5,9 @@
 use connections::Connection;
 use gateway_core::{Event, Gateway, OutDatagram, Outputs, Refusal};
 use rgw_play::{PlayFault, Scene, ScriptStep, judge};
-use scenario_files::{again, refused};
+use scenario_files::{again, item_at, refused};
 use std::alloc::Global;
-use std::io;
+use std::{io, slice};
 
 /// What an input has to play. The gateway stands in a box, since a check pays for all that a value holds inline at each
 /// step of a function that has one.
@@ -80,11 +80,16 @@ fn is_same_connection(one: &Option<Connection>, other: &Option<Connection>) -> b
     }
 }
 
+// By places: a check pays much more for a loop over two lists at once.
 fn are_same_connections(one: &[Option<Connection>], other: &[Option<Connection>]) -> bool {
-    if one.len() != other.len() {
+    let count = one.len();
+    if count != other.len() {
         return false;
     }
-    for (held, twin) in one.iter().zip(other) {
+    for place in 0..count {
+        let (Some(held), Some(twin)) = (one.get(place), other.get(place)) else {
+            return false;
+        };
         if !is_same_connection(held, twin) {
             return false;
         }
@@ -119,19 +124,31 @@ pub fn stepped(gateway: &mut Gateway, event: Event<'_>) -> Result<Outputs, Refus
     outcome
 }
 
-/// Whether both go at the same moment to the same address, with the same bytes.
-pub fn is_same_datagram(one: &OutDatagram, other: &OutDatagram) -> bool {
+// Whether both go at the same moment to the same address, with the same bytes.
+fn is_same_datagram(one: &OutDatagram, other: &OutDatagram) -> bool {
     one.to == other.to
         && one.moment == other.moment
         && one.bytes.as_bytes() == other.bytes.as_bytes()
 }
 
-fn are_same_outputs(one: &Outputs, other: &Outputs) -> bool {
-    let (one, other) = (one.as_slice(), other.as_slice());
-    if one.len() != other.len() {
+fn count_of(lists: &[Outputs]) -> usize {
+    let mut count = 0usize;
+    for outputs in lists {
+        count = count.wrapping_add(outputs.as_slice().len());
+    }
+    count
+}
+
+/// Whether two lists of lists have the same datagrams, one list behind the other.
+pub fn are_same_lists(one: &[Outputs], other: &[Outputs]) -> bool {
+    let count = count_of(one);
+    if count != count_of(other) {
         return false;
     }
-    for (datagram, twin) in one.iter().zip(other) {
+    for place in 0..count {
+        let (Some(datagram), Some(twin)) = (item_at(one, place), item_at(other, place)) else {
+            return false;
+        };
         if !is_same_datagram(datagram, twin) {
             return false;
         }
@@ -142,7 +159,9 @@ fn are_same_outputs(one: &Outputs, other: &Outputs) -> bool {
 // Whether two steps gave the same.
 fn are_same_outcomes(one: &Result<Outputs, Refusal>, other: &Result<Outputs, Refusal>) -> bool {
     match (one, other) {
-        (Ok(outputs), Ok(others)) => are_same_outputs(outputs, others),
+        (Ok(outputs), Ok(others)) => {
+            are_same_lists(slice::from_ref(outputs), slice::from_ref(others))
+        }
         (Err(refusal), Err(another)) => refusal == another,
         (Ok(_), Err(_)) | (Err(_), Ok(_)) => false,
     }
@@ -150,7 +169,7 @@ fn are_same_outcomes(one: &Result<Outputs, Refusal>, other: &Result<Outputs, Ref
 
 // A gateway takes the first so many of these steps.
 fn advance(gateway: &mut Gateway, steps: &[ScriptStep], count: usize) {
-    for step in steps.iter().take(count) {
+    for step in steps.get(..count).unwrap_or(steps) {
         if let Some(event) = event_of(step, gateway.now()) {
             let _ = stepped(gateway, event);
         }
@@ -191,15 +210,15 @@ impl Twins {
     }
 
     /// The twin takes an event too: whether it gives what the gateway gave, and both are alike then.
-    pub fn follow(&mut self, event: Event<'_>, given: &Result<Outputs, Refusal>) -> bool {
+    pub fn follow(&mut self, event: Event<'_>, given: Result<Outputs, Refusal>) -> bool {
         let other = stepped(&mut self.twin, event);
-        are_same_outcomes(given, &other) && self.are_alike()
+        are_same_outcomes(&given, &other) && self.are_alike()
     }
 
     // Both take an event: whether they give the same, and are alike then.
     fn take(&mut self, event: Event<'_>) -> bool {
         let given = stepped(&mut self.gateway, event);
-        self.follow(event, &given)
+        self.follow(event, given)
     }
 
     /// Both take these steps in place of one that was refused, and eight ticks of a second: whether they stay alike.

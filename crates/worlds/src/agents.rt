@@ -14,17 +14,17 @@
 //! - `due 500` when something falls due next; `due none`;
 //! - `answers 1  200  200 1 OK¶` the answer to the command with this id; `answers 2  none`;
 //! - `taken 1  L/hd,D/5` what notifications of a line told; `taken 2  none`.
-use crate::forms::{act_in, address_in, answers, command_in, taken, unless_refused, with_refusal};
+use crate::forms::{
+    Command, act_in, address_in, but_refusal, command_in, number_of, put_answer, put_refusal,
+    put_taken, text_of,
+};
 use crate::gateways::{agent_address, gateway_address};
 use crate::outputs::is_just_200;
 use agent_core::{Agent, IssueFault, Issued};
-use gateway_core::{Event, Outputs, Refusal};
-use mg_bytes::{Sequence, Text};
+use gateway_core::{Event, OutDatagram, Outputs, Refusal};
+use mg_bytes::{OutOfMemory, Sequence, Text};
 use routes::Route;
-use scenario_files::{
-    Scenario, bytes_of, item_at, no_such_row, range_in, refused, unless_number, unless_said,
-    unless_told,
-};
+use scenario_files::{Row, Scenario, bytes_of, item_at, range_in, refused};
 use std::alloc::Global;
 use std::io;
 
@@ -42,8 +42,15 @@ pub struct AgentScenario {
     told: usize,
 }
 
-// An agent whose ids begin with this one, or with 1 where none begin with it. It stands in a box, since a check pays for all
-// that a value holds inline at each step of a function that has one.
+// An agent in a box, since a check pays for all that a value holds inline at each step of a function that has one.
+fn boxed(alloc: Global, made: Result<Agent, OutOfMemory>) -> io::Result<Box<Agent>> {
+    match made {
+        Ok(agent) => Ok(Box::new(alloc, agent)?),
+        Err(_) => Err(refused()),
+    }
+}
+
+// An agent whose ids begin with this one, or with 1 where none begin with it.
 fn agent_from(alloc: Global, first: u32) -> io::Result<Box<Agent>> {
     let first = if 1 <= first && first <= 999_999_999 {
         first
@@ -52,8 +59,10 @@ fn agent_from(alloc: Global, first: u32) -> io::Result<Box<Agent>> {
     };
     let domain = Text::of(bytes_of(alloc, "rgw.example.net")?);
     let own = Route::One(agent_address());
-    let agent = Agent::new(alloc, own, gateway_address(), domain, 2, first)?;
-    Ok(Box::new(alloc, agent)?)
+    boxed(
+        alloc,
+        Agent::new(alloc, own, gateway_address(), domain, 2, first),
+    )
 }
 
 fn name_of(fault: IssueFault) -> &'static str {
@@ -66,23 +75,30 @@ fn name_of(fault: IssueFault) -> &'static str {
 
 impl AgentScenario {
     // `999999999`
-    fn open(&mut self, alloc: Global, first: &str) -> io::Result<Option<String>> {
-        let Ok(first) = first.parse::<u32>() else {
-            return no_such_row(alloc);
+    fn open(&mut self, row: &mut Row<'_>) {
+        let first = row.number();
+        let Ok(agent) = agent_from(row.alloc, first) else {
+            return row.refuse();
         };
-        self.agent = agent_from(alloc, first)?;
+        self.agent = agent;
         self.now = 0;
         self.issued = 0;
-        self.sent = Vec::new(alloc);
+        self.sent = Vec::new(row.alloc);
         self.told = 0;
-        Ok(None)
     }
 
-    // `RQNT  aaln/1@rgw.example.net  X: 1¶`. There is a place for what is sent before it is.
-    fn issue(&mut self, alloc: Global, fields: &str) -> io::Result<Option<String>> {
-        let (words, wanted) = with_refusal(fields);
-        let command = command_in(alloc, words)?;
-        let mut sent = Vec::with_capacity(alloc, 1)?;
+    // What it sent with a command, for which there is a place.
+    fn keep(&mut self, issued: Issued, mut sent: Vec<OutDatagram>) -> Result<(), OutOfMemory> {
+        let Issued { id, datagram } = issued;
+        sent.push(datagram)?;
+        self.sent.push(Sequence::of(sent))?;
+        self.issued = id;
+        Ok(())
+    }
+
+    // A command is issued. There is a place for what is sent before it is.
+    fn issue(&mut self, row: &mut Row<'_>, command: &Command) -> Result<(), OutOfMemory> {
+        let sent = Vec::with_capacity(row.alloc, 1)?;
         self.sent.reserve(1)?;
         let issued = self.agent.issue(
             command.verb.as_bytes(),
@@ -90,121 +106,149 @@ impl AgentScenario {
             command.rest.as_bytes(),
         );
         match issued {
-            Ok(Issued { id, datagram }) => {
-                sent.push(datagram)?;
-                self.sent.push(Sequence::of(sent))?;
-                self.issued = id;
-                unless_said(alloc, "", wanted)
-            }
-            Err(IssueFault::OutOfMemory) => Err(refused()),
-            Err(fault) => unless_refused(alloc, fault.number(), name_of(fault), wanted),
+            Ok(issued) => return self.keep(issued, sent),
+            Err(IssueFault::OutOfMemory) => row.refuse(),
+            Err(fault) => put_refusal(row, fault.number(), name_of(fault)),
+        }
+        Ok(())
+    }
+
+    // `RQNT  aaln/1@rgw.example.net  X: 1¶`.
+    fn issue_in(&mut self, row: &mut Row<'_>) {
+        let words = but_refusal(row);
+        let command = command_in(row, words);
+        if !row.is_refused && self.issue(row, &command).is_err() {
+            row.refuse();
+        }
+    }
+
+    // What an event gives is kept.
+    fn take(&mut self, row: &mut Row<'_>, event: Event<'_>, outputs: Outputs) {
+        if self.sent.push(outputs).is_err() {
+            return row.refuse();
+        }
+        if let Event::Tick { moment } = event {
+            self.now = moment;
         }
     }
 
     // An event, and its refusal or nothing. There is a place for what is sent before it is.
-    fn step(
-        &mut self,
-        alloc: Global,
-        event: Event<'_>,
-        wanted: &str,
-    ) -> io::Result<Option<String>> {
-        self.sent.reserve(1)?;
+    fn step(&mut self, row: &mut Row<'_>, event: Event<'_>) {
+        if row.is_unread || row.is_refused {
+            return;
+        }
+        if self.sent.reserve(1).is_err() {
+            return row.refuse();
+        }
         match self.agent.step(event) {
-            Ok(outputs) => {
-                self.sent.push(outputs)?;
-                if let Event::Tick { moment } = event {
-                    self.now = moment;
-                }
-                unless_said(alloc, "", wanted)
-            }
-            Err(Refusal::OutOfMemory) => Err(refused()),
-            Err(refusal) => unless_refused(alloc, refusal.number(), refusal.name(), wanted),
+            Ok(outputs) => self.take(row, event, outputs),
+            Err(Refusal::OutOfMemory) => row.refuse(),
+            Err(refusal) => put_refusal(row, refusal.number(), refusal.name()),
         }
     }
 
     // `127.0.0.1:2427  200 1 OK¶`
-    fn hears(&mut self, alloc: Global, fields: &str) -> io::Result<Option<String>> {
-        let (address, field) = fields.split_once("  ").unwrap_or((fields, ""));
-        let Some(source) = address_in(alloc, address)? else {
-            return no_such_row(alloc);
-        };
-        let bytes = bytes_of(alloc, field)?;
-        let event = Event::Datagram {
-            source,
-            bytes: &bytes,
-        };
-        self.step(alloc, event, "")
+    fn hear(&mut self, row: &mut Row<'_>) {
+        let source = address_in(row);
+        let field = row.rest();
+        let bytes = text_of(row, field);
+        let bytes = bytes.as_bytes();
+        self.step(row, Event::Datagram { source, bytes });
     }
 
     // `1 off`
-    fn phone(&mut self, alloc: Global, fields: &str) -> io::Result<Option<String>> {
-        let (words, wanted) = with_refusal(fields);
-        let Some((line, act)) = act_in(alloc, words)? else {
-            return no_such_row(alloc);
-        };
-        self.step(alloc, Event::Phone { line, act }, wanted)
+    fn phone(&mut self, row: &mut Row<'_>) {
+        let words = but_refusal(row);
+        let (line, act) = act_in(row, words);
+        self.step(row, Event::Phone { line, act });
     }
 
     // `1000`
-    fn tick(&mut self, alloc: Global, fields: &str) -> io::Result<Option<String>> {
-        let (moment, wanted) = with_refusal(fields);
-        let Ok(moment) = moment.parse::<u64>() else {
-            return no_such_row(alloc);
-        };
-        self.step(alloc, Event::Tick { moment }, wanted)
+    fn tick(&mut self, row: &mut Row<'_>) {
+        let words = but_refusal(row);
+        let moment = number_of(row, words);
+        self.step(row, Event::Tick { moment });
     }
 
     // Ticks up to this moment. After a refusal of memory they go on from the last that was taken.
-    fn at(&mut self, alloc: Global, moment: &str) -> io::Result<Option<String>> {
-        let Ok(end) = moment.parse::<u64>() else {
-            return no_such_row(alloc);
-        };
+    fn tick_up_to(&mut self, row: &mut Row<'_>, end: u64) {
         for _ in 0..end.saturating_sub(self.now).div_ceil(1000) {
             let moment = self.now.saturating_add(1000).min(end);
-            let unlike = self.step(alloc, Event::Tick { moment }, "")?;
-            if unlike.is_some() {
-                return Ok(unlike);
+            self.step(row, Event::Tick { moment });
+            if row.is_refused || !row.given.is_empty() {
+                return;
             }
         }
-        Ok(None)
     }
 
-    // The next datagram, as a row says it.
-    fn sends(&mut self, alloc: Global, wanted: &str) -> io::Result<Option<String>> {
+    // The next datagram: its moment, where it goes, and its bytes.
+    fn put_sent(&mut self, row: &mut Row<'_>) {
         let Some(datagram) = item_at(self.sent.as_slice(), self.told) else {
-            return unless_said(alloc, "none", wanted);
+            return row.put(b"none");
         };
-        let (moment, to) = (datagram.moment, datagram.to);
-        let head = format!(in alloc; "{moment} {to}  ")?;
-        let unlike = unless_told(alloc, head.as_str(), datagram.bytes.as_bytes(), wanted)?;
-        self.told = self.told.wrapping_add(1);
-        Ok(unlike)
+        row.put_shown(datagram.moment);
+        row.put(b" ");
+        row.put_shown(datagram.to);
+        row.put(b"  ");
+        row.put(datagram.bytes.as_bytes());
+        if !row.is_refused {
+            self.told = self.told.wrapping_add(1);
+        }
     }
 
     // Whether an announcement with this id is answered by 200.
-    fn is_answered(&mut self, alloc: Global, id: u32) -> io::Result<bool> {
-        let text = format!(in alloc; "RSIP {id} *@rgw.example.net MGCP 1.0\r\nRM: restart\r\n")?;
+    fn is_answered(&mut self, row: &mut Row<'_>, id: u32) -> bool {
+        let text = format!(in row.alloc; "RSIP {id} *@rgw.example.net MGCP 1.0\r\nRM: restart\r\n");
+        let Ok(text) = text else {
+            row.refuse();
+            return false;
+        };
         let event = Event::Datagram {
             source: gateway_address(),
             bytes: text.as_bytes(),
         };
         match self.agent.step(event) {
-            Ok(outputs) => is_just_200(alloc, &outputs, gateway_address(), id),
-            Err(_) => Err(refused()),
+            Ok(outputs) => is_just_200(row, &outputs, gateway_address(), id),
+            Err(_) => {
+                row.refuse();
+                false
+            }
         }
     }
 
     // `1-4096`. Where memory is refused the first of them come again, which gives the same answers.
-    fn firsts(&mut self, alloc: Global, ids: &str) -> io::Result<Option<String>> {
-        let Some((first, last)) = range_in(ids) else {
-            return no_such_row(alloc);
+    fn announce(&mut self, row: &mut Row<'_>) {
+        let Some((first, last)) = range_in(row.rest()) else {
+            return row.unread();
         };
         for id in first..=last {
-            if !self.is_answered(alloc, id)? {
-                return Ok(Some(format!(in alloc; "another answer to {id}")?));
+            if !self.is_answered(row, id) {
+                row.put(b"another answer to ");
+                return row.put_shown(id);
             }
         }
-        Ok(None)
+    }
+
+    fn turn(&mut self, row: &mut Row<'_>) {
+        match row.before(" ") {
+            "agent" => self.open(row),
+            "issue" => self.issue_in(row),
+            "issued" => row.put_shown(self.issued),
+            "hears" => self.hear(row),
+            "phone" => self.phone(row),
+            "tick" => self.tick(row),
+            "at" => {
+                let words = row.rest();
+                let end = number_of(row, words);
+                self.tick_up_to(row, end);
+            }
+            "sends" => self.put_sent(row),
+            "firsts" => self.announce(row),
+            "due" => row.put_or_none(self.agent.next_due()),
+            "answers" => put_answer(row, &self.agent),
+            "taken" => put_taken(row, &self.agent),
+            _ => row.unread(),
+        }
     }
 }
 
@@ -220,21 +264,8 @@ impl Scenario for AgentScenario {
     }
 
     fn unlike(&mut self, alloc: Global, row: &str) -> io::Result<Option<String>> {
-        let (word, rest) = row.split_once(' ').unwrap_or((row, ""));
-        match word {
-            "agent" => self.open(alloc, rest),
-            "issue" => self.issue(alloc, rest),
-            "issued" => unless_number(alloc, Some(u64::from(self.issued)), rest),
-            "hears" => self.hears(alloc, rest),
-            "phone" => self.phone(alloc, rest),
-            "tick" => self.tick(alloc, rest),
-            "at" => self.at(alloc, rest),
-            "sends" => self.sends(alloc, rest),
-            "firsts" => self.firsts(alloc, rest),
-            "due" => unless_number(alloc, self.agent.next_due(), rest),
-            "answers" => answers(alloc, &self.agent, rest),
-            "taken" => taken(alloc, &self.agent, rest),
-            _ => no_such_row(alloc),
-        }
+        let mut row = Row::of(alloc, row);
+        self.turn(&mut row);
+        row.unlike_bytes()
     }
 }

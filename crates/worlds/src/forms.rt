@@ -1,10 +1,11 @@
 //! What rows of several kinds have in common: refusals, commands that are issued, acts, addresses, and what an agent tells.
+use crate::gateways::agent_address;
 use agent_core::Agent;
 use event_values::write_observed;
 use mg_bytes::Text;
 use mg_line::Act;
 use rgw_scripts::{ScriptLine, ScriptStep, line_in};
-use scenario_files::{bytes_of, no_such_row, unless_said, unless_told};
+use scenario_files::{Row, bytes_of};
 use std::alloc::Global;
 use std::io;
 use std::net::SocketAddrV4;
@@ -31,84 +32,111 @@ const REFUSALS: [&str; 10] = [
     "3 BadCommand",
 ];
 
-/// The fields of a row, and the refusal that is its last, or nothing.
-pub fn with_refusal(fields: &str) -> (&str, &str) {
-    let (rest, last) = fields.rsplit_once("  ").unwrap_or((fields, ""));
+/// What stands before the refusal that is the last field of a row, which is left; all where none is.
+pub fn but_refusal<'a>(row: &mut Row<'a>) -> &'a str {
+    let (words, last) = row.left.rsplit_once("  ").unwrap_or(("", ""));
     for refusal in &REFUSALS {
         if *refusal == last {
-            return (rest, last);
+            row.left = last;
+            return words;
         }
     }
-    (fields, "")
+    row.rest()
 }
 
-/// A refusal unless a row says it.
-pub fn unless_refused(
-    alloc: Global,
-    number: u8,
-    name: &str,
-    wanted: &str,
-) -> io::Result<Option<String>> {
-    let given = format!(in alloc; "{number} {name}")?;
-    unless_said(alloc, given.as_str(), wanted)
+/// Puts a refusal.
+pub fn put_refusal(row: &mut Row<'_>, number: u8, name: &str) {
+    row.put_shown(number);
+    row.put(b" ");
+    row.put(name.as_bytes());
+}
+
+/// The number that words say; 0 where they say none, and then there is no such row.
+pub fn number_of(row: &mut Row<'_>, words: &str) -> u64 {
+    let Ok(number) = words.parse::<u64>() else {
+        row.unread();
+        return 0;
+    };
+    number
+}
+
+/// A field as a text; nothing where memory is refused, which the row keeps.
+pub fn text_of(row: &mut Row<'_>, field: &str) -> Text {
+    Text::of(match bytes_of(row.alloc, field) {
+        Ok(bytes) => bytes,
+        Err(_) => {
+            row.refuse();
+            Vec::new(row.alloc)
+        }
+    })
 }
 
 /// `AUEP  aaln/1@rgw.example.net  K: 1¶`, without the last where that is empty.
-pub fn command_in(alloc: Global, fields: &str) -> io::Result<Command> {
+pub fn command_in(row: &mut Row<'_>, fields: &str) -> Command {
     let (verb, behind) = fields.split_once("  ").unwrap_or((fields, ""));
     let (name, rest) = behind.split_once("  ").unwrap_or((behind, ""));
-    let verb = Text::of(bytes_of(alloc, verb)?);
-    let name = Text::of(bytes_of(alloc, name)?);
-    let rest = Text::of(bytes_of(alloc, rest)?);
-    Ok(Command { verb, name, rest })
+    let verb = text_of(row, verb);
+    let name = text_of(row, name);
+    let rest = text_of(row, rest);
+    Command { verb, name, rest }
 }
 
-/// `1 off`: the line, and what is done at its telephone; nothing where it says something else.
-pub fn act_in(alloc: Global, words: &str) -> io::Result<Option<(u16, Act)>> {
-    let phone = format!(in alloc; "phone {words}")?;
-    match line_in(alloc, phone.as_bytes())? {
-        Some(
-            ScriptLine::Whole {
-                step: ScriptStep::Phone { line, act },
-            },
-        ) => Ok(Some((line, act))),
-        _ => Ok(None),
-    }
+// A line of a script.
+fn script_line(alloc: Global, step: &str, words: &str) -> io::Result<Option<ScriptLine>> {
+    let line = format!(in alloc; "{step} {words}")?;
+    Ok(line_in(alloc, line.as_bytes())?)
 }
 
-/// The address that is written; nothing where it is none.
-pub fn address_in(alloc: Global, address: &str) -> io::Result<Option<SocketAddrV4>> {
-    let from = format!(in alloc; "from {address}")?;
-    match line_in(alloc, from.as_bytes())? {
-        Some(ScriptLine::From { source }) => Ok(Some(source)),
-        _ => Ok(None),
+/// `1 off`: the line, and what is done at its telephone; on hook at line 0 where it says something else, and then there is no
+/// such row.
+pub fn act_in(row: &mut Row<'_>, words: &str) -> (u16, Act) {
+    match script_line(row.alloc, "phone", words) {
+        Ok(
+            Some(
+                ScriptLine::Whole {
+                    step: ScriptStep::Phone { line, act },
+                },
+            ),
+        ) => return (line, act),
+        Ok(_) => row.unread(),
+        Err(_) => row.refuse(),
     }
+    (0, Act::OnHook)
+}
+
+/// The address that comes next, up to the next field.
+pub fn address_in(row: &mut Row<'_>) -> SocketAddrV4 {
+    let address = row.before("  ");
+    match script_line(row.alloc, "from", address) {
+        Ok(Some(ScriptLine::From { source })) => return source,
+        Ok(_) => row.unread(),
+        Err(_) => row.refuse(),
+    }
+    agent_address()
 }
 
 /// `1  200  200 1 OK¶` or `1  none`: the answer to the command with this id.
-pub fn answers(alloc: Global, agent: &Agent, fields: &str) -> io::Result<Option<String>> {
-    let (id, wanted) = fields.split_once("  ").unwrap_or((fields, ""));
-    let Ok(id) = id.parse::<u32>() else {
-        return no_such_row(alloc);
+pub fn put_answer(row: &mut Row<'_>, agent: &Agent) {
+    let Ok(id) = row.before("  ").parse::<u32>() else {
+        return row.unread();
     };
     let Some(answer) = agent.answers(id) else {
-        return unless_said(alloc, "none", wanted);
+        return row.put(b"none");
     };
-    let code = answer.code;
-    let head = format!(in alloc; "{code}  ")?;
-    unless_told(alloc, head.as_str(), answer.text.as_bytes(), wanted)
+    row.put_shown(answer.code);
+    row.put(b"  ");
+    row.put(answer.text.as_bytes());
 }
 
 /// `1  L/hd,D/5` or `1  none`: what notifications of this line told.
-pub fn taken(alloc: Global, agent: &Agent, fields: &str) -> io::Result<Option<String>> {
-    let (line, wanted) = fields.split_once("  ").unwrap_or((fields, ""));
-    let Ok(line) = line.parse::<u16>() else {
-        return no_such_row(alloc);
+pub fn put_taken(row: &mut Row<'_>, agent: &Agent) {
+    let Ok(line) = row.before("  ").parse::<u16>() else {
+        return row.unread();
     };
     let observed = agent.taken(line);
     if observed.is_empty() {
-        return unless_said(alloc, "none", wanted);
+        row.put(b"none");
+    } else {
+        row.put_text(write_observed(row.alloc, observed));
     }
-    let text = write_observed(alloc, observed)?;
-    unless_told(alloc, "", text.as_bytes(), wanted)
 }

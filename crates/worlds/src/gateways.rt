@@ -1,9 +1,9 @@
 //! The gateway that scenarios are about, its configuration, the addresses of both ends, and what rows ask of a gateway.
-use gateway_core::{Config, Gateway, NamedRoute};
+use gateway_core::{Config, ConfigFault, Gateway, NamedRoute};
 use mg_bytes::{OutOfMemory, Sequence, Text};
 use mg_line::Hook;
 use routes::Route;
-use scenario_files::{no_such_row, refused, unless_said};
+use scenario_files::{Row, refused};
 use std::alloc::Global;
 use std::io;
 use std::net::{Ipv4Addr, SocketAddrV4};
@@ -64,28 +64,28 @@ pub fn config_with(alloc: Global, lines: u32, entity: &[u8]) -> Result<Config, O
     })
 }
 
-/// The gateway of the usual settings, to which nothing came yet. It stands in a box, since a check pays for all that a value
-/// holds inline at each step of a function that has one.
-pub fn usual_gateway(alloc: Global) -> io::Result<Box<Gateway>> {
-    let config = config_with(alloc, LINES, ENTITY.as_bytes())?;
-    match Gateway::new(alloc, config) {
+// A gateway in a box, since a check pays for all that a value holds inline at each step of a function that has one.
+fn boxed(alloc: Global, made: Result<Gateway, ConfigFault>) -> io::Result<Box<Gateway>> {
+    match made {
         Ok(gateway) => Ok(Box::new(alloc, gateway)?),
         Err(_) => Err(refused()),
     }
 }
 
-/// `1 off`: the telephone of a line.
-pub fn hook(alloc: Global, gateway: &Gateway, fields: &str) -> io::Result<Option<String>> {
-    let (line, wanted) = fields.split_once(' ').unwrap_or((fields, ""));
-    let Ok(line) = line.parse::<u16>() else {
-        return no_such_row(alloc);
-    };
+/// The gateway of the usual settings, to which nothing came yet.
+pub fn usual_gateway(alloc: Global) -> io::Result<Box<Gateway>> {
+    let config = config_with(alloc, LINES, ENTITY.as_bytes())?;
+    boxed(alloc, Gateway::new(alloc, config))
+}
+
+/// `1 off`: puts the telephone of a line.
+pub fn put_hook(row: &mut Row<'_>, gateway: &Gateway) {
+    let line = row.before(" ").parse::<u16>().unwrap_or(0);
     if line == 0 || line > gateway.lines() {
-        return no_such_row(alloc);
+        return row.unread();
     }
-    let given = match gateway.hook(line) {
-        Hook::OnHook => "on",
-        Hook::OffHook => "off",
-    };
-    unless_said(alloc, given, wanted)
+    match gateway.hook(line) {
+        Hook::OnHook => row.put(b"on"),
+        Hook::OffHook => row.put(b"off"),
+    }
 }

@@ -1,11 +1,11 @@
 //! What a world is given: its configuration, and the steps that it takes.
-use crate::forms::{Command, act_in, command_in};
+use crate::forms::{Command, act_in, but_refusal, command_in, number_of};
 use crate::gateways::config_with;
 use agent_core::{Step, World};
 use gateway_core::ConfigFault;
 use mg_line::Act;
+use scenario_files::Row;
 use std::alloc::Global;
-use std::io;
 
 /// A step that owns its bytes.
 #[derive(Drop)]
@@ -37,36 +37,36 @@ impl Given {
 
 /// `issue RQNT  aaln/1@rgw.example.net  X: 1¶`, `dial 1 off`, `tick 1000`, `deliver 0`: the step that a row says, by its
 /// first word and what stands behind that; nothing where it says none.
-pub fn given_in(alloc: Global, word: &str, words: &str) -> io::Result<Option<Given>> {
-    match word {
-        "issue" => {
-            let command = command_in(alloc, words)?;
-            return Ok(Some(Given::Issue { command }));
-        }
+pub fn given_in(row: &mut Row<'_>, word: &str) -> Option<Given> {
+    let words = but_refusal(row);
+    Some(match word {
+        "issue" => Given::Issue {
+            command: command_in(row, words),
+        },
         "dial" => {
-            if let Some((line, act)) = act_in(alloc, words)? {
-                return Ok(Some(Given::Dial { line, act }));
-            }
+            let (line, act) = act_in(row, words);
+            Given::Dial { line, act }
         }
-        "tick" => {
-            if let Ok(moment) = words.parse::<u64>() {
-                return Ok(Some(Given::Tick { moment }));
-            }
-        }
-        "deliver" => {
-            if let Ok(packet) = words.parse::<usize>() {
-                return Ok(Some(Given::Deliver { packet }));
-            }
-        }
-        _ => {}
-    }
-    Ok(None)
+        "tick" => Given::Tick {
+            moment: number_of(row, words),
+        },
+        "deliver" => Given::Deliver {
+            packet: number_of(row, words) as usize,
+        },
+        _ => return None,
+    })
 }
 
-/// A new world with so many lines, whose gateway reports to this entity; all else as it usually is. It stands in a box, since
-/// a check pays for all that a value holds inline at each step of a function that has one.
+// A world in a box, since a check pays for all that a value holds inline at each step of a function that has one.
+fn boxed(alloc: Global, made: Result<World, ConfigFault>) -> Result<Box<World>, ConfigFault> {
+    match made {
+        Ok(world) => Box::new(alloc, world).ok().ok_or(ConfigFault::OutOfMemory),
+        Err(fault) => Err(fault),
+    }
+}
+
+/// A new world with so many lines, whose gateway reports to this entity; all else as it usually is.
 pub fn world_of(alloc: Global, lines: u32, entity: &[u8]) -> Result<Box<World>, ConfigFault> {
     let config = config_with(alloc, lines, entity)?;
-    let world = World::new(alloc, config)?;
-    Box::new(alloc, world).ok().ok_or(ConfigFault::OutOfMemory)
+    boxed(alloc, World::new(alloc, config))
 }

@@ -10,12 +10,16 @@
 #![tactic(auto)]
 
 mod agents;
+mod filling;
 mod forms;
 mod gateways;
 mod given;
+mod keeping;
 mod memory;
 mod outputs;
+mod plan;
 mod planned;
+mod playing;
 mod worlds;
 
 use crate::agents::AgentScenario;
@@ -34,11 +38,12 @@ impl Kinds for Ends {
         kind: &str,
         text: &str,
     ) -> io::Result<Option<Count>> {
-        Ok(Some(match kind {
-            "memory" => told::<MemoryScenario, R>(rt, text)?,
-            "agents" => told::<AgentScenario, R>(rt, text)?,
-            "worlds" => told::<WorldScenario, R>(rt, text)?,
+        let told = match kind {
+            "memory" => told::<MemoryScenario, R>(rt, text),
+            "agents" => told::<AgentScenario, R>(rt, text),
+            "worlds" => told::<WorldScenario, R>(rt, text),
             _ => return Ok(None),
-        }))
+        };
+        Ok(Some(told?))
     }
 }

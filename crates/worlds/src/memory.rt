@@ -12,14 +12,15 @@
 //! - `sent 200 1200 OK¶` the next datagram that was handed to the wire, which goes to the agent; `sent none`;
 //! - `due 501` when something falls due next; `due none`;
 //! - `hook 1 off` the telephone of a line.
-use crate::gateways::{agent_address, hook, usual_gateway};
+use crate::forms::put_refusal;
+use crate::gateways::{agent_address, put_hook, usual_gateway};
 use crate::outputs::is_just_200;
+use crate::plan::Planned;
 use crate::planned::{event_of, planned_in};
+use crate::playing::MemoryWire;
 use gateway_core::{Event, Gateway, Outputs, Served, Wire};
-use memory_wire::{MemoryWire, Planned};
-use scenario_files::{
-    Scenario, no_such_row, number_in, range_in, refused, unless_number, unless_said, unless_told,
-};
+use mg_bytes::Sequence;
+use scenario_files::{Row, Scenario, number_in, range_in};
 use std::alloc::Global;
 use std::{io, mem};
 
@@ -55,30 +56,61 @@ fn events_of(alloc: Global, plan: &[Planned]) -> io::Result<Vec<Event<'_>>> {
     Ok(events)
 }
 
-// What a gateway sends to the events of a plan in one run, and what came of them as a row says it.
-fn run_of(alloc: Global, gateway: &mut Gateway, plan: &[Planned]) -> io::Result<(Outputs, String)> {
-    let events = events_of(alloc, plan)?;
-    match gateway.run(&events) {
+// Puts how many events were taken.
+fn put_count(row: &mut Row<'_>, taken: usize) {
+    row.put_shown(taken);
+    row.put(b" taken");
+}
+
+// What a gateway sends to these events in one run. Puts what came of them.
+fn run_events(row: &mut Row<'_>, gateway: &mut Gateway, events: &[Event<'_>]) -> Outputs {
+    match gateway.run(events) {
         Ok(outputs) => {
-            let taken = events.len();
-            Ok((outputs, format!(in alloc; "{taken} taken")?))
+            put_count(row, events.len());
+            outputs
         }
         Err(stopped) => {
-            let (taken, refusal) = (stopped.place, stopped.refusal);
-            let (number, name) = (refusal.number(), refusal.name());
-            let text = format!(in alloc; "{taken} taken, {number} {name}")?;
-            Ok((stopped.outputs, text))
+            put_count(row, stopped.place);
+            row.put(b", ");
+            put_refusal(row, stopped.refusal.number(), stopped.refusal.name());
+            stopped.outputs
         }
     }
 }
 
+// The same of the events of a plan.
+fn run_plan(row: &mut Row<'_>, gateway: &mut Gateway, plan: &[Planned]) -> Outputs {
+    match events_of(row.alloc, plan) {
+        Ok(events) => run_events(row, gateway, &events),
+        Err(_) => {
+            row.refuse();
+            Sequence::new(row.alloc)
+        }
+    }
+}
+
+// What came of turns that were served, as a row says it.
+fn put_served(row: &mut Row<'_>, served: &Served) {
+    row.put_shown(served.turns);
+    row.put(b" turns, ");
+    row.put_shown(served.refused);
+    row.put(b" refused, ");
+    row.put_shown(served.receive_faults);
+    row.put(b" not received, ");
+    row.put_shown(served.send_faults);
+    row.put(b" not sent");
+    if served.ended {
+        row.put(b", ended");
+    }
+}
+
 impl MemoryScenario {
-    fn gives(&mut self, alloc: Global, words: &str) -> io::Result<Option<String>> {
-        let Some(planned) = planned_in(alloc, words)? else {
-            return no_such_row(alloc);
-        };
-        self.plan.push(planned)?;
-        Ok(None)
+    // For the next wire.
+    fn plan_more(&mut self, row: &mut Row<'_>) {
+        let planned = planned_in(row);
+        if row.is_refused || self.plan.push(planned).is_err() {
+            row.refuse();
+        }
     }
 
     fn lay(&mut self, alloc: Global, failing_send: u64) {
@@ -87,74 +119,89 @@ impl MemoryScenario {
         self.told = 0;
     }
 
-    // `2 taken, 5 PhoneState`
-    fn run(&mut self, alloc: Global, wanted: &str) -> io::Result<Option<String>> {
-        let (outputs, given) = run_of(alloc, &mut self.gateway, &self.plan)?;
-        self.plan = Vec::new(alloc);
-        self.lay(alloc, 0);
+    // In place of a wire the gateway takes the events of the plan in one run.
+    fn run(&mut self, row: &mut Row<'_>) {
+        let outputs = run_plan(row, &mut self.gateway, &self.plan);
+        if row.is_refused {
+            return;
+        }
+        self.plan = Vec::new(row.alloc);
+        self.lay(row.alloc, 0);
         for datagram in outputs.as_slice() {
             let _ = self.wire.send(datagram.to, datagram.bytes.as_bytes());
         }
-        unless_said(alloc, given.as_str(), wanted)
     }
 
-    // Whether an audit with this id at this moment is answered by 200.
-    fn is_answered(&mut self, alloc: Global, id: u32, moment: u64) -> io::Result<bool> {
-        if self.gateway.step(Event::Tick { moment }).is_err() {
-            return Err(refused());
-        }
-        let audit = format!(in alloc; "AUEP {id} aaln/1@rgw.example.net MGCP 1.0\r\n")?;
+    // Whether an audit with this id is answered by 200.
+    fn is_answered(&mut self, row: &mut Row<'_>, id: u32) -> bool {
+        let audit = format!(in row.alloc; "AUEP {id} aaln/1@rgw.example.net MGCP 1.0\r\n");
+        let Ok(audit) = audit else {
+            row.refuse();
+            return false;
+        };
         let event = Event::Datagram {
             source: agent_address(),
             bytes: audit.as_bytes(),
         };
         match self.gateway.step(event) {
-            Ok(outputs) => is_just_200(alloc, &outputs, agent_address(), id),
-            Err(_) => Err(refused()),
+            Ok(outputs) => is_just_200(row, &outputs, agent_address(), id),
+            Err(_) => {
+                row.refuse();
+                false
+            }
+        }
+    }
+
+    // It is this moment.
+    fn tick(&mut self, row: &mut Row<'_>, moment: u64) {
+        if self.gateway.step(Event::Tick { moment }).is_err() {
+            row.refuse();
         }
     }
 
     // `1-20000`
-    fn audits(&mut self, alloc: Global, ids: &str) -> io::Result<Option<String>> {
-        let Some((first, last)) = range_in(ids) else {
-            return no_such_row(alloc);
+    fn audit(&mut self, row: &mut Row<'_>) {
+        let Some((first, last)) = range_in(row.rest()) else {
+            return row.unread();
         };
         let mut moment = self.gateway.now();
         for id in first..=last {
             moment = moment.saturating_add(10);
-            if !self.is_answered(alloc, id, moment)? {
-                return Ok(Some(format!(in alloc; "another answer to {id}")?));
+            self.tick(row, moment);
+            if row.is_refused || !self.is_answered(row, id) {
+                row.put(b"another answer to ");
+                return row.put_shown(id);
             }
         }
-        Ok(None)
     }
 
-    // The next datagram that was handed to the wire, as a row says it.
-    fn sent(&mut self, alloc: Global, wanted: &str) -> io::Result<Option<String>> {
+    // The next datagram that was handed to the wire.
+    fn put_sent(&mut self, row: &mut Row<'_>) {
         let Some(datagram) = self.wire.kept.get(self.told) else {
-            return unless_said(alloc, "none", wanted);
+            return row.put(b"none");
         };
         if datagram.to != agent_address() {
-            return Ok(Some("one to another address".to_string(alloc)?));
+            return row.put(b"one to another address");
         }
-        let unlike = unless_told(alloc, "", datagram.bytes.as_bytes(), wanted)?;
-        self.told = self.told.wrapping_add(1);
-        Ok(unlike)
+        row.put(datagram.bytes.as_bytes());
+        if !row.is_refused {
+            self.told = self.told.wrapping_add(1);
+        }
     }
 
-    fn served(&self, alloc: Global, wanted: &str) -> io::Result<Option<String>> {
-        let Served {
-            turns,
-            refused,
-            receive_faults,
-            send_faults,
-            ended,
-        } = self.served;
-        let end = if ended { ", ended" } else { "" };
-        let given = format!(in alloc;
-            "{turns} turns, {refused} refused, {receive_faults} not received, {send_faults} not sent{end}"
-        )?;
-        unless_said(alloc, given.as_str(), wanted)
+    fn turn(&mut self, row: &mut Row<'_>) {
+        match row.before(" ") {
+            "gives" => self.plan_more(row),
+            "wire" => self.lay(row.alloc, number_in(row.rest())),
+            "serve" => self.served = self.gateway.serve(&mut self.wire, number_in(row.rest())),
+            "served" => put_served(row, &self.served),
+            "run" => self.run(row),
+            "audits" => self.audit(row),
+            "sent" => self.put_sent(row),
+            "due" => row.put_or_none(self.gateway.next_due()),
+            "hook" => put_hook(row, &self.gateway),
+            _ => row.unread(),
+        }
     }
 }
 
@@ -170,19 +217,8 @@ impl Scenario for MemoryScenario {
     }
 
     fn unlike(&mut self, alloc: Global, row: &str) -> io::Result<Option<String>> {
-        let (word, rest) = row.split_once(' ').unwrap_or((row, ""));
-        match word {
-            "gives" => return self.gives(alloc, rest),
-            "wire" => self.lay(alloc, number_in(rest)),
-            "serve" => self.served = self.gateway.serve(&mut self.wire, number_in(rest)),
-            "served" => return self.served(alloc, rest),
-            "run" => return self.run(alloc, rest),
-            "audits" => return self.audits(alloc, rest),
-            "sent" => return self.sent(alloc, rest),
-            "due" => return unless_number(alloc, self.gateway.next_due(), rest),
-            "hook" => return hook(alloc, &self.gateway, rest),
-            _ => return no_such_row(alloc),
-        }
-        Ok(None)
+        let mut row = Row::of(alloc, row);
+        self.turn(&mut row);
+        row.unlike_bytes()
     }
 }

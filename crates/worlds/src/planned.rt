@@ -1,38 +1,34 @@
 //! What a wire in memory is to give, as a row says it, and as an event.
-use crate::forms::act_in;
+use crate::forms::{act_in, number_of, text_of};
 use crate::gateways::agent_address;
+use crate::plan::Planned;
 use gateway_core::Event;
-use memory_wire::Planned;
-use mg_bytes::Text;
-use scenario_files::bytes_of;
-use std::alloc::Global;
-use std::io;
+use scenario_files::Row;
 
-/// What these words say that a wire is to give: `datagram 200 1 OK¶` from the agent, `phone 1 off`, `at 1000` the moment,
-/// `end`, or `fault`; nothing where they are other words.
-pub fn planned_in(alloc: Global, words: &str) -> io::Result<Option<Planned>> {
-    let (word, rest) = words.split_once(' ').unwrap_or((words, ""));
+/// What a row says that a wire is to give: `datagram 200 1 OK¶` from the agent, `phone 1 off`, `at 1000` the moment, `end`, or
+/// `fault`.
+pub fn planned_in(row: &mut Row<'_>) -> Planned {
+    let word = row.before(" ");
+    let rest = row.rest();
     match word {
-        "datagram" => {
-            let source = agent_address();
-            let bytes = Text::of(bytes_of(alloc, rest)?);
-            return Ok(Some(Planned::Datagram { source, bytes }));
-        }
+        "datagram" => Planned::Datagram {
+            source: agent_address(),
+            bytes: text_of(row, rest),
+        },
         "phone" => {
-            if let Some((line, act)) = act_in(alloc, rest)? {
-                return Ok(Some(Planned::Phone { line, act }));
-            }
+            let (line, act) = act_in(row, rest);
+            Planned::Phone { line, act }
         }
-        "at" => {
-            if let Ok(moment) = rest.parse::<u64>() {
-                return Ok(Some(Planned::Tick { moment }));
-            }
+        "at" => Planned::Tick {
+            moment: number_of(row, rest),
+        },
+        "end" => Planned::End,
+        "fault" => Planned::Fault,
+        _ => {
+            row.unread();
+            Planned::Fault
         }
-        "end" => return Ok(Some(Planned::End)),
-        "fault" => return Ok(Some(Planned::Fault)),
-        _ => {}
     }
-    Ok(None)
 }
 
 /// The event that this is; nothing where it is none.

@@ -10,15 +10,13 @@
 //! - `answers 1  200  200 1 OK¶` the answer to the command with this id; `answers 2  none`;
 //! - `taken 1  L/hd,D/5` what notifications of a line told; `taken 2  none`;
 //! - `hook 1 off` the telephone of a line; `now 1000` the moment that it is.
-use crate::forms::{answers, taken, unless_refused, with_refusal};
-use crate::gateways::{ENTITY, LINES, hook};
+use crate::forms::{put_answer, put_refusal, put_taken, text_of};
+use crate::gateways::{ENTITY, LINES, put_hook};
 use crate::given::{Given, given_in, world_of};
 use agent_core::{Step, StepRefusal, World, WorldStopped, world_run};
 use gateway_core::ConfigFault;
 use mg_bytes::Text;
-use scenario_files::{
-    Scenario, again, bytes_of, no_such_row, refused, unless_number, unless_said, unless_told,
-};
+use scenario_files::{Row, Scenario, again, bytes_of, refused};
 use std::alloc::Global;
 use std::io;
 
@@ -63,70 +61,104 @@ impl WorldScenario {
     }
 
     // `2` or `2  ca@[127.0.0.1]:2427`
-    fn open(&mut self, alloc: Global, fields: &str) -> io::Result<Option<String>> {
-        let (lines, entity) = fields.split_once("  ").unwrap_or((fields, ENTITY));
-        let Ok(lines) = lines.parse::<u32>() else {
-            return no_such_row(alloc);
+    fn open(&mut self, row: &mut Row<'_>) {
+        let lines = row.before("  ").parse::<u32>();
+        let field = if row.left.is_empty() {
+            ENTITY
+        } else {
+            row.rest()
         };
-        let entity = Text::of(bytes_of(alloc, entity)?);
-        match world_of(alloc, lines, entity.as_bytes()) {
-            Ok(world) => self.world = world,
-            Err(ConfigFault::OutOfMemory) => return Err(refused()),
-            Err(fault) => return unless_refused(alloc, fault.number(), fault.name(), ""),
+        let entity = text_of(row, field);
+        let Ok(lines) = lines else {
+            return row.unread();
+        };
+        match world_of(row.alloc, lines, entity.as_bytes()) {
+            Ok(world) => self.begin_with(row.alloc, world, lines, entity),
+            Err(ConfigFault::OutOfMemory) => row.refuse(),
+            Err(fault) => put_refusal(row, fault.number(), fault.name()),
         }
+    }
+
+    // It begins anew with this world.
+    fn begin_with(&mut self, alloc: Global, world: Box<World>, lines: u32, entity: Text) {
+        self.world = world;
         self.lines = lines;
         self.entity = entity;
         self.given = Vec::new(alloc);
         self.told = 0;
-        Ok(None)
     }
 
     // Memory was refused: from then on the world takes neither a step nor none.
-    fn spend(&mut self, alloc: Global) -> io::Result<Option<String>> {
+    fn spend(&mut self, row: &mut Row<'_>) {
         self.spent = is_at_once(world_run(&mut self.world, &[]))
             && is_at_once(world_run(&mut self.world, &[Step::Tick { moment: 0 }]));
         if self.spent {
-            return Err(refused());
+            row.refuse();
+        } else {
+            row.put(b"a spent world goes on");
         }
-        Ok(Some("a spent world goes on".to_string(alloc)?))
     }
 
     // A step, and its refusal or nothing. There is a place for it before it is taken.
-    fn take(&mut self, alloc: Global, given: Given, wanted: &str) -> io::Result<Option<String>> {
-        self.given.reserve(1)?;
-        let Err(WorldStopped { place, refusal }) = world_run(&mut self.world, &[given.step()])
-        else {
-            self.given.push(given)?;
-            return unless_said(alloc, "", wanted);
-        };
+    fn take(&mut self, row: &mut Row<'_>, given: Given) {
+        if row.is_unread || row.is_refused {
+            return;
+        }
+        if self.given.reserve(1).is_err() {
+            return row.refuse();
+        }
+        match world_run(&mut self.world, &[given.step()]) {
+            Ok(()) => {
+                if self.given.push(given).is_err() {
+                    row.refuse();
+                }
+            }
+            Err(WorldStopped { place, refusal }) => self.stop(row, place, refusal),
+        }
+    }
+
+    // It stopped at a step: at the one that it was given.
+    fn stop(&mut self, row: &mut Row<'_>, place: usize, refusal: StepRefusal) {
         if refusal == StepRefusal::OutOfMemory {
-            return self.spend(alloc);
-        }
-        if place != 0 {
-            return Ok(Some("it stopped at another place".to_string(alloc)?));
-        }
-        unless_refused(alloc, refusal.number(), refusal.name(), wanted)
-    }
-
-    // `issue RQNT  aaln/1@rgw.example.net  X: 1¶`, `dial 1 off`, `tick 1000`, `deliver 0`
-    fn step(&mut self, alloc: Global, word: &str, fields: &str) -> io::Result<Option<String>> {
-        let (words, wanted) = with_refusal(fields);
-        match given_in(alloc, word, words)? {
-            Some(given) => self.take(alloc, given, wanted),
-            None => no_such_row(alloc),
+            self.spend(row);
+        } else if place != 0 {
+            row.put(b"it stopped at another place");
+        } else {
+            put_refusal(row, refusal.number(), refusal.name());
         }
     }
 
-    // The next packet, as a row says it.
-    fn posts(&mut self, alloc: Global, wanted: &str) -> io::Result<Option<String>> {
+    // The next packet: its moment, its sender, where it goes, and its bytes.
+    fn put_post(&mut self, row: &mut Row<'_>) {
         let Some(packet) = self.world.packet(self.told) else {
-            return unless_said(alloc, "none", wanted);
+            return row.put(b"none");
         };
-        let (moment, sender, to) = (packet.moment, packet.sender, packet.to);
-        let head = format!(in alloc; "{moment}  {sender}  {to}  ")?;
-        let unlike = unless_told(alloc, head.as_str(), packet.bytes.as_bytes(), wanted)?;
-        self.told = self.told.wrapping_add(1);
-        Ok(unlike)
+        row.put_shown(packet.moment);
+        row.put(b"  ");
+        row.put_shown(packet.sender);
+        row.put(b"  ");
+        row.put_shown(packet.to);
+        row.put(b"  ");
+        row.put(packet.bytes.as_bytes());
+        if !row.is_refused {
+            self.told = self.told.wrapping_add(1);
+        }
+    }
+
+    fn turn(&mut self, row: &mut Row<'_>) {
+        let word = row.before(" ");
+        match word {
+            "world" => self.open(row),
+            "posts" => self.put_post(row),
+            "answers" => put_answer(row, self.world.agent()),
+            "taken" => put_taken(row, self.world.agent()),
+            "hook" => put_hook(row, self.world.gateway()),
+            "now" => row.put_shown(self.world.gateway().now()),
+            _ => match given_in(row, word) {
+                Some(given) => self.take(row, given),
+                None => row.unread(),
+            },
+        }
     }
 }
 
@@ -150,15 +182,8 @@ impl Scenario for WorldScenario {
         if self.spent {
             again!(self.renew(alloc))?;
         }
-        let (word, rest) = row.split_once(' ').unwrap_or((row, ""));
-        match word {
-            "world" => self.open(alloc, rest),
-            "posts" => self.posts(alloc, rest),
-            "answers" => answers(alloc, self.world.agent(), rest),
-            "taken" => taken(alloc, self.world.agent(), rest),
-            "hook" => hook(alloc, self.world.gateway(), rest),
-            "now" => unless_number(alloc, Some(self.world.gateway().now()), rest),
-            _ => self.step(alloc, word, rest),
-        }
+        let mut row = Row::of(alloc, row);
+        self.turn(&mut row);
+        row.unlike_bytes()
     }
 }

@@ -8,7 +8,7 @@
 //! - `write 2  write fault  line 1\s` this call of the writer fails, and all behind it.
 use rgw_cli::Ending;
 use rgw_play::{PlayFault, Played, play};
-use scenario_files::{SETTINGS, Scenario, bytes_of, no_such_row, range_in, refused, unless_told};
+use scenario_files::{Row, SETTINGS, Scenario, bytes_of, range_in};
 use std::alloc::Global;
 use std::io::{self, Read, Write};
 
@@ -82,19 +82,27 @@ impl Write for SlowWriter {
     }
 }
 
-// How a play ends, as a row says it.
-fn ending_text(alloc: Global, outcome: Result<Played, PlayFault>) -> io::Result<String> {
+// Puts what is said of an input that can't be played, a field each line.
+fn put_fault(row: &mut Row<'_>, fault: PlayFault) -> io::Result<()> {
+    let line = format!(in row.alloc; "{}", Ending::Fault(fault))?;
+    let fields = line.replace(row.alloc, "\n", "  ")?;
+    row.put(fields.as_bytes());
+    Ok(())
+}
+
+// Puts how a play ends.
+fn put_ending(row: &mut Row<'_>, outcome: Result<Played, PlayFault>) -> io::Result<()> {
     match outcome {
         Ok(Played { commands, refused }) => {
-            Ok(format!(in alloc; "{commands} commands, {refused} refused  ")?)
+            row.put_shown(commands);
+            row.put(b" commands, ");
+            row.put_shown(refused);
+            row.put(b" refused  ");
         }
-        Err(PlayFault::OutOfMemory) => Err(refused()),
-        Err(fault) => {
-            let ending = Ending::Fault(fault);
-            let line = format!(in alloc; "{ending}")?;
-            Ok(line.replace(alloc, "\n", "  ")?)
-        }
+        Err(PlayFault::OutOfMemory) => row.refuse(),
+        Err(fault) => return put_fault(row, fault),
     }
+    Ok(())
 }
 
 /// What there is to read.
@@ -104,52 +112,76 @@ pub struct StreamScenario {
 }
 
 impl StreamScenario {
-    fn put_input(&mut self, alloc: Global, before: &str, field: &str) -> io::Result<()> {
-        let mut input = Vec::from_slice(alloc, before.as_bytes())?;
+    // What a field says is the script of the usual settings, or the input whole.
+    fn read(&mut self, alloc: Global, is_script: bool, field: &str) -> io::Result<()> {
+        let mut input = Vec::new(alloc);
+        if is_script {
+            input.extend_from_slice(SETTINGS.as_bytes())?;
+            input.extend_from_slice(b"%%\n")?;
+        }
         input.extend_from_slice(&bytes_of(alloc, field)?)?;
         self.input = input;
         Ok(())
     }
 
     // What comes of the input with this fault.
-    fn played(&self, alloc: Global, fault: Fault, wanted: &str) -> io::Result<Option<String>> {
+    fn put_played(&self, row: &mut Row<'_>, fault: Fault) -> io::Result<()> {
         let mut reader = SlowReader {
             text: &self.input,
             calls: 0,
             fault,
         };
         let mut writer = SlowWriter {
-            text: Vec::new(alloc),
+            text: Vec::new(row.alloc),
             calls: 0,
             fault,
         };
-        let outcome = play(alloc, &mut reader, &mut writer);
-        let ending = ending_text(alloc, outcome)?;
-        unless_told(alloc, ending.as_str(), &writer.text, wanted)
+        put_ending(row, play(row.alloc, &mut reader, &mut writer))?;
+        row.put(&writer.text);
+        Ok(())
     }
 
-    // The same where each of these calls of a stream fails in its turn.
-    fn failed(
-        &self,
-        alloc: Global,
-        stream: &str,
-        calls: &str,
-        wanted: &str,
-    ) -> io::Result<Option<String>> {
+    // What comes of it where this call of a stream fails.
+    fn put_failed(&self, row: &mut Row<'_>, stream: &str, call: u32) -> io::Result<()> {
+        let call = u64::from(call);
+        let fault = match stream {
+            "read" => Fault::Read(call),
+            _ => Fault::Write(call),
+        };
+        self.put_played(row, fault)
+    }
+
+    // The same where each of these calls fails in its turn: what comes of the first of which the row doesn't say it, else of
+    // the last.
+    fn put_all_failed(&self, row: &mut Row<'_>, stream: &str, calls: &str) -> io::Result<()> {
         let Some((first, last)) = range_in(calls) else {
-            return no_such_row(alloc);
+            row.unread();
+            return Ok(());
         };
         for call in first..=last {
-            let fault = match stream {
-                "read" => Fault::Read(u64::from(call)),
-                _ => Fault::Write(u64::from(call)),
-            };
-            let unlike = self.played(alloc, fault, wanted)?;
-            if unlike.is_some() {
-                return Ok(unlike);
+            row.given.clear();
+            self.put_failed(row, stream, call)?;
+            if row.unlike_bytes()?.is_some() {
+                return Ok(());
             }
         }
-        Ok(None)
+        Ok(())
+    }
+
+    fn turn(&mut self, row: &mut Row<'_>) -> io::Result<()> {
+        let first = row.before("  ");
+        let (word, rest) = first.split_once(' ').unwrap_or((first, ""));
+        match word {
+            "script" => self.read(row.alloc, true, rest),
+            "input" => self.read(row.alloc, false, rest),
+            "whole" => self.put_played(row, Fault::Nothing),
+            "interrupted" => self.put_played(row, Fault::Interrupts),
+            "read" | "write" => self.put_all_failed(row, word, rest),
+            _ => {
+                row.unread();
+                Ok(())
+            }
+        }
     }
 }
 
@@ -161,22 +193,8 @@ impl Scenario for StreamScenario {
     }
 
     fn unlike(&mut self, alloc: Global, row: &str) -> io::Result<Option<String>> {
-        let (first, wanted) = row.split_once("  ").unwrap_or((row, ""));
-        let (word, rest) = first.split_once(' ').unwrap_or((first, ""));
-        match word {
-            "script" => {
-                let before = format!(in alloc; "{}%%\n", SETTINGS)?;
-                self.put_input(alloc, before.as_str(), rest)?;
-                Ok(None)
-            }
-            "input" => {
-                self.put_input(alloc, "", rest)?;
-                Ok(None)
-            }
-            "whole" => self.played(alloc, Fault::Nothing, wanted),
-            "interrupted" => self.played(alloc, Fault::Interrupts, wanted),
-            "read" | "write" => self.failed(alloc, word, rest, wanted),
-            _ => no_such_row(alloc),
-        }
+        let mut row = Row::of(alloc, row);
+        self.turn(&mut row)?;
+        row.unlike_bytes()
     }
 }

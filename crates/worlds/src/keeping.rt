@@ -1,6 +1,6 @@
 //! Keeps copies of what is handed over.
 ghost use Rattle.std.specs.Prelude.{◌≡◌, ◌++◌, ◌∷◌, [], OnOk, OnErr};
-ghost use Rattle.memory_wire.specs.Log.{kept_in};
+ghost use Rattle.worlds.specs.Log.{kept_in};
 
 use mg_bytes::{OutOfMemory, Text};
 use std::alloc::Global;

@@ -1,7 +1,7 @@
 use Rattle.std.proofs.Common.{◌≡◌, ◌≤◌, ◌++◌, ℕ, List, length, take, min, ◌∙◌, ap, subst, arith}
 use Rattle.std.proofs.Math.Seq.{take-append_seam}
 use Rattle.std.proofs.lemmas.List.{length-take-le, take_min}
-use Rattle.memory_wire.proofs.filling.fill.Goals as goal
+use Rattle.worlds.proofs.filling.fill.Goals as goal
 
 filled : (n m : ℕ) (bytes rest : List ℕ) → n ≡ min m (length bytes) → take n (take n bytes ++ rest) ≡ take m bytes
 filled n m bytes rest is =

@@ -27,7 +27,7 @@ pub struct MemoryWire {
 
 impl MemoryWire {
     ghost use Rattle.gateway_core.specs.Wire.{WireLog};
-    ghost use Rattle.memory_wire.specs.Log.{log_of};
+    ghost use Rattle.worlds.specs.Log.{log_of};
 
     /// A wire that nothing went over yet. The send with this number fails, counted from 1; at 0 none does.
     pub fn new(alloc: Global, plan: Vec<Planned>, failing_send: u64) -> MemoryWire
@@ -48,7 +48,7 @@ impl MemoryWire {
 }
 
 impl Wire for MemoryWire {
-    ghost use Rattle.memory_wire.specs.Log.{log_of};
+    ghost use Rattle.worlds.specs.Log.{log_of};
 
     ghost log = { log_of };
 

@@ -3,10 +3,10 @@ use Rattle.std.specs.Prelude.{ℕ, Bool, List, [], ◌∷◌, Option, Some, None
 use Rattle.std.specs.List.{flat_map}
 use Rattle.plain_machine.specs.Event.{datagram, phone, tick}
 use Rattle.gateway_core.specs.Wire.{Given, event, end, Handed, WireLog}
-use Rattle.memory_wire.specs.declared.keeping.Kept.{Kept}
-use Rattle.memory_wire.specs.declared.plan.Planned.{Planned}
-use Rattle.memory_wire.specs.declared.plan.Planned.TheVariants as plan
-use Rattle.memory_wire.specs.declared.playing.MemoryWire.{MemoryWire}
+use Rattle.worlds.specs.declared.keeping.Kept.{Kept}
+use Rattle.worlds.specs.declared.plan.Planned.{Planned}
+use Rattle.worlds.specs.declared.plan.Planned.TheVariants as plan
+use Rattle.worlds.specs.declared.playing.MemoryWire.{MemoryWire}
 
 -- what is given: of a datagram what there is room for
 abbrev pub given_by : Planned → List Given

@@ -1,0 +1,134 @@
+//! Calls of the program, which take all values of a row at once, a line each:
+//!
+//! - `settings  CHANGE  CHANGE ..  config 3 BadLines` the settings alone, changed as `set` changes them;
+//! - `script  LINE  LINE ..  script line 3` a script with the usual settings, from the opening;
+//! - `command  LINE  LINE ..  510 1` a datagram from the agent at Ready, and what is sent to it;
+//! - `request  LINE  LINE ..  518 1` the same of a request of line 1 that has an X, and these lines besides;
+//! - `words  loopback --port 4000  loopback 4000` what words ask for;
+//! - `sequence  1000  2  1002` how many values a list has that grew by so many one by one, and then by a list of so many.
+//!
+//! Where nothing is printed the answer is `ok`; more than a line is all that is printed, with `\n` for each line end.
+use crate::played::{simulated, words_of};
+use mg_bytes::{OutOfMemory, Sequence};
+use rgw_cli::{Task, WordFault, asked};
+use scenario_files::{
+    Row, Scenario, WrittenScenario, number_in, put_line, read_scenario, value_of,
+};
+use std::alloc::Global;
+use std::io;
+
+const REQUEST: &str = "RQNT 1 aaln/1@rgw.example.net MGCP 1.0\nX: 1\n";
+
+// Puts what words ask for.
+fn put_task(row: &mut Row<'_>, line: &str) -> io::Result<()> {
+    let line = value_of(row.alloc, line)?;
+    match asked(row.alloc, Ok(words_of(row.alloc, line.as_str())?)) {
+        Ok(Task::Simulate) => row.put(b"simulate"),
+        Ok(Task::Loopback { port }) => {
+            row.put(b"loopback ");
+            row.put_shown(port);
+        }
+        Err(WordFault::Usage) => row.put(b"usage"),
+        Err(WordFault::OutOfMemory) => row.refuse(),
+    }
+    Ok(())
+}
+
+// A list of so many values, which grew by one after the other.
+fn numbers(alloc: Global, count: u64) -> Result<Sequence<u64>, OutOfMemory> {
+    let mut all = Sequence::new(alloc);
+    for number in 0..count {
+        all.push(number)?;
+    }
+    Ok(all)
+}
+
+// Puts how long a list is that grew by so many values, and then by a list of so many.
+fn put_length(row: &mut Row<'_>, fields: &str) -> io::Result<()> {
+    let (count, more) = fields.split_once("  ").unwrap_or((fields, ""));
+    let mut all = numbers(row.alloc, number_in(count))?;
+    all.append(numbers(row.alloc, number_in(more))?)?;
+    row.put_shown(all.into_items().len());
+    Ok(())
+}
+
+// A scenario of one datagram from the agent.
+fn put_heard(script: &mut String, front: &str, lines: &str) -> io::Result<()> {
+    put_line(script, "from 127.0.0.1:2727")?;
+    script.push_str(front)?;
+    put_line(script, lines)?;
+    put_line(script, "--")
+}
+
+// The scenario that a call is, of its values, and of what they say in short forms; no where there is no such call.
+fn put_scenario(
+    scenario: &mut WrittenScenario,
+    call: &str,
+    lines: &str,
+    text: &str,
+) -> io::Result<bool> {
+    scenario.is_at_opening = call == "settings" || call == "script";
+    match call {
+        "settings" => scenario.changes.push_str(lines)?,
+        "script" => scenario.script.push_str(text)?,
+        "command" => put_heard(&mut scenario.script, "", text)?,
+        "request" => put_heard(&mut scenario.script, REQUEST, text)?,
+        _ => return Ok(false),
+    }
+    Ok(true)
+}
+
+// What is printed, as rows say it: one answer to the agent without what stands round it, and a fault without its status.
+fn answer_in(printed: &str) -> &str {
+    if printed.is_empty() {
+        return "ok";
+    }
+    let sent = printed
+        .strip_prefix("> 1000 127.0.0.1:2727\n")
+        .unwrap_or("");
+    if let Some(answer) = sent.strip_suffix("\n--\n") {
+        return answer;
+    }
+    match printed.split_once("\nstatus 1\n") {
+        Some((fault, rest)) if rest.is_empty() => fault,
+        _ => printed,
+    }
+}
+
+// Puts what is printed of the scenario that a call is.
+fn put_printed(row: &mut Row<'_>, call: &str, fields: &str) -> io::Result<()> {
+    let lines = fields.replace(row.alloc, "  ", "\n")?;
+    let text = value_of(row.alloc, lines.as_str())?;
+    let mut scenario = read_scenario(row.alloc, "", false)?;
+    if !put_scenario(&mut scenario, call, lines.as_str(), text.as_str())? {
+        row.unread();
+        return Ok(());
+    }
+    let printed = simulated(row.alloc, &scenario)?;
+    let text = String::from_utf8_lossy(row.alloc, &printed)?;
+    row.put(answer_in(text.as_str()).as_bytes());
+    Ok(())
+}
+
+/// Rows that stand alone, each a call of the program.
+#[derive(Drop)]
+pub struct Calls;
+
+impl Scenario for Calls {
+    fn begin(_alloc: Global) -> io::Result<Calls> {
+        Ok(Calls)
+    }
+
+    fn unlike(&mut self, alloc: Global, row: &str) -> io::Result<Option<String>> {
+        let (rest, wanted) = row.rsplit_once("  ").unwrap_or((row, ""));
+        let (call, values) = rest.split_once("  ").unwrap_or((rest, ""));
+        let mut row = Row::of(alloc, wanted);
+        let done = match call {
+            "words" => put_task(&mut row, values),
+            "sequence" => put_length(&mut row, values),
+            _ => put_printed(&mut row, call, values),
+        };
+        done?;
+        row.unlike_bytes()
+    }
+}
