@@ -7,7 +7,7 @@ use crate::telephones::{TelephoneRequest, next_request};
 use gateway_core::{Gateway, Input, Refusal};
 use live_ends::CommandSocket;
 use live_journal::{Faults, Journal, MessageTally, Trace, TraceEntry, report};
-use live_site::Site;
+use live_page::Site;
 use mg_bytes::OutOfMemory;
 use mg_line::Act;
 use mg_packages::Hook;

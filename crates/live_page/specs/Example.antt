@@ -1,9 +1,6 @@
--- The addresses of the worked examples, and bodies that ask for something.
-use Rattle.std.specs.Prelude.{ℕ, codes, List, [], ◌∷◌, Option, Some}
+-- The addresses of the worked examples.
+use Rattle.std.specs.Prelude.{ℕ, List, [], ◌∷◌, Option, Some}
 use Rattle.std.specs.declared.net.socket_addr.SocketAddrV4.{SocketAddrV4}
-use Rattle.serde_json.specs.Data.{Data, number, unsigned, string, object, member, no_members}
-use Rattle.live_page.specs.declared.act.QueuedAct.{QueuedAct}
-use Rattle.live_page.specs.declared.act.PhoneAct.{PhoneAct}
 
 abbrev pub at_port : ℕ → SocketAddrV4
 at_port port = record { ip = record { octets = 127 ∷ 0 ∷ 0 ∷ 1 ∷ [] }; port = port }
@@ -19,10 +16,3 @@ elsewhere = record { ip = record { octets = 192 ∷ 168 ∷ 1 ∷ 5 ∷ [] }; po
 -- a field that stands there once
 abbrev pub once : List ℕ → Option (List ℕ)
 once text = Some text
-
--- `{"act": word, "line": line}`
-abbrev pub asks : List ℕ → ℕ → Data
-asks word line = object (member (codes "act") (string word) (member (codes "line") (number (unsigned line)) no_members))
-
-abbrev pub queued : ℕ → PhoneAct → QueuedAct
-queued line act = record { line = line; act = act }

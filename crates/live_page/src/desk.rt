@@ -4,16 +4,16 @@ ghost use Rattle.http_server.specs.Response.{fields_of};
 ghost use Rattle.live_page.specs.Asking.{refusal_status};
 ghost use Rattle.live_page.specs.declared.asked.Asked.TheVariants.{Strange};
 
-use crate::act::QueuedAct;
-use crate::acting::read_act;
 use crate::asked::Asked;
 use crate::asking::asked_of;
-use crate::fields::{put_body, put_kind};
+use crate::fields::{Content, put_body, put_kind};
 use crate::route::Route;
 use bytes::Bytes;
 use http::{HeaderValue, Request, StatusCode, header};
 use http_server::{Response, Service};
-use page_answers::{Kind, Picture, Ring, events_text, metrics_text, state_text};
+use page_answers::{
+    Kind, Picture, QueuedAct, Ring, events_text, metrics_text, read_act, state_text,
+};
 use page_files::{PAGE, SCRIPT, STYLE};
 use std::alloc::{AllocError, Global};
 use std::collections::VecDeque;
@@ -21,16 +21,6 @@ use std::net::SocketAddrV4;
 
 /// So many acts wait at most; one more is answered with 503.
 pub const MOST_ACTS: usize = 32;
-
-const HTML: &str = "text/html; charset=utf-8";
-
-const CSS: &str = "text/css; charset=utf-8";
-
-const JAVASCRIPT: &str = "text/javascript; charset=utf-8";
-
-const JSON: &str = "application/json";
-
-const METRICS: &str = "text/plain; version=0.0.4; charset=utf-8";
 
 /// What the page at an address is shown, and the acts that it asks for.
 #[derive(Drop)]
@@ -46,22 +36,22 @@ pub struct Desk {
 
 fn put_static(
     response: &mut Response,
-    kind: HeaderValue,
+    content: Content,
     text: &'static str,
 ) -> Result<(), AllocError>
     ensures { OnOk result (response.new.body.items ≡ response.old.body.items ++ text.now) }
 {
-    put_kind(response, kind)?;
+    put_kind(response, content)?;
     put_body(response, Bytes::from_static(text.as_bytes()))
 }
 
 fn put_json(response: &mut Response, text: String) -> Result<(), AllocError> {
-    put_kind(response, HeaderValue::from_static(JSON))?;
+    put_kind(response, Content::Json)?;
     put_body(response, Bytes::from_string(text)?)
 }
 
 fn put_metrics(response: &mut Response, text: Vec<u8>) -> Result<(), AllocError> {
-    put_kind(response, HeaderValue::from_static(METRICS))?;
+    put_kind(response, Content::Metrics)?;
     match Bytes::from_vec(text) {
         Ok(body) => put_body(response, body),
         Err(_) => Err(AllocError),
@@ -111,23 +101,29 @@ impl Desk {
         self.acts.pop_front()
     }
 
+    fn put_state(&self, response: &mut Response) -> Result<(), AllocError> {
+        put_json(
+            response,
+            state_text(self.alloc, &self.picture, self.version)?,
+        )
+    }
+
+    fn put_events(&self, response: &mut Response, after: u64) -> Result<(), AllocError> {
+        let clock = self.picture.clock;
+        put_json(
+            response,
+            events_text(self.alloc, &self.ring, after, self.version, clock)?,
+        )
+    }
+
     fn read(&self, route: Route, response: &mut Response) -> Result<(), AllocError> {
         match route {
-            Route::Page => put_static(response, HeaderValue::from_static(HTML), PAGE),
-            Route::Style => put_static(response, HeaderValue::from_static(CSS), STYLE),
-            Route::Script => put_static(response, HeaderValue::from_static(JAVASCRIPT), SCRIPT),
-            Route::State => put_json(
-                response,
-                state_text(self.alloc, &self.picture, self.version)?,
-            ),
+            Route::Page => put_static(response, Content::Page, PAGE),
+            Route::Style => put_static(response, Content::Style, STYLE),
+            Route::Script => put_static(response, Content::Script, SCRIPT),
+            Route::State => self.put_state(response),
             Route::Metrics => put_metrics(response, metrics_text(self.alloc, &self.picture)?),
-            Route::Events { after } => {
-                let clock = self.picture.clock;
-                put_json(
-                    response,
-                    events_text(self.alloc, &self.ring, after, self.version, clock)?,
-                )
-            }
+            Route::Events { after } => self.put_events(response, after),
             Route::Phone | Route::Nothing => {
                 response.status = StatusCode::NOT_FOUND;
                 Ok(())

@@ -1,14 +1,11 @@
 //! Worked examples of the definitions, as theorems: each sentence of a definition has one that a slip in it breaks.
 #![tactic(auto, unfolding(crate::proofs::Computing::on_examples))]
 
-ghost use Rattle.std.specs.Prelude.{◌≡◌, codes, true, false, [], ◌∷◌, Some, None};
-ghost use Rattle.serde_json.specs.Data.{object, no_members, null};
+ghost use Rattle.std.specs.Prelude.{◌≡◌, codes, true, false, [], Some, None};
 ghost use Rattle.live_page.specs.Access.{only, is_known_host, is_same_origin, is_json};
 ghost use Rattle.live_page.specs.Asking.{route_of};
-ghost use Rattle.live_page.specs.Acting.{act_named, act_line, queued_in};
-ghost use Rattle.live_page.specs.Example.{here, at_port, elsewhere, once, asks, queued};
+ghost use Rattle.live_page.specs.Example.{here, at_port, elsewhere, once};
 ghost use Rattle.live_page.specs.declared.route.Route.TheVariants.{Page, Style, Script, State, Metrics, Events, Phone, Nothing};
-ghost use Rattle.live_page.specs.declared.act.PhoneAct.TheVariants.{Off, On, Flash, Key};
 
 /// A host is known by the address and the port that the page listens at, and on the loopback by the name localhost.
 pub fn a_host_is_known_by_its_address()
@@ -82,43 +79,4 @@ pub fn paths_lead_somewhere()
     ensures other { route_of (codes "/events") (Some (codes "before=1")) ≡ Nothing }
     ensures below { route_of (codes "/page.js/") None ≡ Nothing }
     ensures nothing { route_of [] None ≡ Nothing }
-{}
-
-/// An act is `off`, `on`, `flash` or a key.
-pub fn acts_have_words()
-    ensures off { act_named (codes "off") ≡ Some Off }
-    ensures on { act_named (codes "on") ≡ Some On }
-    ensures flash { act_named (codes "flash") ≡ Some Flash }
-    ensures zero { act_named (codes "0") ≡ Some (Key 48) }
-    ensures nine { act_named (codes "9") ≡ Some (Key 57) }
-    ensures star { act_named (codes "*") ≡ Some (Key 42) }
-    ensures hash { act_named (codes "#") ≡ Some (Key 35) }
-    ensures first { act_named (codes "A") ≡ Some (Key 65) }
-    ensures last { act_named (codes "D") ≡ Some (Key 68) }
-    ensures below_zero { act_named (codes "/") ≡ None }
-    ensures above_nine { act_named (codes ":") ≡ None }
-    ensures below_a { act_named (codes "@") ≡ None }
-    ensures above_d { act_named (codes "E") ≡ None }
-    ensures small { act_named (codes "a") ≡ None }
-    ensures two { act_named (codes "12") ≡ None }
-    ensures none { act_named [] ≡ None }
-{}
-
-/// An act is done as a line of the telephones' socket does it.
-pub fn an_act_is_a_line()
-    ensures off { act_line (queued 1 Off) ≡ codes "phone 1 off" }
-    ensures on { act_line (queued 96 On) ≡ codes "phone 96 on" }
-    ensures flash { act_line (queued 2 Flash) ≡ codes "phone 2 flash" }
-    ensures key { act_line (queued 10 (Key 35)) ≡ codes "phone 10 #" }
-{}
-
-/// A body asks for an act by a line from 1 to 65,535, and a word.
-pub fn a_body_asks_by_line_and_word()
-    ensures some { queued_in (asks (codes "off") 1) ≡ Some (queued 1 Off) }
-    ensures last { queued_in (asks (codes "5") 65535) ≡ Some (queued 65535 (Key 53)) }
-    ensures zero { queued_in (asks (codes "off") 0) ≡ None }
-    ensures too_many { queued_in (asks (codes "off") 65536) ≡ None }
-    ensures no_word { queued_in (asks (codes "ring") 1) ≡ None }
-    ensures empty { queued_in (object no_members) ≡ None }
-    ensures no_object { queued_in null ≡ None }
 {}

@@ -10,6 +10,27 @@ use std::alloc::AllocError;
 const POLICY: &str =
     "default-src 'none'; style-src 'self'; script-src 'self'; connect-src 'self'; img-src data:; base-uri 'none'; form-action 'none'; frame-ancestors 'none'";
 
+/// What an answer has.
+#[derive(Clone, Copy)]
+pub(crate) enum Content {
+    Page,
+    Style,
+    Script,
+    Json,
+    Metrics,
+}
+
+// The kind of content, as its field says it (RFC 9110, 8.3).
+fn kind_of(content: Content) -> HeaderValue {
+    match content {
+        Content::Page => HeaderValue::from_static("text/html; charset=utf-8"),
+        Content::Style => HeaderValue::from_static("text/css; charset=utf-8"),
+        Content::Script => HeaderValue::from_static("text/javascript; charset=utf-8"),
+        Content::Json => HeaderValue::from_static("application/json"),
+        Content::Metrics => HeaderValue::from_static("text/plain; version=0.0.4; charset=utf-8"),
+    }
+}
+
 fn put_field(
     response: &mut Response,
     name: HeaderName,
@@ -22,11 +43,11 @@ fn put_field(
 }
 
 /// Puts what this kind of content goes with: no browser keeps it, guesses another kind, or shows it in another's frame.
-pub(crate) fn put_kind(response: &mut Response, kind: HeaderValue) -> Result<(), AllocError>
+pub(crate) fn put_kind(response: &mut Response, content: Content) -> Result<(), AllocError>
     ensures status { response.new.status ≡ response.old.status }
     ensures body { response.new.body ≡ response.old.body }
 {
-    put_field(response, header::CONTENT_TYPE, kind)?;
+    put_field(response, header::CONTENT_TYPE, kind_of(content))?;
     put_field(
         response,
         header::CACHE_CONTROL,

@@ -1,3 +1,5 @@
 pub mod Keeping
 pub mod Verbs
 pub mod Metrics
+pub mod Acting
+pub mod Example

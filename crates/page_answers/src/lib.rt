@@ -1,16 +1,23 @@
-//! What the page of a live gateway is answered: what the gateway is, what was counted, and what happened lately.
+//! What the page of a live gateway is answered, and what it asks to be done: what the gateway is, what was counted, what happened
+//! lately, and acts at telephones.
 //!
 //! Nothing here knows who asks, or over which protocol.
 #![tactic(auto)]
 
+mod act;
+mod acting;
 mod counts;
 pub mod examples;
+mod families;
+mod members;
 mod metrics;
 mod picture;
 mod ring;
 mod state;
 mod telling;
 
+pub use crate::act::{PhoneAct, QueuedAct};
+pub use crate::acting::read_act;
 pub use crate::counts::{CodeCount, Counts, VerbCount};
 pub use crate::metrics::metrics_text;
 pub use crate::picture::{ConnectionView, LineView, Picture, SignalView};

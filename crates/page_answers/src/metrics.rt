@@ -1,8 +1,13 @@
 //! What was counted, in Prometheus' text format.
 ghost use Rattle.std.specs.Prelude.{◌≡◌, ◌++◌, OnOk, IfOk};
-ghost use Rattle.page_answers.specs.Metrics.{escaped_byte, escaped, help_line, type_line, family_head, plain_sample, label_begun, label_ended, labelled_sample, code_text, verb_sample, verb_samples, code_samples, single};
+ghost use Rattle.page_answers.specs.Metrics.{escaped_byte, escaped, help_line, type_line, family_head, plain_sample, label_begun, label_ended, labelled_sample, code_text, verb_sample, verb_samples, code_sample, code_samples, single};
 
 use crate::counts::{CodeCount, Counts, VerbCount, verb_word};
+use crate::families::{
+    ANNOUNCEMENTS, ANSWERS, COMMANDS, CONNECTIONS, DATAGRAMS, FAULTS, GIVEN_UP, LINES,
+    LINES_OFF_HOOK, LOST_EVENTS, Metric, NOTIFICATIONS, REFUSED, REPEATS, RESPONSES, TRANSACTIONS,
+    UNREADABLE,
+};
 use crate::picture::Picture;
 use mg_bytes::{OutOfMemory, put_decimal};
 use std::alloc::Global;
@@ -50,11 +55,12 @@ fn put_type(out: &mut Vec<u8>, name: &[u8], kind: &[u8]) -> Result<(), OutOfMemo
 }
 
 // What is told of a metric before its samples.
-fn put_head(out: &mut Vec<u8>, name: &[u8], kind: &[u8], help: &[u8]) -> Result<(), OutOfMemory>
-    ensures { OnOk result (out.new.items ≡ out.old.items ++ family_head name.now kind.now help.now) }
+fn put_head(out: &mut Vec<u8>, metric: Metric) -> Result<(), OutOfMemory>
+    ensures { OnOk result (out.new.items
+        ≡ out.old.items ++ family_head metric.name.now metric.kind.now metric.help.now) }
 {
-    put_help(out, name, help)?;
-    put_type(out, name, kind)
+    put_help(out, metric.name, metric.help)?;
+    put_type(out, metric.name, metric.kind)
 }
 
 fn put_plain(alloc: Global, out: &mut Vec<u8>, name: &[u8], number: u64) -> Result<(), OutOfMemory>
@@ -93,15 +99,14 @@ fn put_label_ended(
 fn put_labelled(
     alloc: Global,
     out: &mut Vec<u8>,
-    name: &[u8],
-    label: &[u8],
+    metric: Metric,
     value: &[u8],
     number: u64,
 ) -> Result<(), OutOfMemory>
     ensures { OnOk result (out.new.items
-        ≡ out.old.items ++ labelled_sample name.now label.now value.now number) }
+        ≡ out.old.items ++ labelled_sample metric.name.now metric.label.now value.now number) }
 {
-    put_label_begun(out, name, label)?;
+    put_label_begun(out, metric.name, metric.label)?;
     put_label_ended(alloc, out, value, number)
 }
 
@@ -109,15 +114,14 @@ fn put_labelled(
 fn put_single(
     alloc: Global,
     out: &mut Vec<u8>,
-    name: &[u8],
-    kind: &[u8],
-    help: &[u8],
+    metric: Metric,
     number: u64,
 ) -> Result<(), OutOfMemory>
-    ensures { OnOk result (out.new.items ≡ out.old.items ++ single name.now kind.now help.now number) }
+    ensures { OnOk result (out.new.items
+        ≡ out.old.items ++ single metric.name.now metric.kind.now metric.help.now number) }
 {
-    put_head(out, name, kind, help)?;
-    put_plain(alloc, out, name, number)
+    put_head(out, metric)?;
+    put_plain(alloc, out, metric.name, number)
 }
 
 // The three digits of a code.
@@ -137,15 +141,7 @@ fn code_digits(alloc: Global, code: u16) -> Result<Vec<u8>, OutOfMemory>
 fn put_verb(alloc: Global, out: &mut Vec<u8>, count: VerbCount) -> Result<(), OutOfMemory>
     ensures { OnOk result (out.new.items ≡ out.old.items ++ verb_sample count) }
 {
-    let verb = verb_word(count.verb);
-    put_labelled(
-        alloc,
-        out,
-        b"rgw_commands_total",
-        b"verb",
-        verb,
-        count.number,
-    )
+    put_labelled(alloc, out, COMMANDS, verb_word(count.verb), count.number)
 }
 
 fn put_verbs(alloc: Global, out: &mut Vec<u8>, counts: &[VerbCount]) -> Result<(), OutOfMemory>
@@ -157,212 +153,99 @@ fn put_verbs(alloc: Global, out: &mut Vec<u8>, counts: &[VerbCount]) -> Result<(
     Ok(())
 }
 
+fn put_code(alloc: Global, out: &mut Vec<u8>, count: CodeCount) -> Result<(), OutOfMemory>
+    ensures { OnOk result (out.new.items ≡ out.old.items ++ code_sample count) }
+{
+    let code = code_digits(alloc, count.code)?;
+    put_labelled(alloc, out, ANSWERS, code.as_slice(), count.number)
+}
+
 fn put_codes(alloc: Global, out: &mut Vec<u8>, counts: &[CodeCount]) -> Result<(), OutOfMemory>
     ensures { OnOk result (out.new.items ≡ out.old.items ++ code_samples counts.now) }
 {
     for count in counts {
-        let code = code_digits(alloc, count.code)?;
-        put_labelled(
-            alloc,
-            out,
-            b"rgw_answers_total",
-            b"code",
-            code.as_slice(),
-            count.number,
-        )?;
+        put_code(alloc, out, *count)?;
+    }
+    Ok(())
+}
+
+// Metrics of one sample each.
+fn put_singles(
+    alloc: Global,
+    out: &mut Vec<u8>,
+    singles: &[(Metric, u64)],
+) -> Result<(), OutOfMemory> {
+    for (metric, number) in singles {
+        put_single(alloc, out, *metric, *number)?;
+    }
+    Ok(())
+}
+
+// A metric whose samples are told apart by a label.
+fn put_family(
+    alloc: Global,
+    out: &mut Vec<u8>,
+    metric: Metric,
+    samples: &[(&[u8], u64)],
+) -> Result<(), OutOfMemory> {
+    put_head(out, metric)?;
+    for (value, number) in samples {
+        put_labelled(alloc, out, metric, *value, *number)?;
     }
     Ok(())
 }
 
 fn put_traffic(alloc: Global, out: &mut Vec<u8>, counts: &Counts) -> Result<(), OutOfMemory> {
-    put_head(
-        out,
-        b"rgw_datagrams_total",
-        b"counter",
-        b"Datagrams that came and went.",
-    )?;
-    put_labelled(
-        alloc,
-        out,
-        b"rgw_datagrams_total",
-        b"direction",
-        b"in",
-        counts.datagrams_in,
-    )?;
-    put_labelled(
-        alloc,
-        out,
-        b"rgw_datagrams_total",
-        b"direction",
-        b"out",
-        counts.datagrams_out,
-    )?;
-    put_head(
-        out,
-        b"rgw_commands_total",
-        b"counter",
-        b"Commands that came, by verb.",
-    )?;
+    let datagrams: [(&[u8], u64); 2] = [
+        (b"in", counts.datagrams_in),
+        (b"out", counts.datagrams_out),
+    ];
+    put_family(alloc, out, DATAGRAMS, &datagrams)?;
+    put_head(out, COMMANDS)?;
     put_verbs(alloc, out, counts.commands.as_slice())?;
-    put_head(
-        out,
-        b"rgw_answers_total",
-        b"counter",
-        b"Responses that were sent, by code.",
-    )?;
+    put_head(out, ANSWERS)?;
     put_codes(alloc, out, counts.answers.as_slice())
 }
 
 fn put_own(alloc: Global, out: &mut Vec<u8>, counts: &Counts) -> Result<(), OutOfMemory> {
-    let counter = b"counter".as_slice();
-    put_single(
-        alloc,
-        out,
-        b"rgw_notifications_total",
-        counter,
-        b"Notifications that were sent.",
-        counts.notifications,
-    )?;
-    put_single(
-        alloc,
-        out,
-        b"rgw_announcements_total",
-        counter,
-        b"Announcements that were sent.",
-        counts.announcements,
-    )?;
-    put_single(
-        alloc,
-        out,
-        b"rgw_given_up_total",
-        counter,
-        b"Announcements of lines that nobody had answered.",
-        counts.given_up,
-    )?;
-    put_head(
-        out,
-        b"rgw_repeats_total",
-        counter,
-        b"Messages that were sent before, by what they are.",
-    )?;
-    put_labelled(
-        alloc,
-        out,
-        b"rgw_repeats_total",
-        b"of",
-        b"answer",
-        counts.answers_again,
-    )?;
-    put_labelled(
-        alloc,
-        out,
-        b"rgw_repeats_total",
-        b"of",
-        b"notification",
-        counts.notifications_again,
-    )?;
-    put_labelled(
-        alloc,
-        out,
-        b"rgw_repeats_total",
-        b"of",
-        b"announcement",
-        counts.announcements_again,
-    )
+    let singles = [
+        (NOTIFICATIONS, counts.notifications),
+        (ANNOUNCEMENTS, counts.announcements),
+        (GIVEN_UP, counts.given_up),
+    ];
+    let repeats: [(&[u8], u64); 3] = [
+        (b"answer", counts.answers_again),
+        (b"notification", counts.notifications_again),
+        (b"announcement", counts.announcements_again),
+    ];
+    put_singles(alloc, out, &singles)?;
+    put_family(alloc, out, REPEATS, &repeats)
 }
 
 fn put_faults(alloc: Global, out: &mut Vec<u8>, counts: &Counts) -> Result<(), OutOfMemory> {
-    let counter = b"counter".as_slice();
-    put_single(
-        alloc,
-        out,
-        b"rgw_responses_total",
-        counter,
-        b"Responses that came.",
-        counts.responses,
-    )?;
-    put_single(
-        alloc,
-        out,
-        b"rgw_unreadable_total",
-        counter,
-        b"Texts that came and are no message.",
-        counts.unreadable,
-    )?;
-    put_single(
-        alloc,
-        out,
-        b"rgw_refused_total",
-        counter,
-        b"Inputs that the gateway refused.",
-        counts.refused,
-    )?;
-    put_head(
-        out,
-        b"rgw_faults_total",
-        counter,
-        b"How often a socket failed.",
-    )?;
-    put_labelled(
-        alloc,
-        out,
-        b"rgw_faults_total",
-        b"of",
-        b"receive",
-        counts.receive_faults,
-    )?;
-    put_labelled(
-        alloc,
-        out,
-        b"rgw_faults_total",
-        b"of",
-        b"send",
-        counts.send_faults,
-    )
+    let singles = [
+        (RESPONSES, counts.responses),
+        (UNREADABLE, counts.unreadable),
+        (REFUSED, counts.refused),
+    ];
+    let faults: [(&[u8], u64); 2] = [
+        (b"receive", counts.receive_faults),
+        (b"send", counts.send_faults),
+    ];
+    put_singles(alloc, out, &singles)?;
+    put_family(alloc, out, FAULTS, &faults)
 }
 
 fn put_gauges(alloc: Global, out: &mut Vec<u8>, picture: &Picture) -> Result<(), OutOfMemory> {
-    let gauge = b"gauge".as_slice();
-    put_single(
-        alloc,
-        out,
-        b"rgw_lost_events_total",
-        b"counter",
-        b"Events that found no room on their line.",
-        picture.lost(),
-    )?;
-    put_single(
-        alloc,
-        out,
-        b"rgw_lines",
-        gauge,
-        b"Lines of the gateway.",
-        picture.lines.len() as u64,
-    )?;
-    put_single(
-        alloc,
-        out,
-        b"rgw_lines_off_hook",
-        gauge,
-        b"Lines that are off hook.",
-        picture.off_hook(),
-    )?;
-    put_single(
-        alloc,
-        out,
-        b"rgw_connections",
-        gauge,
-        b"Connections of all lines.",
-        picture.connections(),
-    )?;
-    put_single(
-        alloc,
-        out,
-        b"rgw_transactions",
-        gauge,
-        b"Transactions that are held.",
-        picture.counts.transactions,
-    )
+    let totals = picture.totals();
+    let singles = [
+        (LOST_EVENTS, totals.lost),
+        (LINES, picture.lines.len() as u64),
+        (LINES_OFF_HOOK, totals.off_hook),
+        (CONNECTIONS, totals.connections),
+        (TRANSACTIONS, picture.counts.transactions),
+    ];
+    put_singles(alloc, out, &singles)
 }
 
 /// What was counted and what is held, in Prometheus' text format.

@@ -37,6 +37,29 @@ pub struct Picture {
     pub counts: Counts,
 }
 
+/// What all lines have together.
+#[derive(Clone, Copy)]
+pub(crate) struct Totals {
+    /// Lines that are off hook.
+    pub(crate) off_hook: u64,
+    pub(crate) connections: u64,
+    /// Events that were lost.
+    pub(crate) lost: u64,
+}
+
+impl Totals {
+    // Counts a line too.
+    fn add(&mut self, line: &LineView) {
+        if line.is_off_hook {
+            self.off_hook = self.off_hook.saturating_add(1);
+        }
+        self.connections = self
+            .connections
+            .saturating_add(line.connections.len() as u64);
+        self.lost = self.lost.saturating_add(line.lost);
+    }
+}
+
 impl Picture {
     /// A gateway without lines, of which nothing was counted.
     pub fn new(alloc: Global) -> Picture {
@@ -64,32 +87,16 @@ impl Picture {
         }
     }
 
-    /// How many lines are off hook.
-    pub(crate) fn off_hook(&self) -> u64 {
-        let mut number: u64 = 0;
+    /// What its lines have together.
+    pub(crate) fn totals(&self) -> Totals {
+        let mut totals = Totals {
+            off_hook: 0,
+            connections: 0,
+            lost: 0,
+        };
         for line in self.lines.iter() {
-            if line.is_off_hook {
-                number = number.saturating_add(1);
-            }
+            totals.add(line);
         }
-        number
-    }
-
-    /// How many connections there are.
-    pub(crate) fn connections(&self) -> u64 {
-        let mut number: u64 = 0;
-        for line in self.lines.iter() {
-            number = number.saturating_add(line.connections.len() as u64);
-        }
-        number
-    }
-
-    /// How many events of all lines were lost.
-    pub(crate) fn lost(&self) -> u64 {
-        let mut number: u64 = 0;
-        for line in self.lines.iter() {
-            number = number.saturating_add(line.lost);
-        }
-        number
+        totals
     }
 }

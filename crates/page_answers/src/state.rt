@@ -1,11 +1,8 @@
 //! What the gateway is, as JSON.
-ghost use Rattle.std.specs.Prelude.{◌≡◌, codes, IfOk};
-ghost use Rattle.serde_json.specs.Data.{number, unsigned, string, object, member, no_members};
-ghost use Rattle.serde_json.specs.View.{view};
-
 use crate::counts::{CodeCount, Counts, VerbCount, verb_word};
+use crate::members::{put_numbers, put_text};
 use crate::picture::{ConnectionView, LineView, Picture, SignalView};
-use serde_json::{Map, Value, json};
+use serde_json::{Map, Value, put};
 use std::alloc::{AllocError, Global};
 use std::str;
 
@@ -26,14 +23,17 @@ fn end_value(end: Option<u64>) -> Value {
 }
 
 fn signal_value(alloc: Global, signal: SignalView) -> Result<Value, AllocError> {
-    let name = name_text(signal.name);
-    let end = end_value(signal.end);
-    json!(in alloc; {"name": name, "end": end})
+    let mut map = Map::new(alloc);
+    put_text(alloc, &mut map, "name", name_text(signal.name))?;
+    put(&mut map, alloc, "end", end_value(signal.end))?;
+    Ok(Value::Object(map))
 }
 
 fn connection_value(alloc: Global, connection: ConnectionView) -> Result<Value, AllocError> {
-    let mode = name_text(connection.mode);
-    json!(in alloc; {"number": connection.number, "mode": mode})
+    let mut map = Map::new(alloc);
+    put_text(alloc, &mut map, "mode", name_text(connection.mode))?;
+    put(&mut map, alloc, "number", Value::from(connection.number))?;
+    Ok(Value::Object(map))
 }
 
 fn signals_value(alloc: Global, signals: &[SignalView]) -> Result<Value, AllocError> {
@@ -57,14 +57,14 @@ fn hook_word(is_off_hook: bool) -> &'static str {
 }
 
 fn line_value(alloc: Global, line: &LineView) -> Result<Value, AllocError> {
+    let mut map = Map::new(alloc);
+    put_text(alloc, &mut map, "hook", hook_word(line.is_off_hook))?;
+    put(&mut map, alloc, "lost", Value::from(line.lost))?;
     let signals = signals_value(alloc, line.signals.as_slice())?;
+    put(&mut map, alloc, "signals", signals)?;
     let connections = connections_value(alloc, line.connections.as_slice())?;
-    json!(in alloc; {
-        "hook": hook_word(line.is_off_hook),
-        "signals": signals,
-        "connections": connections,
-        "lost": line.lost
-    })
+    put(&mut map, alloc, "connections", connections)?;
+    Ok(Value::Object(map))
 }
 
 fn lines_value(alloc: Global, lines: &[LineView]) -> Result<Value, AllocError> {
@@ -78,8 +78,8 @@ fn lines_value(alloc: Global, lines: &[LineView]) -> Result<Value, AllocError> {
 fn commands_value(alloc: Global, commands: &[VerbCount]) -> Result<Value, AllocError> {
     let mut map = Map::new(alloc);
     for count in commands {
-        let verb = String::from_str(alloc, name_text(verb_word(count.verb)))?;
-        map.insert(verb, Value::from(count.number))?;
+        let verb = name_text(verb_word(count.verb));
+        put(&mut map, alloc, verb, Value::from(count.number))?;
     }
     Ok(Value::Object(map))
 }
@@ -93,39 +93,50 @@ fn answers_value(alloc: Global, answers: &[CodeCount]) -> Result<Value, AllocErr
     Ok(Value::Object(map))
 }
 
+// What was counted as one number.
+fn numbers_of(counts: &Counts) -> [(&'static str, u64); 14] {
+    [
+        ("datagrams_in", counts.datagrams_in),
+        ("datagrams_out", counts.datagrams_out),
+        ("responses", counts.responses),
+        ("unreadable", counts.unreadable),
+        ("answers_again", counts.answers_again),
+        ("notifications", counts.notifications),
+        ("notifications_again", counts.notifications_again),
+        ("announcements", counts.announcements),
+        ("announcements_again", counts.announcements_again),
+        ("given_up", counts.given_up),
+        ("refused", counts.refused),
+        ("receive_faults", counts.receive_faults),
+        ("send_faults", counts.send_faults),
+        ("transactions", counts.transactions),
+    ]
+}
+
 fn counts_value(alloc: Global, counts: &Counts) -> Result<Value, AllocError> {
+    let mut map = Map::new(alloc);
+    put_numbers(alloc, &mut map, &numbers_of(counts))?;
     let commands = commands_value(alloc, counts.commands.as_slice())?;
+    put(&mut map, alloc, "commands", commands)?;
     let answers = answers_value(alloc, counts.answers.as_slice())?;
-    json!(in alloc; {
-        "datagrams_in": counts.datagrams_in,
-        "datagrams_out": counts.datagrams_out,
-        "commands": commands,
-        "responses": counts.responses,
-        "unreadable": counts.unreadable,
-        "answers": answers,
-        "answers_again": counts.answers_again,
-        "notifications": counts.notifications,
-        "notifications_again": counts.notifications_again,
-        "announcements": counts.announcements,
-        "announcements_again": counts.announcements_again,
-        "given_up": counts.given_up,
-        "refused": counts.refused,
-        "receive_faults": counts.receive_faults,
-        "send_faults": counts.send_faults,
-        "transactions": counts.transactions
-    })
+    put(&mut map, alloc, "answers", answers)?;
+    Ok(Value::Object(map))
+}
+
+fn state_value(alloc: Global, picture: &Picture, version: u64) -> Result<Value, AllocError> {
+    let mut map = Map::new(alloc);
+    put(&mut map, alloc, "version", Value::from(version))?;
+    put(&mut map, alloc, "clock", Value::from(picture.clock))?;
+    put(&mut map, alloc, "lost", Value::from(picture.totals().lost))?;
+    let lines = lines_value(alloc, picture.lines.as_slice())?;
+    put(&mut map, alloc, "lines", lines)?;
+    let counts = counts_value(alloc, &picture.counts)?;
+    put(&mut map, alloc, "counts", counts)?;
+    Ok(Value::Object(map))
 }
 
 /// What the gateway is: its clock in ms, its lines from the first, and what was counted. `version` says which state is shown.
 pub fn state_text(alloc: Global, picture: &Picture, version: u64) -> Result<String, AllocError> {
-    let lines = lines_value(alloc, picture.lines.as_slice())?;
-    let counts = counts_value(alloc, &picture.counts)?;
-    let value = json!(in alloc; {
-        "version": version,
-        "clock": picture.clock,
-        "lost": picture.lost(),
-        "lines": lines,
-        "counts": counts
-    })?;
+    let value = state_value(alloc, picture, version)?;
     value.to_string(alloc)
 }

@@ -5,8 +5,9 @@ ghost use Rattle.serde_json.specs.Data.{string};
 ghost use Rattle.serde_json.specs.Find.{get};
 ghost use Rattle.serde_json.specs.View.{view};
 
+use crate::members::put_text;
 use crate::ring::{Happening, Kind, Ring};
-use serde_json::{Value, json};
+use serde_json::{Map, Value, put};
 use std::alloc::{AllocError, Global};
 
 // So many are told at once.
@@ -21,26 +22,37 @@ fn kind_word(kind: Kind) -> &'static str {
     }
 }
 
+// When something happened, what it was, and with whom.
+fn put_circumstances(
+    alloc: Global,
+    map: &mut Map<String, Value>,
+    happening: &Happening,
+) -> Result<(), AllocError> {
+    put(map, alloc, "n", Value::from(happening.number))?;
+    put(map, alloc, "at", Value::from(happening.moment))?;
+    put_text(alloc, map, "kind", kind_word(happening.kind))?;
+    let peer = happening.peer.to_string(alloc)?;
+    put(map, alloc, "peer", Value::String(peer))
+}
+
 // One that happened. Nothing of its text but hexadecimal digits is told.
 fn happening_value(alloc: Global, happening: &Happening) -> Result<Value, AllocError>
     ensures { IfOk result (λ value. get (codes "hex") (view value) ≡ Some (string (encode_lower happening.now.text.items))) }
 {
+    let mut map = Map::new(alloc);
+    put_circumstances(alloc, &mut map, happening)?;
     let hex = hex::encode(alloc, happening.text.as_slice())?;
-    let peer = happening.peer.to_string(alloc)?;
-    let hex = hex.as_str();
-    let peer = peer.as_str();
-    json!(in alloc; {
-        "n": happening.number,
-        "at": happening.moment,
-        "kind": kind_word(happening.kind),
-        "peer": peer,
-        "hex": hex
-    })
+    put(&mut map, alloc, "hex", Value::from(hex))?;
+    Ok(Value::Object(map))
 }
 
-// What is told of those behind a number, and the number of the last of them.
-fn told_after(alloc: Global, ring: &Ring, after: u64) -> Result<(Vec<Value>, u64), AllocError> {
-    let mut list = Vec::new(alloc);
+// Puts what is told of those behind a number. Gives the number of the last of them.
+fn put_told(
+    alloc: Global,
+    list: &mut Vec<Value>,
+    ring: &Ring,
+    after: u64,
+) -> Result<u64, AllocError> {
     let mut last = after.min(ring.last());
     for happening in ring.kept().iter() {
         if happening.number > after && list.len() < MOST_TOLD {
@@ -48,7 +60,7 @@ fn told_after(alloc: Global, ring: &Ring, after: u64) -> Result<(Vec<Value>, u64
             last = happening.number;
         }
     }
-    Ok((list, last))
+    Ok(last)
 }
 
 // The number of the oldest that is kept, or of the next.
@@ -57,6 +69,21 @@ fn first_of(ring: &Ring) -> u64 {
         Some(happening) => happening.number,
         None => ring.last().saturating_add(1),
     }
+}
+
+// What happened after a number, as far as it is told.
+fn put_events(
+    alloc: Global,
+    map: &mut Map<String, Value>,
+    ring: &Ring,
+    after: u64,
+) -> Result<(), AllocError> {
+    let mut list = Vec::new(alloc);
+    let next = put_told(alloc, &mut list, ring, after)?;
+    let more = next < ring.last() && !list.is_empty();
+    put(map, alloc, "events", Value::Array(list))?;
+    put(map, alloc, "next", Value::from(next))?;
+    put(map, alloc, "more", Value::from(more))
 }
 
 /// What happened after a number, oldest first: at most 128, and where to go on. `version` says which state is shown, `clock` is
@@ -68,16 +95,10 @@ pub fn events_text(
     version: u64,
     clock: u64,
 ) -> Result<String, AllocError> {
-    let (list, next) = told_after(alloc, ring, after)?;
-    let more = next < ring.last() && !list.is_empty();
-    let events = Value::Array(list);
-    let value = json!(in alloc; {
-        "version": version,
-        "clock": clock,
-        "first": first_of(ring),
-        "next": next,
-        "more": more,
-        "events": events
-    })?;
-    value.to_string(alloc)
+    let mut map = Map::new(alloc);
+    put(&mut map, alloc, "version", Value::from(version))?;
+    put(&mut map, alloc, "clock", Value::from(clock))?;
+    put(&mut map, alloc, "first", Value::from(first_of(ring)))?;
+    put_events(alloc, &mut map, ring, after)?;
+    Value::Object(map).to_string(alloc)
 }

@@ -3,9 +3,9 @@ use Rattle.std.specs.Prelude.{ℕ, Bool, ◌&&◌, ◌||◌, ◌==◌, nat_le, c
 use Rattle.serde_json.specs.Data.{Data}
 use Rattle.serde_json.specs.Find.{get, as_number, as_u64, as_str}
 use Rattle.mg_bytes.specs.Option.{◌>>=◌}
-use Rattle.live_page.specs.declared.act.PhoneAct.{PhoneAct}
-use Rattle.live_page.specs.declared.act.PhoneAct.TheVariants.{Off, On, Flash, Key}
-use Rattle.live_page.specs.declared.act.QueuedAct.{QueuedAct}
+use Rattle.page_answers.specs.declared.act.PhoneAct.{PhoneAct}
+use Rattle.page_answers.specs.declared.act.PhoneAct.TheVariants.{Off, On, Flash, Key}
+use Rattle.page_answers.specs.declared.act.QueuedAct.{QueuedAct}
 
 -- a digit, `*`, `#`, or A to D
 abbrev pub is_key : ℕ → Bool

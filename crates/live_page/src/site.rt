@@ -1,8 +1,9 @@
-//! The site: the page of the gateway, which browsers ask for over HTTP.
+//! The site: the socket at which browsers ask for the page, and whose turn it is.
+use crate::desk::Desk;
+use crate::visitor::Visitor;
 use live_ends::{MOST_VISITORS, Readiness};
-use live_page::{Desk, Standing, Visitors};
 use mio::net::{TcpListener, TcpStream};
-use std::alloc::{AllocError, Global};
+use std::alloc::Global;
 use std::hash::RandomState;
 use std::io;
 use std::net::{Net, SocketAddr, SocketAddrV4};
@@ -11,12 +12,11 @@ use std::random::RandomSource;
 /// The socket at which visitors come, and those that are there.
 #[derive(Drop)]
 pub struct Site {
+    alloc: Global,
     listener: TcpListener,
-    visitors: Visitors,
-    streams: Vec<Option<TcpStream>>,
-    // Whether somebody may have come, and which visitors have more to do at once.
+    places: Vec<Option<Box<Visitor>>>,
+    // Whether somebody may have come.
     may_accept: bool,
-    goes: [bool; MOST_VISITORS],
     // The place whose turn was last.
     last: usize,
 }
@@ -29,18 +29,17 @@ impl Site {
         address: SocketAddrV4,
         ready: &Readiness,
     ) -> io::Result<Site> {
+        let mut places = Vec::with_capacity(alloc, MOST_VISITORS)?;
+        for _ in 0..MOST_VISITORS {
+            places.push(None)?;
+        }
         let mut listener = TcpListener::bind(rt, SocketAddr::V4(address))?;
         ready.watch_listener(&mut listener)?;
-        let mut streams = Vec::with_capacity(alloc, MOST_VISITORS)?;
-        for _ in 0..MOST_VISITORS {
-            streams.push(None)?;
-        }
         Ok(Site {
+            alloc,
             listener,
-            visitors: Visitors::new(alloc)?,
-            streams,
+            places,
             may_accept: true,
-            goes: [false; MOST_VISITORS],
             last: 0,
         })
     }
@@ -50,9 +49,22 @@ impl Site {
         self.listener.local_addr()
     }
 
+    // The next place behind the last whose visitor has more to do.
+    fn next_place(&self) -> Option<usize> {
+        for step in 1..=MOST_VISITORS {
+            let place = (self.last % MOST_VISITORS + step) % MOST_VISITORS;
+            if let Some(Some(visitor)) = self.places.get(place) {
+                if visitor.has_turn {
+                    return Some(place);
+                }
+            }
+        }
+        None
+    }
+
     /// Whether a visitor has more to do at once.
     pub fn has_turn(&self) -> bool {
-        self.goes.contains(&true)
+        self.next_place().is_some()
     }
 
     /// Whether a visitor has, or somebody may have come.
@@ -62,25 +74,28 @@ impl Site {
 
     /// The moment at which somebody's time is over, in ms.
     pub fn next_deadline(&self) -> Option<u64> {
-        self.visitors.next_deadline()
-    }
-
-    fn close(&mut self, place: usize) {
-        self.visitors.close(place);
-        if let Some(stream) = self.streams.get_mut(place) {
-            *stream = None;
+        let mut next: Option<u64> = None;
+        for place in self.places.iter() {
+            if let Some(visitor) = place {
+                let deadline = visitor.deadline;
+                next = Some(match next {
+                    Some(earlier) => earlier.min(deadline),
+                    None => deadline,
+                });
+            }
         }
-        if let Some(goes) = self.goes.get_mut(place) {
-            *goes = false;
-        }
+        next
     }
 
     /// Those whose time is over go.
     pub fn close_late(&mut self, now: u64) {
-        for _ in 0..MOST_VISITORS {
-            match self.visitors.late(now) {
-                Some(place) => self.close(place),
-                None => return,
+        for place in self.places.iter_mut() {
+            let is_late = match place {
+                Some(visitor) => visitor.deadline <= now,
+                None => false,
+            };
+            if is_late {
+                *place = None;
             }
         }
     }
@@ -90,14 +105,21 @@ impl Site {
         self.may_accept = self.may_accept || ready.listener;
         ready.listener = false;
         for place in 0..MOST_VISITORS {
-            let visit = ready.visits[place];
-            if visit.is_readable || visit.is_writable {
-                self.visitors
-                    .ready(place, visit.is_readable, visit.is_writable);
-                self.goes[place] = true;
+            if let Some(Some(visitor)) = self.places.get_mut(place) {
+                visitor.note(ready.visits[place]);
             }
         }
         ready.forget_visits();
+    }
+
+    // A place at which nobody is.
+    fn free_place(&self) -> Option<usize> {
+        for place in 0..MOST_VISITORS {
+            if let Some(None) = self.places.get(place) {
+                return Some(place);
+            }
+        }
+        None
     }
 
     // Serves somebody who came, where there is a place; else the connection is closed.
@@ -108,16 +130,13 @@ impl Site {
         now: u64,
         mut stream: TcpStream,
     ) -> io::Result<()> {
-        let Some(place) = self.visitors.free() else {
+        let Some(place) = self.free_place() else {
             return Ok(());
         };
         ready.watch_visitor(&mut stream, place)?;
-        self.visitors.open(place, RandomState::new(rt)?, now)?;
-        if let Some(held) = self.streams.get_mut(place) {
-            *held = Some(stream);
-        }
-        if let Some(goes) = self.goes.get_mut(place) {
-            *goes = true;
+        let visitor = Visitor::new(self.alloc, stream, RandomState::new(rt)?, now)?;
+        if let Some(held) = self.places.get_mut(place) {
+            *held = Some(visitor);
         }
         Ok(())
     }
@@ -136,35 +155,21 @@ impl Site {
         }
     }
 
-    // The next place behind the last whose visitor has more to do.
-    fn next_place(&self) -> Option<usize> {
-        for step in 1..=MOST_VISITORS {
-            let place = (self.last % MOST_VISITORS + step) % MOST_VISITORS;
-            if self.goes[place] {
-                return Some(place);
-            }
-        }
-        None
-    }
-
     /// A turn of one visitor who has more to do, each in their turn.
     pub fn turn(&mut self, desk: &mut Desk, now: u64) {
         let Some(place) = self.next_place() else {
             return;
         };
         self.last = place;
-        let standing = match self.streams.get_mut(place) {
-            Some(Some(stream)) => self.visitors.turn(place, stream, desk, now),
-            _ => Standing::Gone,
+        let stays = match self.places.get_mut(place) {
+            Some(Some(visitor)) => visitor.turn(desk, now),
+            _ => true,
         };
-        match standing {
-            Standing::Goes => {}
-            Standing::Waits => {
-                if let Some(goes) = self.goes.get_mut(place) {
-                    *goes = false;
-                }
-            }
-            Standing::Gone => self.close(place),
+        if stays {
+            return;
+        }
+        if let Some(held) = self.places.get_mut(place) {
+            *held = None;
         }
     }
 }

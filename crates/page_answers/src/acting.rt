@@ -3,7 +3,7 @@ ghost use Rattle.std.specs.Prelude.{◌≡◌, IfOk, IfSome, Some};
 ghost use Rattle.serde_json.specs.Data.{Data};
 ghost use Rattle.serde_json.specs.Read.{read};
 ghost use Rattle.serde_json.specs.View.{view};
-ghost use Rattle.live_page.specs.Acting.{line_in as line_of, act_in as act_of, queued_in as queued_of};
+ghost use Rattle.page_answers.specs.Acting.{line_in as line_of, act_in as act_of, queued_in as queued_of};
 
 use crate::act::{PhoneAct, QueuedAct, act_named};
 use mg_bytes::OutOfMemory;
@@ -13,7 +13,7 @@ use std::alloc::{AllocError, Global};
 fn line_in(value: &Value) -> Option<u16>
     ensures { result ≡ line_of (view value.now) }
 {
-    let number = value.get("line").and_then(Value::as_u64)?;
+    let number = value.get("line")?.as_u64()?;
     if number < 1 || number > 65535 {
         return None;
     }
@@ -23,7 +23,7 @@ fn line_in(value: &Value) -> Option<u16>
 fn act_in(value: &Value) -> Option<PhoneAct>
     ensures { result ≡ act_of (view value.now) }
 {
-    let word = value.get("act").and_then(Value::as_str)?;
+    let word = value.get("act")?.as_str()?;
     act_named(word.as_bytes())
 }
 
@@ -37,7 +37,7 @@ fn queued_in(value: &Value) -> Option<QueuedAct>
 }
 
 /// What a body asks to be done: an object of JSON with a number `line` and a text `act`; `None` for any other.
-pub(crate) fn read_act(alloc: Global, body: &[u8]) -> Result<Option<QueuedAct>, OutOfMemory>
+pub fn read_act(alloc: Global, body: &[u8]) -> Result<Option<QueuedAct>, OutOfMemory>
     ensures { IfOk result (λ found. IfSome found (λ queued.
         (d : Data) × (read body.now ≡ Some d) × (queued_of d ≡ Some queued))) }
 {

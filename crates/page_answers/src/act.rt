@@ -1,6 +1,6 @@
 //! What is done at a telephone.
 ghost use Rattle.std.specs.Prelude.{◌≡◌, ◌++◌, OnOk, OnErr};
-ghost use Rattle.live_page.specs.Acting.{act_line as line_of_act, act_word as word_of_act, is_key as is_key_sign, key_named as key_of, act_named as act_of};
+ghost use Rattle.page_answers.specs.Acting.{act_line as line_of_act, act_word as word_of_act, is_key as is_key_sign, key_named as key_of, act_named as act_of};
 
 use mg_bytes::{OutOfMemory, put_decimal};
 use std::alloc::Global;

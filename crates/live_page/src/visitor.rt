@@ -1,0 +1,131 @@
+//! A visitor: a browser's connection, with the moment until which it is waited for.
+use crate::desk::Desk;
+use http_server::{Config, Connection};
+use http1::Limits;
+use live_ends::Visit;
+use mio::net::TcpStream;
+use std::alloc::{AllocError, Global};
+use std::hash::RandomState;
+use std::io;
+use std::io::ErrorKind;
+
+/// How long a visitor may take for a request and its answer, in ms, and be silent between them. One that is slower is dropped.
+pub const PATIENCE: u64 = 15_000;
+
+/// What is held of a visitor at most: a head of 8 KiB, a body of 1 KiB, and no request is read while 64 KiB wait to be sent.
+const LIMITS: Config = Config {
+    limits: Limits {
+        max_head_len: 8 * 1024,
+        max_extensions_len: 1024,
+        max_trailers_len: 1024,
+    },
+    max_body_len: 1024,
+    max_pending: 64 * 1024,
+    read_size: 2 * 1024,
+};
+
+/// A visitor.
+#[derive(Drop)]
+pub(crate) struct Visitor {
+    stream: TcpStream,
+    connection: Connection,
+    // Whether its socket may have something to read, and room to write.
+    may_read: bool,
+    may_write: bool,
+    /// The moment until which it is waited for, in ms.
+    pub(crate) deadline: u64,
+    /// Whether it has more to do at once.
+    pub(crate) has_turn: bool,
+}
+
+// Whether a fault of a socket says only that it isn't ready.
+fn is_waiting(fault: &io::Error) -> bool {
+    fault.kind() == ErrorKind::WouldBlock
+}
+
+impl Visitor {
+    /// Serves who came over this socket from now on. `keys` are secret (`RandomState::new`).
+    pub(crate) fn new(
+        alloc: Global,
+        stream: TcpStream,
+        keys: RandomState,
+        now: u64,
+    ) -> Result<Box<Visitor>, AllocError> {
+        let visitor = Box::new(
+            alloc,
+            Visitor {
+                stream,
+                connection: Connection::new(alloc, keys, LIMITS),
+                may_read: true,
+                may_write: true,
+                deadline: now.saturating_add(PATIENCE),
+                has_turn: true,
+            },
+        )?;
+        Ok(visitor)
+    }
+
+    /// Its socket can be read or written, as far as was told.
+    pub(crate) fn note(&mut self, visit: Visit) {
+        if visit.is_readable || visit.is_writable {
+            self.may_read = self.may_read || visit.is_readable;
+            self.may_write = self.may_write || visit.is_writable;
+            self.has_turn = true;
+        }
+    }
+
+    // Reads once, where there is something. Gives whether the visitor stays.
+    fn read(&mut self) -> bool {
+        if !self.may_read || !self.connection.wants_read() {
+            return true;
+        }
+        match self.connection.read_from(&mut self.stream) {
+            Ok(_) => true,
+            Err(fault) => {
+                self.may_read = false;
+                is_waiting(&fault)
+            }
+        }
+    }
+
+    // Writes once, where something waits. Gives whether the visitor stays.
+    fn write(&mut self, now: u64) -> bool {
+        if !self.may_write || !self.connection.wants_write() {
+            return true;
+        }
+        match self.connection.write_to(&mut self.stream) {
+            Ok(0) => false,
+            Ok(_) => {
+                if !self.connection.wants_write() {
+                    self.deadline = now.saturating_add(PATIENCE);
+                }
+                true
+            }
+            Err(fault) => {
+                self.may_write = false;
+                is_waiting(&fault)
+            }
+        }
+    }
+
+    // Whether it can be read or written once more.
+    fn has_more(&self) -> bool {
+        let reads = self.may_read && self.connection.wants_read();
+        let writes = self.may_write && self.connection.wants_write();
+        reads || writes
+    }
+
+    /// Reads once, answers what came, and writes once: whether the visitor stays.
+    pub(crate) fn turn(&mut self, desk: &mut Desk, now: u64) -> bool {
+        if !self.read() {
+            return false;
+        }
+        self.connection.advance(desk);
+        if !self.write(now) {
+            return false;
+        }
+        self.connection.advance(desk);
+        self.has_turn = self.has_more();
+        !self.connection.is_done()
+    }
+}
