@@ -4,12 +4,16 @@
 //! What goes over it is told to a journal, and shown on a page where that is asked for.
 #![tactic(auto)]
 
+mod boxing;
+mod ends;
 mod live_wire;
 mod outlets;
 mod passage;
 mod session;
 mod telephones;
 
-pub use crate::live_wire::{Ends, LiveWire};
+pub use crate::boxing::boxed;
+pub use crate::ends::Ends;
+pub use crate::live_wire::LiveWire;
 pub use crate::outlets::Outlets;
 pub use crate::session::{serve, write_records};

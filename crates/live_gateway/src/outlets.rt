@@ -1,7 +1,7 @@
 //! Where what happens is told besides the network: a capture's file, and the page.
 use crate::live_wire::LiveWire;
 use gateway_core::Gateway;
-use live_ends::CommandSocket;
+use live_ends::{CommandSocket, Readiness};
 use live_journal::{Faults, Journal, picture_of};
 use live_page::{Desk, Site};
 use std::alloc::Global;
@@ -13,7 +13,7 @@ use std::rt::Clock;
 #[derive(Drop)]
 pub struct Outlets<F> {
     pub capture: Option<F>,
-    pub site: Option<Site>,
+    pub site: Option<Box<Site>>,
 }
 
 /// The earlier of two moments.
@@ -48,25 +48,50 @@ fn show(alloc: Global, gateway: &Gateway, journal: &mut Journal, faults: Faults)
     }
 }
 
-/// A turn of the site: somebody is let in, one visitor is answered, and what the page asks for is asked.
+// A visitor is answered, and what the page asks for is asked.
+fn serve_visitor(
+    alloc: Global,
+    journal: &mut Journal,
+    telephones: &mut CommandSocket,
+    site: &mut Site,
+    now: u64,
+) {
+    if let Some(desk) = &mut journal.desk {
+        site.turn(desk, now);
+        ask(alloc, desk, telephones);
+    }
+}
+
+// What the system told of the site's sockets: somebody is let in, or goes.
+fn look<R: Net + RandomSource>(rt: &R, ready: &mut Readiness, site: &mut Site, now: u64) {
+    site.close_late(now);
+    site.look(ready);
+    site.accept(rt, ready, now);
+}
+
+/// A turn of the site, where there is one: somebody is let in, one visitor is answered, and what the page asks for is asked.
 pub fn serve_site<R: Net + Clock + RandomSource>(
     rt: &R,
     alloc: Global,
     gateway: &Gateway,
     wire: &mut LiveWire<'_, R>,
-    site: &mut Site,
+    site: &mut Option<Box<Site>>,
     faults: Faults,
 ) {
+    let Some(site) = site else {
+        return;
+    };
     let now = wire.ends.clock.ticked();
-    site.close_late(now);
-    site.look(&mut wire.ends.ready);
-    site.accept(rt, &wire.ends.ready, now);
+    look(rt, &mut wire.ends.ready, site, now);
     if site.has_turn() {
         show(alloc, gateway, &mut wire.journal, faults);
     }
-    if let Some(desk) = &mut wire.journal.desk {
-        site.turn(desk, now);
-        ask(alloc, desk, &mut wire.ends.telephones);
-    }
+    serve_visitor(
+        alloc,
+        &mut wire.journal,
+        &mut wire.ends.telephones,
+        site,
+        now,
+    );
     wire.ends.is_busy = site.is_busy();
 }

@@ -1,7 +1,7 @@
 //! The network that spoils what goes over a wire, where one is asked for.
 ghost use Rattle.std.specs.Prelude.{◌≡◌, ◌≤◌, length, IfSome};
 
-use crate::live_wire::Ends;
+use crate::ends::Ends;
 use bad_network::{Fate, Packet, Way};
 use gateway_core::WireFault;
 use std::net::{Net, SocketAddr, SocketAddrV4};
@@ -35,11 +35,6 @@ impl<'a, R: Net + Clock> Ends<'a, R> {
         }
     }
 
-    // Sends a datagram that the network hands over; one that can't be sent is lost.
-    fn send_off(&mut self, to: SocketAddrV4, bytes: &[u8]) {
-        let _ = self.socket.send_to(bytes, SocketAddr::V4(to));
-    }
-
     /// A datagram that the network hands to the gateway now, if there is one. Those that go out now are sent; one that can't be is lost.
     pub(crate) fn handed_over(&mut self, room: &mut [u8]) -> Option<(SocketAddrV4, usize)>
         ensures length { length room.new ≡ length room.old }
@@ -47,14 +42,12 @@ impl<'a, R: Net + Clock> Ends<'a, R> {
     {
         for _ in 0..u16::MAX {
             let packet = self.take_due()?;
-            let peer = packet.peer;
-            match packet.way {
-                Way::Out => self.send_off(peer, packet.bytes.as_bytes()),
-                Way::In => {
-                    self.late = packet.due.saturating_sub(packet.offered);
-                    return Some((peer, put_into(room, packet.bytes.as_bytes())));
-                }
+            if packet.way == Way::In {
+                self.late = packet.due.saturating_sub(packet.offered);
+                return Some((packet.peer, put_into(room, packet.bytes.as_bytes())));
             }
+            let to = SocketAddr::V4(packet.peer);
+            let _ = self.socket.send_to(packet.bytes.as_bytes(), to);
         }
         None
     }
@@ -74,13 +67,15 @@ impl<'a, R: Net + Clock> Ends<'a, R> {
         let Some(network) = &mut self.network else {
             return Some((source, len));
         };
-        match network.offer(Way::In, source, &room[..len], now) {
-            Ok(Fate::Once { .. }) | Ok(Fate::Twice { .. }) => self.handed_over(room),
-            Ok(Fate::Lost) | Err(_) => {
-                self.lost = Some((source, len));
-                None
-            }
+        let is_lost = match network.offer(Way::In, source, &room[..len], now) {
+            Ok(fate) => matches!(fate, Fate::Lost),
+            Err(_) => true,
+        };
+        if is_lost {
+            self.lost = Some((source, len));
+            return None;
         }
+        self.handed_over(room)
     }
 
     /// Sends a datagram at this moment, over the network where there is one, and gives what becomes of it.

@@ -1,10 +1,11 @@
 //! Serves a wire a turn at a time, and answers what is asked of the telephones between the turns.
 ghost use Rattle.std.specs.Prelude.{◌≤◌, ◌↔◌, IsTrue};
 
+use crate::ends::Ends;
 use crate::live_wire::LiveWire;
 use crate::outlets::{Outlets, earlier, serve_site};
 use crate::telephones::{TelephoneRequest, next_request};
-use gateway_core::{Gateway, Input, Refusal};
+use gateway_core::{Gateway, Input, Refusal, Served};
 use live_ends::CommandSocket;
 use live_journal::{Faults, Journal, MessageTally, Trace, TraceEntry, report};
 use live_page::Site;
@@ -13,6 +14,7 @@ use mg_line::Act;
 use mg_packages::Hook;
 use rgw_play::{put_line, put_refusal, status_of};
 use std::alloc::Global;
+use std::io;
 use std::net::Net;
 use std::random::RandomSource;
 use std::rt::{Clock, Files};
@@ -40,28 +42,43 @@ fn refusal_of(gateway: &Gateway, line: u16, act: Act) -> Refusal {
     if !is_line(gateway, line) {
         return Refusal::NoSuchLine;
     }
-    match (gateway.hook(line), act) {
-        (Hook::OnHook, Act::OffHook) => Refusal::OutOfMemory,
-        (Hook::OnHook, _) | (Hook::OffHook, Act::OffHook) => Refusal::PhoneState,
-        (Hook::OffHook, _) => Refusal::OutOfMemory,
-    }
-}
-
-// What a question for a line is answered.
-fn shown(alloc: Global, gateway: &Gateway, line: u16) -> Result<Vec<u8>, OutOfMemory> {
-    let mut text = Vec::new(alloc);
-    if is_line(gateway, line) {
-        put_line(alloc, &mut text, &status_of(gateway, line))?;
+    let is_on_hook = gateway.hook(line) == Hook::OnHook;
+    let is_lifted = matches!(act, Act::OffHook);
+    // What the hook state allows is refused for want of memory alone.
+    if is_on_hook == is_lifted {
+        Refusal::OutOfMemory
     } else {
-        put_refusal(alloc, &mut text, Refusal::NoSuchLine)?;
+        Refusal::PhoneState
     }
-    Ok(text)
 }
 
 fn refusal_text(alloc: Global, refusal: Refusal) -> Result<Vec<u8>, OutOfMemory> {
     let mut text = Vec::new(alloc);
     put_refusal(alloc, &mut text, refusal)?;
     Ok(text)
+}
+
+// What a question for a line is answered.
+fn shown(alloc: Global, gateway: &Gateway, line: u16) -> Result<Vec<u8>, OutOfMemory> {
+    if !is_line(gateway, line) {
+        return refusal_text(alloc, Refusal::NoSuchLine);
+    }
+    let mut text = Vec::new(alloc);
+    put_line(alloc, &mut text, &status_of(gateway, line))?;
+    Ok(text)
+}
+
+// Tells what an act came to, and answers its line with this text.
+fn answer_act(
+    telephones: &mut CommandSocket,
+    journal: &mut Journal,
+    moment: u64,
+    told: TraceEntry<'_>,
+    text: &[u8],
+) {
+    journal.trace.tell(told);
+    journal.answered(moment, text);
+    telephones.answer(text);
 }
 
 // The gateway refused an act: the telephone is told why.
@@ -73,23 +90,32 @@ fn refuse_act(
     refusal: Refusal,
 ) {
     if refusal == Refusal::OutOfMemory {
-        journal.trace.refused();
-        journal.answered(moment, OUT_OF_MEMORY);
-        telephones.answer(OUT_OF_MEMORY);
-        return;
+        return answer_act(
+            telephones,
+            journal,
+            moment,
+            TraceEntry::Refused,
+            OUT_OF_MEMORY,
+        );
     }
     match refusal_text(alloc, refusal) {
         Ok(text) => {
             let text = text.as_slice();
-            journal.trace.tell(TraceEntry::Shown { text });
-            journal.answered(moment, text);
-            telephones.answer(text);
+            answer_act(
+                telephones,
+                journal,
+                moment,
+                TraceEntry::Shown { text },
+                text,
+            );
         }
-        Err(_) => {
-            journal.trace.tell(TraceEntry::Taken);
-            journal.answered(moment, OUT_OF_MEMORY);
-            telephones.answer(OUT_OF_MEMORY);
-        }
+        Err(_) => answer_act(
+            telephones,
+            journal,
+            moment,
+            TraceEntry::Taken,
+            OUT_OF_MEMORY,
+        ),
     }
 }
 
@@ -154,28 +180,34 @@ fn answer_questions(
     false
 }
 
-impl<'a, R: Net + Clock> LiveWire<'a, R> {
-    // A turn is over, which was refused or not.
-    fn settle(&mut self, alloc: Global, gateway: &Gateway, is_refused: bool) {
-        self.ends.clock.set(gateway.now());
-        match (self.journal.given, is_refused) {
-            (Some(Input::Phone { line, act }), true) => {
-                let refusal = refusal_of(gateway, line, act);
-                let telephones = &mut self.ends.telephones;
-                refuse_act(alloc, telephones, &mut self.journal, gateway.now(), refusal);
-            }
-            (Some(Input::Phone { .. }), false) => {
-                self.journal.trace.tell(TraceEntry::Taken);
-                self.journal.answered(gateway.now(), DONE);
-                self.ends.telephones.answer(DONE);
-            }
-            (Some(Input::Datagram { .. }), false) => {
-                self.journal.trace.tell(TraceEntry::Taken);
-                self.journal.tally.heard(gateway.now(), gateway.outcomes());
-            }
-            (_, true) => self.journal.trace.refused(),
-            (_, false) => self.journal.trace.tell(TraceEntry::Taken),
+// A turn is over, which the gateway refused.
+fn settle_refusal(
+    alloc: Global,
+    gateway: &Gateway,
+    telephones: &mut CommandSocket,
+    journal: &mut Journal,
+) {
+    match journal.given {
+        Some(Input::Phone { line, act }) => {
+            let refusal = refusal_of(gateway, line, act);
+            refuse_act(alloc, telephones, journal, gateway.now(), refusal);
         }
+        _ => journal.trace.tell(TraceEntry::Refused),
+    }
+}
+
+// A turn is over, whose input the gateway took.
+fn settle(gateway: &Gateway, telephones: &mut CommandSocket, journal: &mut Journal) {
+    let moment = gateway.now();
+    match journal.given {
+        Some(Input::Phone { .. }) => {
+            answer_act(telephones, journal, moment, TraceEntry::Taken, DONE);
+        }
+        Some(Input::Datagram { .. }) => {
+            journal.trace.tell(TraceEntry::Taken);
+            journal.tally.heard(moment, gateway.outcomes());
+        }
+        _ => journal.trace.tell(TraceEntry::Taken),
     }
 }
 
@@ -185,7 +217,7 @@ pub fn write_records<R: Files + Print + Eprint>(
     journal: &mut Journal,
     capture: &mut Option<R::File>,
 ) {
-    journal.trace.write(rt);
+    journal.trace.record.write(&mut io::writer(rt));
     journal.log.write(rt);
     if let Some(file) = capture {
         journal.capture.record.write(file);
@@ -193,11 +225,64 @@ pub fn write_records<R: Files + Print + Eprint>(
 }
 
 // The moment at which something falls due next, at the gateway or its site.
-fn next_due(gateway: &Gateway, site: &Option<Site>) -> Option<u64> {
+fn next_due(gateway: &Gateway, site: &Option<Box<Site>>) -> Option<u64> {
     match site {
         Some(site) => earlier(gateway.next_due(), site.next_deadline()),
         None => gateway.next_due(),
     }
+}
+
+// Settles a turn, and answers what was asked meanwhile: whether the gateway is to end.
+fn settle_turn(
+    alloc: Global,
+    gateway: &Gateway,
+    telephones: &mut CommandSocket,
+    journal: &mut Journal,
+    faults: Faults,
+    is_refused: bool,
+) -> bool {
+    if is_refused {
+        settle_refusal(alloc, gateway, telephones, journal);
+    } else {
+        settle(gateway, telephones, journal);
+    }
+    let is_over = answer_questions(alloc, gateway, telephones, journal, faults);
+    journal.log.explain(&gateway.setup().names);
+    is_over
+}
+
+// Ends a turn at these ends.
+fn end_turn<R: Net + Clock>(
+    alloc: Global,
+    gateway: &Gateway,
+    ends: &mut Ends<'_, R>,
+    journal: &mut Journal,
+    faults: Faults,
+    is_refused: bool,
+) {
+    ends.clock.set(gateway.now());
+    if settle_turn(
+        alloc,
+        gateway,
+        &mut ends.telephones,
+        journal,
+        faults,
+        is_refused,
+    ) {
+        ends.stop();
+    }
+}
+
+// Gives the gateway a turn, before which what was recorded is written.
+fn serve_turn<R: Files + Net + Clock + Print + Eprint>(
+    rt: &R,
+    gateway: &mut Gateway,
+    wire: &mut LiveWire<'_, R>,
+    outlets: &mut Outlets<R::File>,
+) -> Served {
+    write_records(rt, &mut wire.journal, &mut outlets.capture);
+    wire.ends.due = next_due(gateway, &outlets.site);
+    gateway.serve(wire, 1)
 }
 
 /// Serves the wire until its end comes, and gives how often something failed. What happens is told by these outlets too.
@@ -210,28 +295,21 @@ pub fn serve<R: Files + Net + Clock + RandomSource + Print + Eprint>(
 ) -> Faults {
     let mut faults = Faults::NONE;
     for _ in 0..u64::MAX {
-        wire.ends.due = next_due(gateway, &outlets.site);
-        let served = gateway.serve(wire, 1);
+        let served = serve_turn(rt, gateway, wire, outlets);
         faults.add(served);
         if served.ended {
             return faults;
         }
-        wire.settle(alloc, gateway, served.refused > 0);
-        let ends = &mut wire.ends;
-        if answer_questions(
+        let is_refused = served.refused > 0;
+        end_turn(
             alloc,
             gateway,
-            &mut ends.telephones,
+            &mut wire.ends,
             &mut wire.journal,
             faults,
-        ) {
-            ends.stop();
-        }
-        wire.journal.log.explain(&gateway.setup().names);
-        if let Some(site) = &mut outlets.site {
-            serve_site(rt, alloc, gateway, wire, site, faults);
-        }
-        write_records(rt, &mut wire.journal, &mut outlets.capture);
+            is_refused,
+        );
+        serve_site(rt, alloc, gateway, wire, &mut outlets.site, faults);
     }
     faults
 }

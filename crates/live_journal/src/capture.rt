@@ -1,5 +1,6 @@
 //! The capture of a gateway: each datagram that comes or is sent, as tshark and Wireshark read it.
 use captures::{Packet, put_head, put_packet};
+use exchange_log::Way;
 use live_ends::Record;
 use std::alloc::Global;
 use std::net::SocketAddrV4;
@@ -27,10 +28,15 @@ impl Capture {
         }
     }
 
-    fn put(&mut self, moment: u64, from: SocketAddrV4, to: SocketAddrV4, bytes: &[u8]) {
+    /// A datagram goes this way between the gateway and its peer at this moment, in microseconds since 1970.
+    pub fn pass(&mut self, moment: u64, way: Way, peer: SocketAddrV4, bytes: &[u8]) {
         if !self.record.is_on() {
             return;
         }
+        let (from, to) = match way {
+            Way::Came => (peer, self.here),
+            Way::Sent => (self.here, peer),
+        };
         let packet = Packet {
             moment,
             from,
@@ -40,15 +46,5 @@ impl Capture {
         if put_packet(self.alloc, &mut self.record.out, &packet).is_err() {
             self.record.refuse();
         }
-    }
-
-    /// A datagram came at this moment, in microseconds since 1970.
-    pub fn came(&mut self, moment: u64, source: SocketAddrV4, bytes: &[u8]) {
-        self.put(moment, source, self.here, bytes);
-    }
-
-    /// A datagram is sent at this moment, in microseconds since 1970.
-    pub fn sent(&mut self, moment: u64, to: SocketAddrV4, bytes: &[u8]) {
-        self.put(moment, self.here, to, bytes);
     }
 }

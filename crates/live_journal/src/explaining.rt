@@ -55,22 +55,18 @@ impl Log {
         }
     }
 
-    fn explain_read(
-        &mut self,
-        names: &Names,
-        read: &Result<Message<'_>, TextFault>,
-    ) -> Result<(), OutOfMemory> {
-        match read {
-            Ok(said) => self.explain_command(names, said),
-            Err(TextFault::BadVersion { id }) => self.note_refused(*id),
-            Err(TextFault::BadBody { id }) => self.note_refused(*id),
-            Err(_) => Ok(()),
+    fn explain_fault(&mut self, fault: &TextFault) -> Result<(), OutOfMemory> {
+        match fault {
+            TextFault::BadVersion { id } | TextFault::BadBody { id } => self.note_refused(*id),
+            _ => Ok(()),
         }
     }
 
     fn explain_text(&mut self, names: &Names, text: &[u8]) -> Result<(), OutOfMemory> {
-        let read = read_message(self.alloc, text);
-        self.explain_read(names, &read)
+        match read_message(self.alloc, text) {
+            Ok(said) => self.explain_command(names, &said),
+            Err(fault) => self.explain_fault(&fault),
+        }
     }
 
     fn explain_all(&mut self, names: &Names, bytes: &[u8]) -> Result<(), OutOfMemory> {

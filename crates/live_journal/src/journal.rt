@@ -3,33 +3,31 @@ use crate::capture::Capture;
 use crate::log::Log;
 use crate::message_tally::MessageTally;
 use crate::trace::{Trace, TraceEntry};
+use exchange_log::Way;
 use gateway_core::Input;
 use live_ends::Now;
 use live_page::Desk;
 use page_answers::Kind;
 use std::net::{Ipv4Addr, SocketAddrV4};
 
-/// The journal of a wire.
+/// The journal of a wire. What is large stands in boxes.
 #[derive(Drop)]
 pub struct Journal {
-    pub tally: MessageTally,
-    pub trace: Trace,
-    pub log: Log,
-    pub capture: Capture,
+    pub tally: Box<MessageTally>,
+    pub trace: Box<Trace>,
+    pub log: Box<Log>,
+    pub capture: Box<Capture>,
     /// What the page is shown, where there is one.
-    pub desk: Option<Desk>,
+    pub desk: Option<Box<Desk>>,
     /// What was given at this turn.
     pub given: Option<Input>,
 }
 
-// Where nothing of the network is meant.
-fn nowhere() -> SocketAddrV4 {
-    SocketAddrV4::new(Ipv4Addr::UNSPECIFIED, 0)
-}
-
 impl Journal {
-    fn show(&mut self, moment: u64, kind: Kind, peer: SocketAddrV4, text: &[u8]) {
+    // Shows the page what happened, and with whom on the network, if with anybody there.
+    fn show(&mut self, moment: u64, kind: Kind, peer: Option<SocketAddrV4>, text: &[u8]) {
         if let Some(desk) = &mut self.desk {
+            let peer = peer.unwrap_or(SocketAddrV4::new(Ipv4Addr::UNSPECIFIED, 0));
             desk.note(moment, kind, peer, text);
         }
     }
@@ -37,12 +35,12 @@ impl Journal {
     /// A line of the telephones is given to the gateway.
     pub fn act(&mut self, now: Now, line: &[u8]) {
         self.trace.tell(TraceEntry::Line { line });
-        self.show(now.clock, Kind::Act, nowhere(), line);
+        self.show(now.clock, Kind::Act, None, line);
     }
 
     /// The line of the telephones that was given is answered.
     pub fn answered(&mut self, moment: u64, text: &[u8]) {
-        self.show(moment, Kind::Told, nowhere(), text);
+        self.show(moment, Kind::Told, None, text);
     }
 
     /// A datagram is given to the gateway.
@@ -50,8 +48,8 @@ impl Journal {
         self.tally.received();
         self.trace.tell(TraceEntry::Datagram { source, bytes });
         self.log.receive(now, source, bytes);
-        self.capture.came(now.time, source, bytes);
-        self.show(now.clock, Kind::Received, source, bytes);
+        self.capture.pass(now.time, Way::Came, source, bytes);
+        self.show(now.clock, Kind::Received, Some(source), bytes);
     }
 
     /// A datagram is sent.
@@ -59,7 +57,7 @@ impl Journal {
         self.tally.sent(now.clock, bytes);
         self.trace.tell(TraceEntry::Sent { to, bytes });
         self.log.send(now, to, bytes);
-        self.capture.sent(now.time, to, bytes);
-        self.show(now.clock, Kind::Sent, to, bytes);
+        self.capture.pass(now.time, Way::Sent, to, bytes);
+        self.show(now.clock, Kind::Sent, Some(to), bytes);
     }
 }

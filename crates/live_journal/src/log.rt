@@ -52,11 +52,6 @@ pub struct Log {
     pub refused: Vec<Refusal>,
 }
 
-// Whether what was read is no message.
-fn is_unreadable(read: &Result<Message<'_>, TextFault>) -> bool {
-    matches!(read, Err(TextFault::NoHeader))
-}
-
 impl Log {
     /// A log of which nothing is told yet.
     pub fn new(alloc: Global, is_on: bool) -> Result<Log, OutOfMemory> {
@@ -74,37 +69,34 @@ impl Log {
         })
     }
 
-    // A response to the gateway's own command came at this time: how long that waited for it, in ms.
-    fn hear(&mut self, time: u64, id: TransactionId, code: u16) -> Option<u64> {
-        let own = self.own.get_mut(&line_of_id(id))?;
+    // A message came at this time: how long the gateway's own command waited that it answers, if it answers one, in ms.
+    fn waited(&mut self, time: u64, said: &Message<'_>) -> Option<u64> {
+        let Message::Response { code, id, .. } = said else {
+            return None;
+        };
+        let own = self.own.get_mut(&line_of_id(*id))?;
         if own.id != id.number() {
             return None;
         }
-        if code >= LEAST_FINAL {
+        if *code >= LEAST_FINAL {
             own.is_answered = true;
         }
         Some(time.saturating_sub(own.first) / MICROSECONDS)
     }
 
-    // How long the gateway's own command waited that this answers, if it answers one, in ms.
-    fn waited(&mut self, now: Now, read: &Result<Message<'_>, TextFault>) -> Option<u64> {
-        match read {
-            Ok(Message::Response { code, id, .. }) => self.hear(now.time, *id, *code),
-            Ok(Message::Command { .. }) | Err(_) => None,
-        }
-    }
-
     fn text_came(&mut self, now: Now, text: &[u8]) -> Result<(), OutOfMemory> {
-        let read = read_message(self.alloc, text);
-        if is_unreadable(&read) {
-            return put_note(
-                self.alloc,
-                &mut self.record.out,
-                self.came,
-                Note::Unreadable,
-            );
-        }
-        let waited = self.waited(now, &read);
+        let waited = match read_message(self.alloc, text) {
+            Ok(said) => self.waited(now.time, &said),
+            Err(TextFault::NoHeader) => {
+                return put_note(
+                    self.alloc,
+                    &mut self.record.out,
+                    self.came,
+                    Note::Unreadable,
+                );
+            }
+            Err(_) => None,
+        };
         put_message(
             self.alloc,
             &mut self.record.out,
@@ -189,13 +181,6 @@ impl Log {
         }
     }
 
-    fn is_sent_again(&self, line: u16, id: TransactionId) -> bool {
-        match self.own.get(&line) {
-            Some(own) => own.id == id.number(),
-            None => false,
-        }
-    }
-
     // A command of the gateway's own is sent.
     fn own_sent(
         &mut self,
@@ -205,7 +190,9 @@ impl Log {
         text: &[u8],
     ) -> Result<(), OutOfMemory> {
         let line = line_of_id(id);
-        if self.is_sent_again(line, id) {
+        if let Some(own) = self.own.get(&line)
+            && own.id == id.number()
+        {
             return put_note(self.alloc, &mut self.record.out, to, Note::SentAgain(id));
         }
         self.give_up(to, line)?;
@@ -224,25 +211,26 @@ impl Log {
         &mut self,
         now: Now,
         to: Stamp,
-        read: &Result<Message<'_>, TextFault>,
+        said: &Message<'_>,
         text: &[u8],
     ) -> Result<(), OutOfMemory> {
-        match read {
-            Ok(Message::Response { code, id, .. }) => {
+        match said {
+            Message::Response { code, id, .. } => {
                 let refusal = Refusal {
                     id: *id,
                     code: *code,
                 };
                 self.answer_sent(now, to, refusal, text)
             }
-            Ok(Message::Command { id, .. }) => self.own_sent(now, to, *id, text),
-            Err(_) => Err(AllocError),
+            Message::Command { id, .. } => self.own_sent(now, to, *id, text),
         }
     }
 
     fn text_sent(&mut self, now: Now, to: Stamp, text: &[u8]) -> Result<(), OutOfMemory> {
-        let read = read_message(self.alloc, text);
-        self.message_sent(now, to, &read, text)
+        match read_message(self.alloc, text) {
+            Ok(said) => self.message_sent(now, to, &said, text),
+            Err(_) => Err(AllocError),
+        }
     }
 
     fn datagram_sent(&mut self, now: Now, to: Stamp, bytes: &[u8]) -> Result<(), OutOfMemory> {

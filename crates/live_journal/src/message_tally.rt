@@ -4,14 +4,9 @@ ghost use Rattle.live_journal.specs.Counting.{counts_in, with_texts};
 
 use crate::own_counts::OwnCounts;
 use crate::recent::Recent;
-use crate::text_counts::TextCounts;
+use crate::text_counts::{TextCounts, count};
 use gateway_core::{Reply, TextOutcome};
 use std::alloc::{AllocError, Global};
-
-/// The words of the verbs, in the order of their counts (RFC 3435, 3.2.1.1).
-pub const VERB_WORDS: [&str; 10] = [
-    "EPCF", "RQNT", "NTFY", "CRCX", "MDCX", "DLCX", "AUEP", "AUCX", "RSIP", "other",
-];
 
 /// What was counted.
 #[derive(Drop)]
@@ -24,7 +19,8 @@ pub struct MessageTally {
     pub texts: TextCounts,
     /// The commands of the gateway's own.
     pub own: OwnCounts,
-    answered: Recent,
+    // The commands that were answered lately.
+    pub(crate) answered: Recent,
 }
 
 // Remembers the commands that were answered now for the first time.
@@ -53,16 +49,11 @@ impl MessageTally {
         })
     }
 
-    /// How many transactions are younger than half a minute.
-    pub fn transactions(&self, moment: u64) -> u64 {
-        self.answered.held(moment)
-    }
-
     /// A datagram came.
     pub fn received(&mut self)
         ensures { self.new.texts ≡ self.old.texts }
     {
-        self.datagrams_in = self.datagrams_in.saturating_add(1);
+        count(&mut self.datagrams_in);
     }
 
     /// The gateway took an event whose texts were these, and answered them.
@@ -77,7 +68,7 @@ impl MessageTally {
     pub fn sent(&mut self, moment: u64, bytes: &[u8])
         ensures { self.new.texts ≡ self.old.texts }
     {
-        self.datagrams_out = self.datagrams_out.saturating_add(1);
+        count(&mut self.datagrams_out);
         self.own.add(moment, bytes);
     }
 }

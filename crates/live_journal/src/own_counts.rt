@@ -1,6 +1,7 @@
 //! Counts the commands of the gateway's own that are sent. A count stays at its greatest value.
 
 use crate::recent::Recent;
+use crate::text_counts::count;
 use mg_bytes::same_no_case;
 use mgcp_text::{Message, Param, Verb, param_at, read_message};
 use piggyback::parts;
@@ -21,10 +22,6 @@ pub struct OwnCounts {
     /// Lines that announced themselves since nobody answered.
     pub given_up: u64,
     asked: Recent,
-}
-
-fn count(number: &mut u64) {
-    *number = number.saturating_add(1);
 }
 
 // Whether an announcement says that its line had lost its agent (RFC 3435, 2.3.12).
@@ -64,24 +61,21 @@ impl OwnCounts {
         }
     }
 
-    fn add_announcement(&mut self, is_repeat: bool, params: &[Param<'_>]) {
+    // A message of the gateway's own is sent.
+    fn add_message(&mut self, moment: u64, message: &Message<'_>) {
+        let Message::Command { verb, id, .. } = message else {
+            return;
+        };
+        let id = *id;
+        let is_repeat = self.asked.is_repeat(moment, id.number());
+        if matches!(verb, Verb::Ntfy) {
+            return self.add_notification(is_repeat);
+        }
         count(&mut self.announcements);
         if is_repeat {
             count(&mut self.announcements_again);
-        } else if is_disconnected(params) {
+        } else if is_disconnected(message.params()) {
             count(&mut self.given_up);
-        }
-    }
-
-    // A message of the gateway's own is sent.
-    fn add_message(&mut self, moment: u64, message: &Message<'_>) {
-        if let Message::Command { verb, id, .. } = message {
-            let id = *id;
-            let is_repeat = self.asked.is_repeat(moment, id.number());
-            match verb {
-                Verb::Ntfy => self.add_notification(is_repeat),
-                _ => self.add_announcement(is_repeat, message.params()),
-            }
         }
     }
 

@@ -90,7 +90,7 @@ fn put_counts(
     counts.announcements = tally.own.announcements;
     counts.announcements_again = tally.own.announcements_again;
     counts.given_up = tally.own.given_up;
-    counts.transactions = tally.transactions(picture.clock);
+    counts.transactions = tally.answered.held(picture.clock);
     counts.refused = faults.refused;
     counts.receive_faults = faults.receive;
     counts.send_faults = faults.send;

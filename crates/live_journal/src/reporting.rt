@@ -1,7 +1,14 @@
 //! What is told at the end: counts, one kind a line.
-use crate::message_tally::{MessageTally, VERB_WORDS};
+use crate::message_tally::MessageTally;
 use gateway_core::{Gateway, Served};
+use mg_bytes::put_decimal;
 use std::alloc::{AllocError, Global};
+
+// The words of the verbs, in the order of their counts (RFC 3435, 3.2.1.1).
+const VERB_WORDS: [&str; 10] = [
+    " EPCF ", " RQNT ", " NTFY ", " CRCX ", " MDCX ", " DLCX ", " AUEP ", " AUCX ", " RSIP ",
+    " other ",
+];
 
 /// How often a turn failed. A count stays at its greatest value.
 #[derive(Clone, Copy)]
@@ -39,27 +46,53 @@ fn lost_of(gateway: &Gateway) -> u64 {
     lost
 }
 
+// A number, with what stands before it.
+fn put_number(
+    alloc: Global,
+    text: &mut Vec<u8>,
+    before: &str,
+    number: u64,
+) -> Result<(), AllocError> {
+    text.extend_from_slice(before.as_bytes())?;
+    put_decimal(alloc, text, number)
+}
+
 // Each number, with what stands before it.
-fn put_numbers(text: &mut String, numbers: &[(&str, u64)]) -> Result<(), AllocError> {
+fn put_numbers(
+    alloc: Global,
+    text: &mut Vec<u8>,
+    numbers: &[(&str, u64)],
+) -> Result<(), AllocError> {
     for (before, number) in numbers {
-        write!(text, "{before}{number}")?;
+        put_number(alloc, text, *before, *number)?;
     }
     Ok(())
 }
 
-fn put_commands(text: &mut String, tally: &MessageTally) -> Result<(), AllocError> {
-    text.push_str("\ncommands")?;
+fn put_commands(alloc: Global, text: &mut Vec<u8>, tally: &MessageTally) -> Result<(), AllocError> {
+    text.extend_from_slice(b"\ncommands")?;
     for (word, number) in VERB_WORDS.iter().zip(tally.texts.commands.iter()) {
-        write!(text, " {word} {number}")?;
+        put_number(alloc, text, *word, *number)?;
     }
     Ok(())
 }
 
-fn put_answers(text: &mut String, tally: &MessageTally) -> Result<(), AllocError> {
-    text.push_str("\nanswers")?;
+// The three digits of a return code (RFC 3435, 2.4).
+fn code_digits(code: usize) -> [u8; 3] {
+    [
+        b'0' + (code / 100 % 10) as u8,
+        b'0' + (code / 10 % 10) as u8,
+        b'0' + (code % 10) as u8,
+    ]
+}
+
+fn put_answers(alloc: Global, text: &mut Vec<u8>, tally: &MessageTally) -> Result<(), AllocError> {
+    text.extend_from_slice(b"\nanswers")?;
     for (code, number) in tally.texts.answers.iter().enumerate() {
         if *number > 0 {
-            write!(text, " {code:03} {number}")?;
+            text.extend_from_slice(b" ")?;
+            text.extend_from_slice(&code_digits(code))?;
+            put_number(alloc, text, " ", *number)?;
         }
     }
     Ok(())
@@ -67,12 +100,14 @@ fn put_answers(text: &mut String, tally: &MessageTally) -> Result<(), AllocError
 
 // What is told behind the answers.
 fn put_others(
-    text: &mut String,
+    alloc: Global,
+    text: &mut Vec<u8>,
     tally: &MessageTally,
     lost: u64,
     faults: Faults,
 ) -> Result<(), AllocError> {
     put_numbers(
+        alloc,
         text,
         &[
             (" repeated ", tally.texts.again),
@@ -89,6 +124,14 @@ fn put_others(
     )
 }
 
+// All of it is ASCII.
+fn text_of(bytes: Vec<u8>) -> Result<String, AllocError> {
+    match String::from_utf8(bytes) {
+        Ok(text) => Ok(text),
+        Err(_) => Err(AllocError),
+    }
+}
+
 /// The counts as text.
 pub fn report(
     alloc: Global,
@@ -96,24 +139,26 @@ pub fn report(
     tally: &MessageTally,
     faults: Faults,
 ) -> Result<String, AllocError> {
-    let mut text = String::new(alloc);
+    let mut text = Vec::new(alloc);
     put_numbers(
+        alloc,
         &mut text,
         &[
             ("datagrams in ", tally.datagrams_in),
             (" out ", tally.datagrams_out),
         ],
     )?;
-    put_commands(&mut text, tally)?;
+    put_commands(alloc, &mut text, tally)?;
     put_numbers(
+        alloc,
         &mut text,
         &[
             ("\nresponses ", tally.texts.responses),
             (" no message ", tally.texts.others),
         ],
     )?;
-    put_answers(&mut text, tally)?;
-    put_others(&mut text, tally, lost_of(gateway), faults)?;
-    text.push_str("\n")?;
-    Ok(text)
+    put_answers(alloc, &mut text, tally)?;
+    put_others(alloc, &mut text, tally, lost_of(gateway), faults)?;
+    text.extend_from_slice(b"\n")?;
+    text_of(text)
 }

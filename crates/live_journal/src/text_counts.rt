@@ -25,7 +25,8 @@ pub struct TextCounts {
     pub again: u64,
 }
 
-fn count(number: &mut u64)
+/// One more.
+pub(crate) fn count(number: &mut u64)
     ensures { number.new ≡ counted number.old 1 }
 {
     *number = number.saturating_add(1);

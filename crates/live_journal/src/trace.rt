@@ -2,12 +2,9 @@
 //!
 //! A line that is printed has the mark `| ` in front; a datagram that goes out has its address there, and no moment.
 //! Ticks at which nothing was sent are told together.
-ghost use Rattle.std.specs.Prelude.{◌<◌};
-
-use live_ends::{LONGEST_TICK, Record, RecordState};
+use live_ends::{LONGEST_TICK, Record};
 use mg_bytes::{OutOfMemory, lines, put_decimal};
 use std::alloc::Global;
-use std::io;
 use std::net::SocketAddrV4;
 
 const MARK: &[u8] = b"| ";
@@ -29,7 +26,7 @@ enum Pending {
 #[derive(Drop)]
 pub struct Trace {
     alloc: Global,
-    record: Record,
+    pub record: Record,
     pending: Pending,
     // The lines of the input that is pending.
     lines: Vec<u8>,
@@ -54,8 +51,14 @@ pub enum TraceEntry<'a> {
     Line {
         line: &'a [u8],
     },
+    /// A tick to this moment is given to the gateway.
+    Tick {
+        moment: u64,
+    },
     /// The gateway took what it was given, and has sent all that it sends.
     Taken,
+    /// It refused what it was given, for want of memory.
+    Refused,
     /// The gateway sends a datagram.
     Sent {
         to: SocketAddrV4,
@@ -88,15 +91,11 @@ fn put_address(
     put_pieces(out, &[before, text.as_bytes(), after])
 }
 
-fn hex_digit(value: u8) -> u8
-    requires { value < 16 }
-{
-    HEX_DIGITS[usize::from(value)]
-}
-
 fn put_hex(out: &mut Vec<u8>, bytes: &[u8]) -> Result<(), OutOfMemory> {
     for byte in bytes {
-        out.extend_from_slice(&[hex_digit(*byte / 16), hex_digit(*byte % 16)])?;
+        let high = HEX_DIGITS[usize::from(*byte / 16)];
+        let low = HEX_DIGITS[usize::from(*byte % 16)];
+        out.extend_from_slice(&[high, low])?;
     }
     Ok(())
 }
@@ -137,11 +136,6 @@ impl Trace {
         }
     }
 
-    /// How it stands.
-    pub fn state(&self) -> RecordState {
-        self.record.state()
-    }
-
     // The script's clock goes to the gateway's.
     fn tell_clock(&mut self) -> Result<(), OutOfMemory> {
         if self.told == self.clock {
@@ -162,15 +156,19 @@ impl Trace {
         Ok(())
     }
 
-    // The input of this turn is told, and the moment at which it came.
-    fn tell_input(&mut self) -> Result<(), OutOfMemory> {
+    // The input of this turn is told, and the moment at which it came. A tick by which nothing follows may be told later,
+    // with those behind it.
+    fn tell_input(&mut self, is_followed: bool) -> Result<(), OutOfMemory> {
         let pending = self.pending;
         self.pending = Pending::Nothing;
         match pending {
             Pending::Nothing => Ok(()),
             Pending::Tick { moment } => {
                 self.pass(moment)?;
-                self.tell_clock()
+                if is_followed {
+                    return self.tell_clock();
+                }
+                Ok(())
             }
             Pending::Lines => {
                 self.tell_clock()?;
@@ -188,47 +186,40 @@ impl Trace {
         }
     }
 
-    // The lines of this turn's input come.
-    fn new_lines(&mut self) {
-        self.pending = Pending::Lines;
-        self.lines.clear();
-    }
-
-    // A tick may be told later, with those that follow.
-    fn take(&mut self) -> Result<(), OutOfMemory> {
-        if let Pending::Tick { moment } = self.pending {
-            self.pending = Pending::Nothing;
-            return self.pass(moment);
-        }
-        self.tell_input()
-    }
-
     fn send(&mut self, to: SocketAddrV4, bytes: &[u8]) -> Result<(), OutOfMemory> {
-        self.tell_input()?;
+        self.tell_input(true)?;
         put_address(self.alloc, &mut self.record.out, b"| > ", to, b"\n")?;
         put_marked(&mut self.record.out, bytes)?;
         self.record.out.extend_from_slice(b"| --\n")
-    }
-
-    fn show(&mut self, text: &[u8]) -> Result<(), OutOfMemory> {
-        self.tell_input()?;
-        put_marked(&mut self.record.out, text)
     }
 
     fn try_tell(&mut self, told: TraceEntry<'_>) -> Result<(), OutOfMemory> {
         match told {
             TraceEntry::Config { text } => self.begin(text),
             TraceEntry::Datagram { source, bytes } => {
-                self.new_lines();
+                self.pending = Pending::Lines;
+                self.lines.clear();
                 put_datagram(self.alloc, &mut self.lines, source, bytes)
             }
             TraceEntry::Line { line } => {
-                self.new_lines();
+                self.pending = Pending::Lines;
+                self.lines.clear();
                 put_pieces(&mut self.lines, &[line, b"\n"])
             }
-            TraceEntry::Taken => self.take(),
+            TraceEntry::Tick { moment } => {
+                self.pending = Pending::Tick { moment };
+                Ok(())
+            }
+            TraceEntry::Taken => self.tell_input(false),
+            TraceEntry::Refused => {
+                self.pending = Pending::Nothing;
+                Ok(())
+            }
             TraceEntry::Sent { to, bytes } => self.send(to, bytes),
-            TraceEntry::Shown { text } => self.show(text),
+            TraceEntry::Shown { text } => {
+                self.tell_input(true)?;
+                put_marked(&mut self.record.out, text)
+            }
             TraceEntry::End => self.tell_clock(),
         }
     }
@@ -238,20 +229,5 @@ impl Trace {
         if self.record.is_on() && self.try_tell(told).is_err() {
             self.record.refuse();
         }
-    }
-
-    /// A tick to this moment is given to the gateway.
-    pub fn tick(&mut self, moment: u64) {
-        self.pending = Pending::Tick { moment };
-    }
-
-    /// The gateway refused what it was given, for want of memory.
-    pub fn refused(&mut self) {
-        self.pending = Pending::Nothing;
-    }
-
-    /// Writes what isn't written yet.
-    pub fn write<R: Print>(&mut self, rt: &R) {
-        self.record.write(&mut io::writer(rt));
     }
 }

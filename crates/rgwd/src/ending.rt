@@ -101,6 +101,35 @@ fn put_config<W: fmt::Write>(
     }
 }
 
+// What a line is about.
+fn subject_of(ending: Ending<'_>) -> &str {
+    match ending {
+        Ending::Usage => USAGE,
+        Ending::BadAddress { word } => word,
+        Ending::BadNetwork { .. } => "--network: ",
+        Ending::Unreadable { file } | Ending::Unwritable { file } => file,
+        _ => "",
+    }
+}
+
+// What a line says of that.
+fn fault_of(ending: Ending<'_>) -> &'static str {
+    match ending {
+        Ending::BadAddress { .. } => ": no address a.b.c.d:port",
+        Ending::BadNetwork { fault } => fault.text(),
+        Ending::Unreadable { .. } => ": read fault",
+        Ending::Unwritable { .. } => ": write fault",
+        Ending::Clock => "clock fault",
+        Ending::Write => "write fault",
+        Ending::OutOfMemory => "out of memory",
+        _ => "",
+    }
+}
+
+fn put_line<W: fmt::Write>(f: &mut fmt::Formatter<W>, subject: &str, fault: &str) -> fmt::Result {
+    put_pieces(f, &[subject, fault, "\n"])
+}
+
 // What is written: on standard output what the words ask, else a line on standard error, or nothing
 // where it served.
 impl<'a> fmt::Display for Ending<'a> {
@@ -109,16 +138,9 @@ impl<'a> fmt::Display for Ending<'a> {
             Ending::Served => Ok(()),
             Ending::Help => put_pieces(f, &HELP),
             Ending::Version => put_pieces(f, &VERSIONS),
-            Ending::Usage => put_pieces(f, &[USAGE, "\n"]),
-            Ending::BadAddress { word } => put_pieces(f, &[word, ": no address a.b.c.d:port\n"]),
-            Ending::BadNetwork { fault } => put_pieces(f, &["--network: ", fault.text(), "\n"]),
             Ending::Config { file, number, key } => put_config(f, file, number, key),
-            Ending::Unreadable { file } => put_pieces(f, &[file, ": read fault\n"]),
-            Ending::Unwritable { file } => put_pieces(f, &[file, ": write fault\n"]),
             Ending::Unbound { word, address } => writeln!(f, "{word} {address}: no socket"),
-            Ending::Clock => f.write_str("clock fault\n"),
-            Ending::Write => f.write_str("write fault\n"),
-            Ending::OutOfMemory => f.write_str("out of memory\n"),
+            ending => put_line(f, subject_of(ending), fault_of(ending)),
         }
     }
 }

@@ -4,6 +4,7 @@
 mod app;
 mod ending;
 mod help;
+mod opening;
 mod words;
 
 use std::process::ExitCode;

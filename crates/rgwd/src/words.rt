@@ -46,95 +46,67 @@ pub enum WordFault {
     BadNetwork { fault: SpoilingFault },
 }
 
-impl From<AllocError> for WordFault {
-    fn from(_refused: AllocError) -> WordFault {
-        WordFault::OutOfMemory
-    }
-}
-
-// A word of the command line.
+// What a word of the command line is.
 #[derive(Clone, Copy)]
-enum Word {
-    Config,
-    Listen,
-    Phones,
-    Http,
-    Trace,
-    Log,
-    Capture,
-    Network,
-    StopAfter,
+enum WordKind {
+    // A text without a name.
+    Plain,
+    // A name, with a text behind it.
+    Valued,
+    // A name, with a number behind it.
+    Number,
+    // A name alone, which stands there or not.
+    Flag,
 }
 
-const WORDS: [Word; 9] = [
-    Word::Config,
-    Word::Listen,
-    Word::Phones,
-    Word::Http,
-    Word::Trace,
-    Word::Log,
-    Word::Capture,
-    Word::Network,
-    Word::StopAfter,
+// The words of the command line.
+const WORDS: [(&str, WordKind); 9] = [
+    ("config", WordKind::Plain),
+    ("listen", WordKind::Valued),
+    ("phones", WordKind::Valued),
+    ("http", WordKind::Valued),
+    ("trace", WordKind::Flag),
+    ("log", WordKind::Flag),
+    ("capture", WordKind::Valued),
+    ("network", WordKind::Valued),
+    ("stop-after", WordKind::Number),
 ];
 
-fn address_word<'a>(alloc: Global, name: &'a str, value: &'a str) -> Arg<'a> {
-    Arg::new(alloc, name).long(name).default_value(value)
-}
-
-fn flag_word<'a>(alloc: Global, name: &'a str) -> Arg<'a> {
-    Arg::new(alloc, name).long(name).action(ArgAction::SetTrue)
-}
-
 // What clap is told of a word.
-fn arg_of<'a>(alloc: Global, word: Word) -> Arg<'a> {
-    match word {
-        Word::Config => Arg::new(alloc, "config").required(true),
-        Word::Listen => address_word(alloc, "listen", LISTEN),
-        Word::Phones => address_word(alloc, "phones", PHONES),
-        Word::Http => Arg::new(alloc, "http").long("http"),
-        Word::Trace => flag_word(alloc, "trace"),
-        Word::Log => flag_word(alloc, "log"),
-        Word::Capture => Arg::new(alloc, "capture").long("capture"),
-        Word::Network => Arg::new(alloc, "network").long("network"),
-        Word::StopAfter => Arg::new(alloc, "stop-after")
-            .long("stop-after")
-            .value_parser(clap::value_parser!(u64)),
+fn arg_of<'a>(alloc: Global, name: &'a str, kind: WordKind) -> Arg<'a> {
+    let arg = Arg::new(alloc, name);
+    match kind {
+        WordKind::Plain => arg,
+        WordKind::Valued => arg.long(name),
+        WordKind::Number => arg.long(name).value_parser(clap::value_parser!(u64)),
+        WordKind::Flag => arg.long(name).action(ArgAction::SetTrue),
     }
 }
 
 fn command<'a>(alloc: Global) -> Result<Command<'a>, AllocError> {
     let mut command = Command::new(alloc, "rgwd").version(VERSION);
-    for word in WORDS.iter() {
-        command = command.arg(arg_of(alloc, *word))?;
+    for (name, kind) in WORDS.iter() {
+        command = command.arg(arg_of(alloc, *name, *kind))?;
     }
     Ok(command)
 }
 
-// The address behind a word, if that stands there.
-fn address_behind(
-    matches: &ArgMatches<'_>,
-    name: &str,
-    word: &'static str,
-) -> Result<Option<SocketAddrV4>, WordFault> {
-    let Some(text) = matches.get_str(name) else {
-        return Ok(None);
-    };
+// The address that a text is.
+fn address_of(text: &str) -> Option<SocketAddrV4> {
     match text.parse::<SocketAddrV4>() {
-        Ok(address) => Ok(Some(address)),
-        Err(_) => Err(WordFault::BadAddress { word }),
+        Ok(address) => Some(address),
+        Err(_) => None,
     }
 }
 
-// The address behind a word that has a default.
-fn address_in(
-    matches: &ArgMatches<'_>,
-    name: &str,
-    word: &'static str,
-) -> Result<SocketAddrV4, WordFault> {
-    match address_behind(matches, name, word)? {
-        Some(address) => Ok(address),
-        None => Err(WordFault::Usage),
+// The address of the site, if that stands there.
+fn site_in(matches: &ArgMatches<'_>) -> Result<Option<SocketAddrV4>, WordFault> {
+    let Some(text) = matches.get_str("http") else {
+        return Ok(None);
+    };
+    match address_of(text) {
+        Some(address) => Ok(Some(address)),
+        None => Err(WordFault::BadAddress { word: "--http" }),
     }
 }
 
@@ -151,23 +123,33 @@ fn network_in(matches: &ArgMatches<'_>) -> Result<Option<Spoiling>, WordFault> {
 
 // Why no settings are found in words, by the kind of clap's error.
 fn fault_of(kind: ErrorKind) -> WordFault {
-    match kind {
-        ErrorKind::OutOfMemory => WordFault::OutOfMemory,
-        ErrorKind::DisplayHelp => WordFault::Help,
-        ErrorKind::DisplayVersion => WordFault::Version,
-        _ => WordFault::Usage,
+    if kind == ErrorKind::OutOfMemory {
+        return WordFault::OutOfMemory;
     }
+    if kind == ErrorKind::DisplayHelp {
+        return WordFault::Help;
+    }
+    if kind == ErrorKind::DisplayVersion {
+        return WordFault::Version;
+    }
+    WordFault::Usage
 }
 
 fn settings_in<'a>(matches: &ArgMatches<'a>) -> Result<Settings<'a>, WordFault> {
     let Some(config) = matches.get_str("config") else {
         return Err(WordFault::Usage);
     };
+    let Some(listen) = address_of(matches.get_str("listen").unwrap_or(LISTEN)) else {
+        return Err(WordFault::BadAddress { word: "--listen" });
+    };
+    let Some(phones) = address_of(matches.get_str("phones").unwrap_or(PHONES)) else {
+        return Err(WordFault::BadAddress { word: "--phones" });
+    };
     Ok(Settings {
         config,
-        listen: address_in(matches, "listen", "--listen")?,
-        phones: address_in(matches, "phones", "--phones")?,
-        http: address_behind(matches, "http", "--http")?,
+        listen,
+        phones,
+        http: site_in(matches)?,
         trace: matches.get_flag("trace"),
         log: matches.get_flag("log"),
         capture: matches.get_str("capture"),
@@ -176,10 +158,18 @@ fn settings_in<'a>(matches: &ArgMatches<'a>) -> Result<Settings<'a>, WordFault> 
     })
 }
 
-/// Reads the words of a command line, of which the first is the program's name.
-pub fn read_words(alloc: Global, words: &[String]) -> Result<Settings<'_>, WordFault> {
-    match command(alloc)?.try_get_matches_from(words) {
+// What words say to a command.
+fn settings_by<'a>(command: Command<'a>, words: &'a [String]) -> Result<Settings<'a>, WordFault> {
+    match command.try_get_matches_from(words) {
         Ok(matches) => settings_in(&matches),
         Err(fault) => Err(fault_of(fault.kind())),
+    }
+}
+
+/// Reads the words of a command line, of which the first is the program's name.
+pub fn read_words(alloc: Global, words: &[String]) -> Result<Settings<'_>, WordFault> {
+    match command(alloc) {
+        Ok(command) => settings_by(command, words),
+        Err(_) => Err(WordFault::OutOfMemory),
     }
 }

@@ -1,0 +1,245 @@
+//! Opens what the words ask for: sockets, a file for a capture, and the journal.
+use crate::ending::Ending;
+use crate::words::Settings;
+use bad_network::BadNetwork;
+use live_ends::{CommandSocket, LiveClock, Readiness};
+use live_gateway::{Ends, LiveWire, Outlets, boxed};
+use live_journal::{Capture, Journal, Log, MessageTally, Trace, TraceEntry};
+use live_page::{Desk, Site};
+use mio::net::UdpSocket;
+use std::alloc::{AllocError, Global};
+use std::fs::File;
+use std::io;
+use std::io::ErrorKind;
+use std::net::{Net, SocketAddr, SocketAddrV4};
+use std::rt::{Clock, Files};
+
+/// What couldn't be opened.
+#[derive(Clone, Copy)]
+pub enum Unopened {
+    /// Memory was refused.
+    OutOfMemory,
+    /// The gateway's socket.
+    Listen,
+    /// The telephones' socket.
+    Phones,
+    /// The socket of the page.
+    Http,
+    /// The clock.
+    Clock,
+    /// The file for a capture.
+    Capture,
+}
+
+/// What serves: a wire, and the outlets.
+#[derive(Drop)]
+pub struct Opened<'a, R, F> {
+    pub wire: LiveWire<'a, R>,
+    pub outlets: Outlets<F>,
+}
+
+impl From<AllocError> for Unopened {
+    fn from(_refused: AllocError) -> Unopened {
+        Unopened::OutOfMemory
+    }
+}
+
+impl Unopened {
+    // This couldn't be opened, as the system says.
+    fn by(self, kind: ErrorKind) -> Unopened {
+        if kind == ErrorKind::OutOfMemory {
+            Unopened::OutOfMemory
+        } else {
+            self
+        }
+    }
+
+    /// How the program ends then.
+    pub fn ending<'w>(self, settings: &Settings<'w>) -> Ending<'w> {
+        match self {
+            Unopened::OutOfMemory => Ending::OutOfMemory,
+            Unopened::Listen => Ending::Unbound {
+                word: "--listen",
+                address: settings.listen,
+            },
+            Unopened::Phones => Ending::Unbound {
+                word: "--phones",
+                address: settings.phones,
+            },
+            Unopened::Http => Ending::Unbound {
+                word: "--http",
+                address: settings.http.unwrap_or(settings.listen),
+            },
+            Unopened::Clock => Ending::Clock,
+            Unopened::Capture => Ending::Unwritable {
+                file: settings.capture.unwrap_or(""),
+            },
+        }
+    }
+}
+
+fn open_socket<R: Net>(rt: &R, address: SocketAddrV4) -> Result<UdpSocket, Unopened> {
+    match UdpSocket::bind(rt, SocketAddr::V4(address)) {
+        Ok(socket) => Ok(socket),
+        Err(fault) => Err(Unopened::Listen.by(fault.kind())),
+    }
+}
+
+fn open_telephones<R: Net>(
+    rt: &R,
+    alloc: Global,
+    address: SocketAddrV4,
+) -> Result<Box<CommandSocket>, Unopened> {
+    match CommandSocket::open(rt, alloc, address) {
+        Ok(telephones) => Ok(boxed(alloc, telephones)?),
+        Err(fault) => Err(Unopened::Phones.by(fault.kind())),
+    }
+}
+
+// What watches these sockets.
+fn watch<R: Net>(
+    rt: &R,
+    alloc: Global,
+    socket: &mut UdpSocket,
+    telephones: &mut CommandSocket,
+) -> Result<Box<Readiness>, Unopened> {
+    match Readiness::watch(rt, alloc, socket, telephones) {
+        Ok(ready) => Ok(boxed(alloc, ready)?),
+        Err(fault) => Err(Unopened::Listen.by(fault.kind())),
+    }
+}
+
+// The sockets and the clock.
+fn open_ends<'a, R: Net + Clock>(
+    rt: &'a R,
+    alloc: Global,
+    settings: &Settings<'_>,
+) -> Result<Box<Ends<'a, R>>, Unopened> {
+    let mut socket = open_socket(rt, settings.listen)?;
+    let mut telephones = open_telephones(rt, alloc, settings.phones)?;
+    let Ok(clock) = LiveClock::start(rt) else {
+        return Err(Unopened::Clock);
+    };
+    let ready = watch(rt, alloc, &mut socket, &mut telephones)?;
+    let network = match settings.network {
+        Some(spoiling) => Some(BadNetwork::new(alloc, spoiling)),
+        None => None,
+    };
+    let end = settings.stop_after;
+    Ok(Ends::new(alloc, socket, telephones, ready, network, clock, end)?)
+}
+
+// The file for a capture, if one is asked for.
+fn open_capture<R: Files>(rt: &R, settings: &Settings<'_>) -> Result<Option<R::File>, Unopened> {
+    let Some(file) = settings.capture else {
+        return Ok(None);
+    };
+    match File::create(rt, file) {
+        Ok(made) => Ok(Some(made)),
+        Err(fault) => Err(Unopened::Capture.by(fault.kind())),
+    }
+}
+
+// The site, if one is asked for.
+fn open_site<R: Net>(
+    rt: &R,
+    alloc: Global,
+    settings: &Settings<'_>,
+    ready: &Readiness,
+) -> Result<Option<Box<Site>>, Unopened> {
+    let Some(address) = settings.http else {
+        return Ok(None);
+    };
+    match Site::open(rt, alloc, address, ready) {
+        Ok(site) => Ok(Some(boxed(alloc, site)?)),
+        Err(fault) => Err(Unopened::Http.by(fault.kind())),
+    }
+}
+
+/// An address of the kind that sockets here have, where it is known.
+pub fn known(address: io::Result<SocketAddr>) -> Option<SocketAddrV4> {
+    match address {
+        Ok(SocketAddr::V4(address)) => Some(address),
+        _ => None,
+    }
+}
+
+// What the page of a site is shown; its address counts.
+fn desk_of(alloc: Global, site: &Option<Box<Site>>) -> Result<Option<Box<Desk>>, AllocError> {
+    let Some(site) = site else {
+        return Ok(None);
+    };
+    match known(site.address()) {
+        Some(address) => Ok(Some(boxed(alloc, Desk::new(alloc, address))?)),
+        None => Ok(None),
+    }
+}
+
+// A trace that has begun.
+fn trace_of(alloc: Global, is_on: bool, config: &[u8]) -> Trace {
+    let mut trace = Trace::new(alloc, is_on);
+    trace.tell(TraceEntry::Config { text: config });
+    trace
+}
+
+// The journal of a gateway whose socket is here.
+fn journal_of(
+    alloc: Global,
+    settings: &Settings<'_>,
+    config: &[u8],
+    here: SocketAddrV4,
+    desk: Option<Box<Desk>>,
+) -> Result<Box<Journal>, AllocError> {
+    let tally = boxed(alloc, MessageTally::new(alloc)?)?;
+    let log = boxed(alloc, Log::new(alloc, settings.log)?)?;
+    let trace = boxed(alloc, trace_of(alloc, settings.trace, config))?;
+    let capture = Capture::new(alloc, settings.capture.is_some(), here);
+    let journal = Journal {
+        tally,
+        trace,
+        log,
+        capture: boxed(alloc, capture)?,
+        desk,
+        given: None,
+    };
+    boxed(alloc, journal)
+}
+
+// The outlets that are asked for.
+fn open_outlets<R: Files + Net>(
+    rt: &R,
+    alloc: Global,
+    settings: &Settings<'_>,
+    ready: &Readiness,
+) -> Result<Outlets<R::File>, Unopened> {
+    let capture = open_capture(rt, settings)?;
+    let site = open_site(rt, alloc, settings, ready)?;
+    Ok(Outlets { capture, site })
+}
+
+// A wire with these ends, whose trace has begun, and the outlets.
+fn assembled<'a, R: Net + Clock, F: Drop>(
+    alloc: Global,
+    settings: &Settings<'_>,
+    config: &[u8],
+    ends: Box<Ends<'a, R>>,
+    outlets: Outlets<F>,
+) -> Result<Box<Opened<'a, R, F>>, AllocError> {
+    let here = known(ends.socket.local_addr()).unwrap_or(settings.listen);
+    let desk = desk_of(alloc, &outlets.site)?;
+    let journal = journal_of(alloc, settings, config, here, desk)?;
+    let wire = LiveWire::new(ends, journal);
+    boxed(alloc, Opened { wire, outlets })
+}
+
+/// A wire over the sockets that are asked for, whose trace has begun with this configuration; and the outlets.
+pub fn open<'a, R: Files + Net + Clock>(
+    rt: &'a R,
+    alloc: Global,
+    settings: &Settings<'_>,
+    config: &[u8],
+) -> Result<Box<Opened<'a, R, R::File>>, Unopened> {
+    let ends = open_ends(rt, alloc, settings)?;
+    let outlets = open_outlets(rt, alloc, settings, &ends.ready)?;
+    Ok(assembled(alloc, settings, config, ends, outlets)?)
+}
