@@ -675,3 +675,15 @@ pub(crate) const UNDO_BOTH: &str = "> DLCX {8} {line} MGCP 1.0 / C: {call}
 pub const SERVES: &str = "serves | 2.4 | A gateway that doesn't serve yet refuses with 405
 > RQNT {1} {line} MGCP 1.0
 < 405 {1}";
+
+/// What finds out whether a line is in use: by a connection, or a telephone off the hook (RFC 3435, 2.3.10).
+pub const IN_USE: [&str; 2] = [
+    "connected | 2.3.10 | An audit of a line tells its connections
+> AUEP {1} {line} MGCP 1.0 / F: I
+< 200 {1}
+unlike I",
+    "lifted | 2.3.10 | An audit of a line tells that its telephone is off the hook
+> AUEP {1} {line} MGCP 1.0 / F: ES
+< 200 {1}
+has ES L/hd",
+];

@@ -3,7 +3,8 @@ use crate::check_fault::CheckFault;
 use crate::ends::Ends;
 use crate::json::{check_value, report_text};
 use gateway_checks::{
-    Check, Names, Player, SERVES, Tally, Verdict, all_checks, check_of, put_check, put_tally,
+    Check, IN_USE, Names, Player, SERVES, Tally, Verdict, all_checks, check_of, put_check,
+    put_tally,
 };
 use mg_bytes::OutOfMemory;
 use serde_json::Value;
@@ -34,8 +35,8 @@ pub struct CheckSettings<'a> {
     pub is_slow: bool,
     /// Whether the report is JSON.
     pub is_json: bool,
-    /// The address of the first socket.
-    pub listen: SocketAddrV4,
+    /// The address of the first socket, which is that of the gateway's call agent.
+    pub own: SocketAddrV4,
 }
 
 /// What is under way.
@@ -70,11 +71,11 @@ fn put_out<R: Print>(rt: &R, text: &str) -> Result<(), CheckFault> {
 }
 
 impl<'a> Checking<'a> {
-    // The player of the next check.
-    fn player(&mut self, check: &Check<'static>) -> Player<'a> {
+    // The player of the next check, at this line.
+    fn player(&mut self, check: &Check<'static>, line: &'a str) -> Player<'a> {
         let settings = self.settings;
         let other = settings.other.unwrap_or("");
-        let names = Names::new(self.alloc, settings.domain, settings.line, other, self.base);
+        let names = Names::new(self.alloc, settings.domain, line, other, self.base);
         self.base = self.base.saturating_add(IDS);
         Player::new(self.alloc, check, names)
     }
@@ -153,9 +154,13 @@ fn find<R: Net + Clock>(
     checking: &mut Checking<'_>,
     ends: &mut Ends<'_, R>,
 ) -> Result<(), CheckFault> {
-    let address = checking.settings.gateway;
+    let CheckSettings {
+        gateway: address,
+        line,
+        ..
+    } = checking.settings;
     for _ in 0..MOST_TRIES {
-        let mut player = checking.player(&check_of(SERVES));
+        let mut player = checking.player(&check_of(SERVES), line);
         match serves(ends, &mut player, address) {
             Ok(true) => return Ok(()),
             Ok(false) => {}
@@ -163,6 +168,40 @@ fn find<R: Net + Clock>(
         }
     }
     Err(CheckFault::NotServing { address })
+}
+
+// Whether a line has a connection, or its telephone is off the hook, as far as the gateway tells.
+fn is_in_use<'a, R: Net + Clock>(
+    checking: &mut Checking<'a>,
+    ends: &mut Ends<'_, R>,
+    line: &'a str,
+) -> Result<bool, CheckFault> {
+    for block in IN_USE.iter() {
+        let mut player = checking.player(&check_of(*block), line);
+        ends.play(&mut player)?;
+        if let Verdict::Passed = player.verdict() {
+            return Ok(true);
+        }
+    }
+    Ok(false)
+}
+
+// Lines that are in use aren't checked.
+fn find_idle<R: Net + Clock>(
+    checking: &mut Checking<'_>,
+    ends: &mut Ends<'_, R>,
+) -> Result<(), CheckFault> {
+    let CheckSettings { line, other, .. } = checking.settings;
+    if is_in_use(checking, ends, line)? {
+        return Err(CheckFault::InUse { is_other: false });
+    }
+    let Some(other) = other else {
+        return Ok(());
+    };
+    if is_in_use(checking, ends, other)? {
+        return Err(CheckFault::InUse { is_other: true });
+    }
+    Ok(())
 }
 
 // Plays a check to its end, and reports what came of it.
@@ -187,7 +226,8 @@ fn check_one<R: Net + Clock + Print>(
     if !checking.is_asked(check) {
         return checking.report(rt, check, None, "");
     }
-    let mut player = checking.player(check);
+    let line = checking.settings.line;
+    let mut player = checking.player(check, line);
     play_one(rt, checking, ends, check, &mut player)
 }
 
@@ -198,6 +238,7 @@ fn check_all<R: Net + Clock + Print>(
     ends: &mut Ends<'_, R>,
 ) -> Result<u8, CheckFault> {
     find(checking, ends)?;
+    find_idle(checking, ends)?;
     for block in all_checks().split("\n= ").skip(1) {
         check_one(rt, checking, ends, &check_of(block))?;
     }
@@ -219,7 +260,7 @@ pub fn check_gateway<R: AllocGlobal + Net + Clock + Print>(
         tally: Tally::NONE,
         values: Vec::new(alloc),
     };
-    match Ends::open(rt, alloc, settings.gateway, settings.listen) {
+    match Ends::open(rt, alloc, settings.gateway, settings.own) {
         Ok(mut ends) => check_all(rt, &mut checking, &mut ends),
         Err(fault) => Err(fault),
     }

@@ -42,12 +42,12 @@ fn watched<R: Net>(
 fn opened<R: Net>(
     rt: &R,
     alloc: Global,
-    listen: SocketAddrV4,
+    own: SocketAddrV4,
 ) -> io::Result<(UdpSocket, UdpSocket, Poll, Events)> {
     let any = SocketAddrV4::new(Ipv4Addr::UNSPECIFIED, 0);
     let events = Events::with_capacity(alloc, 2)?;
     let poll = Poll::new(rt)?;
-    let first = watched(rt, &poll, listen, Token(0))?;
+    let first = watched(rt, &poll, own, Token(0))?;
     let second = watched(rt, &poll, any, Token(1))?;
     Ok((first, second, poll, events))
 }
@@ -58,10 +58,10 @@ impl<'a, R: Net + Clock> Ends<'a, R> {
         rt: &'a R,
         alloc: Global,
         gateway: SocketAddrV4,
-        listen: SocketAddrV4,
+        own: SocketAddrV4,
     ) -> Result<Ends<'a, R>, CheckFault> {
-        let Ok((first, second, poll, events)) = opened(rt, alloc, listen) else {
-            return Err(CheckFault::Unbound { address: listen });
+        let Ok((first, second, poll, events)) = opened(rt, alloc, own) else {
+            return Err(CheckFault::Unbound { address: own });
         };
         let Ok(start) = Instant::now(rt) else {
             return Err(CheckFault::System);

@@ -6,8 +6,8 @@ use std::alloc::{AllocError, Global};
 use std::net::SocketAddrV4;
 
 fn command<'a>(alloc: Global) -> Result<Command<'a>, AllocError> {
-    let listen = Arg::new(alloc, "listen")
-        .long("listen")
+    let own = Arg::new(alloc, "own")
+        .long("own")
         .default_value("0.0.0.0:0");
     let more = Arg::new(alloc, "more-lines")
         .long("more-lines")
@@ -19,7 +19,7 @@ fn command<'a>(alloc: Global) -> Result<Command<'a>, AllocError> {
         .arg(more)?
         .arg(flag_word(alloc, "slow"))?
         .arg(flag_word(alloc, "json"))?
-        .arg(listen)
+        .arg(own)
 }
 
 // The address that a word has, which stands there or has a default.
@@ -45,7 +45,7 @@ fn settings_in<'a>(matches: &ArgMatches<'a>) -> Result<CheckSettings<'a>, WordFa
         other: matches.get_str("more-lines"),
         is_slow: matches.get_flag("slow"),
         is_json: matches.get_flag("json"),
-        listen: address_in(matches, "listen", "--listen")?,
+        own: address_in(matches, "own", "--own")?,
     })
 }
 

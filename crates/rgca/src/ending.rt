@@ -60,6 +60,10 @@ pub enum Ending<'a> {
     NotServing {
         address: SocketAddrV4,
     },
+    /// The line that this word names can't be checked: it has a connection, or is off hook.
+    InUse {
+        word: &'static str,
+    },
     /// The clock can't be read.
     Clock,
     /// The clock, or what tells of sockets, failed in a check.
@@ -87,6 +91,7 @@ impl<'a> Ending<'a> {
             | Ending::Unbound { .. }
             | Ending::NoAnswer { .. }
             | Ending::NotServing { .. }
+            | Ending::InUse { .. }
             | Ending::Clock
             | Ending::System
             | Ending::Write
@@ -121,8 +126,11 @@ impl<'a> From<CheckFault> for Ending<'a> {
     fn from(fault: CheckFault) -> Ending<'a> {
         match fault {
             CheckFault::Unbound { address } => Ending::Unbound {
-                word: "--listen",
+                word: "--own",
                 address,
+            },
+            CheckFault::InUse { is_other } => Ending::InUse {
+                word: if is_other { "--more-lines" } else { "--line" },
             },
             CheckFault::NoAnswer { address } => Ending::NoAnswer { address },
             CheckFault::NotServing { address } => Ending::NotServing { address },
@@ -177,8 +185,11 @@ impl<'a> fmt::Display for Ending<'a> {
             Ending::NotServing { address } => {
                 writeln!(
                     f,
-                    "{address}: 405, it waits for its call agent (--listen answers for that)"
+                    "{address}: 405, it waits for its call agent (--own answers for that)"
                 )
+            }
+            Ending::InUse { word } => {
+                put_pieces(f, &[*word, ": in use, off hook or with a connection\n"])
             }
             Ending::Clock => f.write_str("clock fault\n"),
             Ending::System => f.write_str("clock or socket fault\n"),

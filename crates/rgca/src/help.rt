@@ -59,13 +59,13 @@ pub const HELP: [&str; 4] = [USAGE, ABOVE, CONTROL, BELOW];
 
 /// The words behind `check`, in a line.
 pub const CHECK_USAGE: &str =
-    "usage: rgca check ADDRESS --domain D --line NAME [--more-lines NAME..] [--slow] [--json] [--listen ADDRESS]";
+    "usage: rgca check ADDRESS --domain D --line NAME [--more-lines NAME..] [--slow] [--json] [--own ADDRESS]";
 
 // What they say, from the end of the first line on.
 const CHECK_BELOW: &str = "
 
-Checks an MGCP gateway as RFC 3435 asks, without anyone at its telephones. Its lines should be on hook, and no other call
-agent at work on them. What is changed is undone: connections are deleted, and an empty request ends the checks.
+Checks an MGCP gateway as RFC 3435 asks, without anyone at its telephones. A line that is off hook or has a connection is
+not checked, and no other call agent may be at work on them. What is changed is undone: connections are deleted, and an empty request ends the checks.
 
   ADDRESS             of the gateway, a.b.c.d:port
   --domain D          of its endpoint names
@@ -73,8 +73,8 @@ agent at work on them. What is changed is undone: connections are deleted, and a
   --more-lines NAME   of another one, for checks that need two
   --slow              checks that wait for half a minute too
   --json              the report as JSON
-  --listen ADDRESS    where it sends from, which is the call agent that the gateway is configured for; else any free port.
-                      What the gateway sends is answered.
+  --own ADDRESS       of the call agent that the gateway is configured for: from there it sends, and there it answers what the
+                      gateway announces; else any free port
   --help              this
 
 A check that fails tells what was due. `not supported` is what a gateway may leave out, or what the RFC leaves open.
