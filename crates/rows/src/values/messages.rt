@@ -23,14 +23,20 @@ fn put_fault(row: &mut Row<'_>, fault: &TextFault) {
     }
 }
 
-// What a text is read as.
-fn put_kind(row: &mut Row<'_>, text: &[u8]) {
-    match read_message(row.alloc, text) {
-        Ok(Message::Command { id, .. }) => {
+fn put_kind_of(row: &mut Row<'_>, message: &Message<'_>) {
+    match message {
+        Message::Command { id, .. } => {
             row.put(b"command ");
             row.put_shown(id.number());
         }
-        Ok(Message::Response { .. }) => row.put(b"response"),
+        Message::Response { .. } => row.put(b"response"),
+    }
+}
+
+// What a text is read as.
+fn put_kind(row: &mut Row<'_>, text: &[u8]) {
+    match read_message(row.alloc, text) {
+        Ok(message) => put_kind_of(row, &message),
         Err(fault) => put_fault(row, &fault),
     }
 }

@@ -3,34 +3,36 @@
 //! A value has a word for each thing that isn't 0: `refused:3`, `verb:6:2` for two commands of the verb at this place,
 //! `code:200:4`; `off:1` and `on:0` for a line on which so many events were lost, and behind it `tone:2000` and `tone:-`
 //! for a signal and its end, and `connection:26`.
+use crate::texts::words_of;
 use crate::values::capturing::number_of;
-use mg_bytes::split_once;
+use mg_bytes::{decimal, split_once};
 use page_answers::{
-    CodeCount, ConnectionView, Counts, LineView, Picture, SignalView, VerbCount, metrics_text,
-    state_text,
+    CodeCount, ConnectionView, LineView, Picture, SignalView, VerbCount, metrics_text, state_text,
 };
 use scenario_files::Row;
 use std::alloc::Global;
 
-// The count that a word names.
-fn count_of<'a>(counts: &'a mut Counts, key: &[u8]) -> Option<&'a mut u64> {
-    Some(match key {
-        b"in" => &mut counts.datagrams_in,
-        b"out" => &mut counts.datagrams_out,
-        b"responses" => &mut counts.responses,
-        b"unreadable" => &mut counts.unreadable,
-        b"answers-again" => &mut counts.answers_again,
-        b"notifications" => &mut counts.notifications,
-        b"notifications-again" => &mut counts.notifications_again,
-        b"announcements" => &mut counts.announcements,
-        b"announcements-again" => &mut counts.announcements_again,
-        b"given-up" => &mut counts.given_up,
-        b"refused" => &mut counts.refused,
-        b"receive-faults" => &mut counts.receive_faults,
-        b"send-faults" => &mut counts.send_faults,
-        b"transactions" => &mut counts.transactions,
-        _ => return None,
-    })
+// Sets the number that a word names, the clock or a count, and says whether it names one.
+fn set_number(picture: &mut Picture, key: &str, number: u64) -> bool {
+    match key {
+        "clock" => picture.clock = number,
+        "in" => picture.counts.datagrams_in = number,
+        "out" => picture.counts.datagrams_out = number,
+        "responses" => picture.counts.responses = number,
+        "unreadable" => picture.counts.unreadable = number,
+        "answers-again" => picture.counts.answers_again = number,
+        "notifications" => picture.counts.notifications = number,
+        "notifications-again" => picture.counts.notifications_again = number,
+        "announcements" => picture.counts.announcements = number,
+        "announcements-again" => picture.counts.announcements_again = number,
+        "given-up" => picture.counts.given_up = number,
+        "refused" => picture.counts.refused = number,
+        "receive-faults" => picture.counts.receive_faults = number,
+        "send-faults" => picture.counts.send_faults = number,
+        "transactions" => picture.counts.transactions = number,
+        _ => return false,
+    }
+    true
 }
 
 // A code, a verb's place or a connection's number, which is below 1,000 here.
@@ -58,14 +60,14 @@ fn end_of(row: &mut Row<'_>, value: &[u8]) -> Option<u64> {
 }
 
 // What a word tells of the line that was begun last.
-fn tell_line(row: &mut Row<'_>, line: &mut LineView, key: &[u8], value: &[u8]) {
+fn tell_line(row: &mut Row<'_>, line: &mut LineView, key: &str, value: &[u8]) {
     let is_told = match key {
-        b"tone" => {
+        "tone" => {
             let end = end_of(row, value);
             let signal = SignalView { name: b"L/dl", end };
             line.signals.push(signal).is_ok()
         }
-        b"connection" => {
+        "connection" => {
             let number = u32::from(small_number_of(row, value));
             let connection = ConnectionView {
                 number,
@@ -91,9 +93,9 @@ fn begun(alloc: Global, is_off_hook: bool, lost: u64) -> LineView {
 }
 
 // What a word tells of a list of the picture.
-fn tell_list(row: &mut Row<'_>, picture: &mut Picture, key: &[u8], value: &[u8]) {
+fn tell_list(row: &mut Row<'_>, picture: &mut Picture, key: &str, value: &[u8]) {
     let is_told = match key {
-        b"verb" => {
+        "verb" => {
             let (place, number) = pair_of(row, value);
             let verb = place.min(255) as u8;
             picture
@@ -102,7 +104,7 @@ fn tell_list(row: &mut Row<'_>, picture: &mut Picture, key: &[u8], value: &[u8])
                 .push(VerbCount { verb, number })
                 .is_ok()
         }
-        b"code" => {
+        "code" => {
             let (code, number) = pair_of(row, value);
             picture
                 .counts
@@ -110,9 +112,9 @@ fn tell_list(row: &mut Row<'_>, picture: &mut Picture, key: &[u8], value: &[u8])
                 .push(CodeCount { code, number })
                 .is_ok()
         }
-        b"off" | b"on" => {
+        "off" | "on" => {
             let lost = number_of(row, value);
-            let line = begun(row.alloc, key == b"off".as_slice(), lost);
+            let line = begun(row.alloc, key == "off", lost);
             picture.lines.push(line).is_ok()
         }
         _ => match picture.lines.last_mut() {
@@ -125,14 +127,12 @@ fn tell_list(row: &mut Row<'_>, picture: &mut Picture, key: &[u8], value: &[u8])
     }
 }
 
-fn tell(row: &mut Row<'_>, picture: &mut Picture, key: &[u8], value: &[u8]) {
-    if key == b"clock".as_slice() {
-        picture.clock = number_of(row, value);
-        return;
-    }
-    match count_of(&mut picture.counts, key) {
-        Some(count) => *count = number_of(row, value),
-        None => tell_list(row, picture, key, value),
+fn tell(row: &mut Row<'_>, picture: &mut Picture, key: &str, value: &[u8]) {
+    let number = decimal(value);
+    if !set_number(picture, key, number.unwrap_or(0)) {
+        tell_list(row, picture, key, value);
+    } else if number.is_none() {
+        row.unread();
     }
 }
 
@@ -141,7 +141,7 @@ fn picture_of(row: &mut Row<'_>, value: &[u8]) -> Picture {
     let mut picture = Picture::new(row.alloc);
     for word in value.split(|byte| *byte == b' ') {
         match split_once(word, b':') {
-            Some((key, value)) => tell(row, &mut picture, key, value),
+            Some((key, value)) => tell(row, &mut picture, words_of(key), value),
             None => row.unread(),
         }
     }
