@@ -65,7 +65,8 @@ pub const CHECK_USAGE: &str =
 const CHECK_BELOW: &str = "
 
 Checks an MGCP gateway as RFC 3435 asks, without anyone at its telephones. A line that is off hook or has a connection is
-not checked, and no other call agent may be at work on them. What is changed is undone: connections are deleted, and an empty request ends the checks.
+not checked, and no other call agent may be at work on the lines. What is changed is undone: connections are deleted, and an
+empty request ends the checks.
 
   ADDRESS             of the gateway, a.b.c.d:port
   --domain D          of its endpoint names
