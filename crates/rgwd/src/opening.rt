@@ -224,12 +224,12 @@ fn assembled<'a, R: Net + Clock, F: Drop>(
     config: &[u8],
     ends: Box<Ends<'a, R>>,
     outlets: Outlets<F>,
-) -> Result<Box<Opened<'a, R, F>>, AllocError> {
+) -> Result<Opened<'a, R, F>, AllocError> {
     let here = known(ends.socket.local_addr()).unwrap_or(settings.listen);
     let desk = desk_of(alloc, &outlets.site)?;
     let journal = journal_of(alloc, settings, config, here, desk)?;
     let wire = LiveWire::new(ends, journal);
-    boxed(alloc, Opened { wire, outlets })
+    Ok(Opened { wire, outlets })
 }
 
 /// A wire over the sockets that are asked for, whose trace has begun with this configuration; and the outlets.
@@ -238,7 +238,7 @@ pub fn open<'a, R: Files + Net + Clock>(
     alloc: Global,
     settings: &Settings<'_>,
     config: &[u8],
-) -> Result<Box<Opened<'a, R, R::File>>, Unopened> {
+) -> Result<Opened<'a, R, R::File>, Unopened> {
     let ends = open_ends(rt, alloc, settings)?;
     let outlets = open_outlets(rt, alloc, settings, &ends.ready)?;
     Ok(assembled(alloc, settings, config, ends, outlets)?)
