@@ -5,6 +5,7 @@ use event_values::Observed;
 use mg_bytes::{Identifier, OutOfMemory, Text, list_items, same_no_case};
 use mgcp_text::{Message, Param, param_at, read_message};
 use std::alloc::Global;
+use std::mem;
 
 /// What a command to a line is for.
 #[derive(Clone, Copy)]
@@ -25,6 +26,8 @@ struct Care {
     flight: Option<Duty>,
     // Whether the line has told something since it was audited.
     has_told: bool,
+    // Whether an audit told that its handset was lifted, and it has told nothing since.
+    is_found_off: bool,
     // How it stood when that was told last.
     shown: Standing,
 }
@@ -33,6 +36,7 @@ const NEW_CARE: Care = Care {
     next: Duty::Clear,
     flight: None,
     has_told: false,
+    is_found_off: false,
     shown: Standing::Rest,
 };
 
@@ -258,7 +262,16 @@ impl Office {
         };
         if !has_told {
             let told = told_by(audited_hook(alloc, text), self.exchange.phase(line));
+            self.find(line, matches!(told, Told::OffHook));
             self.exchange.tell(line, told);
+        }
+    }
+
+    // From now on an audit has found the line's handset lifted, or not; whether one had before.
+    fn find(&mut self, line: usize, is_off: bool) -> bool {
+        match self.cares.get_mut(line) {
+            Some(care) => mem::replace(&mut care.is_found_off, is_off),
+            None => false,
         }
     }
 
@@ -286,7 +299,10 @@ impl Office {
         if let Some(care) = self.cares.get_mut(line) {
             care.has_told = true;
         }
+        let was_found_off = self.find(line, false);
         match told_in(alloc, &self.plan, observed) {
+            // The notification of what an audit found says nothing new, and only uses its request up.
+            Ok(Some(Told::OffHook)) if was_found_off => self.exchange.tell(line, Told::Flash),
             Ok(Some(told)) => self.exchange.tell(line, told),
             Ok(None) => {}
             Err(_) => self.owe(line, Duty::Audit),
