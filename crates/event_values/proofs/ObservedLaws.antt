@@ -20,7 +20,7 @@ use Rattle.event_cuts.specs.declared.cut.Cut.TheVariants.{Commas}
 use Rattle.event_cuts.specs.Cuts.{Form, form_of, entries, after, is_uncut}
 use Rattle.mg_bytes.specs.Steps.{◌>>=◌}
 use Rattle.event_values.specs.Signals.{signal_called}
-use Rattle.event_values.specs.Observed.{is_completion, tells, happened, ended, observed_with, observed_from, or_510, observed_entry, observed_of, observed_entry_text, observed_text, is_writable_observed, are_writable_observed}
+use Rattle.event_values.specs.Observed.{is_completion, tells, happened, ended, observed_with, observed_from, or_510, observed_entry, observed_of, takes_memory, observed_entry_text, observed_text, is_writable_observed, are_writable_observed}
 use Rattle.event_cuts.proofs.PassLemmas.{Passes, passes_each, along}
 use Rattle.event_values.proofs.Computing.{on_examples}
 use Rattle.event_cuts.proofs.JoinLemmas.{is_plain, IsEntry}
@@ -83,6 +83,11 @@ value_passes value = passes_each is_writable_observed observed_entry (entries va
 pub read_is_writable : (value : List ℕ) (list : List Observed) → observed_of value ≡ Ok list → are_writable_observed list ≡ true
 unfolding are_writable_observed
 read_is_writable value list read = (along (λ told. (list_all is_writable_observed told ≡ true) × (length told ≡ length (entries value))) _ (Ok list) read (value_passes value)).0
+
+-- where an entry was read, what is left takes memory, and so the whole does
+pub takes_at_first : (left texts : List (List ℕ)) (text : List ℕ) (told : Observed) (all : Bool)
+    → left ≡ text ∷ texts → Ok told ≡ observed_entry text → (takes_memory left ≡ true → all ≡ true) → all ≡ true
+takes_at_first left texts text told all steps read on = on (rw steps (rw (← read) refl))
 
 -- Writing
 

@@ -4,7 +4,8 @@
 ghost use Rattle.std.specs.Prelude.{◌≡◌, codes, map, [], ◌∷◌, Ok, Err, true, false};
 ghost use Rattle.event_values.specs.Signals.{signals_of, signals_text, are_writable_signals};
 ghost use Rattle.event_values.specs.Handling.{handling_of, handling_text};
-ghost use Rattle.event_values.specs.Observed.{observed_of, observed_text, are_writable_observed};
+ghost use Rattle.event_values.specs.Observed.{observed_of, takes_memory, observed_text, are_writable_observed};
+ghost use Rattle.event_cuts.specs.Cuts.{entries};
 ghost use Rattle.event_values.specs.Example.{asks, starts, stops, lasts, with, handles, tells_of, tells_end};
 
 use crate::handling::{Notifying, Quarantined};
@@ -204,6 +205,17 @@ pub fn faults_of_observed_events_are_510()
     ensures misspelled { observed_of (codes "L/oc(L/dl") ≡ Err 510 }
     ensures no_event { observed_of (codes "L/hd,") ≡ Err 510 }
     ensures second { observed_of (codes "L/hd,L/wt") ≡ Err 510 }
+{}
+
+/// To read O takes memory where its first event can be read, whatever stands behind it, and else none.
+pub fn observed_events_take_memory_from_the_first_on()
+    ensures one { takes_memory (entries (codes "L/hd")) ≡ true }
+    ensures fault_behind { takes_memory (entries (codes "L/hd,L/wt")) ≡ true }
+    ensures empty { takes_memory (entries []) ≡ false }
+    ensures blank { takes_memory (entries (codes " ")) ≡ false }
+    ensures fault { takes_memory (entries (codes "L/wt")) ≡ false }
+    ensures fault_first { takes_memory (entries (codes "L/wt,L/hd")) ≡ false }
+    ensures no_event { takes_memory (entries (codes ",L/hd")) ≡ false }
 {}
 
 /// O is written with commas alone between the events.

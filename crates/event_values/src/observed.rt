@@ -5,9 +5,10 @@ ghost use Rattle.mg_bytes.specs.Blanks.{is_blank};
 ghost use Rattle.mg_bytes.specs.Lines.{is_line_feed};
 ghost use Rattle.mg_bytes.specs.CodeFault.{AnswersAs};
 ghost use Rattle.mg_packages.specs.Looking.{package_of, completion_of};
-ghost use Rattle.event_cuts.specs.Cuts.{inside_seen, form_of};
+ghost use Rattle.event_cuts.specs.Cuts.{inside_seen, form_of, entries};
 ghost use Rattle.event_values.specs.Observed.{completes, is_completion, is_timed, tells, happened, ended};
 ghost use Rattle.event_values.specs.Observed.{observed_with, observed_from, observed_entry, observed_of, completion_name};
+ghost use Rattle.event_values.specs.Observed.{takes_memory, GivesUpForMemory};
 ghost use Rattle.event_values.specs.Observed.{observed_entry_text, observed_text, are_writable_observed};
 
 use crate::signals::signal_called;
@@ -123,10 +124,12 @@ fn observed_entry(entry: &[u8]) -> Result<Observed, u16>
 /// The value of O (RFC 3435, 2.3.4): events with commas between them, each `[package/]name`; `oc` of a package stands
 /// with one of its time-out signals in parentheses, and no other event does. An empty value is an empty list.
 ///
-/// Every fault is the return code 510.
+/// Every fault is the return code 510. An empty value, and a fault at the first event, take no memory.
 #[tactic(auto, unfolding(crate::specs::Observed::observed_of))]
 pub fn read_observed(alloc: Global, value: &[u8]) -> Result<Sequence<Observed>, CodeFault>
     ensures answers { AnswersAs (observed_of value.now) result }
+    // Memory is wanted only where the first event can be read.
+    ensures memory { GivesUpForMemory (takes_memory (entries value.now)) result }
     // What is read can be written.
     ensures writable { IfOk result (λ list. are_writable_observed list ≡ true) }
 {

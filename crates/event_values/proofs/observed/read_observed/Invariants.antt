@@ -1,9 +1,12 @@
-use Rattle.std.proofs.Common.{◌≡◌}
+use Rattle.std.proofs.Common.{◌≡◌, true}
 use Rattle.event_cuts.specs.Cuts.{entries}
 use Rattle.event_cuts.specs.Faults.{each}
-use Rattle.event_values.specs.Observed.{observed_entry}
+use Rattle.event_values.specs.Observed.{observed_entry, takes_memory}
 use Rattle.event_cuts.proofs.EachLemmas.{put_before}
 use Rattle.event_values.proofs.observed.read_observed.Given as goal
 
 abbrev pub invariant-loop-entry : goal.invariant-loop-entry
-invariant-loop-entry l = put_before l.list (each observed_entry l.entry-iterator) ≡ each observed_entry (entries l.value)
+invariant-loop-entry l = record {
+  whole : put_before l.list (each observed_entry l.entry-iterator) ≡ each observed_entry (entries l.value);
+  taken : takes_memory l.entry-iterator ≡ true → takes_memory (entries l.value) ≡ true;
+}
