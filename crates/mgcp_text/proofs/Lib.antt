@@ -3,6 +3,7 @@ pub mod EndedLemmas
 pub mod IdLemmas
 pub mod AnswerLemmas
 pub mod ValueLaws
+pub mod MemoryLemmas
 pub mod WholeLemmas
 pub mod RoundLaws
 pub mod Computing

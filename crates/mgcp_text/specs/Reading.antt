@@ -1,5 +1,5 @@
 -- What a text is read as, as a function, so that it computes. `Spelling` says the same as a relation.
-use Rattle.std.specs.Prelude.{ℕ, Bool, ◌++◌, if◌then◌else◌, List, [], ◌∷◌, Option, Some, None, Result, Ok, Err, option_and_then, option_map}
+use Rattle.std.specs.Prelude.{◌≡◌, ⊤, ℕ, Bool, true, false, ◌&&◌, not, ◌++◌, if◌then◌else◌, List, [], ◌∷◌, Option, Some, None, is_some, Result, Ok, Err, option_and_then, option_map}
 use Rattle.std.specs.List.{concat, list_all}
 use Rattle.mg_bytes.specs.Lists.{is_empty}
 use Rattle.mg_bytes.specs.Checks.{unless, checked, given}
@@ -118,3 +118,26 @@ outcome_from (piece ∷ pieces) = header_from (header_of (words (line_of piece))
 -- what a text is read as
 unfoldable pub read_text : List ℕ → Outcome
 read_text text = outcome_from (skip_empty (cut text))
+
+-- Want of memory
+
+-- to read parameters takes memory where the first piece is one
+abbrev pub has_params : List (List ℕ) → Bool
+has_params [] = false
+has_params (piece ∷ pieces) = not (is_empty_line piece) && is_some (param_of (line_of piece))
+
+-- to read a text takes memory for its parameters alone
+abbrev pub takes_memory : Outcome → Bool
+takes_memory no_header = false
+takes_memory (bad_version id) = false
+takes_memory (bad_body id) = true
+takes_memory (message (Command verb id name params body)) = not (is_empty params)
+takes_memory (message (Response code id params body)) = not (is_empty params)
+
+-- a reader stops for want of memory only where it takes any
+abbrev pub ReadsForMemory : Bool → Result Message TextFault → Type 0
+ReadsForMemory takes (Ok said) = ⊤
+ReadsForMemory takes (Err OutOfMemory) = takes ≡ true
+ReadsForMemory takes (Err NoHeader) = ⊤
+ReadsForMemory takes (Err (BadVersion id)) = ⊤
+ReadsForMemory takes (Err (BadBody id)) = ⊤

@@ -9,7 +9,7 @@ ghost use Rattle.mgcp_text.specs.declared.confirmation.KValue.TheVariants as val
 ghost use Rattle.mgcp_text.specs.Header.{verb_of};
 ghost use Rattle.mgcp_text.specs.Parameter.{param_of};
 ghost use Rattle.mgcp_text.specs.Message.{number_of, param_at};
-ghost use Rattle.mgcp_text.specs.Reading.{message, no_header, bad_version, bad_body, read_text};
+ghost use Rattle.mgcp_text.specs.Reading.{message, no_header, bad_version, bad_body, read_text, takes_memory};
 ghost use Rattle.mgcp_text.specs.Confirmation.{k_of};
 ghost use Rattle.mgcp_text.specs.Writing.{written, is_writable};
 ghost use Rattle.mgcp_text.specs.Examples.{param, audit, creation, response, confirmed, range, command_text};
@@ -121,6 +121,20 @@ pub fn a_bad_body_is_a_fault()
     ensures no_code { read_text (codes "AUEP 12 x MGCP 1.0\r\n: 1\r\n") ≡ bad_body 12 }
     ensures underscore { read_text (codes "AUEP 12 x MGCP 1.0\r\nX_A: 1\r\n") ≡ bad_body 12 }
     ensures two_words { read_text (codes "AUEP 12 x MGCP 1.0\r\nX A: 1\r\n") ≡ bad_body 12 }
+{}
+
+/// To read a text takes memory for its parameters alone: none without a header, and none for another version, whatever
+/// stands behind it.
+pub fn parameters_alone_take_memory()
+    ensures parameter { takes_memory (read_text (codes "CRCX 9 x MGCP 1.0\r\nC: 1\r\n")) ≡ true }
+    ensures of_response { takes_memory (read_text (codes "200 1 OK\r\nstray\r\nI: 1\r\n")) ≡ true }
+    ensures fault_behind { takes_memory (read_text (codes "AUEP 12 x MGCP 1.0\r\nK: 1\r\nno parameter\r\n")) ≡ true }
+    ensures none { takes_memory (read_text (codes "AUEP 12 x MGCP 1.0\r\n")) ≡ false }
+    ensures description { takes_memory (read_text (codes "CRCX 9 x MGCP 1.0\r\n\r\nv=0\r\nX: 1\r\n")) ≡ false }
+    ensures response { takes_memory (read_text (codes "200 1 OK\r\nstray\r\n\r\nI: 1\r\n")) ≡ false }
+    ensures version { takes_memory (read_text (codes "AUEP 1202 x MGCP 2.0\r\nK: 1\r\n")) ≡ false }
+    ensures no_header { takes_memory (read_text (codes "AUEP\r\nK: 1\r\n")) ≡ false }
+    ensures nothing { takes_memory (read_text []) ≡ false }
 {}
 
 /// A code is of letters in either case, digits, `+`, `-` and `/` (RFC 3435, 3.2.2). A value may hold colons.

@@ -1,9 +1,10 @@
 //! Parameters as lines of a text: `code: value` (RFC 3435, 3.2.2).
-ghost use Rattle.std.specs.Prelude.{◌≡◌, None, Some, MatchOption, IfOk, option_copied};
+ghost use Rattle.std.specs.Prelude.{◌≡◌, None, Some, true, false, MatchOption, IfOk, OnErr, option_copied};
 ghost use Rattle.std.specs.List.{list_all};
 ghost use Rattle.mgcp_text.specs.Message.{has_code, param_at};
 ghost use Rattle.mgcp_text.specs.Parameter.{is_code_byte, is_code, param_of};
-ghost use Rattle.mgcp_text.specs.Reading.{params_of, some_params_of};
+ghost use Rattle.mgcp_text.specs.Reading.{params_of, some_params_of, has_params};
+ghost use Rattle.mg_bytes.specs.Lists.{is_empty};
 
 use crate::bytes::Bytes;
 use crate::message::{Param, Params};
@@ -51,9 +52,10 @@ pub fn params_of<'a>(
     alloc: Global,
     lines: &mut Lines<'a>,
 ) -> Result<Option<Params<'a>>, OutOfMemory>
-    ensures { IfOk result (λ found.
+    ensures value { IfOk result (λ found.
         MatchOption found (params_of lines.old ≡ None)
         (λ params. params_of lines.old ≡ Some (params, lines.new))) }
+    ensures memory { OnErr result (has_params lines.old ≡ true) }
 {
     let mut params = Sequence::new(alloc);
     while let Some(line) = lines.next() {
@@ -71,7 +73,8 @@ pub fn params_of<'a>(
 /// The parameters of a response up to the first empty line: all of them are kept, and other lines are skipped.
 #[tactic(auto, unfolding(crate::specs::Reading::some_params_of))]
 pub fn some_params_of<'a>(alloc: Global, lines: &mut Lines<'a>) -> Result<Params<'a>, OutOfMemory>
-    ensures { IfOk result (λ params. some_params_of lines.old ≡ (params, lines.new)) }
+    ensures value { IfOk result (λ params. some_params_of lines.old ≡ (params, lines.new)) }
+    ensures memory { OnErr result (is_empty (some_params_of lines.old).0 ≡ false) }
 {
     let mut params = Sequence::new(alloc);
     while let Some(line) = lines.next() {

@@ -3,6 +3,7 @@ ghost use Rattle.std.specs.Prelude.{◌≡◌, ◌≤◌, IfSome, List, ℕ};
 ghost use Rattle.mg_bytes.specs.Lines.{cut, TakesLine};
 ghost use Rattle.std.specs.List.{list_all};
 ghost use Rattle.mgcp_text.specs.Reading.{is_empty_line, skip_empty, description_of, Outcome, id_in, code_in, outcome_of, command_from, response_from, message_from, read_text};
+ghost use Rattle.mgcp_text.specs.Reading.{takes_memory, ReadsForMemory};
 ghost use Rattle.mgcp_text.specs.Spelling.{Reads};
 
 use crate::bytes::Bytes;
@@ -57,7 +58,8 @@ fn read_command<'a>(
     mut words: Words<'a>,
     mut lines: Lines<'a>,
 ) -> Result<Message<'a>, TextFault>
-    ensures { IfSome (outcome_of result) (λ outcome. outcome ≡ command_from verb id words.entry lines.entry) }
+    ensures value { IfSome (outcome_of result) (λ outcome. outcome ≡ command_from verb id words.entry lines.entry) }
+    ensures memory { ReadsForMemory (takes_memory (command_from verb id words.entry lines.entry)) result }
 {
     let (Some(name), Some(protocol), Some(version)) = (words.next(), words.next(), words.next())
     else {
@@ -86,7 +88,8 @@ fn read_response<'a>(
     id: TransactionId,
     mut lines: Lines<'a>,
 ) -> Result<Message<'a>, TextFault>
-    ensures { IfSome (outcome_of result) (λ outcome. outcome ≡ response_from code id lines.entry) }
+    ensures value { IfSome (outcome_of result) (λ outcome. outcome ≡ response_from code id lines.entry) }
+    ensures memory { ReadsForMemory (takes_memory (response_from code id lines.entry)) result }
 {
     let params = some_params_of(alloc, &mut lines)?;
     let body = Bytes::of(description_of(lines.rest()));
@@ -103,8 +106,10 @@ fn read_headed<'a>(
     header: Header<'a>,
     lines: Lines<'a>,
 ) -> Result<Message<'a>, TextFault>
-    ensures { IfSome (outcome_of result) (λ outcome.
+    ensures value { IfSome (outcome_of result) (λ outcome.
         outcome ≡ message_from header.entry.start header.entry.id header.entry.rest lines.entry) }
+    ensures memory { ReadsForMemory
+        (takes_memory (message_from header.entry.start header.entry.id header.entry.rest lines.entry)) result }
 {
     match header.start {
         Start::Command(verb) => read_command(alloc, verb, header.id, header.rest, lines),
@@ -114,7 +119,8 @@ fn read_headed<'a>(
 
 #[tactic(auto, unfolding(crate::specs::Reading::read_text))]
 fn read_first(alloc: Global, text: &[u8]) -> Result<Message<'_>, TextFault>
-    ensures { IfSome (outcome_of result) (λ outcome. outcome ≡ read_text text.now) }
+    ensures value { IfSome (outcome_of result) (λ outcome. outcome ≡ read_text text.now) }
+    ensures memory { ReadsForMemory (takes_memory (read_text text.now)) result }
 {
     let mut rest = lines(text);
     let Some(line) = first_full(&mut rest) else {
@@ -135,6 +141,8 @@ pub fn read_message(alloc: Global, text: &[u8]) -> Result<Message<'_>, TextFault
     ensures reads { IfSome (outcome_of result) (Reads text.now) }
     // The same, as a function that computes (`one_reading` joins them).
     ensures value { IfSome (outcome_of result) (λ outcome. outcome ≡ read_text text.now) }
+    // Memory is wanted for parameters alone: a text without a header, or with another version, takes none.
+    ensures memory { ReadsForMemory (takes_memory (read_text text.now)) result }
 {
     read_first(alloc, text)
 }
