@@ -1,9 +1,11 @@
 //! What audits report.
+ghost use Rattle.std.specs.Prelude.{is_ok};
 ghost use Rattle.mg_bytes.specs.CodeFault.{AnswersAs};
 ghost use Rattle.mg_bytes.specs.Items.{items_of};
 ghost use Rattle.audits.specs.Endpoint.{shown};
 ghost use Rattle.audits.specs.EndpointReport.{endpoint_report};
-ghost use Rattle.audits.specs.ConnectionReport.{connection_report};
+ghost use Rattle.connections.specs.Standing.{audited};
+ghost use Rattle.audits.specs.ConnectionReport.{connection_report, ReportsForMemory};
 
 use crate::descriptions::descriptions_text;
 use crate::endpoint::AuditedEndpoint;
@@ -36,8 +38,8 @@ pub fn endpoint_report(
 /// the items of F, in their order and each once, and behind an empty line each the local description for LC and the remote
 /// one for RC. `items` is the value of F, and an absent F is the empty text.
 ///
-/// Where there is no such connection, the return code is 515. Else codes are compared without case, and what isn't known is
-/// left out; where the response would have more than 4,000 bytes, the return code is 533.
+/// Where there is no such connection, the return code is 515, which takes no memory. Else codes are compared without case,
+/// and what isn't known is left out; where the response would have more than 4,000 bytes, the return code is 533.
 #[tactic(auto, unfolding(crate::specs::ConnectionReport::connection_report, crate::specs::Subject::known_of))]
 pub fn connection_report(
     alloc: Global,
@@ -46,7 +48,9 @@ pub fn connection_report(
     connection: &Identifier,
     items: &[u8],
 ) -> Result<AnswerContent, CodeFault>
-    ensures { AnswersAs (connection_report id (shown endpoint.entry) connection.now (items_of items.now)) result }
+    ensures answers { AnswersAs (connection_report id (shown endpoint.entry) connection.now (items_of items.now)) result }
+    // Memory is wanted only where there is such a connection.
+    ensures memory { ReportsForMemory (is_ok (audited connection.now (shown endpoint.entry).connections)) result }
 {
     let audited = endpoint.connections.audit(connection)?;
     let subject = Subject::Connection(endpoint.entity, &audited.connection);
