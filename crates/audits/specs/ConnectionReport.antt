@@ -1,10 +1,8 @@
 -- What is reported of a connection (RFC 3435, 2.3.11 and 3.2.2): its parameters, and its descriptions behind them (3.4).
-use Rattle.std.specs.Prelude.{◌≡◌, ⊤, ℕ, Bool, true, ◌&&◌, if◌then◌else◌, codes, List, [], ◌∷◌, ◌++◌, Option, Some, None, Result, Ok, Err}
+use Rattle.std.specs.Prelude.{ℕ, ◌&&◌, if◌then◌else◌, codes, List, [], ◌∷◌, ◌++◌, Option, Some, None, Result, Ok, Err}
 use Rattle.mgcp_text.specs.declared.message.Param.{Param}
 use Rattle.mgcp_text.specs.Answer.{AnswerContent}
 use Rattle.mg_bytes.specs.Lines.{crlf}
-use Rattle.mg_bytes.specs.declared.code_fault.CodeFault.{CodeFault}
-use Rattle.mg_bytes.specs.declared.code_fault.CodeFault.TheVariants.{OutOfMemory, Code}
 use Rattle.sdp_subset.specs.declared.session.Session.{Session}
 use Rattle.sdp_subset.specs.Writing.{session_text}
 use Rattle.connections.specs.declared.answer.Audited.{Audited}
@@ -56,9 +54,3 @@ report_from id entity (Ok audited) items = fitting id (record {
 unfoldable pub connection_report : ℕ → AuditedEndpoint → List ℕ → List (List ℕ) → Result AnswerContent ℕ
 connection_report id endpoint connection items =
     report_from id endpoint.entity.text (audited connection endpoint.connections) items
-
--- an audit fails for want of memory only where it takes any
-abbrev pub ReportsForMemory : {A : Type 0} → Bool → Result A CodeFault → Type 0
-ReportsForMemory takes (Ok value) = ⊤
-ReportsForMemory takes (Err (Code code)) = ⊤
-ReportsForMemory takes (Err OutOfMemory) = takes ≡ true

@@ -1,11 +1,11 @@
 //! What audits report.
 ghost use Rattle.std.specs.Prelude.{is_ok};
-ghost use Rattle.mg_bytes.specs.CodeFault.{AnswersAs};
+ghost use Rattle.mg_bytes.specs.CodeFault.{AnswersAs, FailsForMemory};
 ghost use Rattle.mg_bytes.specs.Items.{items_of};
 ghost use Rattle.audits.specs.Endpoint.{shown};
 ghost use Rattle.audits.specs.EndpointReport.{endpoint_report};
 ghost use Rattle.connections.specs.Standing.{audited};
-ghost use Rattle.audits.specs.ConnectionReport.{connection_report, ReportsForMemory};
+ghost use Rattle.audits.specs.ConnectionReport.{connection_report};
 
 use crate::descriptions::descriptions_text;
 use crate::endpoint::AuditedEndpoint;
@@ -50,7 +50,7 @@ pub fn connection_report(
 ) -> Result<AnswerContent, CodeFault>
     ensures answers { AnswersAs (connection_report id (shown endpoint.entry) connection.now (items_of items.now)) result }
     // Memory is wanted only where there is such a connection.
-    ensures memory { ReportsForMemory (is_ok (audited connection.now (shown endpoint.entry).connections)) result }
+    ensures memory { FailsForMemory (is_ok (audited connection.now (shown endpoint.entry).connections)) result }
 {
     let audited = endpoint.connections.audit(connection)?;
     let subject = Subject::Connection(endpoint.entity, &audited.connection);

@@ -100,9 +100,3 @@ abbrev pub StopsForMemory : {A : Type 0} → Bool → Result A Stop → Type 0
 StopsForMemory takes (Ok value) = ⊤
 StopsForMemory takes (Err (AtFault refused)) = ⊤
 StopsForMemory takes (Err OutOfMemory) = takes ≡ true
-
--- the same without the place
-abbrev pub FailsForMemory : {A : Type 0} → Bool → Result A CodeFault → Type 0
-FailsForMemory takes (Ok value) = ⊤
-FailsForMemory takes (Err (faults.Code code)) = ⊤
-FailsForMemory takes (Err faults.OutOfMemory) = takes ≡ true

@@ -1,7 +1,7 @@
 //! What a message asks for, or what it is refused for.
 ghost use Rattle.std.specs.Prelude.{◌≡◌, true, IfOk, IfErr};
-ghost use Rattle.mg_bytes.specs.CodeFault.{AnswersAs};
-ghost use Rattle.command_forms.specs.Refusing.{StopsAs, StopsForMemory, FailsForMemory, stop_of};
+ghost use Rattle.mg_bytes.specs.CodeFault.{AnswersAs, FailsForMemory};
+ghost use Rattle.command_forms.specs.Refusing.{StopsAs, StopsForMemory, stop_of};
 ghost use Rattle.command_forms.specs.Order.{audit_of, names_call, are_requested, absent_letter, counted, asked_for, asked};
 ghost use Rattle.command_forms.specs.Order.{is_audit, judged_while_in, form_while_in, form_in};
 ghost use Rattle.command_forms.specs.Order.{is_deed, takes_memory, takes_memory_in};

@@ -1,10 +1,8 @@
 -- The value of O (RFC 3435, 2.3.4): the events that a notification tells. The end of a signal by its time is told with
 -- the signal.
-use Rattle.std.specs.Prelude.{◌≡◌, ⊤, ℕ, Bool, true, false, ◌&&◌, ◌||◌, not, if◌then◌else◌, List, [], ◌∷◌, ◌++◌, map, Option, Some, None, Result, Ok, Err, is_ok}
+use Rattle.std.specs.Prelude.{ℕ, Bool, true, false, ◌&&◌, ◌||◌, not, if◌then◌else◌, List, [], ◌∷◌, ◌++◌, map, Option, Some, None, Result, Ok, Err, is_ok}
 use Rattle.std.specs.List.{list_all, join_with_byte}
 use Rattle.mg_bytes.specs.Bytes.{comma}
-use Rattle.mg_bytes.specs.declared.code_fault.CodeFault.{CodeFault}
-use Rattle.mg_bytes.specs.declared.code_fault.CodeFault.TheVariants.{OutOfMemory, Code}
 use Rattle.mg_packages.specs.declared.event.LineEvent.{LineEvent}
 use Rattle.mg_packages.specs.declared.package.Package.{Package}
 use Rattle.mg_packages.specs.declared.package.Package.TheVariants.{Line, Generic}
@@ -80,12 +78,6 @@ observed_of value = each observed_entry (entries value)
 abbrev pub takes_memory : List (List ℕ) → Bool
 takes_memory [] = false
 takes_memory (entry ∷ rest) = is_ok (observed_entry entry)
-
--- a reader gives up for want of memory only where it takes any
-abbrev pub GivesUpForMemory : {A : Type 0} → Bool → Result A CodeFault → Type 0
-GivesUpForMemory takes (Ok value) = ⊤
-GivesUpForMemory takes (Err (Code code)) = ⊤
-GivesUpForMemory takes (Err OutOfMemory) = takes ≡ true
 
 -- Writing
 

@@ -3,12 +3,12 @@ ghost use Rattle.std.specs.Prelude.{◌≡◌, ◌++◌, true, false, IfOk, OnOk
 ghost use Rattle.std.specs.List.{list_any};
 ghost use Rattle.mg_bytes.specs.Blanks.{is_blank};
 ghost use Rattle.mg_bytes.specs.Lines.{is_line_feed};
-ghost use Rattle.mg_bytes.specs.CodeFault.{AnswersAs};
+ghost use Rattle.mg_bytes.specs.CodeFault.{AnswersAs, FailsForMemory};
 ghost use Rattle.mg_packages.specs.Looking.{package_of, completion_of};
 ghost use Rattle.event_cuts.specs.Cuts.{inside_seen, form_of, entries};
 ghost use Rattle.event_values.specs.Observed.{completes, is_completion, is_timed, tells, happened, ended};
 ghost use Rattle.event_values.specs.Observed.{observed_with, observed_from, observed_entry, observed_of, completion_name};
-ghost use Rattle.event_values.specs.Observed.{takes_memory, GivesUpForMemory};
+ghost use Rattle.event_values.specs.Observed.{takes_memory};
 ghost use Rattle.event_values.specs.Observed.{observed_entry_text, observed_text, are_writable_observed};
 
 use crate::signals::signal_called;
@@ -129,7 +129,7 @@ fn observed_entry(entry: &[u8]) -> Result<Observed, u16>
 pub fn read_observed(alloc: Global, value: &[u8]) -> Result<Sequence<Observed>, CodeFault>
     ensures answers { AnswersAs (observed_of value.now) result }
     // Memory is wanted only where the first event can be read.
-    ensures memory { GivesUpForMemory (takes_memory (entries value.now)) result }
+    ensures memory { FailsForMemory (takes_memory (entries value.now)) result }
     // What is read can be written.
     ensures writable { IfOk result (λ list. are_writable_observed list ≡ true) }
 {

@@ -1,5 +1,5 @@
 -- What a call answers where a definition says a value, or the return code of a fault (RFC 3435, 2.4).
-use Rattle.std.specs.Prelude.{◌≡◌, ◌≤◌, ⊤, ℕ, Result, Ok, Err}
+use Rattle.std.specs.Prelude.{◌≡◌, ◌≤◌, ⊤, ℕ, Bool, true, Result, Ok, Err}
 use Rattle.mg_bytes.specs.declared.code_fault.CodeFault.{CodeFault}
 use Rattle.mg_bytes.specs.declared.code_fault.CodeFault.TheVariants.{OutOfMemory, Code}
 
@@ -8,6 +8,12 @@ abbrev pub AnswersAs : {A : Type 0} → Result A ℕ → Result A CodeFault → 
 AnswersAs said (Ok value) = said ≡ Ok value
 AnswersAs said (Err (Code code)) = (said ≡ Err code) × (code ≤ 999)
 AnswersAs said (Err OutOfMemory) = ⊤
+
+-- a call fails for want of memory only where it takes any
+abbrev pub FailsForMemory : {A : Type 0} → Bool → Result A CodeFault → Type 0
+FailsForMemory takes (Ok value) = ⊤
+FailsForMemory takes (Err (Code code)) = ⊤
+FailsForMemory takes (Err OutOfMemory) = takes ≡ true
 
 -- what a call answers that takes no memory
 abbrev pub answer_of : {A : Type 0} → Result A ℕ → Result A CodeFault

@@ -15,7 +15,7 @@ ghost use Rattle.mg_bytes.specs.Numbers.{decimal_of, is_hex_text, identifier_of}
 ghost use Rattle.mg_bytes.specs.Case.{same_but_case};
 ghost use Rattle.mg_bytes.specs.Address.{ipv4_of, port_of};
 ghost use Rattle.mg_bytes.specs.Letter.{all_letters, byte_of, letter_of};
-ghost use Rattle.mg_bytes.specs.CodeFault.{answer_of, code_fault_number};
+ghost use Rattle.mg_bytes.specs.CodeFault.{answer_of, code_fault_number, FailsForMemory};
 ghost use Rattle.mg_bytes.specs.ReturnCode.{number_of, words_of, code_with};
 
 use crate::code_fault::CodeFault;
@@ -184,6 +184,10 @@ pub fn keys_and_t_are_letters()
 pub fn answers_are_values_or_codes()
     ensures value { answer_of (Ok (codes "x")) ≡ Ok (codes "x") }
     ensures code { answer_of {A = List ℕ} (Err 510) ≡ Err (CodeFault.Code 510) }
+    ensures none_wanted { ¬ FailsForMemory {A = List ℕ} false (Err CodeFault.OutOfMemory) }
+    ensures wanted { FailsForMemory {A = List ℕ} true (Err CodeFault.OutOfMemory) }
+    ensures fault { FailsForMemory {A = List ℕ} false (Err (CodeFault.Code 510)) }
+    ensures given { FailsForMemory false (Ok (codes "x")) }
 {}
 
 /// The numbers of return codes are those of RFC 3435, 2.4.
