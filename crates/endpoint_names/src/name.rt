@@ -10,6 +10,9 @@ ghost use Rattle.endpoint_names.specs.Name.{means_line, name_fault_number, local
 use mg_bytes::{OutOfMemory, Text, decimal, put_decimal, same_no_case, split_once};
 use std::alloc::Global;
 
+// The room, in bytes, that a written name begins with: most are shorter.
+const ROOM: usize = 64;
+
 /// The endpoints that a name means.
 #[derive(Clone, Copy)]
 pub enum Pattern {
@@ -169,7 +172,7 @@ fn put_local_name(alloc: Global, out: &mut Vec<u8>, pattern: Pattern) -> Result<
 pub fn write_name(alloc: Global, pattern: Pattern, domain: &[u8]) -> Result<Text, OutOfMemory>
     ensures { IfOk result (λ text. text ≡ name_text pattern domain.now) }
 {
-    let mut out = Vec::new(alloc);
+    let mut out = Vec::with_capacity(alloc, ROOM)?;
     put_local_name(alloc, &mut out, pattern)?;
     out.push(b'@')?;
     out.extend_from_slice(domain)?;

@@ -21,6 +21,9 @@ use crate::reading::has_only_empty_lines;
 use mg_bytes::{OutOfMemory, ReturnCode, Text, has_dot_line, lines, put_decimal, trimmed};
 use std::alloc::Global;
 
+// The room, in bytes, that the text of a message begins with: most are shorter.
+const ROOM: usize = 128;
+
 fn verb_text(verb: Verb) -> &'static [u8]
     ensures { result.now ≡ verb_text verb }
 {
@@ -155,7 +158,7 @@ fn command_text(
 ) -> Result<Text, OutOfMemory>
     ensures { IfOk result (λ text. text ≡ written (messages.Command verb id name.now params.now body.now)) }
 {
-    let mut out = Vec::new(alloc);
+    let mut out = Vec::with_capacity(alloc, ROOM)?;
     put_command_line(alloc, &mut out, verb, id, name)?;
     with_lines(out, params, body)
 }
@@ -172,7 +175,7 @@ pub(crate) fn response_text(
     requires { code ≤ 999 }
     ensures { IfOk result (λ text. text ≡ written (messages.Response code id params.now body.now)) }
 {
-    let mut out = Vec::new(alloc);
+    let mut out = Vec::with_capacity(alloc, ROOM)?;
     put_response_line(alloc, &mut out, code, id)?;
     with_lines(out, params, body.as_slice())
 }

@@ -17,10 +17,20 @@ use plain_machine::{OutDatagram, Refusal};
 use signals::ActiveSignal;
 use std::alloc::Global;
 
+// The room, in bytes, that a line and the text of datagrams begin with: most are shorter.
+const LINE_ROOM: usize = 64;
+
+const TEXT_ROOM: usize = 256;
+
+// The room that the text of these datagrams begins with.
+fn room_for(datagrams: &[OutDatagram]) -> usize {
+    if datagrams.is_empty() { 0 } else { TEXT_ROOM }
+}
+
 fn datagram_line(alloc: Global, datagram: &OutDatagram) -> Result<String, OutOfMemory>
     ensures { IfOk result (λ line. string_bytes line ≡ printed_line (datagram_line datagram.now)) }
 {
-    let mut line = String::new(alloc);
+    let mut line = String::with_capacity(alloc, LINE_ROOM)?;
     writeln!(line, "> {} {}", datagram.moment, datagram.to)?;
     Ok(line)
 }
@@ -89,7 +99,7 @@ pub fn put_datagrams<L: Link>(
     ensures grows { length out.old.items ≤ length out.new.items }
     ensures err { OnErr result (out.new.items ≡ out.old.items) }
 {
-    let mut text = Vec::new(alloc);
+    let mut text = Vec::with_capacity(alloc, room_for(datagrams))?;
     carry_datagrams(alloc, link, &mut text, datagrams)?;
     out.extend_from_slice(&text)?;
     Ok(())

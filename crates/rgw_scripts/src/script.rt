@@ -13,6 +13,9 @@ use std::alloc::Global;
 use std::marker::Model;
 use std::net::SocketAddrV4;
 
+// The room, in bytes, that a datagram of a script begins with: most are shorter.
+const TEXT_ROOM: usize = 128;
+
 // A `from` whose `--` hasn't come: its line's number, and its lines so far.
 #[derive(Drop)]
 struct OpenFrom {
@@ -73,10 +76,11 @@ impl ScriptReader {
             None => return Ok(false),
             Some(ScriptLine::Empty) => {}
             Some(ScriptLine::From { source }) => {
+                let text = Vec::with_capacity(alloc, TEXT_ROOM)?;
                 self.waiting = Some(OpenFrom {
                     line: number,
                     source,
-                    text: Vec::new(alloc),
+                    text,
                 });
             }
             Some(ScriptLine::Whole { step }) => self.steps.push(step)?,
