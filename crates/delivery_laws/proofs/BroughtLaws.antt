@@ -1,6 +1,6 @@
 -- A network that hands each packet over in time brings each command of the gateway's own to the agent in that time.
-use Rattle.std.proofs.Common.{◌≡◌, ℕ, ◌+◌, ◌≤◌, true, List, [], ◌∷◌, ◌++◌, Some, inl, inr, sym, ◌∙◌, subst}
-use Rattle.std.specs.Prelude.{◌⊎◌, Any, slice_get}
+use Rattle.std.proofs.Common.{◌≡◌, ℕ, ◌+◌, ◌≤◌, true, List, [], ◌∷◌, ◌++◌, Some, sym, ◌∙◌, subst}
+use Rattle.std.specs.Prelude.{Any, slice_get}
 use Rattle.transmission.specs.Texts.{texts_of}
 use Rattle.plain_machine.specs.declared.setup.Setup.{Setup}
 use Rattle.plain_machine.specs.Event.{datagram}
@@ -16,8 +16,8 @@ use Rattle.agent_core.specs.World.{World, WorldStep, delivering, now_in, plain_w
 use Rattle.world_laws.specs.Reached.{Reached, own_in, taken_in}
 use Rattle.world_laws.proofs.LinkLaws.{world_linked}
 use Rattle.delivery_laws.specs.Copies.{IsCopy}
-use Rattle.delivery_laws.specs.Taking.{IsConfirmedIn, IsOwn, IsTaken, agent_history}
-use Rattle.delivery_laws.specs.Fairness.{AgentAlwaysHasRoom, GoesToAgent, IsFair, IsHandedOver, IsNeverConfirmedIn}
+use Rattle.delivery_laws.specs.Taking.{IsOwn, IsTaken}
+use Rattle.delivery_laws.specs.Fairness.{AgentAlwaysHasRoom, GoesToAgent, IsFair, IsHandedOver}
 use Rattle.delivery_laws.proofs.PlaceLemmas.{one_at}
 use Rattle.delivery_laws.proofs.PostedLemmas.{HasText, began_says, said_posted}
 use Rattle.delivery_laws.proofs.StepLemmas.{handed_to_agent, step_more, taken_front}
@@ -41,7 +41,7 @@ pub record IsBrought (setup : Setup) (steps : List WorldStep) (within : ℕ) (b 
 
 module _ (setup : Setup) (steps : List WorldStep) (limit within : ℕ) (b : Begun) (set_up : IsSetUp setup) (taken : steps_are_taken setup world_opening steps ≡ true)
     (fair : HandsOver setup steps limit within)
-    (roomy : AgentAlwaysHasRoom setup steps) (unconfirmed : IsNeverConfirmedIn setup steps b.id) (own : IsOwn setup (plain_world setup steps) b)
+    (roomy : AgentAlwaysHasRoom setup steps) (own : IsOwn setup (plain_world setup steps) b)
     (goes : GoesToAgent setup (plain_world setup steps) b.text) (late : b.moment + limit ≤ now_in setup (plain_world setup steps)) where
   abbrev w : World
   w = plain_world setup steps
@@ -58,7 +58,14 @@ module _ (setup : Setup) (steps : List WorldStep) (limit within : ℕ) (b : Begu
       (began_says b (sent_of setup w.gateway_took) (one_from_any (λ (one : Begun). one ≡ b) (own_in setup w) own))
 
   brought_by : (number : ℕ) (post : Posted) → slice_get w.posted number ≡ Some post → HasText b.text b.moment post → IsBrought setup steps within b
-  brought_by number post found shows = by_end (agent_takes setup there.before number b was.name set_up front was.reads copy is (roomy first there.later there.order)) where
+  brought_by number post found shows = record {
+    number = number;
+    post = post;
+    moment = shows.1;
+    there = there;
+    step = is;
+    took = agent_takes setup there.before number b was.name set_up front was.reads copy is (roomy first there.later there.order);
+  } where
     inside : Any (λ (one : List ℕ). one ≡ b.text) (texts_of post.packet.bytes)
     inside = any_from_one (λ (one : List ℕ). one ≡ b.text) (texts_of post.packet.bytes) shows.2
 
@@ -77,23 +84,19 @@ module _ (setup : Setup) (steps : List WorldStep) (limit within : ℕ) (b : Begu
     is : plain_world setup first ≡ to_agent setup (plain_world setup there.before) (hears (datagram post.packet.sender post.packet.bytes))
     is = step_more setup there.before (delivering number) ∙ handed_to_agent setup (plain_world setup there.before) b.text number copy
 
-    by_end : IsConfirmedIn b.id (agent_history setup (plain_world setup first)) ⊎ IsTaken setup (plain_world setup there.before) (plain_world setup first) b.id → IsBrought setup steps within b
-    by_end (inl confirmed) = absurd (unconfirmed first there.later there.order confirmed)
-    by_end (inr took) = record { number = number; post = post; moment = shows.1; there = there; step = is; took = took }
-
   brought : IsBrought setup steps within b
   brought = let at = one_at (HasText b.text b.moment) w.posted shown in brought_by at.0 at.1 at.2 at.3
 
 pub is_brought : (setup : Setup) (steps : List WorldStep) (limit within : ℕ) (b : Begun) → IsSetUp setup → steps_are_taken setup world_opening steps ≡ true → HandsOver setup steps limit within
-    → AgentAlwaysHasRoom setup steps → IsNeverConfirmedIn setup steps b.id → let w = plain_world setup steps in IsOwn setup w b → GoesToAgent setup w b.text
+    → AgentAlwaysHasRoom setup steps → let w = plain_world setup steps in IsOwn setup w b → GoesToAgent setup w b.text
     → b.moment + limit ≤ now_in setup w → IsBrought setup steps within b
-is_brought setup steps limit within b set_up taken fair roomy unconfirmed own goes late = brought setup steps limit within b set_up taken fair roomy unconfirmed own goes late
+is_brought setup steps limit within b set_up taken fair roomy own goes late = brought setup steps limit within b set_up taken fair roomy own goes late
 
 pub brought_in_time : (setup : Setup) (steps : List WorldStep) (within : ℕ) (b : Begun) → IsSetUp setup → steps_are_taken setup world_opening steps ≡ true → IsFair setup steps within
-    → AgentAlwaysHasRoom setup steps → IsNeverConfirmedIn setup steps b.id → let w = plain_world setup steps in IsOwn setup w b → GoesToAgent setup w b.text
+    → AgentAlwaysHasRoom setup steps → let w = plain_world setup steps in IsOwn setup w b → GoesToAgent setup w b.text
     → b.moment + within ≤ now_in setup w → Any (λ (one : Reached). one.asked.id ≡ b.id) (taken_in w)
-brought_in_time setup steps within b set_up taken fair roomy unconfirmed own goes late =
-    let is = is_brought setup steps within within b set_up taken fair roomy unconfirmed own goes late in
+brought_in_time setup steps within b set_up taken fair roomy own goes late =
+    let is = is_brought setup steps within within b set_up taken fair roomy own goes late in
     let first = is.there.before ++ delivering is.number ∷ [] in
     any_from_one (λ (one : Reached). one.asked.id ≡ b.id) (taken_in (plain_world setup steps))
     (subst (λ (s : List WorldStep). OneOf (λ (one : Reached). one.asked.id ≡ b.id) (taken_in (plain_world setup s))) (sym is.there.order)

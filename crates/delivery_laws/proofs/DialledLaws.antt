@@ -31,7 +31,7 @@ use Rattle.dialled_end_to_end.specs.Telling.{told_as}
 use Rattle.dialled_end_to_end.specs.Untaken.{has_taken, untaken}
 use Rattle.dialled_end_to_end.proofs.EndLemmas.{dialled_through}
 use Rattle.delivery_laws.specs.Taking.{IsOwn}
-use Rattle.delivery_laws.specs.Fairness.{AgentAlwaysHasRoom, GoesToAgent, HadItsTime, IsFair, IsNeverConfirmedIn}
+use Rattle.delivery_laws.specs.Fairness.{AgentAlwaysHasRoom, GoesToAgent, HadItsTime, IsFair}
 use Rattle.delivery_laws.proofs.PostedLemmas.{one_member}
 use Rattle.delivery_laws.proofs.BroughtLaws.{brought_in_time}
 
@@ -52,20 +52,20 @@ module _ (setup : Setup) (steps : List WorldStep) (within line : ℕ) (endpoint 
       (of_its_line (λ i e. LineStands (now_in setup w) (own_in setup w) i e) (gateway_in setup w).endpoints line endpoint (world_linked setup steps set_up taken).links.gateway.stands.list at).post.flight
 
   was_taken : (flight : InFlight) → InLog (now_in setup w) (own_in setup w) flight → flight.first + within ≤ now_in setup w → GoesToAgent setup w flight.text
-      → IsNeverConfirmedIn setup steps flight.id → has_taken flight.id (taken_in w) ≡ true
-  was_taken flight log late goes unconfirmed =
+      → has_taken flight.id (taken_in w) ≡ true
+  was_taken flight log late goes =
       let on = one_member (IsSame flight) (own_in setup w) log.known in
       let b : Begun = on.0 in
       let is : IsSame flight b = on.1 in
       let own : IsOwn setup w b = any_from_one (λ (one : Begun). one ≡ b) (own_in setup w) on.2 in
       has_it flight.id b.id (taken_in w) is.id
       (one_from_any (λ (one : Reached). one.asked.id ≡ b.id) (taken_in w)
-      (brought_in_time setup steps within b set_up taken fair roomy (subst (IsNeverConfirmedIn setup steps) (sym is.id) unconfirmed) own (subst (GoesToAgent setup w) (sym is.text) goes)
+      (brought_in_time setup steps within b set_up taken fair roomy own (subst (GoesToAgent setup w) (sym is.text) goes)
       (subst (λ (moment : ℕ). moment + within ≤ now_in setup w) (sym is.moment) late)))
 
   none_left : (pending : Option InFlight) → IfSome pending (InLog (now_in setup w) (own_in setup w)) → HadItsTime setup steps within pending → untaken (taken_in w) pending ≡ []
   none_left None log had = refl
-  none_left (Some flight) log had = ap (λ (b : Bool). if b then [] else told_as (read_text flight.text)) (was_taken flight log had.0 had.1 had.2)
+  none_left (Some flight) log had = ap (λ (b : Bool). if b then [] else told_as (read_text flight.text)) (was_taken flight log had.0 had.1)
 
   nothing_on_its_way : HadItsTime setup steps within endpoint.post.pending → untaken (taken_in w) endpoint.post.pending ≡ []
   nothing_on_its_way had = none_left endpoint.post.pending in_log had

@@ -1,13 +1,9 @@
 -- What holds of each beginning of a list; for worked examples, in which it computes.
-use Rattle.std.proofs.Common.{◌≡◌, ℕ, ◌+◌, Bool, true, false, ◌||◌, ◌&&◌, List, [], ◌∷◌, ◌++◌, Option, Some, None, inl, inr, refl, sym, ap, ◌∙◌, subst}
+use Rattle.std.proofs.Common.{◌≡◌, ℕ, ◌+◌, Bool, true, false, ◌||◌, ◌&&◌, List, [], ◌∷◌, ◌++◌, Option, Some, None, refl, sym, ap, ◌∙◌, subst}
 use Rattle.std.specs.Prelude.{nat_le, nat_lt, not}
-use Rattle.std.specs.List.{list_any}
 use Rattle.std.proofs.lemmas.Bool.{and_parts, leb-true}
 use Rattle.std.proofs.lemmas.Bool.Decides.{Decides-ltb}
 use Rattle.event_requests.specs.declared.request.Request.{Request}
-use Rattle.history.specs.declared.entry.Entry.{Entry}
-use Rattle.history.specs.declared.entry.Entry.TheVariants.{First}
-use Rattle.history.specs.Looking.{confirms}
 use Rattle.mg_line.specs.declared.state.State.{State}
 use Rattle.mg_line.specs.declared.state.State.TheVariants.{Normal, Notification, Lockstep}
 use Rattle.outbound.specs.Flight.{InFlight}
@@ -16,11 +12,8 @@ use Rattle.plain_machine.specs.declared.setup.Setup.{Setup}
 use Rattle.plain_machine.specs.Event.{GatewayEvent}
 use Rattle.plain_machine.specs.Lists.{plain}
 use Rattle.plain_machine.specs.Machine.{Machine, endpoint_at}
-use Rattle.machine_laws.specs.Saying.{OneOf}
-use Rattle.machine_laws.proofs.EachLemmas.{one_from_any}
 use Rattle.dialled_once.specs.Course.{course_from, requests_in}
 use Rattle.delivery_laws.specs.Rounds.{IsAnsweredWithin, IsAskedWithin, IsAwaited}
-use Rattle.delivery_laws.specs.Taking.{IsConfirmedIn}
 
 first_same : {X : Type 0} (x y : X) (xs ys : List X) → x ∷ xs ≡ y ∷ ys → x ≡ y
 first_same x y xs ys same = cc
@@ -56,30 +49,6 @@ stretch_holds holds (x ∷ xs) (y ∷ some) between later is same =
     subst (λ z. holds (z ∷ some) between ≡ true) (first_same x y xs ((some ++ between) ++ later) same)
     (stretch_holds (λ some between. holds (x ∷ some) between) xs some between later
     (and_parts (on_fronts (holds []) (x ∷ xs)) (on_stretches (λ some between. holds (x ∷ some) between) xs) is).1 (rest_same x y xs ((some ++ between) ++ later) same))
-
--- Where no entry confirms it
-
-either_is : (a b : Bool) → b ≡ true → (a || b) ≡ true
-either_is true b is = refl
-either_is false b is = is
-
-pub unconfirmed : (id : ℕ) (entries : List Entry) → not (list_any (confirms id) entries) ≡ true → IsConfirmedIn id entries → ⊥
-unconfirmed id entries none is = clash (list_any (confirms id) entries) none (ap (list_any (confirms id)) is.order ∙ behind is.before (First is.first ∷ is.later) named) where
-  clash : (b : Bool) → not b ≡ true → b ≡ true → ⊥
-  clash true none is = cc
-  clash false none is = cc
-
-  behind : (before later : List Entry) → list_any (confirms id) later ≡ true → list_any (confirms id) (before ++ later) ≡ true
-  behind [] later is = is
-  behind (entry ∷ before) later is = either_is (confirms id entry) (list_any (confirms id) (before ++ later)) (behind before later is)
-
-  some_named : (later : List Entry) → OneOf (λ (entry : Entry). confirms id entry ≡ true) later → list_any (confirms id) later ≡ true
-  some_named [] none = absurd none
-  some_named (entry ∷ later) (inl is) = ap (λ (b : Bool). b || list_any (confirms id) later) is
-  some_named (entry ∷ later) (inr one) = either_is (confirms id entry) (list_any (confirms id) later) (some_named later one)
-
-  named : list_any (confirms id) (First is.first ∷ is.later) ≡ true
-  named = some_named is.later (one_from_any (λ (entry : Entry). confirms id entry ≡ true) is.later is.named)
 
 -- Whether a line is answered and asked
 

@@ -32,7 +32,7 @@ use Rattle.agent_core.specs.World.{World, WorldStep, agent_in, gateway_in, now_i
 use Rattle.world_laws.specs.Reached.{own_in}
 use Rattle.world_laws.proofs.LinkLaws.{world_linked}
 use Rattle.dialled_end_to_end.specs.GivenUp.{has_given_up}
-use Rattle.delivery_laws.specs.Fairness.{AgentAlwaysHasRoom, GoesToAgent, HadItsTime, IsFair, IsNeverConfirmedIn, ReachTheAgent}
+use Rattle.delivery_laws.specs.Fairness.{AgentAlwaysHasRoom, GoesToAgent, HadItsTime, IsFair, ReachTheAgent}
 use Rattle.delivery_laws.specs.Rounds.{IsAnsweredWithin, IsAskedWithin, IsAwaited, rounds_take}
 use Rattle.delivery_laws.specs.Taking.{IsOwn}
 use Rattle.delivery_laws.proofs.AnsweredLaws.{over_once_answered}
@@ -76,7 +76,7 @@ module _ (setup : Setup) (first later : List WorldStep) (within line : ℕ) (end
   own : IsOwn setup w b
   own = any_from_one (λ (one : Begun). one ≡ b) (own_in setup w) (one_member (IsSame flight) (own_in setup w) in_log.known).2
 
-  reaches : GoesToAgent setup (plain_world setup (first ++ later)) b.text × IsNeverConfirmedIn setup (first ++ later) b.id
+  reaches : GoesToAgent setup (plain_world setup (first ++ later)) b.text
   reaches = reach b (own_stays setup first later b own) (ap line_of_id is.id ∙ its_line setup w line endpoint flight at flies)
 
   more : (before rest : List WorldStep) → first ≡ before ++ rest → first ++ later ≡ before ++ (rest ++ later)
@@ -93,8 +93,7 @@ module _ (setup : Setup) (first later : List WorldStep) (within line : ℕ) (end
   late : flight.first + 2 * within < now_in setup w → ⊥
   late now =
       over (is_returned setup first (within + 1) within b set_up front_taken (fair_front setup first later within taken fair) (λ before rest order. roomy before (rest ++ later) (more before rest order))
-      (λ before rest order. reaches.1 before (rest ++ later) (more before rest order)) own
-      (λ number post found. reaches.0 number post (stays_found setup 0 first later number post found))
+      own (λ number post found. reaches number post (stays_found setup 0 first later number post found))
       (not_before b.moment within (now_in setup w) (subst (λ (moment : ℕ). moment + 2 * within < now_in setup w) (sym is.moment) now)))
 
   pub awaited : IsAwaited (now_in setup w) (2 * within) endpoint.post.pending

@@ -18,6 +18,7 @@ pub mod CarryLaws
 pub mod FairLaws
 pub mod LookLemmas
 pub mod TakeLemmas
+pub mod UnconfirmedLaws
 pub mod TakeLaws
 pub mod PostedLemmas
 pub mod TakenLemmas

@@ -24,7 +24,7 @@ use Rattle.world_laws.specs.Reached.{issued_in}
 use Rattle.world_laws.proofs.WorldLaws.{agent_answers, world_sound}
 use Rattle.delivery_laws.specs.Copies.{IsCopy}
 use Rattle.delivery_laws.specs.Taking.{IsOwn, IsTaken, agent_history}
-use Rattle.delivery_laws.specs.Fairness.{AgentAlwaysHasRoom, GoesToAgent, IsFair, IsHandedOver, IsNeverConfirmedIn}
+use Rattle.delivery_laws.specs.Fairness.{AgentAlwaysHasRoom, GoesToAgent, IsFair, IsHandedOver}
 use Rattle.delivery_laws.specs.GoingOn.{IsPlainAnswer}
 use Rattle.delivery_laws.specs.OwnChances.{HasCome, IsResponse}
 use Rattle.delivery_laws.proofs.StepLemmas.{handed_to_gateway, step_more, steps_more, taken_front}
@@ -169,10 +169,10 @@ module _ (setup : Setup) (steps : List WorldStep) (limit within : ℕ) (b : Begu
   comes_back same = returns (fair took.number post found (back_late b.moment within limit post.packet.moment (now_in setup (plain_world setup steps)) (soon same) late))
 
 pub is_returned : (setup : Setup) (steps : List WorldStep) (limit within : ℕ) (b : Begun) → IsSetUp setup → steps_are_taken setup world_opening steps ≡ true → HandsOver setup steps limit within
-    → AgentAlwaysHasRoom setup steps → IsNeverConfirmedIn setup steps b.id → let w = plain_world setup steps in IsOwn setup w b → GoesToAgent setup w b.text
+    → AgentAlwaysHasRoom setup steps → let w = plain_world setup steps in IsOwn setup w b → GoesToAgent setup w b.text
     → b.moment + within + limit ≤ now_in setup w → IsReturned setup steps b
-is_returned setup steps limit within b set_up taken fair roomy unconfirmed own goes late =
-    let is = is_brought setup steps limit within b set_up taken fair roomy unconfirmed own goes (there_late b.moment within limit (now_in setup (plain_world setup steps)) late) in
+is_returned setup steps limit within b set_up taken fair roomy own goes late =
+    let is = is_brought setup steps limit within b set_up taken fair roomy own goes (there_late b.moment within limit (now_in setup (plain_world setup steps)) late) in
     comes_back setup steps limit within b taken fair late is (ap (now_in setup) is.step)
 
 -- where it is handed over it comes
@@ -194,8 +194,8 @@ has_come setup steps b back =
       Comes a = IsResponse b.id a.outcome
 
 pub returned_in_time : (setup : Setup) (steps : List WorldStep) (within : ℕ) (b : Begun) → IsSetUp setup → steps_are_taken setup world_opening steps ≡ true → IsFair setup steps within
-    → AgentAlwaysHasRoom setup steps → IsNeverConfirmedIn setup steps b.id → let w = plain_world setup steps in IsOwn setup w b → GoesToAgent setup w b.text
+    → AgentAlwaysHasRoom setup steps → let w = plain_world setup steps in IsOwn setup w b → GoesToAgent setup w b.text
     → b.moment + 2 * within ≤ now_in setup w → HasCome w b.id
-returned_in_time setup steps within b set_up taken fair roomy unconfirmed own goes late =
+returned_in_time setup steps within b set_up taken fair roomy own goes late =
     has_come setup steps b
-    (is_returned setup steps within within b set_up taken fair roomy unconfirmed own goes (twice_late b.moment within (now_in setup (plain_world setup steps)) late))
+    (is_returned setup steps within within b set_up taken fair roomy own goes (twice_late b.moment within (now_in setup (plain_world setup steps)) late))

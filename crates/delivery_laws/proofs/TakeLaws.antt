@@ -1,6 +1,6 @@
 -- A command of the gateway's own that is handed to the agent is taken and answered at once.
 use Rattle.std.proofs.Common.{◌≡◌, ℕ, ◌<◌, true, List, [], ◌∷◌, ◌++◌, map, length, Some, inl, inr, refl, sym, ap, ◌∙◌, subst}
-use Rattle.std.specs.Prelude.{◌⊎◌, All, slice_get}
+use Rattle.std.specs.Prelude.{All, slice_get}
 use Rattle.std.specs.declared.net.socket_addr.SocketAddrV4.{SocketAddrV4}
 use Rattle.mgcp_text.specs.Reading.{read_text}
 use Rattle.history.specs.declared.entry.KeptFirst.{KeptFirst}
@@ -32,13 +32,14 @@ use Rattle.world_laws.proofs.LinkLaws.{world_linked}
 use Rattle.world_laws.proofs.TakenLaws.{agent_keys}
 use Rattle.world_laws.proofs.WorldLaws.{world_sound}
 use Rattle.delivery_laws.specs.Copies.{IsCopy}
-use Rattle.delivery_laws.specs.Taking.{AgentHasRoom, IsConfirmedIn, IsOwn, IsTaken, agent_history}
+use Rattle.delivery_laws.specs.Taking.{AgentHasRoom, IsOwn, IsTaken, agent_history}
 use Rattle.delivery_laws.proofs.PlaceLemmas.{one_beyond}
 use Rattle.delivery_laws.proofs.PacketLemmas.{HasMessage, packed_has}
 use Rattle.delivery_laws.proofs.SenderLemmas.{address_itself, gateway_sender}
 use Rattle.delivery_laws.proofs.StepLemmas.{agent_more, handed_to_agent, step_more, taken_front}
 use Rattle.delivery_laws.proofs.ChanceLaws.{goes_in}
 use Rattle.delivery_laws.proofs.TakeLemmas.{Answers, texts_answer}
+use Rattle.delivery_laws.proofs.UnconfirmedLaws.{nothing_confirmed}
 
 -- this text goes to this address at this moment
 abbrev Tells : SocketAddrV4 → ℕ → List ℕ → Posted → Type 0
@@ -73,7 +74,7 @@ kept_taken id text firsts ones same one =
 pub agent_takes : (setup : Setup) (steps : List WorldStep) (number : ℕ) (b : Begun) (name : List ℕ) → IsSetUp setup → steps_are_taken setup world_opening (steps ++ delivering number ∷ []) ≡ true
     → is_command_as b.id name (read_text b.text) ≡ true → (copy : IsCopy setup (plain_world setup steps) gateway_end b.text number)
     → let w = plain_world setup steps in let after = plain_world setup (steps ++ delivering number ∷ []) in after ≡ to_agent setup w (hears (datagram copy.post.packet.sender copy.post.packet.bytes))
-    → AgentHasRoom setup after → IsConfirmedIn b.id (agent_history setup after) ⊎ IsTaken setup w after b.id
+    → AgentHasRoom setup after → IsTaken setup w after b.id
 agent_takes setup steps number b name set_up taken reads copy is room = by_answers answers where
   w : World
   w = plain_world setup steps
@@ -125,12 +126,12 @@ agent_takes setup steps number b name set_up taken reads copy is room = by_answe
   from_gateway : source ≡ gateway_address setup
   from_gateway = gateway_sender setup steps number copy.post copy.found copy.sender
 
-  by_answers : Answers b.id m.now source (agent_history setup after) sent → IsConfirmedIn b.id (agent_history setup after) ⊎ IsTaken setup w after b.id
-  by_answers (inl confirmed) = inl confirmed
+  by_answers : Answers b.id m.now source (agent_history setup after) sent → IsTaken setup w after b.id
+  by_answers (inl confirmed) = absurd (nothing_confirmed setup (steps ++ delivering number ∷ []) b.id set_up taken confirmed)
   by_answers (inr says) =
       let told = one_beyond (Tells source m.now says.text) w.posted (map (posted_as agent_end (at setup.agent.route 0)) (packed sent))
       (posts_it (at setup.agent.route 0) source m.now says.text sent goes says.goes) in
-      inr (record {
+      record {
         took = any_from_one (λ (one : Reached). one.asked.id ≡ b.id) (taken_in after)
             (kept_taken b.id says.text (firsts_in (agent_history setup after)) (taken_in after) (agent_keys setup (steps ++ delivering number ∷ []) set_up taken) says.stored);
         text = says.text;
@@ -145,11 +146,11 @@ agent_takes setup steps number b name set_up taken reads copy is room = by_answe
           inside = any_from_one (λ (one : List ℕ). one ≡ says.text) (texts_of told.1.packet.bytes) told.4.3;
         };
         moment = told.4.2 ∙ now;
-      })
+      }
 
 pub taken_at_once : (setup : Setup) (steps : List WorldStep) (number : ℕ) (b : Begun) → IsSetUp setup → steps_are_taken setup world_opening (steps ++ delivering number ∷ []) ≡ true
     → let w = plain_world setup steps in let after = plain_world setup (steps ++ delivering number ∷ []) in IsOwn setup w b → IsCopy setup w gateway_end b.text number
-    → AgentHasRoom setup after → IsConfirmedIn b.id (agent_history setup after) ⊎ IsTaken setup w after b.id
+    → AgentHasRoom setup after → IsTaken setup w after b.id
 taken_at_once setup steps number b set_up taken own copy room =
     let w = plain_world setup steps in
     let front = taken_front setup world_opening steps (delivering number ∷ []) taken in

@@ -10,7 +10,7 @@ use Rattle.agent_core.specs.declared.packet.Posted.{Posted}
 use Rattle.agent_core.specs.declared.packet.End.TheVariants.{GatewayEnd as gateway_end}
 use Rattle.agent_core.specs.World.{World, WorldStep, delivering, now_in, plain_world}
 use Rattle.delivery_laws.specs.Copies.{HasRoom, IsConfirmedAmong, arrives, gateway_firsts}
-use Rattle.delivery_laws.specs.Taking.{AgentHasRoom, IsConfirmedIn, IsOwn, agent_history}
+use Rattle.delivery_laws.specs.Taking.{AgentHasRoom, IsOwn}
 
 -- these steps hand the packet with this number over, so many ms after it was sent at the latest
 pub record IsHandedOver (setup : Setup) (steps : List WorldStep) (within number : ℕ) (post : Posted) : Type 0 where
@@ -37,14 +37,10 @@ abbrev pub IsNeverConfirmed : Setup → List WorldStep → ℕ → Type 0
 IsNeverConfirmed setup steps id =
     (before later : List WorldStep) → steps ≡ before ++ later → ¬ IsConfirmedAmong id (gateway_firsts setup (plain_world setup before))
 
--- The same of what the agent takes
+-- The same of what the agent takes, of which nothing is ever confirmed
 
 abbrev pub AgentAlwaysHasRoom : Setup → List WorldStep → Type 0
 AgentAlwaysHasRoom setup steps = (before later : List WorldStep) → steps ≡ before ++ later → AgentHasRoom setup (plain_world setup before)
-
-abbrev pub IsNeverConfirmedIn : Setup → List WorldStep → ℕ → Type 0
-IsNeverConfirmedIn setup steps id =
-    (before later : List WorldStep) → steps ≡ before ++ later → ¬ IsConfirmedIn id (agent_history setup (plain_world setup before))
 
 -- the gateway sends this text nowhere but to the agent: no RQNT had named another notified entity (RFC 3435, 2.1.4)
 abbrev pub GoesToAgent : Setup → World → List ℕ → Type 0
@@ -52,14 +48,13 @@ GoesToAgent setup w text =
     (number : ℕ) (post : Posted) → slice_get w.posted number ≡ Some post → post.end ≡ gateway_end
     → Any (λ (one : List ℕ). one ≡ text) (texts_of post.packet.bytes) → arrives gateway_end setup post.packet ≡ true
 
--- what a line has in flight, if anything, is so old, goes to the agent, and was never confirmed
+-- what a line has in flight, if anything, is so old, and goes to the agent
 abbrev pub HadItsTime : Setup → List WorldStep → ℕ → Option InFlight → Type 0
 HadItsTime setup steps within pending =
-    let w = plain_world setup steps in IfSome pending (λ flight.
-    (flight.first + within ≤ now_in setup w) × GoesToAgent setup w flight.text × IsNeverConfirmedIn setup steps flight.id)
+    let w = plain_world setup steps in
+    IfSome pending (λ flight. (flight.first + within ≤ now_in setup w) × GoesToAgent setup w flight.text)
 
--- each command of this line's own goes to the agent, and was never confirmed
+-- each command of this line's own goes to the agent
 abbrev pub ReachTheAgent : Setup → List WorldStep → ℕ → Type 0
 ReachTheAgent setup steps line =
-    let w = plain_world setup steps in
-    (b : Begun) → IsOwn setup w b → line_of_id b.id ≡ line → GoesToAgent setup w b.text × IsNeverConfirmedIn setup steps b.id
+    let w = plain_world setup steps in (b : Begun) → IsOwn setup w b → line_of_id b.id ≡ line → GoesToAgent setup w b.text

@@ -30,7 +30,7 @@ ghost use Rattle.dialled_end_to_end.specs.Example.{asked as asked_for_all, done_
 ghost use Rattle.delivery_laws.specs.Copies.{arrives, IsCopy, IsConfirmedAmong, gateway_firsts};
 ghost use Rattle.delivery_laws.specs.Chances.{IsSentAfter, IsCarried};
 ghost use Rattle.delivery_laws.specs.OwnChances.{HasCome, IsOfLine, IsToldAfter};
-ghost use Rattle.delivery_laws.specs.Fairness.{AgentAlwaysHasRoom, GoesToAgent, HadItsTime, IsFair, IsNeverConfirmedIn, ReachTheAgent};
+ghost use Rattle.delivery_laws.specs.Fairness.{AgentAlwaysHasRoom, GoesToAgent, HadItsTime, IsFair, ReachTheAgent};
 ghost use Rattle.delivery_laws.specs.Rounds.{IsAnsweredWithin, IsAskedWithin, of_telephone, rounds_take};
 ghost use Rattle.delivery_laws.specs.GoingOn.{IsPlainAnswer};
 ghost use Rattle.delivery_laws.specs.Taking.{IsConfirmedIn, agent_history};
@@ -122,7 +122,6 @@ pub fn what_rests_is_taken()
     ensures nothing_given_up { has_given_up (of_line 1 (sent_of two_lines (world rested).gateway_took)) (endpoint_then rested).post ≡ false }
     ensures fair { IsFair two_lines rested 0 }
     ensures room { AgentAlwaysHasRoom two_lines rested }
-    ensures unconfirmed { IsNeverConfirmedIn two_lines rested 10000000 }
     ensures reaches { ReachTheAgent two_lines rested 1 }
     ensures serves { serves (plain two_lines (took_first kept_back)).endpoints ≡ true }
     ensures its_time { HadItsTime two_lines rested 0 (endpoint_then rested).post.pending }

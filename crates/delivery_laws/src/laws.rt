@@ -1,5 +1,5 @@
 //! Laws of delivery, in a world of two ends over a bad network.
-ghost use Rattle.std.specs.Prelude.{◌≡◌, ◌≢◌, ◌⊎◌, ◌≤◌, ◌<◌, ◌+◌, ◌*◌, ℕ, List, ◌++◌, ◌∷◌, [], All, Any, Some, length, true, false};
+ghost use Rattle.std.specs.Prelude.{◌≡◌, ◌≢◌, ◌⊎◌, ◌≤◌, ◌<◌, ◌+◌, ◌*◌, ℕ, codes, List, ◌++◌, ◌∷◌, [], All, Any, None, Some, length, slice_get, true, false};
 ghost use Rattle.event_values.specs.declared.handling.Notifying.TheVariants.{Loop};
 ghost use Rattle.event_values.specs.declared.observed.Observed.{Observed};
 ghost use Rattle.event_requests.specs.declared.request.Request.{Request};
@@ -10,6 +10,8 @@ ghost use Rattle.mg_line.specs.Requesting.{asked};
 ghost use Rattle.restart.specs.declared.restart.Restart.TheVariants.{Serving};
 ghost use Rattle.mgcp_text.specs.declared.message.Message.TheVariants as messages;
 ghost use Rattle.mgcp_text.specs.declared.message.Param.{Param};
+ghost use Rattle.mgcp_text.specs.declared.message.Verb.{Verb};
+ghost use Rattle.mgcp_text.specs.Message.{param_at};
 ghost use Rattle.mgcp_text.specs.Reading.{message, read_text};
 ghost use Rattle.history.specs.declared.entry.KeptFirst.{KeptFirst};
 ghost use Rattle.history.specs.Arrival.{Arrival};
@@ -36,6 +38,7 @@ ghost use Rattle.call_agent.specs.declared.setup.AgentSetup.{AgentSetup};
 ghost use Rattle.call_agent.specs.Agent.{observed_on};
 ghost use Rattle.call_agent.specs.Hearing.{AgentEvent, plain_agent};
 ghost use Rattle.agent_core.specs.declared.packet.End.TheVariants.{GatewayEnd, AgentEnd};
+ghost use Rattle.agent_core.specs.declared.packet.Posted.{Posted};
 ghost use Rattle.agent_core.specs.World.{WorldStep, agent_in, delivering, gateway_in, now_in, oldest_packet, plain_world, steps_are_taken, world_opening};
 ghost use Rattle.world_laws.specs.Landing.{is_final};
 ghost use Rattle.world_laws.specs.Reached.{Reached, own_in, taken_in};
@@ -43,7 +46,7 @@ ghost use Rattle.dialled_end_to_end.specs.GivenUp.{has_given_up};
 ghost use Rattle.delivery_laws.specs.Copies.{IsCopy, IsIssued, answer_wait, gateway_firsts, IsConfirmedAmong, HasRoom, IsAnswered, IsFinal, HasAnswer, IsServed};
 ghost use Rattle.delivery_laws.specs.Taking.{AgentHasRoom, IsConfirmedIn, IsOwn, IsTaken, agent_history};
 ghost use Rattle.delivery_laws.specs.Asking.{KeepsAsking};
-ghost use Rattle.delivery_laws.specs.Fairness.{IsFair, AlwaysHasRoom, IsNeverConfirmed, AgentAlwaysHasRoom, IsNeverConfirmedIn, GoesToAgent, HadItsTime, ReachTheAgent};
+ghost use Rattle.delivery_laws.specs.Fairness.{IsFair, AlwaysHasRoom, IsNeverConfirmed, AgentAlwaysHasRoom, GoesToAgent, HadItsTime, ReachTheAgent};
 ghost use Rattle.delivery_laws.specs.GoingOn.{GoesOn, GoesOnAmid, IsPlainAnswer};
 ghost use Rattle.delivery_laws.specs.Rounds.{IsAnsweredWithin, IsAskedWithin, of_telephone, rounds_take};
 ghost use Rattle.delivery_laws.specs.Chances.{chances, last_chance, IsSentAfter, IsCarried};
@@ -114,27 +117,38 @@ pub fn a_fair_network_answers_each_command()
         b.moment + 2 * within ≤ now_in setup w → HasAnswer b.id (agent_in setup w) }
 {}
 
+/// No command that the gateway's end posts has a K; so nothing that the agent keeps confirms any id (RFC 3435, 3.2.2.1).
+pub fn the_gateway_confirms_nothing()
+    ensures posted { (setup : Setup) (steps : List WorldStep) (number : ℕ) (post : Posted) (text : List ℕ) (verb : Verb) (id : ℕ)
+        (name : List ℕ) (params : List Param) (body : List ℕ) → IsSetUp setup → steps_are_taken setup world_opening steps ≡ true →
+        slice_get (plain_world setup steps).posted number ≡ Some post → post.end ≡ GatewayEnd →
+        Any (λ (one : List ℕ). one ≡ text) (texts_of post.packet.bytes) →
+        read_text text ≡ message (messages.Command verb id name params body) → param_at (codes "K") params ≡ None }
+    ensures kept { (setup : Setup) (steps : List WorldStep) (id : ℕ) → IsSetUp setup →
+        steps_are_taken setup world_opening steps ≡ true → ¬ IsConfirmedIn id (agent_history setup (plain_world setup steps)) }
+{}
+
 /// A copy of a notification or an announcement that is handed to the agent is taken at once, if it wasn't before, and a packet with
-/// the stored answer goes back to the gateway; unless a K of a later command confirmed it, or as many firsts of the agent are young
-/// as there may be (RFC 3435, 2.3.4, 2.3.12 and 3.5.1).
+/// the stored answer goes back to the gateway, unless as many firsts of the agent are young as there may be (RFC 3435, 2.3.4, 2.3.12
+/// and 3.5.1).
 pub fn a_delivered_notification_is_taken_at_once()
     ensures { (setup : Setup) (steps : List WorldStep) (number : ℕ) (b : Begun) → IsSetUp setup →
         steps_are_taken setup world_opening (steps ++ delivering number ∷ []) ≡ true → let w = plain_world setup steps in
         let after = plain_world setup (steps ++ delivering number ∷ []) in IsOwn setup w b → IsCopy setup w GatewayEnd b.text number →
-        AgentHasRoom setup after → IsConfirmedIn b.id (agent_history setup after) ⊎ IsTaken setup w after b.id }
+        AgentHasRoom setup after → IsTaken setup w after b.id }
 {}
 
 /// A network that hands each packet over at most so many ms after it was sent brings each notification and announcement that
-/// goes to the agent there in that time, and the agent takes it; and a response to it comes back in twice the time: where no K
-/// confirms it and where room is never wanting (RFC 3435, 2.3.4 and 2.3.12).
+/// goes to the agent there in that time, and the agent takes it; and a response to it comes back in twice the time, where room is
+/// never wanting (RFC 3435, 2.3.4 and 2.3.12).
 pub fn a_fair_network_brings_each_notification()
     ensures taken { (setup : Setup) (steps : List WorldStep) (within : ℕ) (b : Begun) → IsSetUp setup →
         steps_are_taken setup world_opening steps ≡ true → IsFair setup steps within → AgentAlwaysHasRoom setup steps →
-        IsNeverConfirmedIn setup steps b.id → let w = plain_world setup steps in IsOwn setup w b → GoesToAgent setup w b.text →
+        let w = plain_world setup steps in IsOwn setup w b → GoesToAgent setup w b.text →
         b.moment + within ≤ now_in setup w → Any (λ (one : Reached). one.asked.id ≡ b.id) (taken_in w) }
     ensures answered { (setup : Setup) (steps : List WorldStep) (within : ℕ) (b : Begun) → IsSetUp setup →
         steps_are_taken setup world_opening steps ≡ true → IsFair setup steps within → AgentAlwaysHasRoom setup steps →
-        IsNeverConfirmedIn setup steps b.id → let w = plain_world setup steps in IsOwn setup w b → GoesToAgent setup w b.text →
+        let w = plain_world setup steps in IsOwn setup w b → GoesToAgent setup w b.text →
         b.moment + 2 * within ≤ now_in setup w → HasCome w b.id }
 {}
 
@@ -241,8 +255,8 @@ pub fn what_is_quarantined_goes_out_in_time()
 {}
 
 /// Over a network that hands each packet over at most so many ms after it was sent a line of a gateway that serves waits for the answer
-/// to its command for twice that time at most, where it gives nothing up: where all that it sends goes to the agent, no K confirms it, and
-/// room is never wanting (RFC 3435, 3.5 and 4.4.1).
+/// to its command for twice that time at most, where it gives nothing up, all that it sends goes to the agent, and room is never wanting
+/// (RFC 3435, 3.5 and 4.4.1).
 pub fn a_fair_network_answers_each_notification_in_time()
     ensures { (setup : Setup) (steps : List WorldStep) (within line : ℕ) (some later : List GatewayEvent) (endpoint : Endpoint) →
         IsSetUp setup → steps_are_taken setup world_opening steps ≡ true → let w = plain_world setup steps in

@@ -1,5 +1,5 @@
--- Each command of a gateway's own reads as it was written: the notification of a line, or an announcement.
-use Rattle.std.proofs.Common.{◌≡◌, ℕ, ◌<◌, ◌≤◌, true, List, [], ◌∷◌, Option, Some, None, Ok, inl, inr, refl, arith}
+-- Each command of a gateway's own reads as it was written: the notification of a line, or an announcement; and it has no K.
+use Rattle.std.proofs.Common.{◌≡◌, ℕ, ◌<◌, ◌≤◌, true, List, [], ◌∷◌, Option, Some, None, Ok, codes, inl, inr, refl, arith}
 use Rattle.std.specs.Prelude.{◌⊎◌, All, IfSome, if◌then◌else◌, Bool, false}
 use Rattle.std.proofs.lemmas.List.Elements.{All-nil, All-cons, All-append}
 use Rattle.std.proofs.lemmas.Nat.{div-mul-add}
@@ -11,6 +11,7 @@ use Rattle.mgcp_text.specs.declared.message.Param.{Param}
 use Rattle.mgcp_text.specs.declared.message.Verb.{Verb}
 use Rattle.mgcp_text.specs.declared.message.Verb.TheVariants.{Ntfy, Rsip}
 use Rattle.mgcp_text.specs.Reading.{Outcome, message, no_header, bad_version, bad_body, read_text}
+use Rattle.mgcp_text.specs.Message.{param_at}
 use Rattle.mgcp_text.specs.Writing.{is_writable}
 use Rattle.endpoint_names.specs.declared.entity.Entity.{Entity}
 use Rattle.endpoint_names.specs.declared.name.Pattern.TheVariants.{One}
@@ -77,6 +78,7 @@ pub record IsOwn (setup : Setup) (owner : Owner) (verb : Verb) (id : ℕ) (name 
   pub owned : owner ≡ own_of line
   pub id_of : line_of_id id ≡ line
   pub writable : is_writable (messages.Command verb id name params body) ≡ true
+  pub bare : param_at (codes "K") params ≡ None
   pub kind : IsNotice setup line verb name ⊎ (verb ≡ Rsip)
 
 abbrev pub SaysWell : Setup → Owner → Said → Type 0
@@ -126,6 +128,7 @@ module _ (setup : Setup) (set_up : IsSetUp setup) where
       owned = refl;
       id_of = div-mul-add line numbers endpoint.post.number below;
       writable = told_writable setup line endpoint.post.number notice set_up some few below told;
+      bare = refl;
       kind = inl (record { verb_is = refl; name_is = refl; some = some; within = within });
     })
 
@@ -146,6 +149,7 @@ module _ (setup : Setup) (set_up : IsSetUp setup) where
     owned = refl;
     id_of = div-mul-add line numbers post.number below;
     writable = announcement_writable setup line post.number set_up few below some;
+    bare = refl;
     kind = inr refl;
   })
 

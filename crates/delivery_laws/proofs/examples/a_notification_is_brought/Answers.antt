@@ -64,4 +64,4 @@ it_began =
     any_from_one (λ (one : Begun). one ≡ record { id = 10000000; moment = 1; text = elsewhere }) (own_in two_lines (plain_world two_lines redirected)) (inr (inl refl))
 
 pub returns-clause-reaches_not : goal.returns-clause-reaches_not
-returns-clause-reaches_not c = λ reach. goes_elsewhere (reach (record { id = 10000000; moment = 1; text = elsewhere }) it_began refl).0
+returns-clause-reaches_not c = λ reach. goes_elsewhere (reach (record { id = 10000000; moment = 1; text = elsewhere }) it_began refl)

@@ -1,16 +1,11 @@
-use Rattle.std.proofs.Common.{◌≡◌, ℕ, ◌+◌, ◌<◌, ◌≤◌, Bool, true, ◌&&◌, List, [], ◌∷◌, ◌++◌, length, Option, Some, None, codes, refl, sym, ap, subst, arith}
-use Rattle.std.specs.Prelude.{nat_lt, not}
-use Rattle.std.specs.List.{list_any}
-use Rattle.std.proofs.lemmas.Bool.{and_parts, ltb-true}
+use Rattle.std.proofs.Common.{◌≡◌, ℕ, ◌+◌, ◌<◌, ◌≤◌, Bool, true, List, [], ◌∷◌, ◌++◌, length, Option, Some, None, codes, refl, sym, ap, subst, arith}
+use Rattle.std.specs.Prelude.{nat_lt}
+use Rattle.std.proofs.lemmas.Bool.{ltb-true}
 use Rattle.history.specs.Kept.{young_firsts}
-use Rattle.history.specs.Looking.{confirms}
 use Rattle.history.specs.Memory.{most_firsts}
 use Rattle.outbound.specs.Flight.{InFlight}
 use Rattle.plain_machine.specs.Event.{tick}
 use Rattle.plain_machine.specs.Example.{two_lines, agent}
-use Rattle.plain_machine.specs.Posting.{line_of_id}
-use Rattle.machine_laws.specs.Saying.{Begun}
-use Rattle.machine_laws.proofs.EachLemmas.{Each, one_from_any, one_of_each, one_to}
 use Rattle.dialled_once.proofs.AskingLemmas.{notifies_each}
 use Rattle.agent_core.specs.declared.packet.End.TheVariants.{GatewayEnd}
 use Rattle.agent_core.specs.declared.packet.Posted.{Posted}
@@ -19,13 +14,12 @@ use Rattle.world_laws.specs.Reached.{own_in}
 use Rattle.world_laws.specs.Example.{world}
 use Rattle.dialled_end_to_end.specs.Example.{endpoint_in}
 use Rattle.dialled_end_to_end.proofs.NumberLemmas.{few_are_begun}
-use Rattle.delivery_laws.specs.Fairness.{IsNeverConfirmedIn}
 use Rattle.delivery_laws.specs.Taking.{agent_history}
 use Rattle.delivery_laws.specs.Example.{kept_back, rested, took_first, took_since}
 use Rattle.delivery_laws.proofs.Computing.{on_examples}
 use Rattle.delivery_laws.proofs.ExampleLemmas.{all_go, hand_over, it_goes, none_handed}
 use Rattle.delivery_laws.proofs.FairExamples.{fair_is}
-use Rattle.delivery_laws.proofs.FrontLemmas.{answered_within, asked_within, front_holds, on_fronts, unconfirmed}
+use Rattle.delivery_laws.proofs.FrontLemmas.{answered_within, asked_within, front_holds, on_fronts}
 use Rattle.delivery_laws.proofs.examples.what_rests_is_taken.Goals as goal
 
 -- the gateway announced itself, and one event was notified
@@ -51,55 +45,30 @@ returns-clause-not_fair c = λ fair.
     let post : Posted = record { end = GatewayEnd; packet = record { moment = 1; sender = gateway_address two_lines; to = agent; bytes = codes "NTFY 10000000 aaln/1@rgw.example.net MGCP 1.0\r\nX: C2\r\nO: L/hd\r\n" } } in
     none_handed two_lines kept_back 0 4 post refl (fair 4 post refl (omega arith))
 
--- At no beginning is room wanting, or the notification confirmed
+-- At no beginning is room wanting
 
 has_room : World → Bool
 has_room w = nat_lt (length (young_firsts (now_in two_lines w) (agent_history two_lines w))) most_firsts
 
-unnamed : World → Bool
-unnamed w = not (list_any (confirms 10000000) (agent_history two_lines w))
+room_then : List WorldStep → Bool
+room_then before = has_room (plain_world two_lines before)
 
-both_then : List WorldStep → Bool
-both_then before = let w = plain_world two_lines before in has_room w && unnamed w
-
-all_then : on_fronts both_then rested ≡ true
-unfolding on_examples both_then has_room unnamed
+all_then : on_fronts room_then rested ≡ true
+unfolding on_examples room_then has_room
 all_then = refl
 
 pub returns-clause-room : goal.returns-clause-room
-unfolding both_then has_room
-returns-clause-room c = λ before later order. let w = plain_world two_lines before in
-    ltb-true _ _ (and_parts (has_room w) (unnamed w) (front_holds both_then rested before later all_then order)).0
+unfolding room_then has_room
+returns-clause-room c = λ before later order. ltb-true _ _ (front_holds room_then rested before later all_then order)
 
-never_confirmed : IsNeverConfirmedIn two_lines rested 10000000
-unfolding both_then unnamed
-never_confirmed = λ before later order confirmed. let w = plain_world two_lines before in
-    unconfirmed 10000000 (agent_history two_lines w) (and_parts (has_room w) (unnamed w) (front_holds both_then rested before later all_then order)).1 confirmed
-
-pub returns-clause-unconfirmed : goal.returns-clause-unconfirmed
-returns-clause-unconfirmed c = never_confirmed
-
--- All packets of the gateway go to the agent, and of line 1 there is one command
+-- All packets of the gateway go to the agent
 
 all_gone : all_go two_lines (plain_world two_lines rested).posted ≡ true
 unfolding on_examples
 all_gone = refl
 
-abbrev OneOfLine1 : Begun → Type 0
-OneOfLine1 b = line_of_id b.id ≡ 1 → b.id ≡ 10000000
-
-each_of_line : Each OneOfLine1 (own_in two_lines (world rested))
-unfolding on_examples
-each_of_line = (λ of. absurd (let clash : 0 ≡ 1 = of in omega (arith, clash)), (λ of. refl, tt))
-
 pub returns-clause-reaches : goal.returns-clause-reaches
-returns-clause-reaches c = λ b own of.
-    let one : b.id ≡ 10000000 =
-    one_to (λ (x : Begun). OneOfLine1 x × (x ≡ b)) (b.id ≡ 10000000) (λ x both. subst OneOfLine1 both.1 both.0 of) (own_in two_lines (world rested))
-    (one_of_each OneOfLine1 (λ (x : Begun). x ≡ b) (own_in two_lines (world rested)) each_of_line (one_from_any (λ (x : Begun). x ≡ b) (own_in two_lines (world rested)) own)) in (
-      λ number post found from inside. it_goes two_lines (plain_world two_lines rested).posted number post all_gone found from,
-      subst (IsNeverConfirmedIn two_lines rested) (sym one) never_confirmed,
-    )
+returns-clause-reaches c = λ b own of number post found from inside. it_goes two_lines (plain_world two_lines rested).posted number post all_gone found from
 
 -- Line 1 waits for no answer at any time, but for 1 ms where it is kept back
 
