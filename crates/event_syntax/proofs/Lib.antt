@@ -21,3 +21,5 @@ pub mod StandLemmas
 pub mod PartLemmas
 pub mod WalkLaws
 pub mod LoopLemmas
+pub mod HoldLemmas
+pub mod TakeLemmas

@@ -1,5 +1,5 @@
 -- The value of R (RFC 3435, 2.3.3): what it is read as, and how it is written.
-use Rattle.std.specs.Prelude.{ℕ, nat_le, Bool, true, false, ◌&&◌, if◌then◌else◌, List, [], ◌∷◌, ◌++◌, length, map, codes, Option, Some, None, Result, Ok, Err}
+use Rattle.std.specs.Prelude.{ℕ, nat_le, Bool, true, false, ◌&&◌, ◌||◌, if◌then◌else◌, List, [], ◌∷◌, ◌++◌, length, map, codes, Option, Some, None, Result, Ok, Err, is_ok}
 use Rattle.std.specs.List.{list_all, join_with_byte}
 use Rattle.std.specs.Str.{bytes_eq}
 use Rattle.mg_bytes.specs.Bytes.{comma}
@@ -23,6 +23,7 @@ use Rattle.event_syntax.specs.Events.{events_text, is_writable}
 use Rattle.event_syntax.specs.Detect.{most_events}
 use Rattle.event_syntax.specs.Actions.{Joined, plain, embed, accumulate_and_embed, Rule, rule_of, takes}
 use Rattle.event_syntax.specs.Embedding.{embedded_in}
+use Rattle.event_syntax.specs.Walking.{holds_events}
 
 -- Reading
 
@@ -49,6 +50,18 @@ requested_in value = each_up_to most_events requested (entries value)
 -- the value, or the code of its first fault: 510 (protocol error) where it isn't spelled
 unfoldable pub requested_of : List ℕ → Result (List RequestedEvent) ℕ
 requested_of value = if are_requested value then requested_in value else Err 510
+
+-- to read entries takes memory where the first says what is done at its events
+abbrev pub first_takes_memory : List (List ℕ) → Bool
+first_takes_memory [] = false
+first_takes_memory (entry ∷ rest) = is_ok (rule_of entry)
+
+-- to read the value takes memory where a request in it embeds one, and for its entries where they are read; a value
+-- without, which isn't spelled or has too many entries, and a fault of the first entry itself take none
+unfoldable pub takes_memory : List ℕ → Bool
+takes_memory value =
+    holds_events [] value
+    || (are_requested value && (nat_le (length (entries value)) most_events && first_takes_memory (entries value)))
 
 -- Writing
 

@@ -1,5 +1,5 @@
 -- A value of R gone through from front to back: what the rest of it has to be, wherever the walk stands.
-use Rattle.std.specs.Prelude.{ℕ, zero, suc, length, nat_le, Bool, true, false, ◌&&◌, ◌||◌, not, ◌==◌, if◌then◌else◌, List, [], ◌∷◌, map, codes, count_by, Option, Some, None}
+use Rattle.std.specs.Prelude.{ℕ, zero, suc, length, nat_le, Bool, true, false, ◌&&◌, ◌||◌, not, ◌==◌, if◌then◌else◌, List, [], ◌∷◌, ◌++◌, map, codes, count_by, Option, Some, None}
 use Rattle.std.specs.List.{list_all}
 use Rattle.std.specs.Borrow.{Bor}
 use Rattle.mg_bytes.specs.Bytes.{comma, left_parenthesis, right_parenthesis}
@@ -241,6 +241,22 @@ is_left_by depth outers ends = is_outermost outers
 is_left_by depth outers (on stand rest) = is_left stand depth outers rest
 is_left_by depth outers (into seen rest) = is_left_into seen depth outers rest
 is_left_by depth outers (out rest) = is_left_out outers rest
+
+-- Whether a walk may come to a value that is embedded: one of the names between the marks is `R`, and a parenthesis opens
+-- behind it. Beside the text stands what has been seen of a name.
+unfoldable pub holds_events : List ℕ → List ℕ → Bool
+holds_events name [] = false
+holds_events name (b ∷ bs) =
+    if b == left_parenthesis then same_but_case (trimmed name) (codes "R") || holds_events [] bs else
+    (if b == comma || b == right_parenthesis then holds_events [] bs else holds_events (name ++ b ∷ []) bs)
+
+-- the same behind a step; one into an embedded value comes to it
+abbrev pub holds_events_behind : Stepped → Bool
+holds_events_behind wrong = false
+holds_events_behind ends = false
+holds_events_behind (on stand rest) = holds_events [] rest
+holds_events_behind (into seen rest) = true
+holds_events_behind (out rest) = holds_events [] rest
 
 -- a parenthesis closes something only where something is open
 abbrev pub is_mark : Bool → Mark → Bool

@@ -2,7 +2,7 @@
 #![tactic(auto, unfolding(crate::proofs::RequestComputing::on_examples))]
 
 ghost use Rattle.std.specs.Prelude.{◌≡◌, codes, [], ◌∷◌, Some, None, Ok, Err, true, false};
-ghost use Rattle.event_syntax.specs.Requested.{requested_of, requested_text, are_writable_requested};
+ghost use Rattle.event_syntax.specs.Requested.{requested_of, takes_memory, requested_text, are_writable_requested};
 ghost use Rattle.event_syntax.specs.RequestExample.{does, keeps, embeds, one_entry, inside, with_events, with_signals};
 ghost use Rattle.event_syntax.specs.RequestExample.{with_map, nothing, embedded_does, as_written};
 ghost use Rattle.event_values.specs.Example.{asks};
@@ -152,6 +152,25 @@ pub fn faults_of_requests_have_an_order()
     ensures parameters_before_inside { requested_of (codes "L/hd(E(R(Q/a)))(p)") ≡ Err 538 }
     ensures inside_before_right { requested_of (codes "L/hd(E(R(Q/a))),L/wt") ≡ Err 518 }
     ensures left_before_inside { requested_of (codes "L/wt,L/hd(E(R(Q/a)))") ≡ Err 512 }
+{}
+
+/// To read R takes memory where it is spelled and its first entry says what is done at its events, and where R stands in
+/// parentheses, in which a request may be embedded; else it takes none.
+pub fn requests_take_memory_from_the_first_entry_on()
+    ensures one { takes_memory (codes "L/hd") ≡ true }
+    ensures fault_behind { takes_memory (codes "L/hd,L/wt") ≡ true }
+    ensures fault_inside { takes_memory (codes "L/hd(E(S(Q/a)))") ≡ true }
+    ensures embedded { takes_memory (codes "L/wt(E(r (L/hu)))") ≡ true }
+    ensures misspelled_behind { takes_memory (codes "L/wt(E(R(L/hu") ≡ true }
+    ensures empty { takes_memory [] ≡ false }
+    ensures blank { takes_memory (codes " ") ≡ false }
+    ensures misspelled { takes_memory (codes "L/hd,") ≡ false }
+    ensures misspelled_inside { takes_memory (codes "L/hd(E(S()))") ≡ false }
+    ensures no_name { takes_memory (codes "L/hd(,R,(") ≡ false }
+    ensures fault_first { takes_memory (codes "L/wt,L/hd") ≡ false }
+    ensures fault_around { takes_memory (codes "L/hd(D,E(S(L/dl)))") ≡ false }
+    ensures number { takes_memory
+        (codes "hd,hd,hd,hd,hd,hd,hd,hd,hd,hd,hd,hd,hd,hd,hd,hd,hd,hd,hd,hd,hd,hd,hd,hd,hd,hd,hd,hd,hd,hd,hd,hd,hd") ≡ false }
 {}
 
 /// What is embedded is read part by part in the order of the text, each part by its number of entries and then from left

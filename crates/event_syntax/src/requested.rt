@@ -5,7 +5,12 @@ ghost use Rattle.event_cuts.specs.Cuts.{entries};
 ghost use Rattle.event_cuts.specs.Faults.{each};
 ghost use Rattle.event_syntax.specs.Actions.{joined_seen};
 ghost use Rattle.event_syntax.specs.Embedding.{embedded_in, Gives};
+ghost use Rattle.std.specs.Prelude.{is_ok, ◌&&◌, nat_le, length};
+ghost use Rattle.event_values.specs.Observed.{GivesUpForMemory};
+ghost use Rattle.event_syntax.specs.Actions.{rule_of};
+ghost use Rattle.event_syntax.specs.Detect.{most_events};
 ghost use Rattle.event_syntax.specs.Requested.{reaction_of, requested, requested_in, requested_of, are_writable_requested};
+ghost use Rattle.event_syntax.specs.Requested.{first_takes_memory, takes_memory};
 
 use crate::detect::MOST_EVENTS;
 use crate::embedded::embedded_in;
@@ -37,7 +42,8 @@ fn reaction_of(alloc: Global, joined: Joined<'_>) -> Result<Reaction, CodeFault>
 
 #[tactic(auto, unfolding(crate::specs::Requested::requested))]
 fn requested(alloc: Global, entry: &[u8]) -> Result<RequestedEvent, CodeFault>
-    ensures { Gives (requested entry.now) result }
+    ensures value { Gives (requested entry.now) result }
+    ensures memory { GivesUpForMemory (is_ok (rule_of entry.now)) result }
 {
     let rule = rule_of(entry).map_err(CodeFault::Code)?;
     let reaction = reaction_of(alloc, rule.joined)?;
@@ -49,7 +55,8 @@ fn requested(alloc: Global, entry: &[u8]) -> Result<RequestedEvent, CodeFault>
 }
 
 fn each_requested(alloc: Global, value: &[u8]) -> Result<RequestedEvents, CodeFault>
-    ensures { Gives (each requested (entries value.now)) result }
+    ensures value { Gives (each requested (entries value.now)) result }
+    ensures memory { GivesUpForMemory (first_takes_memory (entries value.now)) result }
 {
     let mut list = RequestedEvents::new(alloc);
     for entry in entries(value) {
@@ -61,7 +68,8 @@ fn each_requested(alloc: Global, value: &[u8]) -> Result<RequestedEvents, CodeFa
 // The entries of a value that is spelled.
 #[tactic(auto, unfolding(crate::specs::Requested::requested_in))]
 fn requested_in(alloc: Global, value: &[u8]) -> Result<RequestedEvents, CodeFault>
-    ensures { Gives (requested_in value.now) result }
+    ensures value { Gives (requested_in value.now) result }
+    ensures memory { GivesUpForMemory (nat_le (length (entries value.now)) most_events && first_takes_memory (entries value.now)) result }
 {
     if !has_at_most(value, MOST_EVENTS) {
         return Err(CodeFault::of(ReturnCode::InsufficientResources));
@@ -82,10 +90,13 @@ fn requested_in(alloc: Global, value: &[u8]) -> Result<RequestedEvents, CodeFaul
 /// which no event takes, 523 for actions that don't go together or not with its events, and then that of the first fault
 /// in the parentheses of E, part by part: 502 for more than 32 entries of its R or 8 of its S, the code of an entry, of
 /// R as above and 523 for another E, of S as `read_signals` says, and of its digit map 510 where it isn't spelled and
-/// 502 where it is too large.
-#[tactic(auto, unfolding(crate::specs::Requested::requested_of))]
+/// 502 where it is too large. Memory is taken for requests that are embedded and for entries that are read: a fault of
+/// the first entry, or of a value in which no R is embedded, takes none.
+#[tactic(auto, unfolding(crate::specs::Requested::requested_of, crate::specs::Requested::takes_memory))]
 pub fn read_events(alloc: Global, value: &[u8]) -> Result<RequestedEvents, CodeFault>
     ensures answers { AnswersAs (requested_of value.now) result }
+    // Memory is wanted only where a request is embedded, or the first entry says what is done at its events.
+    ensures memory { GivesUpForMemory (takes_memory value.now) result }
     // What is read can be written.
     ensures writable { IfOk result (λ list. are_writable_requested list ≡ true) }
 {

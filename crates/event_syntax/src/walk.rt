@@ -1,6 +1,6 @@
 //! How the value of R is spelled, by one walk from front to back. Requests may be embedded in one another here at any
 //! depth: the reader refuses more than one, and only once the spelling is right.
-ghost use Rattle.std.specs.Prelude.{◌≡◌, ◌+◌, ◌≤◌, ◌==◌, ◌++◌, ◌&&◌, [], true, nat_le, length, IfOk};
+ghost use Rattle.std.specs.Prelude.{◌≡◌, ◌+◌, ◌≤◌, ◌==◌, ◌++◌, ◌&&◌, [], true, nat_le, length, IfOk, IfErr};
 ghost use Rattle.std.specs.List.{list_all};
 ghost use Rattle.mg_bytes.specs.Blanks.{is_blank};
 ghost use Rattle.event_syntax.specs.declared.walk.Stand.TheVariants.{Entry as AnEntry};
@@ -11,7 +11,7 @@ ghost use Rattle.event_syntax.specs.Walking.{closing, split_seen, mark_of, marke
 ghost use Rattle.event_syntax.specs.Walking.{step_seen, entry_stepped, behind_parameters, behind_actions_stepped};
 ghost use Rattle.event_syntax.specs.Walking.{behind_parameters_stepped, is_plain_action, action_stepped, behind_embedded_stepped};
 ghost use Rattle.event_syntax.specs.Walking.{behind_signals, behind_map, part_opened, part_stepped, behind_part_stepped};
-ghost use Rattle.event_syntax.specs.Walking.{nothing_seen, stepped, is_left};
+ghost use Rattle.event_syntax.specs.Walking.{nothing_seen, stepped, is_left, holds_events};
 
 use crate::event_spelling::is_event;
 use event_cuts::{are_parameters, is_word};
@@ -325,7 +325,8 @@ fn nested_at(stand: Stand, outermost: bool) -> bool
 
 // The walk through a value that isn't blank.
 fn walked(alloc: Global, value: &[u8]) -> Result<bool, OutOfMemory>
-    ensures { IfOk result (λ spelled. spelled ≡ is_left AnEntry (length value.now) [] value.now) }
+    ensures value { IfOk result (λ spelled. spelled ≡ is_left AnEntry (length value.now) [] value.now) }
+    ensures memory { IfErr result (λ refused. holds_events [] value.now ≡ true) }
 {
     let mut outers: Vec<Outer> = Vec::new(alloc);
     let mut stand = Stand::Entry;
@@ -375,7 +376,8 @@ fn all_blank(text: &[u8]) -> bool
 /// It takes time about the length of the value, and memory for each value that is embedded in another, at most. An
 /// error is for want of memory only.
 pub(crate) fn are_requested(alloc: Global, value: &[u8]) -> Result<bool, OutOfMemory>
-    ensures { IfOk result (λ spelled. spelled ≡ are_requested value.now) }
+    ensures value { IfOk result (λ spelled. spelled ≡ are_requested value.now) }
+    ensures memory { IfErr result (λ refused. holds_events [] value.now ≡ true) }
 {
     if all_blank(value) {
         return Ok(true);

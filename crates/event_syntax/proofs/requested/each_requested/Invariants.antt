@@ -1,9 +1,12 @@
-use Rattle.std.proofs.Common.{◌≡◌}
+use Rattle.std.proofs.Common.{◌≡◌, true}
 use Rattle.event_cuts.specs.Cuts.{entries}
 use Rattle.event_cuts.specs.Faults.{each}
-use Rattle.event_syntax.specs.Requested.{requested}
+use Rattle.event_syntax.specs.Requested.{requested, first_takes_memory}
 use Rattle.event_cuts.proofs.EachLemmas.{put_before}
 use Rattle.event_syntax.proofs.requested.each_requested.Given as goal
 
 abbrev pub invariant-loop-entry : goal.invariant-loop-entry
-invariant-loop-entry l = put_before l.list (each requested l.entry-iterator) ≡ each requested (entries l.value)
+invariant-loop-entry l = record {
+  whole : put_before l.list (each requested l.entry-iterator) ≡ each requested (entries l.value);
+  taken : first_takes_memory l.entry-iterator ≡ true → first_takes_memory (entries l.value) ≡ true;
+}
