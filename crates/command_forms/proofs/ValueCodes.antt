@@ -9,9 +9,9 @@ use Rattle.digit_map.specs.declared.fault.MapFault.{MapFault}
 use Rattle.digit_map.specs.Reading.{map_of, or_code}
 use Rattle.event_syntax.specs.declared.events.Events.{Events}
 use Rattle.event_syntax.specs.declared.request.EmbeddedRequest.{EmbeddedRequest}
-use Rattle.event_cuts.specs.Cuts.{Form, form_of, items, entries}
+use Rattle.event_values.specs.Cuts.{Form, form_of, items, entries}
 use Rattle.mg_bytes.specs.Steps.{◌>>=◌}
-use Rattle.event_cuts.specs.Faults.{each, each_up_to}
+use Rattle.event_values.specs.Faults.{each, each_up_to}
 use Rattle.event_syntax.specs.EventSpelling.{are_detected}
 use Rattle.event_values.specs.SignalSpelling.{are_signals}
 use Rattle.event_syntax.specs.RequestSpelling.{are_requested}

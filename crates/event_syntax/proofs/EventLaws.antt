@@ -9,7 +9,7 @@ use Rattle.event_syntax.specs.declared.events.Events.TheVariants.{AllOfLine, One
 use Rattle.event_syntax.specs.EventSpelling.{is_event}
 use Rattle.event_syntax.specs.Events.{events_called, events_text, is_writable}
 use Rattle.event_syntax.proofs.Computing.{on_examples}
-use Rattle.event_cuts.proofs.JoinLemmas.{is_plain, is_flat}
+use Rattle.event_values.proofs.JoinLemmas.{is_plain, is_flat}
 use Rattle.event_syntax.proofs.LetterLaws.{set_reads}
 
 -- events that can be written are read again, with whatever stands behind them in parentheses

@@ -19,11 +19,11 @@ use Rattle.event_syntax.specs.declared.events.Events.{Events}
 use Rattle.event_syntax.specs.declared.events.Events.TheVariants.{AllOfLine, One, Letters}
 use Rattle.mg_bytes.specs.Steps.{◌>>=◌}
 use Rattle.event_syntax.specs.Ranges.{is_some_range, is_bracketed, letters_in}
-use Rattle.event_cuts.specs.Spelling.{is_word, is_name}
+use Rattle.event_values.specs.Spelling.{is_word, is_name}
 use Rattle.event_syntax.specs.EventSpelling.{is_event, is_event_from}
 use Rattle.event_syntax.specs.Events.{one, one_in, is_all, keys, letters_from, events_from, events_at, events_called, is_writable}
 use Rattle.event_syntax.proofs.RangeLemmas.{range_has}
-use Rattle.event_cuts.proofs.PassLemmas.{Passes}
+use Rattle.event_values.proofs.PassLemmas.{Passes}
 
 abbrev pub Writable : Events → Type 0
 Writable events = is_writable events ≡ true

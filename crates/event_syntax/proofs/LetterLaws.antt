@@ -16,11 +16,11 @@ use Rattle.digit_map.specs.Spelling.{is_range}
 use Rattle.digit_map.specs.Words.{is_in_range}
 use Rattle.event_syntax.specs.declared.events.Events.TheVariants.{Letters}
 use Rattle.event_syntax.specs.Ranges.{chosen, letters_of, bracketed, letters_in, letters_text}
-use Rattle.event_cuts.specs.Spelling.{is_word, is_name, is_parameter_byte}
+use Rattle.event_values.specs.Spelling.{is_word, is_name, is_parameter_byte}
 use Rattle.event_syntax.specs.EventSpelling.{is_event}
 use Rattle.event_syntax.specs.Events.{events_called}
 use Rattle.event_syntax.proofs.Computing.{on_examples}
-use Rattle.event_cuts.proofs.JoinLemmas.{is_solid, is_plain, is_flat, false_of_not}
+use Rattle.event_values.proofs.JoinLemmas.{is_solid, is_plain, is_flat, false_of_not}
 use Rattle.event_syntax.proofs.RangeLemmas.{is_mark, marks}
 
 abbrev pub bytes : List Letter → List ℕ

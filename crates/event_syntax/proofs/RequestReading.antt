@@ -22,11 +22,11 @@ use Rattle.event_syntax.specs.declared.request.Reaction.TheVariants.{Embed, Accu
 use Rattle.event_syntax.specs.declared.request.RequestedEvent.{RequestedEvent}
 use Rattle.event_values.specs.declared.signals.SignalRequest.{SignalRequest}
 use Rattle.event_syntax.specs.declared.request.Action.TheVariants.{Notify, Accumulate, Dial, Ignore}
-use Rattle.event_cuts.specs.declared.cut.Cut.TheVariants.{Commas, Parentheses}
+use Rattle.event_values.specs.declared.cut.Cut.TheVariants.{Commas, Parentheses}
 use Rattle.mg_bytes.specs.Lists.{is_empty}
-use Rattle.event_cuts.specs.Cuts.{Form, form_of, form_from, items, entries, pieces}
+use Rattle.event_values.specs.Cuts.{Form, form_of, form_from, items, entries, pieces}
 use Rattle.mg_bytes.specs.Steps.{◌>>=◌}
-use Rattle.event_cuts.specs.Faults.{each, each_up_to}
+use Rattle.event_values.specs.Faults.{each, each_up_to}
 use Rattle.event_syntax.specs.EventSpelling.{is_event}
 use Rattle.event_values.specs.SignalSpelling.{are_signals}
 use Rattle.event_syntax.specs.RequestSpelling.{is_part_in, is_part_with, is_part_from, is_part, are_parts, is_action_with, is_action_from, is_action, is_requested_with, is_requested_from, is_requested, are_requested_within, are_requested}
@@ -37,9 +37,9 @@ use Rattle.event_syntax.specs.Actions.{Word, keeps, acts, embeds, word_named, wo
 use Rattle.event_syntax.specs.Embedding.{embedded_event_by, embedded_event, nothing_embedded, with_events, with_signals, with_map, with_part_named, with_part_in, with_part_from, with_part, with_parts, embedded_in, Gives}
 use Rattle.event_syntax.specs.Requested.{requested_by, reaction_of, requested, requested_in, requested_of, events_part, signals_part, map_part, parts_text, is_writable_embedded_event, is_writable_map, is_something, is_writable_request, is_writable_entry, are_writable_requested}
 use Rattle.event_syntax.proofs.ActionLemmas.{embed_alike, both_alike}
-use Rattle.event_cuts.proofs.JoinLemmas.{false_of_not}
-use Rattle.event_cuts.proofs.PartLemmas.{some_pieces}
-use Rattle.event_cuts.proofs.PassLemmas.{Passes, passes_on, passes_more, passes_each, along}
+use Rattle.event_values.proofs.JoinLemmas.{false_of_not}
+use Rattle.event_values.proofs.PartLemmas.{some_pieces}
+use Rattle.event_values.proofs.PassLemmas.{Passes, passes_on, passes_more, passes_each, along}
 use Rattle.event_values.proofs.SignalReading.{entry_passes}
 use Rattle.event_syntax.proofs.EventLemmas.{called_passes}
 

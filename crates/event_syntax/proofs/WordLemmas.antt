@@ -19,8 +19,8 @@ use Rattle.mg_packages.specs.declared.signal.Signal.{Signal}
 use Rattle.mg_packages.specs.declared.signal.Signal.TheVariants.{DialTone}
 use Rattle.mg_packages.specs.Looking.{event_name, signal_name}
 use Rattle.digit_map.specs.Spelling.{is_map}
-use Rattle.event_cuts.specs.Cuts.{in_parentheses}
-use Rattle.event_cuts.proofs.JoinLemmas.{is_solid, is_plain, false_of_not}
+use Rattle.event_values.specs.Cuts.{in_parentheses}
+use Rattle.event_values.proofs.JoinLemmas.{is_solid, is_plain, false_of_not}
 use Rattle.event_values.specs.declared.signals.Setting.{Setting}
 use Rattle.event_values.specs.declared.signals.Setting.TheVariants.{Start, Stop, Lasting}
 use Rattle.event_values.specs.declared.signals.SignalRequest.{SignalRequest}

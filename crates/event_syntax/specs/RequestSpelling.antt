@@ -2,8 +2,8 @@
 use Rattle.std.specs.Prelude.{ℕ, zero, suc, nat_le, Bool, false, ◌&&◌, not, if◌then◌else◌, List, [], ◌∷◌, length, codes, count_by, Option, Some, None}
 use Rattle.std.specs.List.{list_all}
 use Rattle.mg_bytes.specs.Case.{same_but_case}
-use Rattle.event_cuts.specs.Cuts.{Form, form_of, items, entries}
-use Rattle.event_cuts.specs.Spelling.{is_word, are_parameters}
+use Rattle.event_values.specs.Cuts.{Form, form_of, items, entries}
+use Rattle.event_values.specs.Spelling.{is_word, are_parameters}
 use Rattle.event_syntax.specs.EventSpelling.{is_event}
 use Rattle.event_values.specs.SignalSpelling.{are_signals}
 

@@ -15,8 +15,8 @@ use Rattle.event_syntax.specs.declared.request.Reaction.TheVariants.{Plain, Embe
 use Rattle.event_syntax.specs.declared.request.RequestedEvent.{RequestedEvent}
 use Rattle.event_values.specs.declared.signals.SignalRequest.{SignalRequest}
 use Rattle.mg_bytes.specs.Steps.{◌>>=◌}
-use Rattle.event_cuts.specs.Faults.{each_up_to}
-use Rattle.event_cuts.specs.Cuts.{in_parentheses, entries}
+use Rattle.event_values.specs.Faults.{each_up_to}
+use Rattle.event_values.specs.Cuts.{in_parentheses, entries}
 use Rattle.event_syntax.specs.RequestSpelling.{are_requested}
 use Rattle.event_values.specs.Signals.{signals_text, are_writable_signals}
 use Rattle.event_syntax.specs.Events.{events_text, is_writable}

@@ -1,8 +1,8 @@
 //! The events that are requested: the value of R (RFC 3435, 2.3.3).
 ghost use Rattle.std.specs.Prelude.{◌≡◌, true, IfOk};
 ghost use Rattle.mg_bytes.specs.CodeFault.{AnswersAs};
-ghost use Rattle.event_cuts.specs.Cuts.{entries};
-ghost use Rattle.event_cuts.specs.Faults.{each};
+ghost use Rattle.event_values.specs.Cuts.{entries};
+ghost use Rattle.event_values.specs.Faults.{each};
 ghost use Rattle.event_syntax.specs.Actions.{joined_seen};
 ghost use Rattle.event_syntax.specs.Embedding.{embedded_in, Gives};
 ghost use Rattle.std.specs.Prelude.{is_ok, ◌&&◌, nat_le, length};
@@ -17,7 +17,7 @@ use crate::embedded::embedded_in;
 use crate::request::{Embedding, Reaction, RequestedEvent, RequestedEvents};
 use crate::rule::{Joined, rule_of};
 use crate::walk::are_requested;
-use event_cuts::{entries, has_at_most};
+use event_values::{entries, has_at_most};
 use mg_bytes::{CodeFault, ReturnCode};
 use std::alloc::Global;
 

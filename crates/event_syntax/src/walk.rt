@@ -5,7 +5,7 @@ ghost use Rattle.std.specs.List.{list_all};
 ghost use Rattle.mg_bytes.specs.Blanks.{is_blank};
 ghost use Rattle.event_syntax.specs.declared.walk.Stand.TheVariants.{Entry as AnEntry};
 ghost use Rattle.mg_bytes.specs.Bytes.{right_parenthesis};
-ghost use Rattle.event_cuts.specs.Cuts.{deeper};
+ghost use Rattle.event_values.specs.Cuts.{deeper};
 ghost use Rattle.event_syntax.specs.RequestSpelling.{are_requested, is_embed};
 ghost use Rattle.event_syntax.specs.Walking.{closing, split_seen, mark_of, marked, is_mark, is_free_byte, nested_at};
 ghost use Rattle.event_syntax.specs.Walking.{step_seen, entry_stepped, behind_parameters, behind_actions_stepped};
@@ -14,8 +14,7 @@ ghost use Rattle.event_syntax.specs.Walking.{behind_signals, behind_map, part_op
 ghost use Rattle.event_syntax.specs.Walking.{nothing_seen, stepped, is_left, holds_events};
 
 use crate::event_spelling::is_event;
-use event_cuts::{are_parameters, is_word};
-use event_values::are_signals;
+use event_values::{are_parameters, are_signals, is_word};
 use mg_bytes::{OutOfMemory, same_no_case, trimmed};
 use std::alloc::Global;
 

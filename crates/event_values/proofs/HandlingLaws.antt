@@ -11,7 +11,7 @@ use Rattle.event_values.specs.declared.handling.Word.{Word}
 use Rattle.event_values.specs.declared.handling.Word.TheVariants.{OfNotifying, OfQuarantined, Other}
 use Rattle.event_values.specs.Handling.{word_of, by_one, by_two, handling_from, handling_of, handling_text}
 use Rattle.event_values.proofs.Computing.{on_examples}
-use Rattle.event_cuts.proofs.PassLemmas.{Passes, along}
+use Rattle.event_values.proofs.PassLemmas.{Passes, along}
 
 one_passes : (word : Word) → Passes (λ handling. Unit {0}) (by_one word)
 one_passes (OfNotifying notifying) = tt

@@ -1,3 +1,13 @@
+pub mod CutComputing
+pub mod CutLemmas
+pub mod PartLemmas
+pub mod JoinLemmas
+pub mod ClosedLemmas
+pub mod EachLemmas
+pub mod PassLemmas
+pub mod FaultLemmas
+pub mod WriteLemmas
+pub mod PutLemmas
 pub mod Computing
 pub mod SignalReading
 pub mod SignalLaws

@@ -16,15 +16,15 @@ use Rattle.mg_packages.specs.declared.signal.Signal.TheVariants.{RingSplash, Mes
 use Rattle.mg_packages.specs.Looking.{event_of}
 use Rattle.event_values.specs.declared.observed.Observed.{Observed}
 use Rattle.event_values.specs.declared.observed.Observed.TheVariants.{Happened, Ended}
-use Rattle.event_cuts.specs.declared.cut.Cut.TheVariants.{Commas}
-use Rattle.event_cuts.specs.Cuts.{Form, form_of, entries, after, is_uncut}
+use Rattle.event_values.specs.declared.cut.Cut.TheVariants.{Commas}
+use Rattle.event_values.specs.Cuts.{Form, form_of, entries, after, is_uncut}
 use Rattle.mg_bytes.specs.Steps.{◌>>=◌}
 use Rattle.event_values.specs.Signals.{signal_called}
 use Rattle.event_values.specs.Observed.{is_completion, tells, happened, ended, observed_with, observed_from, or_510, observed_entry, observed_of, takes_memory, observed_entry_text, observed_text, is_writable_observed, are_writable_observed}
-use Rattle.event_cuts.proofs.PassLemmas.{Passes, passes_each, along}
+use Rattle.event_values.proofs.PassLemmas.{Passes, passes_each, along}
 use Rattle.event_values.proofs.Computing.{on_examples}
-use Rattle.event_cuts.proofs.JoinLemmas.{is_plain, IsEntry}
-use Rattle.event_cuts.proofs.WriteLemmas.{listed_again}
+use Rattle.event_values.proofs.JoinLemmas.{is_plain, IsEntry}
+use Rattle.event_values.proofs.WriteLemmas.{listed_again}
 
 abbrev Good : Observed → Type 0
 Good told = is_writable_observed told ≡ true

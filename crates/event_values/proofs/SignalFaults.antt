@@ -3,11 +3,11 @@ use Rattle.std.proofs.Common.{◌≡◌, ℕ, ◌<◌, ◌≤◌, true, false, L
 use Rattle.std.specs.Prelude.{Ok, Err, is_ok}
 use Rattle.std.specs.List.{list_all}
 use Rattle.event_values.specs.declared.signals.SignalRequest.{SignalRequest}
-use Rattle.event_cuts.specs.Cuts.{entries}
-use Rattle.event_cuts.specs.Faults.{each_up_to}
+use Rattle.event_values.specs.Cuts.{entries}
+use Rattle.event_values.specs.Faults.{each_up_to}
 use Rattle.event_values.specs.SignalSpelling.{are_signals}
 use Rattle.event_values.specs.Signals.{most_signals, signal_entry, signals_in, signals_of}
-use Rattle.event_cuts.proofs.FaultLemmas.{misspelled, well_spelled, many_up_to, fault_up_to, whole_up_to}
+use Rattle.event_values.proofs.FaultLemmas.{misspelled, well_spelled, many_up_to, fault_up_to, whole_up_to}
 
 signals_spelled : (value : List ℕ) → are_signals value ≡ true → signals_of value ≡ each_up_to most_signals signal_entry (entries value)
 unfolding signals_of signals_in

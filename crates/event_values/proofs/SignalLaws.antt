@@ -16,16 +16,16 @@ use Rattle.mg_packages.specs.declared.signal.Signal.TheVariants.{DialTone}
 use Rattle.mg_packages.specs.declared.signal.Kind.{Kind}
 use Rattle.mg_packages.specs.declared.signal.Kind.TheVariants.{TimeOut, Brief, OnOff}
 use Rattle.mg_packages.specs.Looking.{kind_of, signal_name, in_package, signal_named, event_named, signal_in}
-use Rattle.event_cuts.proofs.ClosedLemmas.{IsClosed, calm_closed, closed_group}
+use Rattle.event_values.proofs.ClosedLemmas.{IsClosed, calm_closed, closed_group}
 use Rattle.event_values.specs.declared.signals.Setting.{Setting}
 use Rattle.event_values.specs.declared.signals.Setting.TheVariants.{Start, Stop, Lasting}
 use Rattle.event_values.specs.declared.signals.SignalRequest.{SignalRequest}
-use Rattle.event_cuts.specs.Cuts.{items, form_of}
-use Rattle.event_cuts.specs.Spelling.{is_name, is_parameter, is_parameter_byte, are_parameters, with_parameters}
+use Rattle.event_values.specs.Cuts.{items, form_of}
+use Rattle.event_values.specs.Spelling.{is_name, is_parameter, is_parameter_byte, are_parameters, with_parameters}
 use Rattle.event_values.specs.SignalSpelling.{is_signal, is_signal_entry, are_signals}
 use Rattle.event_values.specs.Signals.{most_signals, takes, asked_by, time_in, setting_from, setting_of, signal_called, signal_entry, signals_in, signals_of, setting_text, signal_entry_text, signals_text, is_writable_signal, are_writable_signals}
-use Rattle.event_cuts.proofs.JoinLemmas.{is_plain, is_solid, is_flat, flat_is_calm, IsEntry, items_join, name_entry, name_form, grouped, group_entry, group_form}
-use Rattle.event_cuts.proofs.WriteLemmas.{listed_spelled, listed_up_to}
+use Rattle.event_values.proofs.JoinLemmas.{is_plain, is_solid, is_flat, flat_is_calm, IsEntry, items_join, name_entry, name_form, grouped, group_entry, group_form}
+use Rattle.event_values.proofs.WriteLemmas.{listed_spelled, listed_up_to}
 
 -- the name of a signal is read as this signal
 record Named (s : Signal) : Type 0 where

@@ -13,10 +13,10 @@ use Rattle.mg_packages.specs.declared.signal.Signal.{Signal}
 use Rattle.mg_packages.specs.Looking.{in_package, in_package_from, package_named, no_signal, signal_in, signal_named, event_named, kind_of}
 use Rattle.event_values.specs.declared.signals.Setting.{Setting}
 use Rattle.event_values.specs.declared.signals.SignalRequest.{SignalRequest}
-use Rattle.event_cuts.specs.Cuts.{Form, form_of, items, entries}
+use Rattle.event_values.specs.Cuts.{Form, form_of, items, entries}
 use Rattle.event_values.specs.SignalSpelling.{is_signal_entry, are_signals}
 use Rattle.event_values.specs.Signals.{most_signals, takes, asked_by, taken_by, setting_from, setting_of, signal_from, signal_at, signal_called, signal_entry_from, signal_entry, signals_in, signals_of, is_writable_signal, are_writable_signals}
-use Rattle.event_cuts.proofs.PassLemmas.{Passes, passes_on, passes_up_to, passes_if, along}
+use Rattle.event_values.proofs.PassLemmas.{Passes, passes_on, passes_up_to, passes_if, along}
 
 -- the signal
 found_passes : (found : Option Signal) (within : Package) (event : Option LineEvent)

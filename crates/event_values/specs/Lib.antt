@@ -1,3 +1,6 @@
+pub mod Faults
+pub mod Cuts
+pub mod Spelling
 pub mod SignalSpelling
 pub mod Signals
 pub mod Handling

@@ -13,8 +13,8 @@ use Rattle.mg_packages.specs.Looking.{is_same_event, event_of, event_name, compl
 use Rattle.event_values.specs.declared.observed.Observed.{Observed}
 use Rattle.event_values.specs.declared.observed.Observed.TheVariants.{Happened, Ended}
 use Rattle.mg_bytes.specs.Steps.{◌>>=◌}
-use Rattle.event_cuts.specs.Faults.{each}
-use Rattle.event_cuts.specs.Cuts.{Form, in_parentheses, form_of, entries}
+use Rattle.event_values.specs.Faults.{each}
+use Rattle.event_values.specs.Cuts.{Form, in_parentheses, form_of, entries}
 use Rattle.event_values.specs.Signals.{signal_called}
 
 -- Which event tells what

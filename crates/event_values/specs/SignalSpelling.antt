@@ -3,8 +3,8 @@ use Rattle.std.specs.Prelude.{ℕ, Bool, false, ◌&&◌, List, Option, Some, No
 use Rattle.std.specs.List.{list_all}
 use Rattle.mg_bytes.specs.Bytes.{slash}
 use Rattle.mg_bytes.specs.Words.{split_once}
-use Rattle.event_cuts.specs.Cuts.{Form, form_of, entries}
-use Rattle.event_cuts.specs.Spelling.{is_word, is_name, with_parameters}
+use Rattle.event_values.specs.Cuts.{Form, form_of, entries}
+use Rattle.event_values.specs.Spelling.{is_word, is_name, with_parameters}
 
 abbrev pub is_signal_from : List ℕ → Option (List ℕ × List ℕ) → Bool
 is_signal_from text None = is_name text

@@ -16,8 +16,8 @@ use Rattle.event_values.specs.declared.signals.Setting.{Setting}
 use Rattle.event_values.specs.declared.signals.Setting.TheVariants.{Start, Stop, Lasting}
 use Rattle.event_values.specs.declared.signals.SignalRequest.{SignalRequest}
 use Rattle.mg_bytes.specs.Steps.{◌>>=◌}
-use Rattle.event_cuts.specs.Faults.{each_up_to}
-use Rattle.event_cuts.specs.Cuts.{Form, form_of, items, entries}
+use Rattle.event_values.specs.Faults.{each_up_to}
+use Rattle.event_values.specs.Cuts.{Form, form_of, items, entries}
 use Rattle.event_values.specs.SignalSpelling.{are_signals}
 
 -- What can be asked of a signal

@@ -5,7 +5,7 @@ ghost use Rattle.std.specs.Prelude.{◌≡◌, codes, map, [], ◌∷◌, Ok, Er
 ghost use Rattle.event_values.specs.Signals.{signals_of, signals_text, are_writable_signals};
 ghost use Rattle.event_values.specs.Handling.{handling_of, handling_text};
 ghost use Rattle.event_values.specs.Observed.{observed_of, takes_memory, observed_text, are_writable_observed};
-ghost use Rattle.event_cuts.specs.Cuts.{entries};
+ghost use Rattle.event_values.specs.Cuts.{entries};
 ghost use Rattle.event_values.specs.Example.{asks, starts, stops, lasts, with, handles, tells_of, tells_end};
 
 use crate::handling::{Notifying, Quarantined};

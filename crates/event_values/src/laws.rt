@@ -4,7 +4,7 @@ ghost use Rattle.std.specs.List.{list_all};
 ghost use Rattle.event_values.specs.declared.handling.Handling.{Handling};
 ghost use Rattle.event_values.specs.declared.observed.Observed.{Observed};
 ghost use Rattle.event_values.specs.declared.signals.SignalRequest.{SignalRequest};
-ghost use Rattle.event_cuts.specs.Cuts.{entries};
+ghost use Rattle.event_values.specs.Cuts.{entries};
 ghost use Rattle.event_values.specs.SignalSpelling.{are_signals};
 ghost use Rattle.event_values.specs.Signals.{most_signals, signal_entry, signals_of, signals_text, are_writable_signals};
 ghost use Rattle.event_values.specs.Handling.{handling_of, handling_text};

@@ -5,14 +5,15 @@ ghost use Rattle.mg_bytes.specs.Blanks.{is_blank};
 ghost use Rattle.mg_bytes.specs.Lines.{is_line_feed};
 ghost use Rattle.mg_bytes.specs.CodeFault.{AnswersAs, FailsForMemory};
 ghost use Rattle.mg_packages.specs.Looking.{package_of, completion_of};
-ghost use Rattle.event_cuts.specs.Cuts.{inside_seen, form_of, entries};
+ghost use Rattle.event_values.specs.Cuts.{inside_seen, form_of, entries};
 ghost use Rattle.event_values.specs.Observed.{completes, is_completion, is_timed, tells, happened, ended};
 ghost use Rattle.event_values.specs.Observed.{observed_with, observed_from, observed_entry, observed_of, completion_name};
 ghost use Rattle.event_values.specs.Observed.{takes_memory};
 ghost use Rattle.event_values.specs.Observed.{observed_entry_text, observed_text, are_writable_observed};
 
+use crate::cut::entries;
+use crate::form::{Inside, form_of};
 use crate::signals::signal_called;
-use event_cuts::{Inside, entries, form_of};
 use mg_bytes::{CodeFault, OutOfMemory, ReturnCode, Sequence, Text};
 use mg_packages::{
     Kind, LineEvent, Package, Signal, completion_of, event_name, event_of, kind_of, signal_name,

@@ -2,7 +2,9 @@
 ghost use Rattle.std.specs.Prelude.{◌≡◌};
 ghost use Rattle.event_values.specs.SignalSpelling.{is_signal, is_signal_entry, are_signals};
 
-use event_cuts::{entries, form_of, is_name, is_word, with_parameters};
+use crate::cut::entries;
+use crate::form::form_of;
+use crate::spelling::{is_name, is_word, with_parameters};
 use mg_bytes::split_once;
 
 #[tactic(auto, unfolding(crate::specs::SignalSpelling::is_signal))]

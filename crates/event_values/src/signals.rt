@@ -1,14 +1,16 @@
 //! The signals that are asked for: the value of S (RFC 3435, 2.3.3).
 ghost use Rattle.std.specs.Prelude.{◌≡◌, ◌≤◌, ◌++◌, length, true, IfOk, OnOk, option_map};
 ghost use Rattle.mg_bytes.specs.CodeFault.{AnswersAs, answer_of};
-ghost use Rattle.event_cuts.specs.Cuts.{entries, items, inside_seen};
-ghost use Rattle.event_cuts.specs.Faults.{each};
+ghost use Rattle.event_values.specs.Cuts.{entries, items, inside_seen};
+ghost use Rattle.event_values.specs.Faults.{each};
 ghost use Rattle.event_values.specs.Signals.{takes, behind_to, time_in, asked_by, taken_by, setting_from, setting_of, most_signals};
 ghost use Rattle.event_values.specs.Signals.{signal_called, signal_entry, signals_in, signals_of, are_writable_signals};
 ghost use Rattle.event_values.specs.Signals.{setting_text, signal_entry_text, signals_text};
 
+use crate::cut::{entries, items};
+use crate::form::{Inside, form_of};
 use crate::signal_spelling::are_signals;
-use event_cuts::{Inside, entries, form_of, has_at_most, items};
+use crate::spelling::has_at_most;
 use mg_bytes::{
     CodeFault, Few, OutOfMemory, ReturnCode, Text, decimal, put_decimal, same_no_case, split_once,
 };

@@ -1,6 +1,6 @@
 use Rattle.std.proofs.Common.{sym}
 use Rattle.event_values.specs.Observed.{observed_entry, observed_of}
-use Rattle.event_cuts.proofs.EachLemmas.{each_on, each_stops, each_done}
+use Rattle.event_values.proofs.EachLemmas.{each_on, each_stops, each_done}
 use Rattle.event_values.proofs.ObservedLaws.{entry_fault_is_code, read_is_writable, takes_at_first}
 use Rattle.event_values.proofs.observed.read_observed.Goals as goal
 

@@ -1,8 +1,8 @@
 use Rattle.std.proofs.Common.{◌≡◌, true}
-use Rattle.event_cuts.specs.Cuts.{entries}
-use Rattle.event_cuts.specs.Faults.{each}
+use Rattle.event_values.specs.Cuts.{entries}
+use Rattle.event_values.specs.Faults.{each}
 use Rattle.event_values.specs.Observed.{observed_entry, takes_memory}
-use Rattle.event_cuts.proofs.EachLemmas.{put_before}
+use Rattle.event_values.proofs.EachLemmas.{put_before}
 use Rattle.event_values.proofs.observed.read_observed.Given as goal
 
 abbrev pub invariant-loop-entry : goal.invariant-loop-entry

@@ -1,7 +1,7 @@
 use Rattle.std.proofs.Common.{ap, ◌∙◌}
 use Rattle.event_values.specs.Observed.{observed_text}
 use Rattle.event_values.specs.Observed.{observed_entry_text}
-use Rattle.event_cuts.proofs.WriteLemmas.{first_listed, next_listed}
+use Rattle.event_values.proofs.WriteLemmas.{first_listed, next_listed}
 use Rattle.event_values.proofs.ObservedLaws.{observed_no_blanks, observed_one_line}
 use Rattle.event_values.proofs.observed.write_observed.Goals as goal
 use Rattle.event_values.proofs.observed.write_observed.Goals.{then-place-gt0+in_ok-push, else-place-gt0}

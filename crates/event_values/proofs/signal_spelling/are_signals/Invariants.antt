@@ -1,6 +1,6 @@
 use Rattle.std.proofs.Common.{◌≡◌}
 use Rattle.std.specs.List.{list_all}
-use Rattle.event_cuts.specs.Cuts.{entries}
+use Rattle.event_values.specs.Cuts.{entries}
 use Rattle.event_values.specs.SignalSpelling.{is_signal_entry}
 use Rattle.event_values.proofs.signal_spelling.are_signals.Given as goal
 

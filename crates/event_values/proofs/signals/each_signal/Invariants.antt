@@ -1,8 +1,8 @@
 use Rattle.std.proofs.Common.{◌≡◌, ◌+◌, ◌≤◌, length}
-use Rattle.event_cuts.specs.Cuts.{entries}
-use Rattle.event_cuts.specs.Faults.{each}
+use Rattle.event_values.specs.Cuts.{entries}
+use Rattle.event_values.specs.Faults.{each}
 use Rattle.event_values.specs.Signals.{signal_entry, most_signals}
-use Rattle.event_cuts.proofs.EachLemmas.{put_before}
+use Rattle.event_values.proofs.EachLemmas.{put_before}
 use Rattle.event_values.proofs.signals.each_signal.Given as goal
 
 abbrev pub invariant-loop-entry : goal.invariant-loop-entry

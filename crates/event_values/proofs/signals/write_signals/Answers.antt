@@ -1,6 +1,6 @@
 use Rattle.std.proofs.Common.{ap, ◌∙◌}
 use Rattle.event_values.specs.Signals.{signals_text, signal_entry_text}
-use Rattle.event_cuts.proofs.WriteLemmas.{first_listed, next_listed}
+use Rattle.event_values.proofs.WriteLemmas.{first_listed, next_listed}
 use Rattle.event_values.proofs.signals.write_signals.Goals as goal
 use Rattle.event_values.proofs.signals.write_signals.Goals.{then-place-gt0+in_ok-push, else-place-gt0}
 
