@@ -3,8 +3,8 @@
 use Rattle.std.specs.Prelude.{ℕ, ◌-◌, ◌&&◌, nat_lt, if◌then◌else◌, Bool, true, is_none, List, [], ◌∷◌, ◌++◌, map, Option, Some, None, slice_get}
 use Rattle.std.specs.List.{list_any}
 use Rattle.std.specs.declared.net.socket_addr.SocketAddrV4.{SocketAddrV4}
-use Rattle.routes.specs.declared.route.Route.{Route}
-use Rattle.routes.specs.Route.{addresses, at}
+use Rattle.endpoint_names.specs.declared.route.Route.{Route}
+use Rattle.endpoint_names.specs.Route.{addresses, at}
 use Rattle.mg_line.specs.declared.phone.Act.{Act}
 use Rattle.plain_machine.specs.declared.setup.Setup.{Setup}
 use Rattle.transmission.specs.declared.output.OutDatagram.{OutDatagram}

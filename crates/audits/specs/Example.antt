@@ -9,9 +9,9 @@ use Rattle.event_values.specs.declared.handling.Notifying.TheVariants.{Loop}
 use Rattle.event_values.specs.declared.handling.Quarantined.TheVariants.{Discard}
 use Rattle.event_requests.specs.Example.{asked}
 use Rattle.signals.specs.Example.{until, endless}
-use Rattle.routes.specs.declared.route.Route.TheVariants.{One}
+use Rattle.endpoint_names.specs.declared.route.Route.TheVariants.{One}
 use Rattle.endpoint_names.specs.declared.entity.Entity.{Entity}
-use Rattle.routes.specs.Example.{local_address}
+use Rattle.endpoint_names.specs.RouteExample.{local_address}
 use Rattle.connections.specs.declared.codec.Encoding.TheVariants.{Mu, A}
 use Rattle.connections.specs.declared.connection.Connection.{Connection}
 use Rattle.connections.specs.Example.{line, with_one, first_connection}

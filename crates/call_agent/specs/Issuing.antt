@@ -3,7 +3,7 @@ use Rattle.std.specs.Prelude.{ℕ, ◌+◌, ◌&&◌, nat_lt, codes, decimal, if
 use Rattle.mg_bytes.specs.Bytes.{space}
 use Rattle.mgcp_text.specs.Reading.{read_text}
 use Rattle.piggyback.specs.Packing.{is_joinable}
-use Rattle.routes.specs.declared.route.Route.TheVariants.{One}
+use Rattle.endpoint_names.specs.declared.route.Route.TheVariants.{One}
 use Rattle.outbound.specs.Flight.{sent_first}
 use Rattle.transmission.specs.Texts.{largest_datagram}
 use Rattle.machine_laws.specs.Saying.{is_command_as}

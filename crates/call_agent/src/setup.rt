@@ -1,7 +1,7 @@
 //! Who an agent is.
 
+use endpoint_names::Route;
 use mg_bytes::Text;
-use routes::Route;
 use std::net::SocketAddrV4;
 
 /// Who an agent is: its addresses, and the gateway that it works with.

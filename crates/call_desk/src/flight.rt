@@ -1,9 +1,9 @@
 //! A command that is in flight.
 use call_agent::Issued;
+use endpoint_names::Route;
 use mg_bytes::OutOfMemory;
 use mgcp_text::TransactionId;
 use outbound::{Pending, Repeat, Reply};
-use routes::Route;
 use std::alloc::{AllocError, Global};
 
 // Moments are below this (in ms), as those of an agent are.

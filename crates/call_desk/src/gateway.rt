@@ -2,10 +2,10 @@
 use crate::flight::Flight;
 use agent_texts::copied;
 use call_agent::{Agent, IssueFault, Issued};
+use endpoint_names::Route;
 use mg_bytes::{OutOfMemory, Text};
 use mgcp_text::TransactionId;
 use plain_machine::{Event, Outputs, Refusal};
-use routes::Route;
 use std::alloc::Global;
 use std::net::SocketAddrV4;
 

@@ -5,7 +5,7 @@ use Rattle.mgcp_text.specs.declared.message.Param.{Param}
 use Rattle.mgcp_text.specs.Reading.{Outcome, message, no_header, bad_version, bad_body, read_text}
 use Rattle.mgcp_text.specs.Confirmation.{k_of}
 use Rattle.mgcp_text.specs.Message.{params_in}
-use Rattle.routes.specs.declared.route.Route.TheVariants.{One as OnlyOne}
+use Rattle.endpoint_names.specs.declared.route.Route.TheVariants.{One as OnlyOne}
 use Rattle.endpoint_names.specs.declared.entity.Entity.{Entity}
 use Rattle.endpoint_names.specs.declared.names.Names.{Names}
 use Rattle.mg_packages.specs.declared.signal.Signal.{Signal}

@@ -11,7 +11,7 @@ use Rattle.transmission.specs.Packing.{packed, same_address}
 use Rattle.transmission.specs.Texts.{texts_of}
 use Rattle.transmission.specs.Transacting.{message_to}
 use Rattle.transmission.proofs.PackingLaws.{IsMessage}
-use Rattle.routes.specs.Route.{at}
+use Rattle.endpoint_names.specs.Route.{at}
 use Rattle.plain_machine.specs.declared.setup.Setup.{Setup}
 use Rattle.plain_machine.specs.Setup.{IsSetUp}
 use Rattle.plain_machine.specs.Arriving.{TextArrival, arrival, arrivals_of}

@@ -5,8 +5,8 @@ use Rattle.std.specs.List.{slice_index_or}
 use Rattle.std.proofs.lemmas.Bool.{eqb-true, eqb-false, leb-true, leb-false}
 use Rattle.std.proofs.lemmas.Option.{none-some}
 use Rattle.std.specs.declared.net.socket_addr.SocketAddrV4.{SocketAddrV4}
-use Rattle.routes.specs.declared.route.Route.TheVariants.{One}
-use Rattle.routes.specs.Route.{at}
+use Rattle.endpoint_names.specs.declared.route.Route.TheVariants.{One}
+use Rattle.endpoint_names.specs.Route.{at}
 use Rattle.outbound.specs.declared.repeat.Repeat.{Repeat}
 use Rattle.outbound.specs.declared.repeat.Repeat.TheVariants.{Sent as SentAgain, GivenUp}
 use Rattle.outbound.specs.Sends.{most_repeats, sending_time, wait_after}

@@ -6,7 +6,7 @@ use Rattle.std.specs.Option.{unwrap_or}
 use Rattle.std.proofs.lemmas.Bool.{eqb-true, leb-true, leb-false}
 use Rattle.std.proofs.lemmas.Option.{none-some}
 use Rattle.std.specs.declared.net.socket_addr.SocketAddrV4.{SocketAddrV4}
-use Rattle.routes.specs.declared.route.Route.{Route}
+use Rattle.endpoint_names.specs.declared.route.Route.{Route}
 use Rattle.endpoint_names.specs.declared.entity.Entity.{Entity}
 use Rattle.mgcp_text.specs.Writing.{written}
 use Rattle.mg_line.specs.declared.state.State.{State}

@@ -1,3 +1,5 @@
+pub mod RouteLemmas
+pub mod RouteComputing
 pub mod FixedLemmas
 pub mod LineLemmas
 pub mod WrittenLemmas

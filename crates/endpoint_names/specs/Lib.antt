@@ -1,3 +1,5 @@
+pub mod Route
+pub mod RouteExample
 pub mod Fixed
 pub mod Name
 pub mod Table

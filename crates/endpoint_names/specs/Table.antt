@@ -3,7 +3,7 @@ use Rattle.std.specs.Prelude.{ℕ, nat_le, Bool, ◌&&◌, ◌||◌, ◌==◌, i
 use Rattle.std.specs.List.{list_all, list_any}
 use Rattle.std.specs.Char.{is_ascii_alphanumeric}
 use Rattle.std.specs.declared.net.ipv4_addr.Ipv4Addr.{Ipv4Addr}
-use Rattle.routes.specs.declared.route.Route.{Route}
+use Rattle.endpoint_names.specs.declared.route.Route.{Route}
 use Rattle.mg_bytes.specs.Bytes.{hyphen, full_stop}
 use Rattle.mg_bytes.specs.Checks.{unless, first_fault}
 use Rattle.mg_bytes.specs.Case.{same_but_case}

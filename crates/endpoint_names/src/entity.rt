@@ -7,9 +7,9 @@ ghost use Rattle.mg_bytes.specs.Words.{in_brackets};
 ghost use Rattle.endpoint_names.specs.Entity.{is_entity_text, is_local, host_of, place_of, agent_of, entity_of};
 
 use crate::fixed::FixedText;
+use crate::route::Route;
 use crate::table::Table;
 use mg_bytes::{in_brackets, ipv4_address, port_number, split_once};
-use routes::Route;
 use std::net::{Ipv4Addr, SocketAddrV4};
 
 // The port of a call agent where its name gives none (RFC 3435, 3.5).

@@ -3,8 +3,8 @@
 
 ghost use Rattle.std.specs.Prelude.{◌≡◌, ◌++◌, ◌∷◌, codes, replicate, true, false, Ok, Err, Some, None};
 ghost use Rattle.mg_bytes.specs.Bytes.{at_sign};
-ghost use Rattle.routes.specs.declared.route.Route.TheVariants.{One, Two, Three, Four};
-ghost use Rattle.routes.specs.Example.{local_address};
+ghost use Rattle.endpoint_names.specs.declared.route.Route.TheVariants.{One, Two, Three, Four};
+ghost use Rattle.endpoint_names.specs.RouteExample.{local_address};
 ghost use Rattle.endpoint_names.specs.Name.{means_line, name_fault_number, name_text};
 ghost use Rattle.endpoint_names.specs.Table.{is_domain, fault_of, table_fault_number};
 ghost use Rattle.endpoint_names.specs.Entity.{entity_of};

@@ -1,13 +1,13 @@
 //! The configured names of hosts with their addresses, which stand for DNS (RFC 3435, 2.1.4).
 ghost use Rattle.std.specs.Prelude.{◌≡◌, ◌++◌, ◌∷◌, [], Some, None, OnOk, OnErr, IfErr, IsOk};
-ghost use Rattle.routes.specs.declared.route.Route.TheVariants.{One};
+ghost use Rattle.endpoint_names.specs.declared.route.Route.TheVariants.{One};
 ghost use Rattle.endpoint_names.specs.Table.{route_to, has_name, fault_of, table_fault_number};
 
 use crate::domain::{LONGEST_DOMAIN, is_domain};
 use crate::fixed::FixedText;
+use crate::route::Route;
 use arrayvec::ArrayVec;
 use mg_bytes::same_no_case;
-use routes::Route;
 use std::marker::Model;
 use std::net::Ipv4Addr;
 

@@ -5,7 +5,7 @@ use Rattle.std.specs.declared.net.socket_addr.SocketAddrV4.{SocketAddrV4}
 use Rattle.std.proofs.lemmas.Bool.Decides.{Decides-eqb}
 use Rattle.std.proofs.lemmas.List.Elements.{All-nil, All-cons}
 use Rattle.std.proofs.lemmas.Option.{none-some}
-use Rattle.routes.specs.Route.{at}
+use Rattle.endpoint_names.specs.Route.{at}
 use Rattle.endpoint_names.specs.declared.entity.Entity.{Entity}
 use Rattle.history.specs.Memory.{most_firsts}
 use Rattle.history.specs.Looking.{Looked, new, repeat, confirmed, full, look_of}

@@ -1,6 +1,6 @@
 //! Laws of announcements (RFC 3435, 2.3.12, 4.4.6 and 4.4.7), for every setup and every list of events.
 ghost use Rattle.std.specs.Prelude.{ℕ, ◌≡◌, ◌≢◌, ◌+◌, ◌++◌, true, false, List, All, Option, None, Some, Result, Ok, Err};
-ghost use Rattle.routes.specs.Route.{at};
+ghost use Rattle.endpoint_names.specs.Route.{at};
 ghost use Rattle.endpoint_names.specs.declared.entity.Entity.{Entity};
 ghost use Rattle.mgcp_text.specs.declared.confirmation.KValue.{KValue};
 ghost use Rattle.mgcp_text.specs.Answer.{plain_code};

@@ -2,8 +2,8 @@
 use Rattle.std.proofs.Common.{◌≡◌, ◌+◌, ℕ, Bool, true, false, List, [], refl, ap, ◌∙◌}
 use Rattle.std.specs.Prelude.{Result, Ok, Err, IfOk}
 use Rattle.std.specs.declared.net.socket_addr.SocketAddrV4.{SocketAddrV4}
-use Rattle.routes.specs.declared.route.Route.{Route}
-use Rattle.routes.specs.Route.{at}
+use Rattle.endpoint_names.specs.declared.route.Route.{Route}
+use Rattle.endpoint_names.specs.Route.{at}
 use Rattle.outbound.specs.declared.repeat.Repeat.{Repeat}
 use Rattle.outbound.specs.declared.reply.Reply.{Reply}
 use Rattle.outbound.specs.declared.reply.Reply.TheVariants.{Answered, Provisional, Stranger}

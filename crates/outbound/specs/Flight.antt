@@ -1,8 +1,8 @@
 -- A message of our own that is in flight: a command that was sent and isn't answered (RFC 3435, 3.5).
 use Rattle.std.specs.Prelude.{◌≡◌, ℕ, ◌+◌, ◌==◌, ◌&&◌, nat_le, if◌then◌else◌, List}
 use Rattle.std.specs.declared.net.socket_addr.SocketAddrV4.{SocketAddrV4}
-use Rattle.routes.specs.declared.route.Route.{Route}
-use Rattle.routes.specs.Route.{at}
+use Rattle.endpoint_names.specs.declared.route.Route.{Route}
+use Rattle.endpoint_names.specs.Route.{at}
 use Rattle.outbound.specs.declared.repeat.Repeat.{Repeat}
 use Rattle.outbound.specs.declared.repeat.Repeat.TheVariants.{Sent, GivenUp}
 use Rattle.outbound.specs.declared.reply.Reply.{Reply}

@@ -2,8 +2,8 @@
 #![tactic(auto, unfolding(crate::proofs::Computing::on_examples))]
 
 ghost use Rattle.std.specs.Prelude.{◌≡◌, [], ◌∷◌, true, false, codes};
-ghost use Rattle.routes.specs.declared.route.Route.TheVariants.{One, Two, Three, Four};
-ghost use Rattle.routes.specs.Example.{agent_at};
+ghost use Rattle.endpoint_names.specs.declared.route.Route.TheVariants.{One, Two, Three, Four};
+ghost use Rattle.endpoint_names.specs.RouteExample.{agent_at};
 ghost use Rattle.outbound.specs.declared.repeat.Repeat.TheVariants as repeats;
 ghost use Rattle.outbound.specs.declared.reply.Reply.TheVariants as replies;
 ghost use Rattle.outbound.specs.Sends.{sent, provisional, repeats_in, wait_after, due_of, may_repeat, repeat_at, after_repeat, after_reply};

@@ -2,8 +2,8 @@
 ghost use Rattle.std.specs.Prelude.{◌≡◌, ◌≢◌, ◌↔◌, ◌+◌, ◌-◌, ◌<◌, ◌≤◌, ℕ, List, ◌∷◌, All, length, map, true};
 ghost use Rattle.std.specs.List.{range_with_len};
 ghost use Rattle.std.specs.declared.net.socket_addr.SocketAddrV4.{SocketAddrV4};
-ghost use Rattle.routes.specs.declared.route.Route.{Route};
-ghost use Rattle.routes.specs.Route.{at};
+ghost use Rattle.endpoint_names.specs.declared.route.Route.{Route};
+ghost use Rattle.endpoint_names.specs.Route.{at};
 ghost use Rattle.outbound.specs.declared.repeat.Repeat.TheVariants as repeats;
 ghost use Rattle.outbound.specs.declared.reply.Reply.TheVariants as replies;
 ghost use Rattle.outbound.specs.Flight.{InFlight, sent_to, sent_first, repeat_of, repeated, reply_of, heard};

@@ -1,15 +1,15 @@
 //! A message of our own that is in flight.
 ghost use Rattle.std.specs.Prelude.{◌≡◌, ◌<◌, ◌^◌, ◌==◌, if◌then◌else◌, [], IfOk};
-ghost use Rattle.routes.specs.Route.{at};
+ghost use Rattle.endpoint_names.specs.Route.{at};
 ghost use Rattle.outbound.specs.declared.reply.Reply.TheVariants.{Stranger};
 ghost use Rattle.outbound.specs.Sends.{wait_after, may_repeat, Sends, repeats_in, due_of, repeat_at, after_repeat, after_reply};
 ghost use Rattle.outbound.specs.Flight.{Follows, sent_to, sent_first, repeat_of, repeated, reply_by, reply_of, heard};
 
 use crate::repeat::Repeat;
 use crate::reply::Reply;
+use endpoint_names::Route;
 use mg_bytes::{OutOfMemory, Text};
 use mgcp_text::TransactionId;
-use routes::Route;
 use std::alloc::Global;
 use std::marker::Model;
 use std::net::SocketAddrV4;

@@ -5,7 +5,7 @@ use Rattle.mgcp_text.specs.declared.message.Message.{Message}
 use Rattle.mgcp_text.specs.Writing.{written}
 use Rattle.outbound.specs.declared.repeat.Repeat.{Repeat}
 use Rattle.outbound.specs.declared.repeat.Repeat.TheVariants.{Sent as SentAgain, GivenUp}
-use Rattle.routes.specs.Route.{at}
+use Rattle.endpoint_names.specs.Route.{at}
 use Rattle.outbound.specs.Flight.{InFlight, sent_to, sent_first, repeat_of, repeated}
 use Rattle.restart.specs.Restarting.{begun}
 use Rattle.plain_machine.specs.declared.post.Post.{Post}

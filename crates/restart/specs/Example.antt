@@ -1,6 +1,6 @@
 -- What the worked examples speak of.
 use Rattle.std.specs.Prelude.{[], ◌∷◌, codes}
-use Rattle.routes.specs.declared.route.Route.TheVariants.{Two}
+use Rattle.endpoint_names.specs.declared.route.Route.TheVariants.{Two}
 use Rattle.endpoint_names.specs.declared.entity.Entity.{Entity}
 
 -- a call agent at other addresses than the one that is configured

@@ -5,7 +5,7 @@ use Rattle.toml.specs.declared.value.Value.{Value}
 use Rattle.toml.specs.Data.{Data, Items, item}
 use Rattle.toml.specs.View.{view, items_of, items_view}
 use Rattle.mg_bytes.specs.Option.{◌>>=◌}
-use Rattle.routes.specs.Route.{route_of}
+use Rattle.endpoint_names.specs.Route.{route_of}
 use Rattle.rgw_scripts.specs.Configuration.{address_in, addresses_in}
 
 -- an address before others, where all are there

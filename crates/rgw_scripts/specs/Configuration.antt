@@ -7,9 +7,9 @@ use Rattle.toml.specs.Parse.{parse_document}
 use Rattle.mg_bytes.specs.Option.{◌>>=◌}
 use Rattle.mg_bytes.specs.Address.{ipv4_of}
 use Rattle.mg_bytes.specs.Checks.{unless, first_fault}
-use Rattle.routes.specs.declared.route.Route.{Route}
-use Rattle.routes.specs.declared.route.Route.TheVariants.{One}
-use Rattle.routes.specs.Route.{route_of}
+use Rattle.endpoint_names.specs.declared.route.Route.{Route}
+use Rattle.endpoint_names.specs.declared.route.Route.TheVariants.{One}
+use Rattle.endpoint_names.specs.Route.{route_of}
 use Rattle.plain_machine.specs.declared.config.Config.{Config}
 use Rattle.plain_machine.specs.declared.config.ConfigKey.{ConfigKey}
 use Rattle.plain_machine.specs.declared.config.ConfigKey.TheVariants as keys

@@ -5,7 +5,7 @@ use Rattle.std.specs.declared.net.ipv4_addr.Ipv4Addr.{Ipv4Addr}
 use Rattle.std.specs.declared.net.socket_addr.SocketAddrV4.{SocketAddrV4}
 use Rattle.toml.specs.Data.{Data, string, integer, table, Members, no_members, member}
 use Rattle.mg_bytes.specs.Lines.{lines_of}
-use Rattle.routes.specs.declared.route.Route.{Route}
+use Rattle.endpoint_names.specs.declared.route.Route.{Route}
 use Rattle.mg_bytes.specs.Words.{words}
 use Rattle.mg_packages.specs.declared.hook.Hook.{Hook}
 use Rattle.connections.specs.declared.connection.Connection.{Connection}

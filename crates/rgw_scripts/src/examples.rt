@@ -3,7 +3,7 @@
 
 ghost use Rattle.std.specs.Prelude.{◌≡◌, ℕ, codes, pos, negsuc, true, false, [], ◌∷◌, Some, None, Ok, Err, replicate};
 ghost use Rattle.toml.specs.Data.{string, integer, boolean, array, table, no_items, item, no_members, member};
-ghost use Rattle.routes.specs.declared.route.Route.TheVariants.{Two, Three, Four};
+ghost use Rattle.endpoint_names.specs.declared.route.Route.TheVariants.{Two, Three, Four};
 ghost use Rattle.mg_line.specs.declared.phone.Act.TheVariants as acts;
 ghost use Rattle.mg_packages.specs.declared.hook.Hook.TheVariants as hooks;
 ghost use Rattle.mg_line.specs.declared.phone.Key.TheVariants as keys;

@@ -2,13 +2,13 @@
 ghost use Rattle.std.specs.Prelude.{◌≡◌, IfOk, MatchOption, Some, None, is_some, option_and_then, option_map, string_bytes};
 ghost use Rattle.toml.specs.View.{items_view, table_view, view};
 ghost use Rattle.toml.specs.Data.{get_member, as_str, item, no_items};
-ghost use Rattle.routes.specs.Route.{route_of};
+ghost use Rattle.endpoint_names.specs.Route.{route_of};
 ghost use Rattle.rgw_scripts.specs.Configuration.{count_of, text_at, number_in, number_at, address_in, address_at, addresses_in, route_in, names_from, names_at, settings_of, config_of, config_in, unread_key, unread_key_in};
 ghost use Rattle.rgw_scripts.specs.SettingsSeen.{settings_seen};
 
+use endpoint_names::Route;
 use mg_bytes::{OutOfMemory, Sequence, Text, ipv4_address};
 use plain_machine::{Config, ConfigKey, NamedRoute};
-use routes::Route;
 use std::alloc::{AllocError, Global};
 use std::net::Ipv4Addr;
 use toml::{Table, Value};

@@ -11,9 +11,9 @@
 ghost use Rattle.std.specs.Prelude.{◌<◌, ◌^◌};
 
 use crate::keeping::{Kept, Thing};
+use endpoint_names::Route;
 use mgcp_text::TransactionId;
 use outbound::{Pending, Repeat, Reply};
-use routes::Route;
 use scenario_files::{Row, said, value_of};
 use std::alloc::Global;
 use std::io;

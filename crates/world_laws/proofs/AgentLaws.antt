@@ -30,7 +30,7 @@ use Rattle.history.specs.Kept.{first_entry, firsts_in}
 use Rattle.history.proofs.LookLaws.{repeat_kept}
 use Rattle.history.specs.Memory.{most_firsts}
 use Rattle.history.specs.Looking.{Looked, new, repeat, confirmed, full, look_of}
-use Rattle.routes.specs.declared.route.Route.TheVariants.{One}
+use Rattle.endpoint_names.specs.declared.route.Route.TheVariants.{One}
 use Rattle.outbound.specs.declared.repeat.Repeat.{Repeat}
 use Rattle.outbound.specs.declared.repeat.Repeat.TheVariants.{Sent as SentAgain, GivenUp}
 use Rattle.outbound.specs.declared.reply.Reply.{Reply}

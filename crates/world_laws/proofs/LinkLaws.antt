@@ -17,7 +17,7 @@ use Rattle.outbound.specs.declared.reply.Reply.TheVariants.{Answered, Provisiona
 use Rattle.outbound.specs.Flight.{InFlight, reply_by, reply_of, heard}
 use Rattle.outbound.proofs.LifeLaws.{reply_same}
 use Rattle.transmission.specs.declared.output.OutDatagram.{OutDatagram}
-use Rattle.routes.specs.Route.{at}
+use Rattle.endpoint_names.specs.Route.{at}
 use Rattle.plain_machine.specs.Setup.{IsSetUp}
 use Rattle.plain_machine.specs.Event.{GatewayEvent, datagram, phone, tick}
 use Rattle.plain_machine.specs.Message.{Sent, datagram_of, datagrams_of}

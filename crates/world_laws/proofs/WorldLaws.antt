@@ -12,7 +12,7 @@ use Rattle.mgcp_text.specs.declared.message.Message.TheVariants as messages
 use Rattle.mgcp_text.specs.Reading.{Outcome, message, no_header, bad_version, bad_body, read_text}
 use Rattle.piggyback.specs.Parts.{parts_of}
 use Rattle.transmission.specs.declared.output.OutDatagram.{OutDatagram}
-use Rattle.routes.specs.Route.{at}
+use Rattle.endpoint_names.specs.Route.{at}
 use Rattle.plain_machine.specs.Event.{GatewayEvent, datagram, phone, tick}
 use Rattle.transmission.specs.Texts.{texts_of, largest_datagram}
 use Rattle.plain_machine.specs.Arriving.{arrival, clock_after, arrivals_at, arrivals_from, arrivals_of}

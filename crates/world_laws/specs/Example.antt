@@ -5,7 +5,7 @@ use Rattle.event_values.specs.declared.observed.Observed.{Observed}
 use Rattle.mg_line.specs.declared.phone.Act.TheVariants.{OffHook}
 use Rattle.plain_machine.specs.declared.setup.Setup.{Setup}
 use Rattle.plain_machine.specs.Event.{datagram, tick}
-use Rattle.routes.specs.declared.route.Route.TheVariants.{One, Two, Four}
+use Rattle.endpoint_names.specs.declared.route.Route.TheVariants.{One, Two, Four}
 use Rattle.plain_machine.specs.Example.{two_lines, other_agent, agent, second_agent, third_agent, fourth_agent}
 use Rattle.transmission.specs.declared.output.OutDatagram.{OutDatagram}
 use Rattle.call_agent.specs.declared.setup.AgentSetup.{AgentSetup}

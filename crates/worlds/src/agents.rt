@@ -21,9 +21,9 @@ use crate::forms::{
 use crate::gateways::{agent_address, gateway_address};
 use crate::outputs::is_just_200;
 use agent_core::{Agent, IssueFault, Issued};
+use endpoint_names::Route;
 use gateway_core::{Event, OutDatagram, Outputs, Refusal};
 use mg_bytes::{OutOfMemory, Sequence, Text};
-use routes::Route;
 use scenario_files::{Row, Scenario, bytes_of, item_at, range_in, refused};
 use std::alloc::Global;
 use std::io;

@@ -1,8 +1,8 @@
 //! The gateway that scenarios are about, its configuration, the addresses of both ends, and what rows ask of a gateway.
+use endpoint_names::Route;
 use gateway_core::{Config, ConfigFault, Gateway, NamedRoute};
 use mg_bytes::{OutOfMemory, Sequence, Text};
 use mg_line::Hook;
-use routes::Route;
 use scenario_files::{Row, refused};
 use std::alloc::Global;
 use std::io;

@@ -2,7 +2,7 @@
 #![tactic(auto, unfolding(crate::proofs::Computing::on_examples))]
 
 ghost use Rattle.std.specs.Prelude.{codes, [], ◌∷◌, None, Some, false, true};
-ghost use Rattle.routes.specs.declared.route.Route.TheVariants.{Two};
+ghost use Rattle.endpoint_names.specs.declared.route.Route.TheVariants.{Two};
 ghost use Rattle.outbound.specs.Flight.{sent_first};
 ghost use Rattle.mg_line.specs.declared.state.State.TheVariants.{Normal, Notification, Lockstep};
 ghost use Rattle.restart.specs.declared.restart.Restart.TheVariants.{Waiting, Announced, Serving};

@@ -3,7 +3,7 @@
 
 ghost use Rattle.std.specs.Prelude.{◌≡◌, ◌++◌, codes, [], ◌∷◌, Ok};
 ghost use Rattle.mg_line.specs.declared.phone.Act.TheVariants.{OffHook, OnHook};
-ghost use Rattle.routes.specs.declared.route.Route.TheVariants.{Three, Four};
+ghost use Rattle.endpoint_names.specs.declared.route.Route.TheVariants.{Three, Four};
 ghost use Rattle.plain_machine.specs.Event.{datagram, phone, tick};
 ghost use Rattle.plain_machine.specs.Setup.{setup_of};
 ghost use Rattle.plain_machine.specs.Lists.{outputs_of};

@@ -1,9 +1,9 @@
 //! Calls about names: of endpoints, of hosts and of call agents.
 use crate::values::numbered;
 use endpoint_names::{
-    NameFault, Pattern, Table, TableFault, is_domain, matches, read_entity, read_name, write_name,
+    NameFault, Pattern, Route, Table, TableFault, is_domain, matches, read_entity, read_name,
+    write_name,
 };
-use routes::Route;
 use scenario_files::Row;
 use std::fmt::Display;
 use std::net::Ipv4Addr;

@@ -8,7 +8,7 @@ ghost use Rattle.std.specs.Prelude.{ℕ, List};
 ghost use Rattle.mg_packages.specs.declared.event.LineEvent.TheVariants as events;
 ghost use Rattle.mg_line.specs.declared.phone.Act.TheVariants as acts;
 ghost use Rattle.event_values.specs.declared.observed.Observed.TheVariants.{Happened};
-ghost use Rattle.routes.specs.declared.route.Route.TheVariants.{One, Two, Four};
+ghost use Rattle.endpoint_names.specs.declared.route.Route.TheVariants.{One, Two, Four};
 ghost use Rattle.plain_machine.specs.Example.{two_lines, agent, local_host, other_host, other_agent, second_agent, third_agent, fourth_agent};
 ghost use Rattle.agent_core.specs.declared.packet.End.TheVariants.{GatewayEnd, AgentEnd};
 ghost use Rattle.agent_core.specs.declared.step.Step.TheVariants as steps;

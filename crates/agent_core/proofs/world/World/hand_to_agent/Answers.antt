@@ -3,7 +3,7 @@ use Rattle.std.specs.Prelude.{slice_get}
 use Rattle.std.proofs.lemmas.Option.{slice_get-get_or}
 use Rattle.std.specs.declared.net.socket_addr.SocketAddrV4.{SocketAddrV4}
 use Rattle.plain_machine.specs.Event.{datagram}
-use Rattle.routes.specs.declared.route.Route.{Route}
+use Rattle.endpoint_names.specs.declared.route.Route.{Route}
 use Rattle.call_agent.specs.Hearing.{hears}
 use Rattle.agent_core.specs.World.{is_among}
 use Rattle.call_agent.specs.AgentStands.{AgentTook}

@@ -3,8 +3,8 @@ use Rattle.std.specs.Prelude.{ℕ, List, [], ◌∷◌, map, Option}
 use Rattle.std.specs.List.{range_with_len}
 use Rattle.std.specs.declared.net.ipv4_addr.Ipv4Addr.{Ipv4Addr}
 use Rattle.std.specs.declared.net.socket_addr.SocketAddrV4.{SocketAddrV4}
-use Rattle.routes.specs.declared.route.Route.{Route}
-use Rattle.routes.specs.Route.{addresses, route_of, first, at}
+use Rattle.endpoint_names.specs.declared.route.Route.{Route}
+use Rattle.endpoint_names.specs.Route.{addresses, route_of, first, at}
 
 -- 127.0.0.n
 abbrev pub local_address : ℕ → Ipv4Addr

@@ -3,9 +3,9 @@ ghost use Rattle.std.specs.Prelude.{◌≡◌, ◌<◌, ◌*◌, ◌+◌, ◌↔
 ghost use Rattle.std.specs.List.{range_with_len};
 ghost use Rattle.std.specs.declared.net.ipv4_addr.Ipv4Addr.{Ipv4Addr};
 ghost use Rattle.std.specs.declared.net.socket_addr.SocketAddrV4.{SocketAddrV4};
-ghost use Rattle.routes.specs.declared.route.Route.{Route};
-ghost use Rattle.routes.specs.declared.route.Route.TheVariants.{One};
-ghost use Rattle.routes.specs.Route.{addresses, route_of, first, at, with_port};
+ghost use Rattle.endpoint_names.specs.declared.route.Route.{Route};
+ghost use Rattle.endpoint_names.specs.declared.route.Route.TheVariants.{One};
+ghost use Rattle.endpoint_names.specs.Route.{addresses, route_of, first, at, with_port};
 
 /// A message begins with the first address of its route; where that is the only one, all its sends go there.
 pub fn messages_begin_with_the_first_address()

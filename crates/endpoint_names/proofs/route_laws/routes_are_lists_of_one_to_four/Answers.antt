@@ -1,5 +1,5 @@
-use Rattle.routes.proofs.RouteLemmas.{again, listed, none_of}
-use Rattle.routes.proofs.laws.routes_are_lists_of_one_to_four.Goals as goal
+use Rattle.endpoint_names.proofs.RouteLemmas.{again, listed, none_of}
+use Rattle.endpoint_names.proofs.route_laws.routes_are_lists_of_one_to_four.Goals as goal
 
 pub returns-clause-again : goal.returns-clause-again
 returns-clause-again c = again

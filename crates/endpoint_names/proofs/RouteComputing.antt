@@ -1,6 +1,6 @@
 -- The definitions opened, so that worked examples compute.
 use Rattle.std.specs.Prelude.{⊤}
-use Rattle.routes.specs.Route.{at}
+use Rattle.endpoint_names.specs.Route.{at}
 
 unfoldable pub on_examples : ⊤
 unfolding at

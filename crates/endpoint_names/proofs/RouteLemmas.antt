@@ -7,9 +7,9 @@ use Rattle.std.specs.declared.net.socket_addr.SocketAddrV4.{SocketAddrV4}
 use Rattle.std.proofs.lemmas.Nat.{mod_below, shr_high, shl-shr}
 use Rattle.std.proofs.lemmas.List.{get_or-map}
 use Rattle.std.proofs.lemmas.List.Elements.{All-nil, All-cons, Contains-get_or}
-use Rattle.routes.specs.declared.route.Route.{Route}
-use Rattle.routes.specs.declared.route.Route.TheVariants.{One, Two, Three, Four}
-use Rattle.routes.specs.Route.{addresses, route_of, first, place_of, at, with_port}
+use Rattle.endpoint_names.specs.declared.route.Route.{Route}
+use Rattle.endpoint_names.specs.declared.route.Route.TheVariants.{One, Two, Three, Four}
+use Rattle.endpoint_names.specs.Route.{addresses, route_of, first, place_of, at, with_port}
 
 -- Where sends go
 

@@ -1,10 +1,10 @@
 //! Worked examples of the definitions, as theorems: each sentence of a definition has one that a slip in it breaks.
-#![tactic(auto, unfolding(crate::proofs::Computing::on_examples))]
+#![tactic(auto, unfolding(crate::proofs::RouteComputing::on_examples))]
 
 ghost use Rattle.std.specs.Prelude.{◌≡◌, [], ◌∷◌, Some, None};
-ghost use Rattle.routes.specs.declared.route.Route.TheVariants.{One, Two, Three, Four};
-ghost use Rattle.routes.specs.Route.{place_of, with_port};
-ghost use Rattle.routes.specs.Example.{local_address, agent_at, numbers, route_of_numbers, first_number, number_at, eight_sends};
+ghost use Rattle.endpoint_names.specs.declared.route.Route.TheVariants.{One, Two, Three, Four};
+ghost use Rattle.endpoint_names.specs.Route.{place_of, with_port};
+ghost use Rattle.endpoint_names.specs.RouteExample.{local_address, agent_at, numbers, route_of_numbers, first_number, number_at, eight_sends};
 
 /// Each address is tried twice, in their order, and after the last the first again: 1 to 4 addresses, and eight sends.
 pub fn addresses_are_tried_in_turn()

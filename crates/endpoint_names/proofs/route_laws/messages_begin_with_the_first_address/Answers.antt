@@ -1,5 +1,5 @@
-use Rattle.routes.proofs.RouteLemmas.{begins, alone}
-use Rattle.routes.proofs.laws.messages_begin_with_the_first_address.Goals as goal
+use Rattle.endpoint_names.proofs.RouteLemmas.{begins, alone}
+use Rattle.endpoint_names.proofs.route_laws.messages_begin_with_the_first_address.Goals as goal
 
 pub returns-clause-begins : goal.returns-clause-begins
 returns-clause-begins c = begins

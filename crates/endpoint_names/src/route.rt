@@ -1,6 +1,6 @@
 //! The addresses that a message goes to, in turn.
 ghost use Rattle.std.specs.Prelude.{◌≡◌, ◌<◌, ◌≤◌};
-ghost use Rattle.routes.specs.Route.{route_of, place_of, at, with_port};
+ghost use Rattle.endpoint_names.specs.Route.{route_of, place_of, at, with_port};
 
 use std::net::{Ipv4Addr, SocketAddrV4};
 

@@ -1,2 +1,0 @@
-pub mod RouteLemmas
-pub mod Computing
