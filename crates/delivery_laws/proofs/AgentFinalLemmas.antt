@@ -21,7 +21,7 @@ use Rattle.outbound.specs.declared.reply.Reply.TheVariants.{Answered, Provisiona
 use Rattle.outbound.specs.Flight.{InFlight, reply_of, heard}
 use Rattle.transmission.specs.Texts.{texts_of}
 use Rattle.plain_machine.specs.Event.{datagram, phone, tick}
-use Rattle.gateway_laws.proofs.MessageLaws.{code_is}
+use Rattle.machine_laws.proofs.MessageLaws.{code_is}
 use Rattle.machine_laws.proofs.EachLemmas.{Each, each_both}
 use Rattle.call_agent.specs.declared.setup.AgentSetup.{AgentSetup}
 use Rattle.call_agent.specs.Agent.{AgentMachine, agent_opening}

@@ -32,8 +32,8 @@ use Rattle.plain_machine.specs.Posting.{line_of_id}
 use Rattle.plain_machine.specs.Requesting.{deed_done, deed_on, deed_on_all, done_for, done_there, line_with_place, refused_by, unless_refused}
 use Rattle.plain_machine.specs.Responding.{responded, responded_on, response_with}
 use Rattle.plain_machine.proofs.ListLaws.{machine_on}
-use Rattle.gateway_laws.proofs.AnnouncementLaws.{text_keeps}
-use Rattle.gateway_laws.proofs.FlightLaws.{a_served_gateway_hears_nothing, a_stranger_does_nothing, no_command_at_a_deed, order_waits, others_stay}
+use Rattle.machine_laws.proofs.AnnouncementLaws.{text_keeps}
+use Rattle.machine_laws.proofs.FlightLaws.{a_served_gateway_hears_nothing, a_stranger_does_nothing, no_command_at_a_deed, order_waits, others_stay}
 use Rattle.machine_laws.specs.Saying.{OneOf}
 use Rattle.machine_laws.specs.Waiting.{KeepOrder}
 use Rattle.machine_laws.proofs.EachLemmas.{Each, each_from_all, one_from_any, one_of_each, one_to, one_weaker}

@@ -33,9 +33,9 @@ use Rattle.plain_machine.specs.Setup.{IsSetUp}
 use Rattle.plain_machine.specs.Answering.{Transaction, executed, handled, took_all, transacted_by}
 use Rattle.plain_machine.proofs.EffectLaws.{effect_now, handled_now}
 use Rattle.plain_machine.proofs.ListLaws.{machine_on}
-use Rattle.gateway_laws.proofs.AllLemmas.{OnAll}
-use Rattle.gateway_laws.proofs.FlightLaws.{posts_in_order}
-use Rattle.gateway_laws.proofs.TurnLemmas.{of_line, on_made}
+use Rattle.machine_laws.proofs.AllLemmas.{OnAll}
+use Rattle.machine_laws.proofs.FlightLaws.{posts_in_order}
+use Rattle.machine_laws.proofs.TurnLemmas.{of_line, on_made}
 use Rattle.machine_laws.specs.Saying.{Begun, begun_in}
 use Rattle.machine_laws.proofs.EachLemmas.{each_weaker, is_none-None}
 use Rattle.machine_laws.proofs.GatewayEvents.{opening_gateway, tick_on}

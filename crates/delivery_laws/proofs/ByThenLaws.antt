@@ -18,7 +18,7 @@ use Rattle.plain_machine.specs.Machine.{Machine, endpoint_at, opening, opening_e
 use Rattle.plain_machine.specs.Message.{Sent}
 use Rattle.plain_machine.specs.Setup.{IsSetUp}
 use Rattle.plain_machine.proofs.ListLaws.{machine_on}
-use Rattle.gateway_laws.proofs.TurnLemmas.{on_made, of_line as of_its_line}
+use Rattle.machine_laws.proofs.TurnLemmas.{on_made, of_line as of_its_line}
 use Rattle.machine_laws.specs.Saying.{HasNumbersLeft}
 use Rattle.machine_laws.proofs.LineLemmas.{place_of}
 use Rattle.machine_laws.proofs.WaitLaws.{events_wait, opening_waits}

@@ -12,7 +12,7 @@ use Rattle.plain_machine.specs.Event.{GatewayEvent}
 use Rattle.plain_machine.specs.Lists.{plain, sent_of}
 use Rattle.plain_machine.specs.Machine.{endpoint_at}
 use Rattle.plain_machine.specs.Setup.{IsSetUp}
-use Rattle.gateway_laws.proofs.TurnLemmas.{of_line as of_its_line}
+use Rattle.machine_laws.proofs.TurnLemmas.{of_line as of_its_line}
 use Rattle.machine_laws.specs.Saying.{Begun, HasNumbersLeft, OneOf}
 use Rattle.machine_laws.proofs.EachLemmas.{any_from_one, one_from_any, one_weaker}
 use Rattle.machine_laws.proofs.FlightLemmas.{IsSame}

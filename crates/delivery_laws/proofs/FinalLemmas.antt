@@ -46,7 +46,7 @@ use Rattle.plain_machine.specs.Requesting.{deed_done, done_for, done_there, line
 use Rattle.plain_machine.specs.Setup.{IsSetUp}
 use Rattle.plain_machine.specs.Answering.{handled, transaction_of}
 use Rattle.plain_machine.specs.Transactions.{arriving, commands_in, commands_with, commands_from, commands_of}
-use Rattle.gateway_laws.proofs.MessageLaws.{Fits, code_is, command_answered, event_fits, handled_fits, opening_fits}
+use Rattle.machine_laws.proofs.MessageLaws.{Fits, code_is, command_answered, event_fits, handled_fits, opening_fits}
 use Rattle.machine_laws.proofs.EachLemmas.{Each, each_both, each_push}
 use Rattle.world_laws.specs.Landing.{is_final}
 use Rattle.delivery_laws.specs.Copies.{IsFinal}

@@ -13,8 +13,8 @@ use Rattle.plain_machine.specs.Lists.{plain, sent_of}
 use Rattle.plain_machine.specs.Machine.{endpoint_at, opening, serves}
 use Rattle.plain_machine.specs.Posting.{line_of_id}
 use Rattle.plain_machine.specs.Setup.{IsSetUp}
-use Rattle.gateway_laws.proofs.AnnouncementLaws.{serving_lasts}
-use Rattle.gateway_laws.proofs.TurnLemmas.{of_line as of_its_line}
+use Rattle.machine_laws.proofs.AnnouncementLaws.{serving_lasts}
+use Rattle.machine_laws.proofs.TurnLemmas.{of_line as of_its_line}
 use Rattle.machine_laws.specs.Saying.{Begun, HasNumbersLeft}
 use Rattle.machine_laws.proofs.EachLemmas.{any_from_one}
 use Rattle.machine_laws.proofs.FlightLemmas.{IsSame}

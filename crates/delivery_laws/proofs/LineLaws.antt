@@ -34,8 +34,8 @@ use Rattle.plain_machine.specs.Posting.{id_on, line_of_id}
 use Rattle.plain_machine.specs.Responding.{own_heard, responded, responded_as, responded_on, response_with}
 use Rattle.plain_machine.specs.Answering.{handled, took_all}
 use Rattle.plain_machine.proofs.ListLaws.{machine_on}
-use Rattle.gateway_laws.proofs.AnnouncementLaws.{answer_serves}
-use Rattle.gateway_laws.proofs.FlightLaws.{has_own_id, waits_for_the_answer}
+use Rattle.machine_laws.proofs.AnnouncementLaws.{answer_serves}
+use Rattle.machine_laws.proofs.FlightLaws.{has_own_id, waits_for_the_answer}
 use Rattle.agent_core.specs.declared.packet.End.TheVariants.{AgentEnd as agent_end}
 use Rattle.agent_core.specs.World.{World, WorldStep, delivering, gateway_in, now_in, plain_world}
 use Rattle.world_laws.specs.Landing.{is_final}

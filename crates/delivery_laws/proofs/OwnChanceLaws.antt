@@ -21,7 +21,7 @@ use Rattle.plain_machine.specs.Setup.{IsSetUp}
 use Rattle.plain_machine.proofs.EffectLaws.{effect_now, some_line}
 use Rattle.plain_machine.proofs.FallingLaws.{nothing_left}
 use Rattle.plain_machine.proofs.FirstLemmas.{FirstBy, command_by, none_by, post_by}
-use Rattle.gateway_laws.proofs.TurnLemmas.{of_line as of_its_line, on_made}
+use Rattle.machine_laws.proofs.TurnLemmas.{of_line as of_its_line, on_made}
 use Rattle.machine_laws.specs.Saying.{Begun, OneOf, begun_in}
 use Rattle.machine_laws.specs.Waiting.{KeepOrder}
 use Rattle.machine_laws.proofs.EachLemmas.{Each, all_from_each, any_from_one, each_back, each_front, each_weaker, one_from_any, one_of_each, one_to, one_weaker}

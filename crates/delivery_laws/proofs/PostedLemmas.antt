@@ -15,8 +15,8 @@ use Rattle.plain_machine.specs.Machine.{Machine, opening}
 use Rattle.plain_machine.specs.Packing.{put_out}
 use Rattle.plain_machine.specs.Happening.{effect}
 use Rattle.plain_machine.specs.Lists.{machine_after, sent_from, sent_of}
-use Rattle.gateway_laws.proofs.CommandLaws.{IsOut}
-use Rattle.gateway_laws.proofs.MessageLaws.{event_goes}
+use Rattle.machine_laws.proofs.CommandLaws.{IsOut}
+use Rattle.machine_laws.proofs.MessageLaws.{event_goes}
 use Rattle.machine_laws.specs.Saying.{Begun, OneOf, begun_at, begun_by, begun_in}
 use Rattle.machine_laws.proofs.EachLemmas.{all_from_each, each_from_all, each_mapped, is_none-None, one_before, one_behind, one_mapped, one_weaker}
 use Rattle.machine_laws.proofs.GatewayEvents.{GatewayHolds}

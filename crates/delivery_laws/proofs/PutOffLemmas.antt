@@ -18,7 +18,7 @@ use Rattle.plain_machine.specs.declared.setup.Setup.{Setup}
 use Rattle.plain_machine.specs.Arriving.{TextArrival, arrival, arrivals_from, arrivals_of}
 use Rattle.plain_machine.specs.Setup.{IsSetUp}
 use Rattle.plain_machine.specs.Event.{datagram, tick}
-use Rattle.gateway_laws.proofs.TransactionLaws.{history_is}
+use Rattle.machine_laws.proofs.TransactionLaws.{history_is}
 use Rattle.machine_laws.specs.Saying.{Begun, Carries, Tells, is_command_as}
 use Rattle.machine_laws.proofs.EachLemmas.{Each, each_at, each_both, each_weaker, is_none-None, one_of_each, one_to}
 use Rattle.machine_laws.proofs.PostLogs.{WasBegun}

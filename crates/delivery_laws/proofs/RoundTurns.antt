@@ -50,7 +50,7 @@ use Rattle.plain_machine.specs.Notifying.{notification, noted, posted, with_noti
 use Rattle.plain_machine.specs.Posting.{id_on, repeated_as, resent_by, resent_on}
 use Rattle.plain_machine.specs.Requesting.{asked_if, deed_on, with_connections, with_entity}
 use Rattle.plain_machine.specs.Responding.{opened_on, redirected_on, responded_as, responded_on}
-use Rattle.gateway_laws.proofs.FlightLaws.{WaitsOn, asked_waits}
+use Rattle.machine_laws.proofs.FlightLaws.{WaitsOn, asked_waits}
 use Rattle.dialled_once.specs.Course.{CourseStep, accepted, accepts, acts, notified_by, notified_with, requests_at, requests_in}
 use Rattle.dialled_once.specs.Dialled.{done_in}
 use Rattle.dialled_once.proofs.CourseLemmas.{EndpointTurns, TurnKeeps}

@@ -25,9 +25,9 @@ use Rattle.plain_machine.specs.Answering.{took_all}
 use Rattle.plain_machine.specs.Happening.{effect}
 use Rattle.plain_machine.specs.Lists.{machine_after}
 use Rattle.plain_machine.specs.Transactions.{commands_in, commands_with, commands_from, commands_of}
-use Rattle.gateway_laws.proofs.CommandLaws.{IsOut}
-use Rattle.gateway_laws.proofs.MessageLaws.{event_goes}
-use Rattle.gateway_laws.proofs.TransactionLaws.{history_is}
+use Rattle.machine_laws.proofs.CommandLaws.{IsOut}
+use Rattle.machine_laws.proofs.MessageLaws.{event_goes}
+use Rattle.machine_laws.proofs.TransactionLaws.{history_is}
 use Rattle.machine_laws.specs.Saying.{Begun, IsAnswerTo, OneOf, is_command_as}
 use Rattle.machine_laws.proofs.EachLemmas.{all_from_each, any_from_one, each_from_all, each_mapped, one_from_any, one_mapped, one_of_each, one_to, one_weaker}
 use Rattle.machine_laws.proofs.TellsLemmas.{IsAnsweredBy}

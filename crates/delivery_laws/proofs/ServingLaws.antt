@@ -23,8 +23,8 @@ use Rattle.plain_machine.specs.Flights.{OwnInOrderBy}
 use Rattle.plain_machine.specs.Machine.{Endpoints, Machine, serves}
 use Rattle.plain_machine.specs.Posting.{line_of_id}
 use Rattle.plain_machine.specs.Responding.{responded, response_with}
-use Rattle.gateway_laws.proofs.AnnouncementLaws.{answer_serves, asks_own, text_keeps}
-use Rattle.gateway_laws.proofs.FlightLaws.{a_served_gateway_hears_nothing, a_stranger_to_itself, own_stays as own_stays_at}
+use Rattle.machine_laws.proofs.AnnouncementLaws.{answer_serves, asks_own, text_keeps}
+use Rattle.machine_laws.proofs.FlightLaws.{a_served_gateway_hears_nothing, a_stranger_to_itself, own_stays as own_stays_at}
 use Rattle.machine_laws.specs.Waiting.{KeepOrder}
 use Rattle.machine_laws.proofs.EachLemmas.{Each, each_from_all, one_from_any, one_of_each, one_to, one_weaker}
 use Rattle.machine_laws.proofs.TextLaws.{texts_at}

@@ -22,7 +22,7 @@ use Rattle.plain_machine.specs.Message.{Sent}
 use Rattle.plain_machine.specs.Posting.{line_of_id}
 use Rattle.plain_machine.specs.Setup.{IsSetUp}
 use Rattle.plain_machine.proofs.ListLaws.{machine_on}
-use Rattle.gateway_laws.proofs.TurnLemmas.{on_made, of_line as of_its_line}
+use Rattle.machine_laws.proofs.TurnLemmas.{on_made, of_line as of_its_line}
 use Rattle.machine_laws.specs.Saying.{HasNumbersLeft, Begun, OneOf, begun_at, begun_in}
 use Rattle.machine_laws.proofs.EachLemmas.{Each, each_back, each_front, each_from_all, each_weaker, one_from_any, one_weaker}
 use Rattle.machine_laws.proofs.PostLogs.{few_before}

@@ -62,8 +62,8 @@ use Rattle.plain_machine.specs.Message.{Owner, answer_of, own_of, Said, answer, 
 use Rattle.plain_machine.specs.Posting.{id_on, line_of_id, repeated_as, resent_by}
 use Rattle.plain_machine.specs.Requesting.{refused_by, lines_meant, deed_on, deed_on_all, shown_of, answer_with, unless_refused, deed_done, line_with_place, done_there, done_for}
 use Rattle.plain_machine.specs.Responding.{response_with, responded_on, redirected_on, opened_on, on_all, lines_told, own_heard, responded, heard_from}
-use Rattle.gateway_laws.proofs.FlightLaws.{own_free}
-use Rattle.gateway_laws.proofs.TurnLemmas.{IsFree, happening_serves}
+use Rattle.machine_laws.proofs.FlightLaws.{own_free}
+use Rattle.machine_laws.proofs.TurnLemmas.{IsFree, happening_serves}
 use Rattle.machine_laws.specs.Waiting.{KeepOrder}
 use Rattle.machine_laws.proofs.EachLemmas.{Each, each_back, each_front}
 use Rattle.machine_laws.proofs.LineLemmas.{own_stays_on, own_stays}

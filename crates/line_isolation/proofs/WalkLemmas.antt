@@ -18,7 +18,7 @@ use Rattle.plain_machine.specs.Answering.{Transaction, transaction_of, handled}
 use Rattle.plain_machine.specs.Happening.{effect}
 use Rattle.plain_machine.specs.Transactions.{command_arrival, arriving, commands_in, commands_with, commands_from}
 use Rattle.plain_machine.proofs.EffectLaws.{handled_now, effect_now}
-use Rattle.gateway_laws.proofs.TransactionLaws.{Keeps, looked, arrived_on, event_on}
+use Rattle.machine_laws.proofs.TransactionLaws.{Keeps, looked, arrived_on, event_on}
 use Rattle.machine_laws.proofs.EachLemmas.{Each, each_front, each_back}
 use Rattle.line_isolation.specs.Apart.{is_lost, none_lost}
 use Rattle.line_isolation.proofs.FittingWords.{Fits, FindsRoom, TextsFit, EventFits, EventsFit}

@@ -27,7 +27,7 @@ use Rattle.plain_machine.specs.Message.{Sent}
 use Rattle.transmission.specs.Acknowledging.{is_empty_k, asks_for_acknowledgement}
 use Rattle.plain_machine.specs.Responding.{response_with, acknowledged, responded, heard_from}
 use Rattle.plain_machine.proofs.EffectLaws.{handled_now, effect_now}
-use Rattle.gateway_laws.proofs.TurnLemmas.{response_read, acted_goes, responded_goes, pass_goes, command_goes}
+use Rattle.machine_laws.proofs.TurnLemmas.{response_read, acted_goes, responded_goes, pass_goes, command_goes}
 use Rattle.machine_laws.specs.Owning.{is_acknowledgement, acknowledging, acknowledged_as, acknowledgements_to}
 use Rattle.machine_laws.proofs.SendLemmas.{Any, AnyOwn, holds_any, NoAck, none_turns, none_own_turns}
 

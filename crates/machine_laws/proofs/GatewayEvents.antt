@@ -40,11 +40,11 @@ use Rattle.plain_machine.specs.Responding.{acknowledged, response_with, responde
 use Rattle.plain_machine.specs.Answering.{Transaction, response_to, answer_text, history_with, refusing, command_with, reply, executed, transacted_by, handled, took_all}
 use Rattle.plain_machine.specs.Happening.{effect}
 use Rattle.plain_machine.specs.Refusing.{refusal_of}
-use Rattle.gateway_laws.proofs.AllLemmas.{OnAll}
-use Rattle.gateway_laws.proofs.TurnLemmas.{on_made}
-use Rattle.gateway_laws.proofs.CommandLaws.{opening_is_sound}
-use Rattle.gateway_laws.proofs.NoticeLemmas.{opening_is_fine}
-use Rattle.gateway_laws.proofs.MessageLaws.{nothing_kept, opening_fits, Fits, code_is, code_fits, command_answered, handled_fits, event_fits, AreKept, event_goes}
+use Rattle.machine_laws.proofs.AllLemmas.{OnAll}
+use Rattle.machine_laws.proofs.TurnLemmas.{on_made}
+use Rattle.machine_laws.proofs.CommandLaws.{opening_is_sound}
+use Rattle.machine_laws.proofs.NoticeLemmas.{opening_is_fine}
+use Rattle.machine_laws.proofs.MessageLaws.{nothing_kept, opening_fits, Fits, code_is, code_fits, command_answered, handled_fits, event_fits, AreKept, event_goes}
 use Rattle.plain_machine.proofs.EffectLaws.{handled_now, effect_now}
 use Rattle.machine_laws.proofs.EachLemmas.{Each, each_both, each_weaker, one_behind}
 use Rattle.machine_laws.proofs.GatewayTurns.{OwnStands, LineStands, log_turns}

@@ -41,9 +41,9 @@ use Rattle.plain_machine.specs.Notifying.{posted, notification, with_notice, not
 use Rattle.plain_machine.specs.Requesting.{with_entity, with_connections, asked_if, deed_on}
 use Rattle.plain_machine.specs.Falling.{due_on, happened_on, happened_under, post_due}
 use Rattle.plain_machine.specs.Responding.{responded_as, responded_on, redirected_on, opened_on}
-use Rattle.gateway_laws.proofs.CommandLaws.{Sound, OwnSound, sound_turns, sound_own_turns, noted_sound, responded_sound, own_responded_sound, asked_if_done}
-use Rattle.gateway_laws.proofs.NoticeLemmas.{IsDone, IsTold, phoned_done, answered_done, opened_done, fired_done}
-use Rattle.gateway_laws.proofs.NotificationLemmas.{told_writable}
+use Rattle.machine_laws.proofs.CommandLaws.{Sound, OwnSound, sound_turns, sound_own_turns, noted_sound, responded_sound, own_responded_sound, asked_if_done}
+use Rattle.machine_laws.proofs.NoticeLemmas.{IsDone, IsTold, phoned_done, answered_done, opened_done, fired_done}
+use Rattle.machine_laws.proofs.NotificationLemmas.{told_writable}
 use Rattle.plain_machine.proofs.FirstLemmas.{OfItsLine, OfItsCommand, OfItsAnnouncement, due_cases, post_cases}
 use Rattle.machine_laws.proofs.EachLemmas.{Each}
 use Rattle.machine_laws.proofs.LogTurns.{Good, LogTurns, OwnGood}

@@ -35,8 +35,8 @@ use Rattle.plain_machine.specs.Done.{Done}
 use Rattle.plain_machine.specs.Requesting.{refused_by, deed_on, lines_meant, unless_refused, deed_done, line_with_place, done_there, done_for}
 use Rattle.plain_machine.specs.Commanding.{done_by, commanded}
 use Rattle.plain_machine.specs.Responding.{responded_on, redirected_on, opened_on, on_all, lines_told, own_heard, responded}
-use Rattle.gateway_laws.proofs.AllLemmas.{OnAll}
-use Rattle.gateway_laws.proofs.TurnLemmas.{of_line}
+use Rattle.machine_laws.proofs.AllLemmas.{OnAll}
+use Rattle.machine_laws.proofs.TurnLemmas.{of_line}
 use Rattle.plain_machine.proofs.FirstLemmas.{IsDueOn, first_on, by_moment, endpoint_is, post_line, endpoint_line}
 use Rattle.machine_laws.proofs.EachLemmas.{Each, each_both, each_weaker}
 use Rattle.machine_laws.proofs.KeepLemmas.{EffectKeeps}

@@ -23,7 +23,7 @@ use Rattle.transmission.specs.Packing.{same_address, joins, joined, packed_after
 use Rattle.plain_machine.specs.Packing.{put_out}
 use Rattle.plain_machine.specs.Setup.{IsSetUp}
 use Rattle.plain_machine.proofs.ListLaws.{outputs_on}
-use Rattle.gateway_laws.proofs.MessageLaws.{sent_as_messages, sent_within, sent_can_join}
+use Rattle.machine_laws.proofs.MessageLaws.{sent_as_messages, sent_within, sent_can_join}
 use Rattle.machine_laws.specs.Runs.{GoTogether, EachEnds, runs_of, texts_in, out_with, run_out, IsWellPacked}
 use Rattle.machine_laws.proofs.RunLaws.{address_from, IsSome, AreAlike, alike_first, ends_rest, apart_from, runs_some}
 

@@ -36,8 +36,8 @@ use Rattle.plain_machine.specs.Setup.{IsSetUp, most_lines}
 use Rattle.plain_machine.specs.Message.{own_of, command, resent, Sent, text_of}
 use Rattle.plain_machine.specs.Posting.{numbers, first_number, number_after, id_on, line_of_id, with_command, given_up, repeated_as, resent_by, resent_on}
 use Rattle.plain_machine.specs.Announcing.{announced_lines, method_of, announcement, announced, announced_by, announced_on, put_off, replied}
-use Rattle.gateway_laws.proofs.FlightLaws.{next_below}
-use Rattle.gateway_laws.proofs.AnnouncementLemmas.{announcement_writable}
+use Rattle.machine_laws.proofs.FlightLaws.{next_below}
+use Rattle.machine_laws.proofs.AnnouncementLemmas.{announcement_writable}
 use Rattle.machine_laws.proofs.EachLemmas.{Each, all_from_each, each_both, each_push, each_weaker, one_before, one_behind, one_weaker}
 use Rattle.machine_laws.proofs.KeepLemmas.{EffectKeeps, silent_keeps}
 use Rattle.machine_laws.proofs.FlightLemmas.{IsSame}

@@ -30,8 +30,8 @@ use Rattle.plain_machine.specs.Machine.{Endpoints}
 use Rattle.plain_machine.specs.Posting.{repeated_as, resent_by, resent_on}
 use Rattle.plain_machine.specs.Requesting.{with_entity, with_connections, asked_if, deed_on}
 use Rattle.plain_machine.specs.Responding.{responded_as, responded_on, redirected_on, opened_on}
-use Rattle.gateway_laws.proofs.AllLemmas.{OnAll}
-use Rattle.gateway_laws.proofs.TurnLemmas.{Turns, OwnTurns, Holds}
+use Rattle.machine_laws.proofs.AllLemmas.{OnAll}
+use Rattle.machine_laws.proofs.TurnLemmas.{Turns, OwnTurns, Holds}
 use Rattle.machine_laws.specs.Owning.{is_acknowledgement}
 
 -- any endpoint

@@ -20,7 +20,7 @@ use Rattle.plain_machine.specs.Message.{Sent}
 use Rattle.plain_machine.specs.Responding.{heard_from}
 use Rattle.plain_machine.specs.Transactions.{command_arrival, arriving, commands_in}
 use Rattle.plain_machine.proofs.EffectLaws.{handled_now}
-use Rattle.gateway_laws.proofs.TransactionLaws.{Keeps, arrived_on}
+use Rattle.machine_laws.proofs.TransactionLaws.{Keeps, arrived_on}
 
 pub is_transacted : (setup : Setup) (m : Machine) (source : SocketAddrV4) (outcome : Outcome) (t : Transaction) → transaction_of setup m outcome ≡ Some t
     → handled setup m source outcome ≡ transacted m source t

@@ -20,10 +20,10 @@ use Rattle.plain_machine.specs.Falling.{happened_on, happened_under, happened, p
 use Rattle.plain_machine.specs.Flights.{IsSame, Carries}
 use Rattle.plain_machine.specs.Lists.{plain}
 use Rattle.plain_machine.specs.Machine.{Endpoints, Machine, serves, opening, endpoint_at, on_line, on_own}
-use Rattle.gateway_laws.proofs.AllLemmas.{OnAll}
+use Rattle.machine_laws.proofs.AllLemmas.{OnAll}
 use Rattle.plain_machine.proofs.EffectLaws.{either_own, either_line, some_line, on_this}
-use Rattle.gateway_laws.proofs.FlightLaws.{Orders, OwnOrders, opening_orders, all_order, orders_acted, orders_happened, orders_passed, orders_handled, in_order, order_waits, no_command_when_due, repeat_carries, repeat_keeps, own_carries, own_keeps}
-use Rattle.gateway_laws.proofs.TurnLemmas.{Holds, of_line}
+use Rattle.machine_laws.proofs.FlightLaws.{Orders, OwnOrders, opening_orders, all_order, orders_acted, orders_happened, orders_passed, orders_handled, in_order, order_waits, no_command_when_due, repeat_carries, repeat_keeps, own_carries, own_keeps}
+use Rattle.machine_laws.proofs.TurnLemmas.{Holds, of_line}
 use Rattle.machine_laws.specs.Waiting.{in_flight, KeepOrder}
 use Rattle.machine_laws.proofs.LineLemmas.{others_stay_on, own_stays_on, this_turns, AreThere, all_there}
 

@@ -4,12 +4,20 @@
 //!
 //! Nothing here runs: each law is a function without a body, whose clauses are proved for every setup, every machine
 //! and every list of events. `specs/` has the few words that the laws need beside the plain machine's own.
+//!
+//! Others say what a residential gateway does under every setup and every list of events: announcements, connections,
+//! commands in flight, transactions, what falls due, and moments. The gateway's own proof uses none of these.
 #![tactic(auto)]
 
 pub mod acknowledgement_laws;
+pub mod announcement_laws;
 pub mod answer_laws;
+pub mod clock_laws;
+pub mod connection_laws;
 pub mod deed_laws;
 pub mod examples;
+pub mod flight_laws;
+pub mod laws;
 pub mod packing_laws;
 pub mod saying_laws;
 pub mod text_laws;

@@ -25,7 +25,7 @@ use Rattle.plain_machine.specs.Event.{datagram, phone, tick}
 use Rattle.transmission.specs.Texts.{texts_of}
 use Rattle.plain_machine.specs.Arriving.{arrival}
 use Rattle.plain_machine.specs.Transactions.{asked_as}
-use Rattle.gateway_laws.proofs.TransactionLaws.{one_more}
+use Rattle.machine_laws.proofs.TransactionLaws.{one_more}
 use Rattle.call_agent.specs.Hearing.{AgentEvent, agent_effect, handled, handled_as, hears, issues, took_all}
 use Rattle.call_agent.specs.declared.setup.AgentSetup.{AgentSetup}
 use Rattle.call_agent.specs.declared.taking.Taken.{Taken}

@@ -15,8 +15,8 @@ use Rattle.plain_machine.specs.Arriving.{TextArrival, arrivals_of}
 use Rattle.plain_machine.specs.Machine.{opening}
 use Rattle.plain_machine.specs.Lists.{plain}
 use Rattle.plain_machine.specs.Transactions.{Asked, asked, commands_of}
-use Rattle.gateway_laws.proofs.TransactionLaws.{history_is}
-use Rattle.gateway_laws.proofs.AnswerLaws.{events_match}
+use Rattle.machine_laws.proofs.TransactionLaws.{history_is}
+use Rattle.machine_laws.proofs.AnswerLaws.{events_match}
 use Rattle.world_laws.specs.Reached.{Reached, as_arrival, executed_of, key_kept, key_reached, reached}
 use Rattle.world_laws.proofs.ReachedLaws.{executed_is}
 

@@ -29,10 +29,10 @@ use Rattle.plain_machine.specs.Packing.{put_out}
 use Rattle.plain_machine.specs.Refusing.{refusal_of, tick_refusal}
 use Rattle.plain_machine.specs.Happening.{effect}
 use Rattle.plain_machine.specs.Lists.{machine_after, sent_from, sent_of}
-use Rattle.gateway_laws.proofs.CommandLaws.{IsOut}
+use Rattle.machine_laws.proofs.CommandLaws.{IsOut}
 use Rattle.plain_machine.proofs.ListLaws.{machine_on}
 use Rattle.plain_machine.proofs.EffectLaws.{effect_now}
-use Rattle.gateway_laws.proofs.MessageLaws.{event_goes}
+use Rattle.machine_laws.proofs.MessageLaws.{event_goes}
 use Rattle.plain_machine.specs.declared.setup.Setup.{Setup}
 use Rattle.machine_laws.proofs.EachLemmas.{Each, all_from_each, any_from_one, each_at, each_both, each_from_all, each_mapped, each_weaker, is_none-None, one_before, one_weaker}
 use Rattle.machine_laws.proofs.GatewayEvents.{EventGoes, GatewayHolds, event_holds, opening_gateway, gateway_forward}
