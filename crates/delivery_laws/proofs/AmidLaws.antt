@@ -39,7 +39,7 @@ use Rattle.machine_laws.specs.Waiting.{KeepOrder}
 use Rattle.machine_laws.proofs.EachLemmas.{Each, each_from_all, one_from_any, one_of_each, one_to, one_weaker}
 use Rattle.machine_laws.proofs.TextLaws.{datagram_does, texts_at, texts_now}
 use Rattle.machine_laws.proofs.WaitLaws.{events_wait, text_waits, texts_wait}
-use Rattle.line_isolation.proofs.OwningLemmas.{LineTurns, deed_owned, on_many_lines, turn_if}
+use Rattle.machine_laws.proofs.OwningLemmas.{LineTurns, deed_owned, on_many_lines, turn_if}
 use Rattle.agent_core.specs.declared.packet.End.TheVariants.{AgentEnd as agent_end}
 use Rattle.agent_core.specs.World.{WorldStep, delivering, gateway_in, plain_world}
 use Rattle.world_laws.proofs.WorldLaws.{gateway_alone}

@@ -37,10 +37,10 @@ use Rattle.machine_laws.proofs.EachLemmas.{Each, each_back, each_from_all, one_b
 use Rattle.machine_laws.proofs.LineLemmas.{place_of}
 use Rattle.machine_laws.proofs.TextLaws.{datagram_does, texts_at}
 use Rattle.machine_laws.proofs.WaitLaws.{events_wait, text_waits, texts_wait}
-use Rattle.line_isolation.specs.Belonging.{is_of, of_line}
-use Rattle.line_isolation.proofs.AlikeLemmas.{behind_acknowledged}
+use Rattle.machine_laws.specs.Belonging.{is_of, of_line}
+use Rattle.machine_laws.proofs.AlikeLemmas.{behind_acknowledged}
 use Rattle.delivery_laws.proofs.RoundLaws.{sent_on}
-use Rattle.line_isolation.proofs.OwningLemmas.{LineTurns, of_both, on_one_line, responded_owned, sent_by, turn_if}
+use Rattle.machine_laws.proofs.OwningLemmas.{LineTurns, of_both, on_one_line, responded_owned, sent_by, turn_if}
 use Rattle.dialled_once.proofs.CourseLemmas.{AnyResponse, events_stand, hear_all}
 use Rattle.dialled_end_to_end.proofs.RestLemmas.{begun_both}
 use Rattle.agent_core.specs.declared.packet.End.TheVariants.{AgentEnd as agent_end}

@@ -22,8 +22,8 @@ use Rattle.machine_laws.proofs.TurnLemmas.{on_made, of_line as of_its_line}
 use Rattle.machine_laws.specs.Saying.{HasNumbersLeft}
 use Rattle.machine_laws.proofs.LineLemmas.{place_of}
 use Rattle.machine_laws.proofs.WaitLaws.{events_wait, opening_waits}
-use Rattle.line_isolation.specs.Belonging.{of_line}
-use Rattle.line_isolation.proofs.OwningLemmas.{of_both}
+use Rattle.machine_laws.specs.Belonging.{of_line}
+use Rattle.machine_laws.proofs.OwningLemmas.{of_both}
 use Rattle.dialled_once.specs.Course.{course_from, course_of}
 use Rattle.dialled_once.specs.Dialled.{IsAskedForAll, done_in}
 use Rattle.dialled_once.specs.Keeping.{AreOfPhone, KeepsAll, happened_in, is_of_phone}

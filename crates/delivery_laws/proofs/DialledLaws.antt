@@ -18,7 +18,7 @@ use Rattle.machine_laws.proofs.EachLemmas.{any_from_one, one_from_any, one_weake
 use Rattle.machine_laws.proofs.FlightLemmas.{IsSame}
 use Rattle.machine_laws.proofs.GatewayTurns.{LineStands}
 use Rattle.machine_laws.proofs.PostLogs.{InLog}
-use Rattle.line_isolation.specs.Belonging.{of_line}
+use Rattle.machine_laws.specs.Belonging.{of_line}
 use Rattle.dialled_once.specs.Course.{course_from, course_of}
 use Rattle.dialled_once.specs.Dialled.{IsAskedForAll, done_in}
 use Rattle.dialled_once.specs.Keeping.{happened_in}

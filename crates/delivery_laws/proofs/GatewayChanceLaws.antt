@@ -56,11 +56,11 @@ use Rattle.plain_machine.proofs.FirstLemmas.{FirstBy, OfItsAnnouncement, OfItsCo
 use Rattle.machine_laws.specs.Saying.{Begun}
 use Rattle.machine_laws.proofs.EachLemmas.{each_back, each_front}
 use Rattle.machine_laws.proofs.LineLemmas.{own_stays, own_stays_on}
-use Rattle.line_isolation.specs.Belonging.{is_of, of_line}
-use Rattle.line_isolation.specs.Passing.{PassesAlone, goes_on, own_happens, rests}
-use Rattle.line_isolation.proofs.AlikeLemmas.{behind_acknowledged}
-use Rattle.line_isolation.proofs.OwningLemmas.{OwnedBy, acted_owned, deed_owned, of_both, on_many_lines, on_one_line, opened_owned, own_responded_owned, owned_here, redirected_owned, responded_owned}
-use Rattle.line_isolation.proofs.PassLemmas.{own_passes}
+use Rattle.machine_laws.specs.Belonging.{is_of, of_line}
+use Rattle.machine_laws.specs.Passing.{PassesAlone, goes_on, own_happens, rests}
+use Rattle.machine_laws.proofs.AlikeLemmas.{behind_acknowledged}
+use Rattle.machine_laws.proofs.OwningLemmas.{OwnedBy, acted_owned, deed_owned, of_both, on_many_lines, on_one_line, opened_owned, own_responded_owned, owned_here, redirected_owned, responded_owned}
+use Rattle.machine_laws.proofs.PassLemmas.{own_passes}
 use Rattle.dialled_once.proofs.CourseLemmas.{AllHear, Hears}
 use Rattle.agent_core.specs.World.{WorldStep, now_in, plain_world, steps_are_taken, world_opening}
 use Rattle.delivery_laws.specs.Chances.{chances}

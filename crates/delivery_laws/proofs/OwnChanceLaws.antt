@@ -27,7 +27,7 @@ use Rattle.machine_laws.specs.Waiting.{KeepOrder}
 use Rattle.machine_laws.proofs.EachLemmas.{Each, all_from_each, any_from_one, each_back, each_front, each_weaker, one_from_any, one_of_each, one_to, one_weaker}
 use Rattle.machine_laws.proofs.LineLemmas.{place_of}
 use Rattle.machine_laws.proofs.WaitLaws.{acts_wait, opening_waits, pass_waits, texts_wait}
-use Rattle.line_isolation.specs.Belonging.{is_of, of_line}
+use Rattle.machine_laws.specs.Belonging.{is_of, of_line}
 use Rattle.dialled_once.proofs.CourseLemmas.{AllHear, Hears, Stands, events_stand}
 use Rattle.agent_core.specs.World.{World, WorldStep, gateway_in, now_in, plain_world, steps_are_taken, world_opening}
 use Rattle.delivery_laws.specs.Chances.{chances}

@@ -26,8 +26,8 @@ use Rattle.plain_machine.proofs.ListLaws.{machine_on}
 use Rattle.machine_laws.proofs.EachLemmas.{Each, each_back, each_front}
 use Rattle.machine_laws.proofs.LineLemmas.{place_of}
 use Rattle.machine_laws.proofs.WaitLaws.{events_wait}
-use Rattle.line_isolation.specs.Belonging.{is_of, of_line}
-use Rattle.line_isolation.proofs.OwningLemmas.{of_both}
+use Rattle.machine_laws.specs.Belonging.{is_of, of_line}
+use Rattle.machine_laws.proofs.OwningLemmas.{of_both}
 use Rattle.dialled_once.specs.Course.{CourseStep, accepts, course_at, course_from, requests_in}
 use Rattle.dialled_once.specs.Dialled.{done_in}
 use Rattle.dialled_once.proofs.CourseLemmas.{AllHear, events_stand, hear_all}

@@ -8,7 +8,7 @@ use Rattle.plain_machine.specs.declared.setup.Setup.{Setup}
 use Rattle.plain_machine.specs.Arriving.{TextArrival, arrivals_of}
 use Rattle.plain_machine.specs.Lists.{sent_of}
 use Rattle.machine_laws.specs.Saying.{Begun, begun_in}
-use Rattle.line_isolation.specs.Belonging.{of_line}
+use Rattle.machine_laws.specs.Belonging.{of_line}
 use Rattle.agent_core.specs.declared.packet.End.TheVariants.{GatewayEnd as gateway_end}
 use Rattle.agent_core.specs.declared.packet.Posted.{Posted}
 use Rattle.agent_core.specs.World.{World}

@@ -24,7 +24,7 @@ ghost use Rattle.plain_machine.specs.Lists.{plain, sent_of};
 ghost use Rattle.dialled_once.specs.Example.{five, left_then as left_at, lifted as off_hook, six};
 ghost use Rattle.dialled_once.specs.Course.{course_from, course_of};
 ghost use Rattle.dialled_once.specs.Dialled.{IsAskedForAll, done_in};
-ghost use Rattle.line_isolation.specs.Belonging.{of_line};
+ghost use Rattle.machine_laws.specs.Belonging.{of_line};
 ghost use Rattle.machine_laws.specs.Saying.{HasNumbersLeft};
 ghost use Rattle.dialled_end_to_end.specs.GivenUp.{has_given_up};
 ghost use Rattle.dialled_end_to_end.specs.Example.{asked as asked_for_all, done_then, endpoint_then, left_then, told_then};

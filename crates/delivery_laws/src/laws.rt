@@ -30,7 +30,7 @@ ghost use Rattle.plain_machine.specs.Event.{GatewayEvent};
 ghost use Rattle.plain_machine.specs.Transactions.{commands_of};
 ghost use Rattle.plain_machine.specs.Lists.{plain, sent_from, sent_of};
 ghost use Rattle.machine_laws.specs.Saying.{Begun, HasNumbersLeft};
-ghost use Rattle.line_isolation.specs.Belonging.{of_line};
+ghost use Rattle.machine_laws.specs.Belonging.{of_line};
 ghost use Rattle.dialled_once.specs.Course.{course_from, course_of};
 ghost use Rattle.dialled_once.specs.Dialled.{IsAskedForAll, done_in};
 ghost use Rattle.dialled_once.specs.Keeping.{happened_in};

@@ -23,7 +23,7 @@ use Rattle.plain_machine.specs.Responding.{responded_on, redirected_on, opened_o
 use Rattle.machine_laws.specs.Saying.{Begun, begun_by, begun_at, begun_in}
 use Rattle.machine_laws.proofs.EachLemmas.{Each}
 use Rattle.machine_laws.proofs.WaitLaws.{opening_waits}
-use Rattle.line_isolation.specs.Belonging.{is_of, of_line}
+use Rattle.machine_laws.specs.Belonging.{is_of, of_line}
 use Rattle.dialled_once.specs.Course.{CourseStep, acts, notified_by, accepted, course_of}
 use Rattle.dialled_once.specs.Dialled.{told_along}
 use Rattle.dialled_once.proofs.CourseLemmas.{AnyResponse, EndpointTurns, answer_notifies, events_stand, hear_all}

@@ -27,8 +27,8 @@ use Rattle.machine_laws.specs.Saying.{HasNumbersLeft, Begun, OneOf, begun_at, be
 use Rattle.machine_laws.proofs.EachLemmas.{Each, each_back, each_front, each_from_all, each_weaker, one_from_any, one_weaker}
 use Rattle.machine_laws.proofs.PostLogs.{few_before}
 use Rattle.machine_laws.proofs.WaitLaws.{opening_waits, events_wait}
-use Rattle.line_isolation.specs.Belonging.{of_line}
-use Rattle.line_isolation.proofs.OwningLemmas.{of_both}
+use Rattle.machine_laws.specs.Belonging.{of_line}
+use Rattle.machine_laws.proofs.OwningLemmas.{of_both}
 use Rattle.agent_core.specs.World.{World, WorldStep, gateway_in, plain_world, steps_are_taken, step_refusal, went, world_after, world_opening}
 use Rattle.world_laws.specs.Reached.{Reached, own_in, taken_in}
 use Rattle.world_laws.proofs.LinkLaws.{taken_once, taken_as_sent, world_linked}

@@ -11,7 +11,7 @@ use Rattle.plain_machine.specs.Event.{GatewayEvent, phone}
 use Rattle.plain_machine.specs.Example.{agent, agent_route, two_lines, ready}
 use Rattle.plain_machine.specs.Lists.{plain, sent_of}
 use Rattle.plain_machine.specs.Machine.{opening_endpoint, endpoint_at}
-use Rattle.line_isolation.specs.Belonging.{of_line}
+use Rattle.machine_laws.specs.Belonging.{of_line}
 use Rattle.dialled_once.specs.Course.{course_of}
 use Rattle.dialled_once.specs.Dialled.{done_in}
 use Rattle.dialled_once.specs.Keeping.{happened_in}

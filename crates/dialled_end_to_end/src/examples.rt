@@ -14,7 +14,7 @@ ghost use Rattle.plain_machine.specs.Machine.{endpoint_at};
 ghost use Rattle.plain_machine.specs.Setup.{IsSetUp};
 ghost use Rattle.machine_laws.specs.Saying.{HasNumbersLeft};
 ghost use Rattle.world_laws.specs.Reached.{own_in};
-ghost use Rattle.line_isolation.specs.Belonging.{of_line};
+ghost use Rattle.machine_laws.specs.Belonging.{of_line};
 ghost use Rattle.dialled_once.specs.Course.{course_from, course_of};
 ghost use Rattle.dialled_once.specs.Dialled.{IsAskedForAll};
 ghost use Rattle.dialled_once.specs.Keeping.{happened_in};

@@ -9,7 +9,7 @@ use Rattle.event_syntax.specs.declared.request.RequestedEvent.{RequestedEvent}
 use Rattle.event_syntax.specs.declared.request.Reaction.{Reaction}
 use Rattle.event_syntax.specs.declared.request.Reaction.TheVariants.{Plain, Embed, AccumulateAndEmbed}
 use Rattle.event_requests.specs.Choice.{chosen}
-use Rattle.line_isolation.proofs.EachTests.{each_passes}
+use Rattle.machine_laws.proofs.EachTests.{each_passes}
 use Rattle.machine_laws.proofs.EachLemmas.{Each}
 use Rattle.dialled_once.specs.Keeping.{is_of_phone, is_bare, NotifiesAll}
 

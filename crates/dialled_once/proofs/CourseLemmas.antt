@@ -68,11 +68,11 @@ use Rattle.machine_laws.specs.Waiting.{KeepOrder}
 use Rattle.machine_laws.proofs.EachLemmas.{Each, each_back, each_front}
 use Rattle.machine_laws.proofs.LineLemmas.{own_stays_on, own_stays}
 use Rattle.machine_laws.proofs.WaitLaws.{acts_wait, pass_waits, text_waits}
-use Rattle.line_isolation.specs.Belonging.{is_of, of_line}
-use Rattle.line_isolation.specs.Passing.{PassesAlone, rests, goes_on, line_due, line_happens, own_happens}
-use Rattle.line_isolation.proofs.AlikeLemmas.{behind_acknowledged}
-use Rattle.line_isolation.proofs.OwningLemmas.{of_both, turn_if, sent_by, LineTurns, on_one_line, on_many_lines, acted_owned, deed_owned, responded_owned, redirected_owned, opened_owned}
-use Rattle.line_isolation.proofs.PassLemmas.{line_passes, own_passes}
+use Rattle.machine_laws.specs.Belonging.{is_of, of_line}
+use Rattle.machine_laws.specs.Passing.{PassesAlone, rests, goes_on, line_due, line_happens, own_happens}
+use Rattle.machine_laws.proofs.AlikeLemmas.{behind_acknowledged}
+use Rattle.machine_laws.proofs.OwningLemmas.{of_both, turn_if, sent_by, LineTurns, on_one_line, on_many_lines, acted_owned, deed_owned, responded_owned, redirected_owned, opened_owned}
+use Rattle.machine_laws.proofs.PassLemmas.{line_passes, own_passes}
 use Rattle.dialled_once.specs.Course.{CourseStep, acts, notified_by, notified_in, accepted, accepted_by, accepted_there, accepted_for, accepted_of, accepted_at, course_in, course_at, course_from, acted_on as act_steps}
 use Rattle.dialled_once.proofs.EndpointLemmas.{steps_in, Calls, Goes, act_goes, deed_goes, opened_goes, redirected_goes, response_goes, happened_goes}
 

@@ -11,7 +11,7 @@ use Rattle.plain_machine.specs.Happening.{effect}
 use Rattle.plain_machine.specs.Lists.{machine_after, plain, sent_of}
 use Rattle.plain_machine.specs.Message.{Sent}
 use Rattle.plain_machine.specs.Arriving.{arrivals_from, arrivals_of}
-use Rattle.line_isolation.specs.Belonging.{of_line}
+use Rattle.machine_laws.specs.Belonging.{of_line}
 use Rattle.plain_machine.specs.Machine.{Machine, serves, opening, opening_endpoint, endpoint_at}
 use Rattle.machine_laws.proofs.TurnLemmas.{on_made, of_line as of_its_line}
 use Rattle.plain_machine.proofs.ListLaws.{machine_on, lines_after}

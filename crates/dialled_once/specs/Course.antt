@@ -31,7 +31,7 @@ use Rattle.plain_machine.specs.Machine.{Machine, Endpoints, opening, serves}
 use Rattle.plain_machine.specs.Message.{Said, answer, again, command, resent, acknowledgement, Sent}
 use Rattle.plain_machine.specs.Requesting.{refused_by, line_with_place}
 use Rattle.machine_laws.specs.Notified.{observed_with}
-use Rattle.line_isolation.specs.Belonging.{of_line}
+use Rattle.machine_laws.specs.Belonging.{of_line}
 
 pub data CourseStep : Type 0 where
   acts : (act : Act) → CourseStep

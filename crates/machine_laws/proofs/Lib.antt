@@ -38,3 +38,16 @@ pub mod GatewayTurns
 pub mod GatewayEvents
 pub mod GatewayLists
 pub mod Computing
+pub mod EachTests
+pub mod OwningLemmas
+pub mod PassLemmas
+pub mod ThinningLemmas
+pub mod AlikeLemmas
+pub mod TargetLemmas
+pub mod DeedLemmas
+pub mod FittingWords
+pub mod TextLemmas
+pub mod EventLemmas
+pub mod WalkLemmas
+pub mod FitLemmas
+pub mod IsolationComputing

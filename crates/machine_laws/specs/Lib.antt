@@ -5,3 +5,9 @@ pub mod Waiting
 pub mod Saying
 pub mod Example
 pub mod Notified
+pub mod Belonging
+pub mod OwnEvents
+pub mod Apart
+pub mod Passing
+pub mod Isolation
+pub mod IsolationExample

@@ -7,6 +7,9 @@
 //!
 //! Others say what a residential gateway does under every setup and every list of events: announcements, connections,
 //! commands in flight, transactions, what falls due, and moments. The gateway's own proof uses none of these.
+//!
+//! And lines are isolated (2.1.1): what goes on at one line of the gateway is no matter of another. `specs/` says which
+//! events are a line's own, when lines keep apart, and what is the same then.
 #![tactic(auto)]
 
 pub mod acknowledgement_laws;
@@ -17,6 +20,8 @@ pub mod connection_laws;
 pub mod deed_laws;
 pub mod examples;
 pub mod flight_laws;
+pub mod isolation_examples;
+pub mod isolation_laws;
 pub mod laws;
 pub mod packing_laws;
 pub mod saying_laws;

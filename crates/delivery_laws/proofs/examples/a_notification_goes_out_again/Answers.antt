@@ -6,7 +6,7 @@ use Rattle.plain_machine.specs.Lists.{sent_of}
 use Rattle.plain_machine.specs.Example.{two_lines, agent}
 use Rattle.machine_laws.specs.Saying.{Begun, OneOf, begun_in}
 use Rattle.machine_laws.proofs.EachLemmas.{any_from_one, one_from_any}
-use Rattle.line_isolation.specs.Belonging.{of_line}
+use Rattle.machine_laws.specs.Belonging.{of_line}
 use Rattle.agent_core.specs.declared.packet.End.TheVariants.{GatewayEnd}
 use Rattle.agent_core.specs.World.{gateway_address}
 use Rattle.world_laws.specs.Example.{world}

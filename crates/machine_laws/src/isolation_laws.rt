@@ -8,9 +8,9 @@ ghost use Rattle.plain_machine.specs.Effect.{Effect};
 ghost use Rattle.plain_machine.specs.Event.{GatewayEvent};
 ghost use Rattle.plain_machine.specs.Falling.{post_due, pass};
 ghost use Rattle.plain_machine.specs.Machine.{Endpoints, endpoint_at};
-ghost use Rattle.line_isolation.specs.Apart.{LinesKeepApart};
-ghost use Rattle.line_isolation.specs.Isolation.{AsUnderItsOwn};
-ghost use Rattle.line_isolation.specs.Passing.{seen, PassesAlone, line_due, line_happens, own_happens};
+ghost use Rattle.machine_laws.specs.Apart.{LinesKeepApart};
+ghost use Rattle.machine_laws.specs.Isolation.{AsUnderItsOwn};
+ghost use Rattle.machine_laws.specs.Passing.{seen, PassesAlone, line_due, line_happens, own_happens};
 
 /// Where lines keep apart, each is as it is under its own events alone: its hook state, its signals, its connections and
 /// what it lost, the answers to its commands and its own messages, each with its address and its moment. Of line 0, which

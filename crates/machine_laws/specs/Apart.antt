@@ -16,7 +16,7 @@ use Rattle.plain_machine.specs.declared.setup.Setup.{Setup}
 use Rattle.plain_machine.specs.Arriving.{TextArrival, arrivals_of}
 use Rattle.plain_machine.specs.Event.{GatewayEvent}
 use Rattle.plain_machine.specs.Transactions.{Asked, asked, commands_of}
-use Rattle.line_isolation.specs.OwnEvents.{line_read}
+use Rattle.machine_laws.specs.OwnEvents.{line_read}
 
 -- No command is for several lines
 

@@ -20,8 +20,8 @@ use Rattle.plain_machine.specs.Transactions.{command_arrival, arriving, commands
 use Rattle.plain_machine.proofs.EffectLaws.{handled_now, effect_now}
 use Rattle.machine_laws.proofs.TransactionLaws.{Keeps, looked, arrived_on, event_on}
 use Rattle.machine_laws.proofs.EachLemmas.{Each, each_front, each_back}
-use Rattle.line_isolation.specs.Apart.{is_lost, none_lost}
-use Rattle.line_isolation.proofs.FittingWords.{Fits, FindsRoom, TextsFit, EventFits, EventsFit}
+use Rattle.machine_laws.specs.Apart.{is_lost, none_lost}
+use Rattle.machine_laws.proofs.FittingWords.{Fits, FindsRoom, TextsFit, EventFits, EventsFit}
 
 -- None is lost
 

@@ -1,5 +1,5 @@
 //! Worked examples of the definitions, as theorems: each sentence of a definition has one that a slip in it breaks.
-#![tactic(auto, unfolding(crate::proofs::Computing::on_examples))]
+#![tactic(auto, unfolding(crate::proofs::IsolationComputing::on_examples))]
 
 ghost use Rattle.std.specs.Prelude.{◌≡◌, ◌++◌, codes, [], ◌∷◌, replicate, true, false, Some, None};
 ghost use Rattle.std.specs.List.{list_all};
@@ -12,10 +12,10 @@ ghost use Rattle.plain_machine.specs.Event.{phone, tick, datagram};
 ghost use Rattle.plain_machine.specs.Example.{two_lines, other_agent, from_agent, from_other, until, own_at, answer_at, notification_of, ntfy};
 ghost use Rattle.mgcp_text.specs.declared.message.Verb.TheVariants.{Rsip};
 ghost use Rattle.plain_machine.specs.Message.{answer_of, own_of, of_none, answer, again, command, resent};
-ghost use Rattle.line_isolation.specs.Apart.{is_for_one, keeps_apart, none_lost, commands_read, LinesKeepApart};
-ghost use Rattle.line_isolation.specs.Belonging.{is_of, of_line};
-ghost use Rattle.line_isolation.specs.OwnEvents.{line_read, own_part, own_events};
-ghost use Rattle.line_isolation.specs.Example.{both_dial, one_dials, audit_text, under_one_id, all_are_to_ring, confirmed_by_another, sent_at, sent_alone, signals_at, read_command, both_call, chosen_among_lines, numbers_at, lifted_early};
+ghost use Rattle.machine_laws.specs.Apart.{is_for_one, keeps_apart, none_lost, commands_read, LinesKeepApart};
+ghost use Rattle.machine_laws.specs.Belonging.{is_of, of_line};
+ghost use Rattle.machine_laws.specs.OwnEvents.{line_read, own_part, own_events};
+ghost use Rattle.machine_laws.specs.IsolationExample.{both_dial, one_dials, audit_text, under_one_id, all_are_to_ring, confirmed_by_another, sent_at, sent_alone, signals_at, read_command, both_call, chosen_among_lines, numbers_at, lifted_early};
 
 /// To a line belong the answers to its commands, and its own commands.
 pub fn messages_belong_to_lines()

@@ -25,14 +25,14 @@ use Rattle.plain_machine.specs.Lists.{machine_after, sent_from, are_taken, plain
 use Rattle.plain_machine.specs.Refusing.{act_refusal, tick_refusal, refusal_of}
 use Rattle.plain_machine.proofs.ListLaws.{machine_on}
 use Rattle.machine_laws.proofs.EachLemmas.{Each, each_from_all}
-use Rattle.line_isolation.specs.Belonging.{of_line}
-use Rattle.line_isolation.specs.OwnEvents.{is_of_another, own_part, own_events}
-use Rattle.line_isolation.specs.Isolation.{AsUnderItsOwn}
-use Rattle.line_isolation.proofs.OwningLemmas.{of_both}
-use Rattle.line_isolation.proofs.AlikeLemmas.{AreAlike, ToldAlike, acted_alike, acted_elsewhere, pass_alike}
-use Rattle.line_isolation.proofs.ThinningLemmas.{none}
-use Rattle.line_isolation.proofs.FittingWords.{Agree, Matches, Fits, TextsFit, EventFits, EventsFit}
-use Rattle.line_isolation.proofs.TextLemmas.{in_machine, own_handled, other_handled}
+use Rattle.machine_laws.specs.Belonging.{of_line}
+use Rattle.machine_laws.specs.OwnEvents.{is_of_another, own_part, own_events}
+use Rattle.machine_laws.specs.Isolation.{AsUnderItsOwn}
+use Rattle.machine_laws.proofs.OwningLemmas.{of_both}
+use Rattle.machine_laws.proofs.AlikeLemmas.{AreAlike, ToldAlike, acted_alike, acted_elsewhere, pass_alike}
+use Rattle.machine_laws.proofs.ThinningLemmas.{none}
+use Rattle.machine_laws.proofs.FittingWords.{Agree, Matches, Fits, TextsFit, EventFits, EventsFit}
+use Rattle.machine_laws.proofs.TextLemmas.{in_machine, own_handled, other_handled}
 
 -- Texts, each of which is one of its own
 

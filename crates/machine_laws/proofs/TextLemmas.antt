@@ -24,12 +24,12 @@ use Rattle.plain_machine.specs.Done.{Done, only_answer}
 use Rattle.plain_machine.specs.Commanding.{commanded}
 use Rattle.plain_machine.specs.Responding.{heard_from}
 use Rattle.plain_machine.specs.Answering.{line_of_name, reply, Transaction, transaction, executed, transacted_by, handled}
-use Rattle.line_isolation.specs.Belonging.{is_of, of_line}
-use Rattle.line_isolation.specs.OwnEvents.{is_another, line_read}
-use Rattle.line_isolation.proofs.ThinningLemmas.{Thins, thins_both, thins_left, told_same}
-use Rattle.line_isolation.proofs.AlikeLemmas.{AreAlike, ToldAlike, heard_alike}
-use Rattle.line_isolation.proofs.DeedLemmas.{DoneAlike, only_alike, command_alike, command_elsewhere}
-use Rattle.line_isolation.proofs.FittingWords.{Agree, Matches, IsApart, Fits, FindsRoom}
+use Rattle.machine_laws.specs.Belonging.{is_of, of_line}
+use Rattle.machine_laws.specs.OwnEvents.{is_another, line_read}
+use Rattle.machine_laws.proofs.ThinningLemmas.{Thins, thins_both, thins_left, told_same}
+use Rattle.machine_laws.proofs.AlikeLemmas.{AreAlike, ToldAlike, heard_alike}
+use Rattle.machine_laws.proofs.DeedLemmas.{DoneAlike, only_alike, command_alike, command_elsewhere}
+use Rattle.machine_laws.proofs.FittingWords.{Agree, Matches, IsApart, Fits, FindsRoom}
 
 module _ (setup : Setup) (keep : ℕ → Bool) (line : ℕ) where
   -- A command of this line, or of none

@@ -33,7 +33,7 @@ use Rattle.command_forms.proofs.RefusedLemmas.{coded_ok}
 use Rattle.command_forms.proofs.RestartLemmas.{while_taken}
 use Rattle.plain_machine.specs.declared.setup.Setup.{Setup}
 use Rattle.plain_machine.specs.Answering.{line_meant, line_of_name}
-use Rattle.line_isolation.specs.Apart.{is_single}
+use Rattle.machine_laws.specs.Apart.{is_single}
 
 -- what is asked for is for this line, if the name is that of one
 abbrev IsNamed : Result Pattern NameFault → Target → Type 0

@@ -7,7 +7,7 @@ use Rattle.plain_machine.specs.declared.endpoint.Endpoint.{Endpoint}
 use Rattle.plain_machine.specs.Effect.{Effect, silently, effect_map, behind}
 use Rattle.plain_machine.specs.Machine.{Endpoints}
 use Rattle.plain_machine.specs.Falling.{due_on, if_by, happened_on, happened_under}
-use Rattle.line_isolation.specs.Belonging.{of_line}
+use Rattle.machine_laws.specs.Belonging.{of_line}
 
 -- what is seen of an effect on the endpoints: what this shows of them, and what this line sends
 abbrev pub seen : {S : Type 0} → (Endpoints → S) → ℕ → Effect Endpoints → Effect S

@@ -4,8 +4,8 @@ use Rattle.plain_machine.specs.declared.setup.Setup.{Setup}
 use Rattle.plain_machine.specs.Event.{GatewayEvent}
 use Rattle.plain_machine.specs.Lists.{are_taken, plain, sent_of, hook_of, signals_of, connections_of, lost_of}
 use Rattle.plain_machine.specs.Machine.{opening}
-use Rattle.line_isolation.specs.Belonging.{of_line}
-use Rattle.line_isolation.specs.OwnEvents.{own_events}
+use Rattle.machine_laws.specs.Belonging.{of_line}
+use Rattle.machine_laws.specs.OwnEvents.{own_events}
 
 -- all that stands on the line, and all that it sends and is answered, is as it is under its own events alone, and these
 -- are taken where all are

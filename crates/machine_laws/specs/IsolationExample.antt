@@ -10,9 +10,9 @@ use Rattle.plain_machine.specs.Example.{agent, two_lines, ready, from_agent, crc
 use Rattle.plain_machine.specs.Lists.{plain, sent_of, signals_of, connections_of}
 use Rattle.plain_machine.specs.Message.{Sent}
 use Rattle.plain_machine.specs.Transactions.{Asked}
-use Rattle.line_isolation.specs.Apart.{ReadCommand}
-use Rattle.line_isolation.specs.Belonging.{of_line}
-use Rattle.line_isolation.specs.OwnEvents.{own_events}
+use Rattle.machine_laws.specs.Apart.{ReadCommand}
+use Rattle.machine_laws.specs.Belonging.{of_line}
+use Rattle.machine_laws.specs.OwnEvents.{own_events}
 
 -- a line is asked for two digits under this id
 abbrev pub asks_for_two : ℕ → List ℕ → GatewayEvent

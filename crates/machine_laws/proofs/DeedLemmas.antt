@@ -32,11 +32,11 @@ use Rattle.plain_machine.specs.Requesting.{refusal_by, refusal_on, deed_on, show
 use Rattle.machine_laws.specs.Refusals.{refusal_at, IsRefused, NoneRefuses}
 use Rattle.machine_laws.proofs.DeedLaws.{refused_deed, refused_or_not, done_answer, done_endpoint, done_sent, own_alone}
 use Rattle.machine_laws.proofs.LineLemmas.{sent_from_each, all_there}
-use Rattle.line_isolation.specs.Apart.{is_single}
-use Rattle.line_isolation.specs.Belonging.{of_line}
-use Rattle.line_isolation.proofs.OwningLemmas.{turn_if, LineTurns, silent_stays, silent_sends, on_many_lines, deed_owned}
-use Rattle.line_isolation.proofs.AlikeLemmas.{AreAlike, ToldAlike, nothing_told, turn_alike}
-use Rattle.line_isolation.proofs.TargetLemmas.{for_the_line, for_no_line}
+use Rattle.machine_laws.specs.Apart.{is_single}
+use Rattle.machine_laws.specs.Belonging.{of_line}
+use Rattle.machine_laws.proofs.OwningLemmas.{turn_if, LineTurns, silent_stays, silent_sends, on_many_lines, deed_owned}
+use Rattle.machine_laws.proofs.AlikeLemmas.{AreAlike, ToldAlike, nothing_told, turn_alike}
+use Rattle.machine_laws.proofs.TargetLemmas.{for_the_line, for_no_line}
 
 -- both do the same to the line, and answer the same
 pub record DoneAlike (line : ℕ) (one other : Done) : Type 0 where

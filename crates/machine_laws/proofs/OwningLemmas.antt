@@ -38,7 +38,7 @@ use Rattle.plain_machine.specs.Responding.{responded_as, responded_on, redirecte
 use Rattle.plain_machine.specs.Falling.{happened_on, happened_under, happened}
 use Rattle.plain_machine.proofs.EffectLaws.{on_this, on_nothing}
 use Rattle.machine_laws.proofs.LineLemmas.{others_stay_on, this_turns, not_among, among_from, none_stays, sent_in, endpoints_passing, sent_from_each, passing_from, place_of, all_there}
-use Rattle.line_isolation.specs.Belonging.{is_of, of_line}
+use Rattle.machine_laws.specs.Belonging.{is_of, of_line}
 
 -- Whose messages are
 

@@ -1,7 +1,7 @@
 use Rattle.plain_machine.specs.Falling.{post_due}
-use Rattle.line_isolation.specs.Passing.{line_due, line_happens, own_happens}
-use Rattle.line_isolation.proofs.PassLemmas.{line_passes, own_passes, passes_once}
-use Rattle.line_isolation.proofs.laws.each_line_passes_alone.Goals as goal
+use Rattle.machine_laws.specs.Passing.{line_due, line_happens, own_happens}
+use Rattle.machine_laws.proofs.PassLemmas.{line_passes, own_passes, passes_once}
+use Rattle.machine_laws.proofs.isolation_laws.each_line_passes_alone.Goals as goal
 
 pub returns-clause-line : goal.returns-clause-line
 returns-clause-line c = λ setup endpoints line moment some. line_passes setup line moment some endpoints

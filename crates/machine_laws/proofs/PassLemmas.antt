@@ -16,9 +16,9 @@ use Rattle.plain_machine.proofs.FirstLemmas.{item_same, first_at, none_by}
 use Rattle.plain_machine.proofs.FallingLaws.{left, left_falls, pass_none, pass_some}
 use Rattle.machine_laws.proofs.LineLemmas.{this_turns}
 use Rattle.machine_laws.proofs.WaitLaws.{others_wait, own_waits}
-use Rattle.line_isolation.specs.Belonging.{of_line}
-use Rattle.line_isolation.specs.Passing.{seen, PassesAlone, rests, goes_on, line_due, line_happens, own_happens}
-use Rattle.line_isolation.proofs.OwningLemmas.{of_both, owned_here, owned_elsewhere, happened_owned, own_happened_owned, happening_owned}
+use Rattle.machine_laws.specs.Belonging.{of_line}
+use Rattle.machine_laws.specs.Passing.{seen, PassesAlone, rests, goes_on, line_due, line_happens, own_happens}
+use Rattle.machine_laws.proofs.OwningLemmas.{of_both, owned_here, owned_elsewhere, happened_owned, own_happened_owned, happening_owned}
 
 -- What is seen of the endpoints goes on by itself
 

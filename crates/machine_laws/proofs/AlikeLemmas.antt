@@ -24,10 +24,10 @@ use Rattle.plain_machine.specs.Announcing.{heard_on, replied_on}
 use Rattle.plain_machine.specs.Falling.{post_due, pass}
 use Rattle.plain_machine.specs.Responding.{acknowledged, response_with, responded_on, redirected_on, opened_on, on_all, lines_told, own_heard, responded, heard_from}
 use Rattle.machine_laws.proofs.LineLemmas.{own_stays_on, own_stays, passing_from}
-use Rattle.line_isolation.specs.Belonging.{is_of, of_line}
-use Rattle.line_isolation.specs.Passing.{seen, PassesAlone, line_due, line_happens, own_happens}
-use Rattle.line_isolation.proofs.OwningLemmas.{OwnedBy, of_both, turn_if, sent_by, LineTurns, silent_stays, silent_sends, on_one_line, on_many_lines, acted_owned, responded_owned, own_responded_owned, redirected_owned, opened_owned, owned_here, owned_elsewhere}
-use Rattle.line_isolation.proofs.PassLemmas.{passes_once, line_passes, own_passes}
+use Rattle.machine_laws.specs.Belonging.{is_of, of_line}
+use Rattle.machine_laws.specs.Passing.{seen, PassesAlone, line_due, line_happens, own_happens}
+use Rattle.machine_laws.proofs.OwningLemmas.{OwnedBy, of_both, turn_if, sent_by, LineTurns, silent_stays, silent_sends, on_one_line, on_many_lines, acted_owned, responded_owned, own_responded_owned, redirected_owned, opened_owned, owned_here, owned_elsewhere}
+use Rattle.machine_laws.proofs.PassLemmas.{passes_once, line_passes, own_passes}
 
 -- they have the same line, and the same of their own
 pub record AreAlike (line : ℕ) (one other : Endpoints) : Type 0 where

@@ -17,13 +17,13 @@ use Rattle.plain_machine.specs.Arriving.{TextArrival, arrivals_of}
 use Rattle.plain_machine.specs.Answering.{line_of_name}
 use Rattle.plain_machine.specs.Transactions.{Asked, asked_as, commands_of}
 use Rattle.machine_laws.proofs.EachLemmas.{Each, each_weaker, each_unflat, each_unmapped}
-use Rattle.line_isolation.specs.Apart.{is_for_one, ReadCommand, read_as, commands_at, commands_read, has_to_do_with, same_line, keeps_apart, LinesKeepApart}
-use Rattle.line_isolation.specs.Isolation.{AsUnderItsOwn}
-use Rattle.line_isolation.specs.OwnEvents.{line_read, is_another}
-use Rattle.line_isolation.proofs.EachTests.{each_passes}
-use Rattle.line_isolation.proofs.EventLemmas.{as_under_its_own}
-use Rattle.line_isolation.proofs.FittingWords.{IsApart, Fits}
-use Rattle.line_isolation.proofs.WalkLemmas.{events_fit}
+use Rattle.machine_laws.specs.Apart.{is_for_one, ReadCommand, read_as, commands_at, commands_read, has_to_do_with, same_line, keeps_apart, LinesKeepApart}
+use Rattle.machine_laws.specs.Isolation.{AsUnderItsOwn}
+use Rattle.machine_laws.specs.OwnEvents.{line_read, is_another}
+use Rattle.machine_laws.proofs.EachTests.{each_passes}
+use Rattle.machine_laws.proofs.EventLemmas.{as_under_its_own}
+use Rattle.machine_laws.proofs.FittingWords.{IsApart, Fits}
+use Rattle.machine_laws.proofs.WalkLemmas.{events_fit}
 
 -- Tests
 

@@ -18,11 +18,11 @@ use Rattle.plain_machine.specs.Event.{GatewayEvent, datagram, phone, tick}
 use Rattle.plain_machine.specs.Answering.{line_of_name, transaction_of, handled}
 use Rattle.plain_machine.specs.Machine.{Machine}
 use Rattle.plain_machine.specs.Happening.{effect}
-use Rattle.line_isolation.specs.Apart.{is_single}
-use Rattle.line_isolation.specs.Belonging.{of_line}
-use Rattle.line_isolation.specs.OwnEvents.{is_another}
-use Rattle.line_isolation.proofs.AlikeLemmas.{AreAlike}
-use Rattle.line_isolation.proofs.ThinningLemmas.{Thins}
+use Rattle.machine_laws.specs.Apart.{is_single}
+use Rattle.machine_laws.specs.Belonging.{of_line}
+use Rattle.machine_laws.specs.OwnEvents.{is_another}
+use Rattle.machine_laws.proofs.AlikeLemmas.{AreAlike}
+use Rattle.machine_laws.proofs.ThinningLemmas.{Thins}
 
 -- two machines agree on a line, on what they keep for themselves, and on the transactions that are kept
 pub record Agree (keep : ℕ → Bool) (line : ℕ) (m alone : Machine) : Type 0 where
