@@ -1,9 +1,10 @@
 //! What is told of the conversation: on standard output, in the log, in a capture, and in counts.
 use crate::tally::{Tally, count};
 use crate::text::header_word;
-use captures::{Packet, put_head, put_packet};
 use event_values::{Observed, write_observed};
-use exchange_log::{Note, Stamp, Way, put_given_up, put_message, put_note};
+use exchange_log::{
+    Note, Packet, Stamp, Way, put_given_up, put_head, put_message, put_note, put_packet,
+};
 use live_ends::Record;
 use mg_bytes::{OutOfMemory, lines};
 use mgcp_text::{Message, TextFault, read_message};

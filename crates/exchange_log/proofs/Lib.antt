@@ -1,3 +1,6 @@
+pub mod ChecksumLaws
+pub mod PacketLaws
+pub mod CaptureComputing
 pub mod EscapingLaws
 pub mod LineLaws
 pub mod Computing

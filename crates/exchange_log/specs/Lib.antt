@@ -1,3 +1,8 @@
+pub mod Octets
+pub mod Checksum
+pub mod Packet
+pub mod File
+pub mod CaptureExample
 pub mod Escaping
 pub mod TimeOfDay
 pub mod Messages

@@ -9,17 +9,29 @@
 //! Each line begins with the time of day, in UTC, and the other end's address. `>` is what it sent, `<` what it was sent,
 //! `!` what is noted. All that comes from a datagram is escaped: a line has printable ASCII alone. What happened is told by
 //! who calls; nothing here reads a clock or knows what came before.
+//!
+//! A capture file has datagrams as packets that tshark, Wireshark and tcpdump read, in the classic format of pcap: each as
+//! an IPv4 packet with a UDP header, and the moment at which it went. It is put together as bytes; nothing here opens one.
 #![tactic(auto)]
 
+pub mod capture_examples;
+pub mod capture_laws;
+mod checksum;
 mod escaping;
 pub mod examples;
+mod file;
+mod header;
 pub mod laws;
 mod logging;
 mod messages;
 mod note;
+mod octets;
+mod packet;
 mod stamp;
 mod time;
 
+pub use crate::file::{put_head, put_packet};
 pub use crate::logging::{put_given_up, put_message, put_note, put_refused};
 pub use crate::note::Note;
+pub use crate::packet::Packet;
 pub use crate::stamp::{Stamp, Way};

@@ -1,6 +1,5 @@
 //! The capture of a gateway: each datagram that comes or is sent, as tshark and Wireshark read it.
-use captures::{Packet, put_head, put_packet};
-use exchange_log::Way;
+use exchange_log::{Packet, Way, put_head, put_packet};
 use live_ends::Record;
 use std::alloc::Global;
 use std::net::SocketAddrV4;

@@ -1,5 +1,5 @@
 //! Calls about capture files. Bytes are told in hexadecimal digits, four bytes a word.
-use captures::{Packet, put_head, put_packet};
+use exchange_log::{Packet, put_head, put_packet};
 use mg_bytes::{decimal, ipv4_address, port_number, split_once};
 use scenario_files::Row;
 use std::io::Write;

@@ -1,7 +1,7 @@
 //! Numbers as bytes, the highest first.
 ghost use Rattle.std.specs.Prelude.{◌≡◌, ◌++◌, OnOk};
 ghost use Rattle.std.specs.Net.Addr.{octets_of};
-ghost use Rattle.captures.specs.Octets.{four_octets};
+ghost use Rattle.exchange_log.specs.Octets.{four_octets};
 
 use mg_bytes::OutOfMemory;
 

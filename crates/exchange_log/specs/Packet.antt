@@ -2,7 +2,7 @@
 use Rattle.std.specs.Prelude.{ℕ, ◌+◌, List, [], ◌∷◌, ◌++◌, length, take}
 use Rattle.std.specs.declared.net.socket_addr.SocketAddrV4.{SocketAddrV4}
 use Rattle.std.specs.Net.Addr.{segments_of, octets_of}
-use Rattle.captures.specs.Checksum.{checksum_of}
+use Rattle.exchange_log.specs.Checksum.{checksum_of}
 
 -- a datagram, the moment at which it went, in microseconds since 1970 began, and where it went from and to
 pub record Packet : Type 0 where

@@ -5,8 +5,8 @@ use Rattle.std.specs.List.{AllByRecursion}
 use Rattle.std.specs.Net.Addr.{segments_of}
 use Rattle.std.proofs.lemmas.Bool.Decides.{nat_tests}
 use Rattle.std.proofs.lemmas.List.Elements.{recursion_from_All}
-use Rattle.captures.specs.Checksum.{ones_plus, ones_sum, checksum_of}
-use Rattle.captures.specs.Packet.{header_words}
+use Rattle.exchange_log.specs.Checksum.{ones_plus, ones_sum, checksum_of}
+use Rattle.exchange_log.specs.Packet.{header_words}
 
 abbrev IsWord : ℕ → Type 0
 IsWord word = word ≤ 65535

@@ -1,7 +1,7 @@
 -- What the worked examples speak of.
 use Rattle.std.specs.Prelude.{ℕ, List, [], ◌∷◌}
 use Rattle.std.specs.declared.net.socket_addr.SocketAddrV4.{SocketAddrV4}
-use Rattle.captures.specs.Packet.{Packet}
+use Rattle.exchange_log.specs.Packet.{Packet}
 
 -- 10.0.0.7, port 2727
 abbrev pub agent : SocketAddrV4

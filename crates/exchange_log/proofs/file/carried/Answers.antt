@@ -1,6 +1,6 @@
 use Rattle.std.proofs.Common.{◌≡◌, length, take, sym, arith}
 use Rattle.std.proofs.lemmas.List.{length-take-le, take_all}
-use Rattle.captures.proofs.file.carried.Goals as goal
+use Rattle.exchange_log.proofs.file.carried.Goals as goal
 
 pub slice_bounds-result-end : goal.slice_bounds-result-end
 slice_bounds-result-end c = sym (length-take-le 65507 c.args.bytes.now (omega arith))

@@ -1,8 +1,8 @@
 -- A capture file in the classic format of pcap, version 2.4, whose numbers have their highest byte first.
 use Rattle.std.specs.Prelude.{ℕ, ◌/◌, ◌%◌, List, [], ◌∷◌, ◌++◌}
 use Rattle.std.specs.Net.Addr.{octets_of}
-use Rattle.captures.specs.Octets.{four_octets}
-use Rattle.captures.specs.Packet.{Packet, packet_length, ipv4_packet}
+use Rattle.exchange_log.specs.Octets.{four_octets}
+use Rattle.exchange_log.specs.Packet.{Packet, packet_length, ipv4_packet}
 
 -- what a file begins with: the number by which its byte order and its microseconds are told, the version, two numbers that
 -- are 0 today, the greatest length of a packet, and what the packets are: 101, IP without a link's header

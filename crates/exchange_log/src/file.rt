@@ -1,7 +1,7 @@
 //! The file: its head, and the packets that follow.
 ghost use Rattle.std.specs.Prelude.{◌≡◌, ◌≤◌, ◌++◌, length, IfOk, OnOk, OnErr};
-ghost use Rattle.captures.specs.Packet.{carried, ipv4_packet};
-ghost use Rattle.captures.specs.File.{file_head, record_head, record_of};
+ghost use Rattle.exchange_log.specs.Packet.{carried, ipv4_packet};
+ghost use Rattle.exchange_log.specs.File.{file_head, record_head, record_of};
 
 use crate::header::{put_ipv4_header, put_udp_header};
 use crate::octets::put_number;

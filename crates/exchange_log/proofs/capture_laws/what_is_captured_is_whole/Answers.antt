@@ -1,5 +1,5 @@
-use Rattle.captures.proofs.PacketLaws.{whole, within}
-use Rattle.captures.proofs.laws.what_is_captured_is_whole.Goals as goal
+use Rattle.exchange_log.proofs.PacketLaws.{whole, within}
+use Rattle.exchange_log.proofs.capture_laws.what_is_captured_is_whole.Goals as goal
 
 pub returns-clause-whole : goal.returns-clause-whole
 returns-clause-whole c = whole

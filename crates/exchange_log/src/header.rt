@@ -1,7 +1,7 @@
 //! The headers of a packet: IPv4 (RFC 791, 3.1) and UDP (RFC 768).
 ghost use Rattle.std.specs.Prelude.{◌≡◌, ◌+◌, ◌*◌, [], ◌∷◌, ◌++◌, OnOk};
 ghost use Rattle.std.specs.Net.Addr.{segments_of};
-ghost use Rattle.captures.specs.Packet.{header_words, ipv4_header, udp_header};
+ghost use Rattle.exchange_log.specs.Packet.{header_words, ipv4_header, udp_header};
 
 use crate::checksum::checksum_of;
 use crate::octets::put_words;

@@ -3,8 +3,8 @@ use Rattle.std.proofs.Common.{◌≡◌, ℕ, ◌+◌, ◌*◌, ◌≤◌, List,
 use Rattle.std.specs.Prelude.{slice_index}
 use Rattle.std.specs.Net.Addr.{segments_of, octets_of}
 use Rattle.std.proofs.lemmas.List.{length-take, take_all}
-use Rattle.captures.specs.Checksum.{checksum_of}
-use Rattle.captures.specs.Packet.{Packet, carried, packet_length, header_words, ipv4_header, udp_header, ipv4_packet}
+use Rattle.exchange_log.specs.Checksum.{checksum_of}
+use Rattle.exchange_log.specs.Packet.{Packet, carried, packet_length, header_words, ipv4_header, udp_header, ipv4_packet}
 
 pub whole : (bytes : List ℕ) → length bytes ≤ 65507 → carried bytes ≡ bytes
 whole bytes few = take_all 65507 bytes few

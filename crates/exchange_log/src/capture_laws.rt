@@ -1,8 +1,8 @@
 //! Laws of the definitions. Each function has an empty body: its clauses are the theorems.
 ghost use Rattle.std.specs.Prelude.{◌≡◌, ◌≤◌, ◌++◌, ◌+◌, ℕ, List, All, length};
 ghost use Rattle.std.specs.Net.Addr.{segments_of};
-ghost use Rattle.captures.specs.Checksum.{ones_sum, checksum_of};
-ghost use Rattle.captures.specs.Packet.{Packet, carried, packet_length, header_words, ipv4_packet};
+ghost use Rattle.exchange_log.specs.Checksum.{ones_sum, checksum_of};
+ghost use Rattle.exchange_log.specs.Packet.{Packet, carried, packet_length, header_words, ipv4_packet};
 
 /// Who gets a packet adds up its header, with the checksum in its place, and finds all bits set (RFC 791, 3.1; RFC 1071, 1).
 pub fn a_receiver_finds_the_header_right()

@@ -1,12 +1,12 @@
 //! Worked examples of the definitions, as theorems: each sentence of a definition has one that a slip in it breaks.
-#![tactic(auto, unfolding(crate::proofs::Computing::on_examples))]
+#![tactic(auto, unfolding(crate::proofs::CaptureComputing::on_examples))]
 
 ghost use Rattle.std.specs.Prelude.{◌≡◌, [], ◌∷◌, ◌++◌, codes, length};
-ghost use Rattle.captures.specs.Octets.{four_octets};
-ghost use Rattle.captures.specs.Checksum.{ones_plus, ones_sum, checksum_of};
-ghost use Rattle.captures.specs.Packet.{header_words, ipv4_header, udp_header, ipv4_packet};
-ghost use Rattle.captures.specs.File.{file_head, record_head, record_of};
-ghost use Rattle.captures.specs.Example.{packet_at};
+ghost use Rattle.exchange_log.specs.Octets.{four_octets};
+ghost use Rattle.exchange_log.specs.Checksum.{ones_plus, ones_sum, checksum_of};
+ghost use Rattle.exchange_log.specs.Packet.{header_words, ipv4_header, udp_header, ipv4_packet};
+ghost use Rattle.exchange_log.specs.File.{file_head, record_head, record_of};
+ghost use Rattle.exchange_log.specs.CaptureExample.{packet_at};
 
 /// Numbers have their highest byte first.
 pub fn numbers_have_their_highest_byte_first()

@@ -1,6 +1,6 @@
 //! The checksum of an IPv4 header (RFC 791, 3.1).
 ghost use Rattle.std.specs.Prelude.{◌≡◌};
-ghost use Rattle.captures.specs.Checksum.{ones_plus, checksum_of};
+ghost use Rattle.exchange_log.specs.Checksum.{ones_plus, checksum_of};
 
 // What is carried out of 16 bits is added at the low end.
 fn ones_plus(a: u16, b: u16) -> u16

@@ -1,6 +1,6 @@
 use Rattle.std.proofs.Common.{◌≡◌, ◌++◌, drop}
 use Rattle.std.specs.Net.Addr.{octets_of}
-use Rattle.captures.proofs.octets.put_words.Given as goal
+use Rattle.exchange_log.proofs.octets.put_words.Given as goal
 
 abbrev pub invariant-loop-word : goal.invariant-loop-word
 invariant-loop-word l = l.out.items ++ octets_of (drop l.word-index l.words) ≡ l.fn.out.items ++ octets_of l.words

@@ -16,7 +16,7 @@ pub struct Packet<'a> {
 }
 
 impl<'a> Model for Packet<'a> {
-    ghost use Rattle.captures.specs.Packet.{Packet};
+    ghost use Rattle.exchange_log.specs.Packet.{Packet};
 
     ghost Value = { Packet };
 

@@ -1,3 +1,0 @@
-pub mod ChecksumLaws
-pub mod PacketLaws
-pub mod Computing
