@@ -4,7 +4,7 @@ use Rattle.std.specs.Prelude.{Result, Ok, Err, is_ok}
 use Rattle.mg_bytes.specs.declared.code_fault.CodeFault.{CodeFault}
 use Rattle.mg_bytes.specs.declared.code_fault.CodeFault.TheVariants.{OutOfMemory, Code}
 use Rattle.mg_bytes.specs.Steps.{◌>>=◌}
-use Rattle.event_values.specs.Observed.{GivesUpForMemory}
+use Rattle.mg_bytes.specs.CodeFault.{FailsForMemory}
 use Rattle.event_syntax.specs.declared.request.RequestedEvent.{RequestedEvent}
 use Rattle.event_syntax.specs.Actions.{rule_of}
 use Rattle.event_syntax.specs.Requested.{requested, first_takes_memory}
@@ -23,12 +23,12 @@ pub takes_at_first : (left texts : List (List ℕ)) (text : List ℕ) (all : Boo
 takes_at_first left texts text all steps read on = on (rw steps read)
 
 pub memory_stops : (left texts : List (List ℕ)) (text : List ℕ) (fault : CodeFault) (all : Bool)
-    → left ≡ text ∷ texts → GivesUpForMemory {A = RequestedEvent} (is_ok (rule_of text)) (Err fault) → (first_takes_memory left ≡ true → all ≡ true)
-    → GivesUpForMemory {A = List RequestedEvent} all (Err fault)
+    → left ≡ text ∷ texts → FailsForMemory {A = RequestedEvent} (is_ok (rule_of text)) (Err fault) → (first_takes_memory left ≡ true → all ≡ true)
+    → FailsForMemory {A = List RequestedEvent} all (Err fault)
 memory_stops left texts text OutOfMemory all steps gives on = takes_at_first left texts text all steps gives on
 memory_stops left texts text (Code code) all steps gives on = tt
 
-pub may_give_up : {A : Type 0} (takes : Bool) (result : Result A CodeFault) → takes ≡ true → GivesUpForMemory takes result
+pub may_give_up : {A : Type 0} (takes : Bool) (result : Result A CodeFault) → takes ≡ true → FailsForMemory takes result
 may_give_up takes (Ok value) so = tt
 may_give_up takes (Err (Code code)) so = tt
 may_give_up takes (Err OutOfMemory) so = so

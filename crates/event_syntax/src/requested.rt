@@ -1,12 +1,10 @@
 //! The events that are requested: the value of R (RFC 3435, 2.3.3).
-ghost use Rattle.std.specs.Prelude.{◌≡◌, true, IfOk};
-ghost use Rattle.mg_bytes.specs.CodeFault.{AnswersAs};
+ghost use Rattle.std.specs.Prelude.{◌≡◌, ◌&&◌, true, IfOk, is_ok, length, nat_le};
+ghost use Rattle.mg_bytes.specs.CodeFault.{AnswersAs, FailsForMemory};
 ghost use Rattle.event_values.specs.Cuts.{entries};
 ghost use Rattle.event_values.specs.Faults.{each};
 ghost use Rattle.event_syntax.specs.Actions.{joined_seen};
 ghost use Rattle.event_syntax.specs.Embedding.{embedded_in, Gives};
-ghost use Rattle.std.specs.Prelude.{is_ok, ◌&&◌, nat_le, length};
-ghost use Rattle.event_values.specs.Observed.{GivesUpForMemory};
 ghost use Rattle.event_syntax.specs.Actions.{rule_of};
 ghost use Rattle.event_syntax.specs.Detect.{most_events};
 ghost use Rattle.event_syntax.specs.Requested.{reaction_of, requested, requested_in, requested_of, are_writable_requested};
@@ -43,7 +41,7 @@ fn reaction_of(alloc: Global, joined: Joined<'_>) -> Result<Reaction, CodeFault>
 #[tactic(auto, unfolding(crate::specs::Requested::requested))]
 fn requested(alloc: Global, entry: &[u8]) -> Result<RequestedEvent, CodeFault>
     ensures value { Gives (requested entry.now) result }
-    ensures memory { GivesUpForMemory (is_ok (rule_of entry.now)) result }
+    ensures memory { FailsForMemory (is_ok (rule_of entry.now)) result }
 {
     let rule = rule_of(entry).map_err(CodeFault::Code)?;
     let reaction = reaction_of(alloc, rule.joined)?;
@@ -56,7 +54,7 @@ fn requested(alloc: Global, entry: &[u8]) -> Result<RequestedEvent, CodeFault>
 
 fn each_requested(alloc: Global, value: &[u8]) -> Result<RequestedEvents, CodeFault>
     ensures value { Gives (each requested (entries value.now)) result }
-    ensures memory { GivesUpForMemory (first_takes_memory (entries value.now)) result }
+    ensures memory { FailsForMemory (first_takes_memory (entries value.now)) result }
 {
     let mut list = RequestedEvents::new(alloc);
     for entry in entries(value) {
@@ -69,7 +67,7 @@ fn each_requested(alloc: Global, value: &[u8]) -> Result<RequestedEvents, CodeFa
 #[tactic(auto, unfolding(crate::specs::Requested::requested_in))]
 fn requested_in(alloc: Global, value: &[u8]) -> Result<RequestedEvents, CodeFault>
     ensures value { Gives (requested_in value.now) result }
-    ensures memory { GivesUpForMemory (nat_le (length (entries value.now)) most_events && first_takes_memory (entries value.now)) result }
+    ensures memory { FailsForMemory (nat_le (length (entries value.now)) most_events && first_takes_memory (entries value.now)) result }
 {
     if !has_at_most(value, MOST_EVENTS) {
         return Err(CodeFault::of(ReturnCode::InsufficientResources));
@@ -96,7 +94,7 @@ fn requested_in(alloc: Global, value: &[u8]) -> Result<RequestedEvents, CodeFaul
 pub fn read_events(alloc: Global, value: &[u8]) -> Result<RequestedEvents, CodeFault>
     ensures answers { AnswersAs (requested_of value.now) result }
     // Memory is wanted only where a request is embedded, or the first entry says what is done at its events.
-    ensures memory { GivesUpForMemory (takes_memory value.now) result }
+    ensures memory { FailsForMemory (takes_memory value.now) result }
     // What is read can be written.
     ensures writable { IfOk result (λ list. are_writable_requested list ≡ true) }
 {
