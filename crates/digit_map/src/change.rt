@@ -3,7 +3,7 @@ ghost use Rattle.std.specs.Prelude.{◌≡◌, option_map};
 ghost use Rattle.std.specs.List.{list_all};
 ghost use Rattle.mg_bytes.specs.Blanks.{is_blank};
 ghost use Rattle.digit_map.specs.Reading.{ReadsAs};
-ghost use Rattle.digit_map.specs.Change.{change_of};
+ghost use Rattle.digit_map.specs.Change.{change_of, takes_memory, GivesUpForMemory};
 
 use crate::fault::MapFault;
 use crate::map_text::{MapText, read_map};
@@ -30,10 +30,12 @@ fn all_blank(text: &[u8]) -> bool
 /// the map stays, a D of blanks alone removes it, and another replaces it.
 ///
 /// A text that `read_map` doesn't read has that fault: `Syntax`, or `TooLarge` for more than 2,048 bytes without blanks.
-/// Want of memory is `OutOfMemory`.
+/// Want of memory is `OutOfMemory`: of a map alone, as without one no memory is taken.
 #[tactic(auto, unfolding(crate::specs::Change::change_of))]
 pub fn read_change(alloc: Global, value: Option<&[u8]>) -> Result<MapChange, MapFault>
-    ensures { ReadsAs (change_of (option_map (λ text. text.now) value.entry)) result }
+    ensures reads { ReadsAs (change_of (option_map (λ text. text.now) value.entry)) result }
+    // Memory is wanted only for a map.
+    ensures memory { GivesUpForMemory (takes_memory (option_map (λ text. text.now) value.entry)) result }
 {
     let Some(text) = value else {
         return Ok(MapChange::Keep);

@@ -7,7 +7,7 @@ ghost use Rattle.mg_bytes.specs.Bytes.{left_parenthesis, right_parenthesis};
 ghost use Rattle.digit_map.specs.Cuts.{bar, strings_of, positions_of, set_of, parts_of};
 ghost use Rattle.digit_map.specs.Spelling.{is_position, is_map};
 ghost use Rattle.digit_map.specs.Reading.{map_of, or_code, map_code, code_fault_of, map_fault_number, ReadsAs};
-ghost use Rattle.digit_map.specs.Change.{change_of};
+ghost use Rattle.digit_map.specs.Change.{change_of, takes_memory};
 ghost use Rattle.digit_map.specs.Words.{is_word};
 ghost use Rattle.digit_map.specs.Example.{dialled, verdict, critical, copies, letters_of};
 
@@ -171,6 +171,15 @@ pub fn requests_change_maps()
     ensures downwards { change_of (Some (codes "[9-1]")) ≡ Err MapFault.Syntax }
     ensures most { change_of (Some (copies 2048 (codes "1"))) ≡ Ok (MapChange.Replace (copies 2048 (codes "1"))) }
     ensures large { change_of (Some (copies 2049 (codes "1"))) ≡ Err MapFault.TooLarge }
+{}
+
+/// To read D takes memory for a map alone, whatever its text is.
+pub fn changes_take_memory_for_a_map()
+    ensures absent { takes_memory None ≡ false }
+    ensures empty { takes_memory (Some []) ≡ false }
+    ensures blank { takes_memory (Some (codes " \t ")) ≡ false }
+    ensures map { takes_memory (Some (codes " 8x")) ≡ true }
+    ensures no_map { takes_memory (Some (codes "()")) ≡ true }
 {}
 
 /// A position has the letters that its text names: a letter in any case, any digit for `X`, the digits of a span.
