@@ -676,6 +676,11 @@ pub const SERVES: &str = "serves | 2.4 | A gateway that doesn't serve yet refuse
 > RQNT {1} {line} MGCP 1.0
 < 405 {1}";
 
+/// What finds out whether a line isn't there: a name that the gateway doesn't know is refused with 500 (RFC 3435, 2.4).
+pub const UNKNOWN: &str = "unknown | 2.4 | A name that the gateway doesn't know is refused with 500
+> AUEP {1} {line} MGCP 1.0
+< 500 {1}";
+
 /// What finds out whether a line is in use: by a connection, or a telephone off the hook (RFC 3435, 2.3.10).
 pub const IN_USE: [&str; 2] = [
     "connected | 2.3.10 | An audit of a line tells its connections

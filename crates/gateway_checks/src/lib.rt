@@ -19,7 +19,7 @@ mod socket;
 mod step;
 
 pub use crate::check::{Check, all_checks, check_named, check_of};
-pub use crate::checks::{IN_USE, SERVES};
+pub use crate::checks::{IN_USE, SERVES, UNKNOWN};
 pub use crate::hearing::put_responses;
 pub use crate::judging::{Fault, Verdict};
 pub use crate::names::Names;

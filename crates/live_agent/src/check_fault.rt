@@ -11,6 +11,8 @@ pub enum CheckFault {
     NoAnswer { address: SocketAddrV4 },
     /// It refuses with 405: no call agent has answered its announcement yet.
     NotServing { address: SocketAddrV4 },
+    /// It knows no such line, or no such other one.
+    NoSuchLine { is_other: bool },
     /// The line, or the other one, has a connection, or its telephone is off the hook.
     InUse { is_other: bool },
     /// The clock, or what tells of sockets, failed.

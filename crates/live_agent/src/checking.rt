@@ -3,7 +3,7 @@ use crate::check_fault::CheckFault;
 use crate::ends::Ends;
 use crate::json::{check_value, report_text};
 use gateway_checks::{
-    Check, IN_USE, Names, Player, SERVES, Tally, Verdict, all_checks, check_of, put_check,
+    Check, IN_USE, Names, Player, SERVES, Tally, UNKNOWN, Verdict, all_checks, check_of, put_check,
     put_tally,
 };
 use mg_bytes::OutOfMemory;
@@ -19,6 +19,9 @@ const IDS: u32 = 10;
 
 // So often it is asked whether the gateway serves, a second each.
 const MOST_TRIES: u32 = 10;
+
+// So often it is asked in vain: a datagram may be lost, and a gateway that was just started may not hear yet.
+const MOST_SILENT: u32 = 3;
 
 /// What is asked for.
 #[derive(Clone, Copy)]
@@ -130,22 +133,28 @@ impl<'a> Checking<'a> {
     }
 }
 
-// Whether the gateway serves; where it doesn't a second passes.
-fn serves<R: Net + Clock>(
+// What came of asking whether the gateway serves.
+enum Found {
+    Serving,
+    NotServing,
+    Silent,
+}
+
+// Asks whether the gateway serves; where it doesn't a second passes.
+fn ask<R: Net + Clock>(
     ends: &mut Ends<'_, R>,
     player: &mut Player<'_>,
-    address: SocketAddrV4,
-) -> Result<bool, CheckFault> {
+) -> Result<Found, CheckFault> {
     ends.play(player)?;
     if !player.has_answer() {
-        return Err(CheckFault::NoAnswer { address });
+        return Ok(Found::Silent);
     }
     match player.verdict() {
         Verdict::Passed => {
             ends.rest(1000)?;
-            Ok(false)
+            Ok(Found::NotServing)
         }
-        Verdict::NotSupported | Verdict::Failed => Ok(true),
+        Verdict::NotSupported | Verdict::Failed => Ok(Found::Serving),
     }
 }
 
@@ -159,49 +168,63 @@ fn find<R: Net + Clock>(
         line,
         ..
     } = checking.settings;
+    let mut silent: u32 = 0;
     for _ in 0..MOST_TRIES {
         let mut player = checking.player(&check_of(SERVES), line);
-        match serves(ends, &mut player, address) {
-            Ok(true) => return Ok(()),
-            Ok(false) => {}
+        match ask(ends, &mut player) {
+            Ok(Found::Serving) => return Ok(()),
+            Ok(Found::NotServing) => {}
+            Ok(Found::Silent) => silent = silent.saturating_add(1),
             Err(fault) => return Err(fault),
+        }
+        if silent == MOST_SILENT {
+            return Err(CheckFault::NoAnswer { address });
         }
     }
     Err(CheckFault::NotServing { address })
 }
 
-// Whether a line has a connection, or its telephone is off the hook, as far as the gateway tells.
-fn is_in_use<'a, R: Net + Clock>(
+// Whether this holds of a line, as far as the gateway tells.
+fn holds<'a, R: Net + Clock>(
     checking: &mut Checking<'a>,
     ends: &mut Ends<'_, R>,
     line: &'a str,
+    block: &'static str,
 ) -> Result<bool, CheckFault> {
-    for block in IN_USE.iter() {
-        let mut player = checking.player(&check_of(*block), line);
-        ends.play(&mut player)?;
-        if let Verdict::Passed = player.verdict() {
-            return Ok(true);
-        }
-    }
-    Ok(false)
+    let mut player = checking.player(&check_of(block), line);
+    ends.play(&mut player)?;
+    Ok(matches!(player.verdict(), Verdict::Passed))
 }
 
-// Lines that are in use aren't checked.
-fn find_idle<R: Net + Clock>(
+// A line that isn't there, has a connection, or whose telephone is off the hook isn't checked.
+fn find_idle<'a, R: Net + Clock>(
+    checking: &mut Checking<'a>,
+    ends: &mut Ends<'_, R>,
+    line: &'a str,
+    is_other: bool,
+) -> Result<(), CheckFault> {
+    if holds(checking, ends, line, UNKNOWN)? {
+        return Err(CheckFault::NoSuchLine { is_other });
+    }
+    for block in IN_USE.iter() {
+        if holds(checking, ends, line, *block)? {
+            return Err(CheckFault::InUse { is_other });
+        }
+    }
+    Ok(())
+}
+
+// The lines are there, and aren't in use; else tells why nothing can be checked.
+fn find_lines<R: Net + Clock>(
     checking: &mut Checking<'_>,
     ends: &mut Ends<'_, R>,
 ) -> Result<(), CheckFault> {
     let CheckSettings { line, other, .. } = checking.settings;
-    if is_in_use(checking, ends, line)? {
-        return Err(CheckFault::InUse { is_other: false });
+    find_idle(checking, ends, line, false)?;
+    match other {
+        Some(other) => find_idle(checking, ends, other, true),
+        None => Ok(()),
     }
-    let Some(other) = other else {
-        return Ok(());
-    };
-    if is_in_use(checking, ends, other)? {
-        return Err(CheckFault::InUse { is_other: true });
-    }
-    Ok(())
 }
 
 // Plays a check to its end, and reports what came of it.
@@ -238,7 +261,7 @@ fn check_all<R: Net + Clock + Print>(
     ends: &mut Ends<'_, R>,
 ) -> Result<u8, CheckFault> {
     find(checking, ends)?;
-    find_idle(checking, ends)?;
+    find_lines(checking, ends)?;
     for block in all_checks().split("\n= ").skip(1) {
         check_one(rt, checking, ends, &check_of(block))?;
     }

@@ -6,7 +6,8 @@ use agent_texts::{AgentConfig, Journal};
 use call_desk::Switchboard;
 use live_ends::{Record, RecordState};
 use std::alloc::Global;
-use std::io;
+use std::fs::File;
+use std::io::{self, ErrorKind};
 use std::net::Net;
 use std::rt::{Clock, Files};
 
@@ -78,19 +79,35 @@ fn serve_over<R: Files + Net + Clock + Print + Eprint>(
     }
 }
 
+// The file for a capture, made anew, if one is asked for.
+fn open_capture<R: Files>(rt: &R, capture: Option<&str>) -> Result<Option<R::File>, ServeFault> {
+    let Some(file) = capture else {
+        return Ok(None);
+    };
+    match File::create(rt, file) {
+        Ok(made) => Ok(Some(made)),
+        Err(e) if e.kind() == ErrorKind::OutOfMemory => Err(ServeFault::OutOfMemory),
+        Err(_) => Err(ServeFault::Capture),
+    }
+}
+
 /// Serves the gateways of a configuration until the end, and routes calls between their lines where that is asked for. What happens
 /// is told on standard output; the log, where the sockets are, and at the end what was counted, on standard error; the capture, where
-/// one is asked for, goes into its file. An error says why it didn't serve to its end.
+/// one is asked for, goes into the file of this name. An error says why it didn't serve to its end.
 pub fn serve_agent<R: Files + Net + Clock + Print + Eprint>(
     rt: &R,
     alloc: Global,
     config: &AgentConfig,
     is_routed: bool,
     settings: WireSettings,
-    capture: &mut Option<R::File>,
+    capture: Option<&str>,
 ) -> Result<(), ServeFault> {
     match Wire::open(rt, alloc, settings) {
-        Ok(mut wire) => serve_over(rt, alloc, config, is_routed, &mut wire, capture),
+        // A file that another one writes stays as it is where there is no socket.
+        Ok(mut wire) => match open_capture(rt, capture) {
+            Ok(mut file) => serve_over(rt, alloc, config, is_routed, &mut wire, &mut file),
+            Err(fault) => Err(fault),
+        },
         Err(fault) => Err(fault),
     }
 }

@@ -67,21 +67,6 @@ fn wire_settings(settings: &Settings<'_>, config: &AgentConfig) -> WireSettings 
     }
 }
 
-// The file for a capture, if one is asked for.
-fn open_capture<'w, R: Files>(
-    rt: &R,
-    settings: &Settings<'w>,
-) -> Result<Option<R::File>, Ending<'w>> {
-    let Some(file) = settings.capture else {
-        return Ok(None);
-    };
-    match File::create(rt, file) {
-        Ok(made) => Ok(Some(made)),
-        Err(e) if e.kind() == ErrorKind::OutOfMemory => Err(Ending::OutOfMemory),
-        Err(_) => Err(Ending::Unwritable { file }),
-    }
-}
-
 // How the program ends where it doesn't serve to its end.
 fn served_ending<'w>(fault: ServeFault, wire: WireSettings, settings: &Settings<'w>) -> Ending<'w> {
     match fault {
@@ -109,9 +94,8 @@ fn serve_with<'w, R: Files + Net + Clock + Print + Eprint>(
     settings: &Settings<'w>,
     config: &AgentConfig,
 ) -> Result<(), Ending<'w>> {
-    let mut capture = open_capture(rt, settings)?;
     let wire = wire_settings(settings, config);
-    match serve_agent(rt, alloc, config, settings.route, wire, &mut capture) {
+    match serve_agent(rt, alloc, config, settings.route, wire, settings.capture) {
         Ok(()) => Ok(()),
         Err(fault) => Err(served_ending(fault, wire, settings)),
     }

@@ -60,6 +60,10 @@ pub enum Ending<'a> {
     NotServing {
         address: SocketAddrV4,
     },
+    /// The gateway knows no line that this word names.
+    NoSuchLine {
+        word: &'static str,
+    },
     /// The line that this word names can't be checked: it has a connection, or is off hook.
     InUse {
         word: &'static str,
@@ -91,6 +95,7 @@ impl<'a> Ending<'a> {
             | Ending::Unbound { .. }
             | Ending::NoAnswer { .. }
             | Ending::NotServing { .. }
+            | Ending::NoSuchLine { .. }
             | Ending::InUse { .. }
             | Ending::Clock
             | Ending::System
@@ -122,6 +127,11 @@ pub fn check_words_ending<'a>(fault: WordFault) -> Ending<'a> {
     }
 }
 
+// The word that names a line to be checked.
+fn line_word(is_other: bool) -> &'static str {
+    if is_other { "--more-lines" } else { "--line" }
+}
+
 impl<'a> From<CheckFault> for Ending<'a> {
     fn from(fault: CheckFault) -> Ending<'a> {
         match fault {
@@ -129,8 +139,11 @@ impl<'a> From<CheckFault> for Ending<'a> {
                 word: "--own",
                 address,
             },
+            CheckFault::NoSuchLine { is_other } => Ending::NoSuchLine {
+                word: line_word(is_other),
+            },
             CheckFault::InUse { is_other } => Ending::InUse {
-                word: if is_other { "--more-lines" } else { "--line" },
+                word: line_word(is_other),
             },
             CheckFault::NoAnswer { address } => Ending::NoAnswer { address },
             CheckFault::NotServing { address } => Ending::NotServing { address },
@@ -186,6 +199,12 @@ impl<'a> fmt::Display for Ending<'a> {
                 writeln!(
                     f,
                     "{address}: 405, it waits for its call agent (--own answers for that)"
+                )
+            }
+            Ending::NoSuchLine { word } => {
+                put_pieces(
+                    f,
+                    &[*word, ": 500, no such line there, or not in --domain\n"],
                 )
             }
             Ending::InUse { word } => {

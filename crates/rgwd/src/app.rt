@@ -1,6 +1,7 @@
 //! The program: reads its words and its configuration, opens its sockets, and serves.
 use crate::ending::Ending;
 use crate::opening::{Opened, known, open};
+use crate::toml_fault::tell_toml_fault;
 use crate::words::{Settings, WordFault, read_words};
 use gateway_core::{ConfigKey, Gateway};
 use live_ends::RecordState;
@@ -165,7 +166,13 @@ fn serve_config<'w, R: Files + Net + Clock + RandomSource + Print + Eprint>(
 ) -> Ending<'w> {
     match gateway_of(alloc, text) {
         Ok(mut gateway) => serve_with(rt, alloc, settings, text, &mut gateway),
-        Err(fault) => file_ending(settings.config, fault, key_of(alloc, text)),
+        Err(fault) => {
+            let key = key_of(alloc, text);
+            if key.is_none() && matches!(fault, PlayFault::Config { number: BAD_TOML }) {
+                tell_toml_fault(rt, alloc, settings.config, text);
+            }
+            file_ending(settings.config, fault, key)
+        }
     }
 }
 

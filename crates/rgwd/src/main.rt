@@ -5,6 +5,7 @@ mod app;
 mod ending;
 mod help;
 mod opening;
+mod toml_fault;
 mod words;
 
 use std::process::ExitCode;
