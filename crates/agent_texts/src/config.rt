@@ -231,7 +231,18 @@ fn config_of(alloc: Global, table: &Table) -> Result<AgentConfig, ConfigRefusal>
     })
 }
 
-/// The configuration that a text writes, or what is wrong with it, and at which key.
+// The number of the line that a place in a text is in, from 1.
+fn line_at(text: &str, place: usize) -> u64 {
+    let mut line: u64 = 1;
+    for byte in text.as_bytes().iter().take(place) {
+        if *byte == b'\n' {
+            line = line.saturating_add(1);
+        }
+    }
+    line
+}
+
+/// The configuration that a text writes, or what is wrong with it, and at which key, or in which line.
 pub fn read_config(alloc: Global, text: &[u8]) -> Result<AgentConfig, ConfigRefusal> {
     let Ok(text) = std::str::from_utf8(text) else {
         return Err(ConfigRefusal::from(ConfigFault::BadToml));
@@ -239,6 +250,13 @@ pub fn read_config(alloc: Global, text: &[u8]) -> Result<AgentConfig, ConfigRefu
     match toml::table_from_str(alloc, text) {
         Ok(table) => config_of(alloc, &table),
         Err(e) if e.is_memory() => Err(ConfigRefusal::from(AllocError)),
-        Err(_) => Err(ConfigRefusal::from(ConfigFault::BadToml)),
+        Err(e) => {
+            let start = match e.span() {
+                Some(span) => span.start,
+                None => 0,
+            };
+            let place = format!(in alloc; "line {}: {}", line_at(text, start), e.message());
+            Err(refused(ConfigFault::BadToml, place))
+        }
     }
 }

@@ -59,7 +59,7 @@ pub const HELP: [&str; 4] = [USAGE, ABOVE, CONTROL, BELOW];
 
 /// The words behind `check`, in a line.
 pub const CHECK_USAGE: &str =
-    "usage: rgca check ADDRESS --domain D --line NAME [--more-lines NAME..] [--slow] [--json] [--own ADDRESS]";
+    "usage: rgca check ADDRESS --domain D --line NAME [--more-lines NAME] [--slow] [--json] [--own ADDRESS]";
 
 // What they say, from the end of the first line on.
 const CHECK_BELOW: &str = "
