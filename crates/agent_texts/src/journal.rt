@@ -13,6 +13,9 @@ use std::alloc::Global;
 use std::net::SocketAddrV4;
 use transmission::texts;
 
+// The call agent has gateways of many domains, and no domain of its own: the log has each name whole.
+const NO_DOMAIN: &[u8] = b"";
+
 /// What is told, and was counted.
 #[derive(Drop)]
 pub struct Journal {
@@ -154,7 +157,7 @@ impl Journal {
             peer: to,
         };
         if self.log.is_on()
-            && put_given_up(self.alloc, &mut self.log.out, stamp, command).is_err()
+            && put_given_up(self.alloc, &mut self.log.out, NO_DOMAIN, stamp, command).is_err()
         {
             self.log.refuse();
         }
@@ -174,7 +177,8 @@ impl Journal {
             self.note(stamp, note);
             return;
         }
-        if put_message(self.alloc, &mut self.log.out, stamp, way, text, None).is_err() {
+        let out = &mut self.log.out;
+        if put_message(self.alloc, out, NO_DOMAIN, stamp, way, text, None).is_err() {
             self.log.refuse();
         }
     }

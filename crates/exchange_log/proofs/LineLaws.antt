@@ -17,7 +17,7 @@ use Rattle.exchange_log.specs.declared.note.Note.{Note}
 use Rattle.exchange_log.specs.declared.note.Note.TheVariants.{AnsweredAgain, Unanswered, SentAgain, Refused, Unreadable, TooLong, OutOfMemory, Lost, Late, Copied}
 use Rattle.exchange_log.specs.Escaping.{shown, escaped, is_text, IsLine}
 use Rattle.exchange_log.specs.TimeOfDay.{two_digits, three_digits, time_of_day}
-use Rattle.exchange_log.specs.Messages.{set_off, local_name, header_shown, headed, line_shown, message_of, message_shown, header_of}
+use Rattle.exchange_log.specs.Messages.{set_off, name_shown, header_shown, headed, line_shown, message_of, message_shown, header_of}
 use Rattle.exchange_log.specs.Notes.{words_from, note_text}
 use Rattle.exchange_log.specs.Lines.{stamp_text, mark_of, waited_text, message_line, note_line, given_up_line, refused_line}
 use Rattle.exchange_log.proofs.EscapingLaws.{text_append, text_cons, digit_printable, escaped_text, shown_text, decimal_text}
@@ -70,13 +70,14 @@ begun stamp = around (time_of_day stamp.moment) (codes " ") (socket_v4_text stam
 off_text : (value : List ℕ) → is_text (set_off value) ≡ true
 off_text value = text_cons 32 (shown value) refl (shown_text value)
 
-words_text : (words : List (List ℕ)) → is_text (header_shown words) ≡ true
+words_text : (own : List ℕ) (words : List (List ℕ)) → is_text (header_shown own words) ≡ true
 unfolding header_shown
-words_text [] = refl
-words_text (kind ∷ []) = off_text kind
-words_text (kind ∷ id ∷ []) = text_append (set_off kind) (set_off id) (off_text kind) (off_text id)
-words_text (kind ∷ id ∷ name ∷ more) =
-    around (set_off kind) (set_off id) (set_off (local_name name)) (off_text kind) (off_text id) (off_text (local_name name))
+words_text own [] = refl
+words_text own (kind ∷ []) = off_text kind
+words_text own (kind ∷ id ∷ []) = text_append (set_off kind) (set_off id) (off_text kind) (off_text id)
+words_text own (kind ∷ id ∷ name ∷ more) =
+    let last : List ℕ = name_shown own name in
+    around (set_off kind) (set_off id) (set_off last) (off_text kind) (off_text id) (off_text last)
 
 line_text : (line : List ℕ) → is_text (line_shown line) ≡ true
 line_text line = at_test (is_empty line) where
@@ -88,22 +89,22 @@ lines_text : (lines : List (List ℕ)) → is_text (flat_map line_shown lines) �
 lines_text [] = refl
 lines_text (line ∷ lines) = text_append (line_shown line) (flat_map line_shown lines) (line_text line) (lines_text lines)
 
-message_from : (lines : List (List ℕ)) → is_text (message_of lines) ≡ true
-message_from [] = refl
-message_from (header ∷ lines) =
-    text_append (header_shown (words header)) (flat_map line_shown lines) (words_text (words header)) (lines_text lines)
+message_from : (own : List ℕ) (lines : List (List ℕ)) → is_text (message_of own lines) ≡ true
+message_from own [] = refl
+message_from own (header ∷ lines) =
+    text_append (header_shown own (words header)) (flat_map line_shown lines) (words_text own (words header)) (lines_text lines)
 
-message_text : (text : List ℕ) → is_text (message_shown text) ≡ true
+message_text : (own text : List ℕ) → is_text (message_shown own text) ≡ true
 unfolding message_shown
-message_text text = message_from (lines_of text)
+message_text own text = message_from own (lines_of text)
 
-headed_text : (lines : List (List ℕ)) → is_text (headed lines) ≡ true
-headed_text [] = refl
-headed_text (header ∷ lines) = words_text (words header)
+headed_text : (own : List ℕ) (lines : List (List ℕ)) → is_text (headed own lines) ≡ true
+headed_text own [] = refl
+headed_text own (header ∷ lines) = words_text own (words header)
 
-header_text : (text : List ℕ) → is_text (header_of text) ≡ true
+header_text : (own text : List ℕ) → is_text (header_of own text) ≡ true
 unfolding header_of
-header_text text = headed_text (lines_of text)
+header_text own text = headed_text own (lines_of text)
 
 mark_text : (way : Way) → is_text (mark_of way) ≡ true
 mark_text Came = refl
@@ -145,13 +146,13 @@ noted_text (Copied first second) =
 
 -- the lines
 
-pub message_is_line : (stamp : Stamp) (way : Way) (text : List ℕ) (waited : Option ℕ) → IsLine (message_line stamp way text waited)
+pub message_is_line : (own : List ℕ) (stamp : Stamp) (way : Way) (text : List ℕ) (waited : Option ℕ) → IsLine (message_line own stamp way text waited)
 unfolding message_line
-message_is_line stamp way text waited = record {
-  line = stamp_text stamp ++ mark_of way ++ message_shown text ++ waited_text waited;
+message_is_line own stamp way text waited = record {
+  line = stamp_text stamp ++ mark_of way ++ message_shown own text ++ waited_text waited;
   printable =
-      around (stamp_text stamp ++ mark_of way) (message_shown text) (waited_text waited)
-      (text_append (stamp_text stamp) (mark_of way) (begun stamp) (mark_text way)) (message_text text) (waiting_text waited);
+      around (stamp_text stamp ++ mark_of way) (message_shown own text) (waited_text waited)
+      (text_append (stamp_text stamp) (mark_of way) (begun stamp) (mark_text way)) (message_text own text) (waiting_text waited);
   ended = refl;
 }
 
@@ -163,11 +164,11 @@ note_is_line stamp note = record {
   ended = refl;
 }
 
-pub given_up_is_line : (stamp : Stamp) (text : List ℕ) → IsLine (given_up_line stamp text)
+pub given_up_is_line : (own : List ℕ) (stamp : Stamp) (text : List ℕ) → IsLine (given_up_line own stamp text)
 unfolding given_up_line
-given_up_is_line stamp text = record {
-  line = stamp_text stamp ++ codes " ! given up:" ++ header_of text;
-  printable = around (stamp_text stamp) (codes " ! given up:") (header_of text) (begun stamp) refl (header_text text);
+given_up_is_line own stamp text = record {
+  line = stamp_text stamp ++ codes " ! given up:" ++ header_of own text;
+  printable = around (stamp_text stamp) (codes " ! given up:") (header_of own text) (begun stamp) refl (header_text own text);
   ended = refl;
 }
 

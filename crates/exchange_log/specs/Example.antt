@@ -1,5 +1,5 @@
 -- What the worked examples speak of.
-use Rattle.std.specs.Prelude.{ℕ, [], ◌∷◌}
+use Rattle.std.specs.Prelude.{ℕ, codes, List, [], ◌∷◌}
 use Rattle.exchange_log.specs.declared.stamp.Stamp.{Stamp}
 
 -- something at this moment, with 10.0.0.7, port 2727
@@ -9,3 +9,7 @@ stamp_at moment = record { moment = moment; peer = record { ip = record { octets
 -- 12:03:07.123456 on the second day of 1970: 86,400 + 43,387 seconds
 abbrev pub noon : ℕ
 noon = 129787123456
+
+-- the domain of the gateway
+abbrev pub own : List ℕ
+own = codes "rgw.example.net"

@@ -24,18 +24,18 @@ abbrev pub waited_text : Option ℕ → List ℕ
 waited_text None = []
 waited_text (Some ms) = codes " +" ++ decimal ms ++ codes " ms"
 
--- a message
-unfoldable pub message_line : Stamp → Way → List ℕ → Option ℕ → List ℕ
-message_line stamp way text waited =
-    stamp_text stamp ++ mark_of way ++ message_shown text ++ waited_text waited ++ 10 ∷ []
+-- a message that comes to or leaves a gateway of this domain, or of none where that is empty
+unfoldable pub message_line : List ℕ → Stamp → Way → List ℕ → Option ℕ → List ℕ
+message_line own stamp way text waited =
+    stamp_text stamp ++ mark_of way ++ message_shown own text ++ waited_text waited ++ 10 ∷ []
 
 -- a note
 unfoldable pub note_line : Stamp → Note → List ℕ
 note_line stamp note = stamp_text stamp ++ codes " ! " ++ note_text note ++ 10 ∷ []
 
 -- a command of the gateway's own is given up
-unfoldable pub given_up_line : Stamp → List ℕ → List ℕ
-given_up_line stamp text = stamp_text stamp ++ codes " ! given up:" ++ header_of text ++ 10 ∷ []
+unfoldable pub given_up_line : List ℕ → Stamp → List ℕ → List ℕ
+given_up_line own stamp text = stamp_text stamp ++ codes " ! given up:" ++ header_of own text ++ 10 ∷ []
 
 -- a command is refused, with what is at fault
 unfoldable pub refused_line : Stamp → ℕ → List ℕ → List ℕ

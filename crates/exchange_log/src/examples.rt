@@ -9,7 +9,7 @@ ghost use Rattle.exchange_log.specs.TimeOfDay.{time_of_day};
 ghost use Rattle.exchange_log.specs.Messages.{message_shown, header_of};
 ghost use Rattle.exchange_log.specs.Notes.{note_text};
 ghost use Rattle.exchange_log.specs.Lines.{message_line, note_line, given_up_line, refused_line};
-ghost use Rattle.exchange_log.specs.Example.{stamp_at, noon};
+ghost use Rattle.exchange_log.specs.Example.{stamp_at, noon, own};
 
 /// A day has 24 hours of 60 minutes of 60 seconds of 1,000 milliseconds; what is below a millisecond isn't shown.
 pub fn a_moment_has_a_time_of_day()
@@ -48,27 +48,44 @@ pub fn long_values_are_cut()
     ensures empty { shown [] ≡ [] }
 {}
 
-/// Of a header the first three words are shown, of the endpoint's name what stands before the first `@`.
-pub fn a_header_is_shown_without_the_domain()
-    ensures command { header_of (codes "NTFY 10000003 aaln/1@rgw.example.net MGCP 1.0\r\nX: A1\r\n")
+/// Of a header the first three words are shown, of a name of the gateway's own domain what stands before the first `@`.
+pub fn a_header_is_shown_without_the_own_domain()
+    ensures command { header_of own (codes "NTFY 10000003 aaln/1@rgw.example.net MGCP 1.0\r\nX: A1\r\n")
         ≡ codes " NTFY 10000003 aaln/1" }
-    ensures two { header_of (codes "AUEP 1 a@b@c MGCP 1.0\r\n") ≡ codes " AUEP 1 a" }
-    ensures no_domain { header_of (codes "AUEP 1 * MGCP 1.0\r\n") ≡ codes " AUEP 1 *" }
-    ensures blanks { header_of (codes "AUEP \t1  a ") ≡ codes " AUEP 1 a" }
-    ensures short { header_of (codes "200 1207\r\n") ≡ codes " 200 1207" }
-    ensures word { header_of (codes "hello@x") ≡ codes " hello@x" }
-    ensures nothing { header_of [] ≡ [] }
+    ensures no_domain { header_of own (codes "AUEP 1 * MGCP 1.0\r\n") ≡ codes " AUEP 1 *" }
+    ensures blanks { header_of own (codes "AUEP \t1  a ") ≡ codes " AUEP 1 a" }
+    ensures short { header_of own (codes "200 1207\r\n") ≡ codes " 200 1207" }
+    ensures word { header_of own (codes "hello@rgw.example.net") ≡ codes " hello@rgw.example.net" }
+    ensures nothing { header_of own [] ≡ [] }
+{}
+
+/// The domain is left out where it is the gateway's own, whatever the case of its letters, and nowhere else.
+pub fn another_domain_is_shown()
+    ensures own_case { header_of (codes "Rgw.b") (codes "AUEP 1 a@rGW.B") ≡ codes " AUEP 1 a" }
+    ensures other { header_of own (codes "AUEP 118 aaln/1@other.example.net MGCP 1.0\r\n")
+        ≡ codes " AUEP 118 aaln/1@other.example.net" }
+    ensures longer { header_of (codes "b") (codes "AUEP 1 a@b.c") ≡ codes " AUEP 1 a@b.c" }
+    ensures shorter { header_of (codes "b.c") (codes "AUEP 1 a@b") ≡ codes " AUEP 1 a@b" }
+    ensures empty { header_of (codes "b") (codes "AUEP 1 a@") ≡ codes " AUEP 1 a@" }
+    ensures first { header_of (codes "b@c") (codes "AUEP 1 a@b@c") ≡ codes " AUEP 1 a" }
+    ensures last { header_of (codes "c") (codes "AUEP 1 a@b@c") ≡ codes " AUEP 1 a@b@c" }
+    ensures local { header_of (codes "a") (codes "AUEP 1 a") ≡ codes " AUEP 1 a" }
+    // A call agent has gateways of many domains, and none of its own.
+    ensures none { header_of [] (codes "AUEP 1 a@b") ≡ codes " AUEP 1 a@b" }
+    ensures none_empty { header_of [] (codes "AUEP 1 a@") ≡ codes " AUEP 1 a@" }
+    ensures none_local { header_of [] (codes "AUEP 1 a") ≡ codes " AUEP 1 a" }
 {}
 
 /// Behind it come the further lines that aren't empty, in their order.
 pub fn a_message_is_shown_in_one_line()
-    ensures command { message_shown (codes "RQNT 1207 aaln/1@rgw.example.net MGCP 1.0\r\nX: A1\r\nR: L/hd(N), L/hf\r\nS: L/rg\r\n")
+    ensures command { message_shown own (codes "RQNT 1207 aaln/1@rgw.example.net MGCP 1.0\r\nX: A1\r\nR: L/hd(N), L/hf\r\nS: L/rg\r\n")
         ≡ codes " RQNT 1207 aaln/1 X: A1 R: L/hd(N), L/hf S: L/rg" }
-    ensures response { message_shown (codes "200 1207 OK\r\n") ≡ codes " 200 1207 OK" }
-    ensures description { message_shown (codes "200 7 OK\r\nI: 1\r\n\r\nv=0\r\nt=0 0\r\n") ≡ codes " 200 7 OK I: 1 v=0 t=0 0" }
-    ensures late { message_shown (codes "\r\nAUEP 1 a@b MGCP 1.0\r\n") ≡ codes " AUEP 1 a@b MGCP 1.0" }
-    ensures stray { message_shown (codes "AUEP 1 a\n" ++ 27 ∷ codes "c\n") ≡ codes " AUEP 1 a " ++ 92 ∷ codes "x1bc" }
-    ensures nothing { message_shown [] ≡ [] }
+    ensures other { message_shown own (codes "AUEP 1 a@b MGCP 1.0\r\nF: A\r\n") ≡ codes " AUEP 1 a@b F: A" }
+    ensures response { message_shown own (codes "200 1207 OK\r\n") ≡ codes " 200 1207 OK" }
+    ensures description { message_shown own (codes "200 7 OK\r\nI: 1\r\n\r\nv=0\r\nt=0 0\r\n") ≡ codes " 200 7 OK I: 1 v=0 t=0 0" }
+    ensures late { message_shown own (codes "\r\nAUEP 1 a@b MGCP 1.0\r\n") ≡ codes " AUEP 1 a@b MGCP 1.0" }
+    ensures stray { message_shown own (codes "AUEP 1 a\n" ++ 27 ∷ codes "c\n") ≡ codes " AUEP 1 a " ++ 92 ∷ codes "x1bc" }
+    ensures nothing { message_shown own [] ≡ [] }
 {}
 
 /// What is noted, of each kind.
@@ -88,16 +105,16 @@ pub fn notes_say_what_happened()
 
 /// Each line begins with the time of day and the other end, and says by a sign what it is.
 pub fn lines_have_their_forms()
-    ensures came { message_line (stamp_at noon) Came (codes "RQNT 1207 aaln/1@rgw.example.net MGCP 1.0\r\nS: L/rg\r\n") None
+    ensures came { message_line own (stamp_at noon) Came (codes "RQNT 1207 aaln/1@rgw.example.net MGCP 1.0\r\nS: L/rg\r\n") None
         ≡ codes "12:03:07.123 10.0.0.7:2727 > RQNT 1207 aaln/1 S: L/rg\n" }
-    ensures answered { message_line (stamp_at noon) Sent (codes "200 1207 OK\r\n") (Some 0)
+    ensures answered { message_line own (stamp_at noon) Sent (codes "200 1207 OK\r\n") (Some 0)
         ≡ codes "12:03:07.123 10.0.0.7:2727 < 200 1207 OK +0 ms\n" }
-    ensures waited { message_line (stamp_at 0) Came (codes "200 10000003\r\n") (Some 512)
+    ensures waited { message_line own (stamp_at 0) Came (codes "200 10000003\r\n") (Some 512)
         ≡ codes "00:00:00.000 10.0.0.7:2727 > 200 10000003 +512 ms\n" }
-    ensures empty { message_line (stamp_at 0) Came [] None ≡ codes "00:00:00.000 10.0.0.7:2727 >\n" }
+    ensures empty { message_line own (stamp_at 0) Came [] None ≡ codes "00:00:00.000 10.0.0.7:2727 >\n" }
     ensures noted { note_line (stamp_at noon) (notes.AnsweredAgain 1205)
         ≡ codes "12:03:07.123 10.0.0.7:2727 ! repeat of 1205, answered again\n" }
-    ensures given_up { given_up_line (stamp_at noon) (codes "NTFY 10000003 aaln/1@rgw.example.net MGCP 1.0\r\nX: A1\r\n")
+    ensures given_up { given_up_line own (stamp_at noon) (codes "NTFY 10000003 aaln/1@rgw.example.net MGCP 1.0\r\nX: A1\r\n")
         ≡ codes "12:03:07.123 10.0.0.7:2727 ! given up: NTFY 10000003 aaln/1\n" }
     ensures refused { refused_line (stamp_at noon) 1207 (codes "518 unsupported or unknown package: value of parameter R")
         ≡ codes "12:03:07.123 10.0.0.7:2727 ! refused 1207: 518 unsupported or unknown package: value of parameter R\n" }

@@ -17,9 +17,9 @@ pub fn what_is_shown_is_printable()
 
 /// Whatever a datagram has, a line of the log is one line of printable ASCII: nothing forges a line or a terminal's sequence.
 pub fn a_line_is_one_line()
-    ensures message { (stamp : Stamp) (way : Way) (text : List ℕ) (waited : Option ℕ)
-        → IsLine (message_line stamp way text waited) }
+    ensures message { (own : List ℕ) (stamp : Stamp) (way : Way) (text : List ℕ) (waited : Option ℕ)
+        → IsLine (message_line own stamp way text waited) }
     ensures note { (stamp : Stamp) (note : Note) → IsLine (note_line stamp note) }
-    ensures given_up { (stamp : Stamp) (text : List ℕ) → IsLine (given_up_line stamp text) }
+    ensures given_up { (own : List ℕ) (stamp : Stamp) (text : List ℕ) → IsLine (given_up_line own stamp text) }
     ensures refused { (stamp : Stamp) (id : ℕ) (why : List ℕ) → IsLine (refused_line stamp id why) }
 {}

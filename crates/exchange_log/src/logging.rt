@@ -57,39 +57,41 @@ fn put_waited(alloc: Global, out: &mut Vec<u8>, waited: Option<u64>) -> Result<(
 #[tactic(auto, unfolding(crate::specs::Lines::message_line))]
 fn message_line(
     alloc: Global,
+    own: &[u8],
     stamp: Stamp,
     way: Way,
     text: &[u8],
     waited: Option<u64>,
 ) -> Result<Vec<u8>, OutOfMemory>
-    ensures { IfOk result (λ line. line.items ≡ message_line stamp way text.now waited) }
+    ensures { IfOk result (λ line. line.items ≡ message_line own.now stamp way text.now waited) }
 {
     let mut line = begun(alloc, stamp)?;
     line.extend_from_slice(mark_of(way))?;
-    put_text(&mut line, text)?;
+    put_text(&mut line, own, text)?;
     put_waited(alloc, &mut line, waited)?;
     line.push(b'\n')?;
     Ok(line)
 }
 
 /// Puts a message that came or is sent, in one line, as `12:03:07.123 10.0.0.7:2727 > RQNT 1207 aaln/1 S: L/rg`: of its
-/// header the verb or return code, the transaction id, and the endpoint's name without its domain or the comment; then its
-/// parameters in their order and the lines of its description. `waited` is how long the command had been waiting for this
-/// answer, in ms, and is shown behind it, as ` +12 ms`. Of a value of more than 64 bytes the front is shown, and `..`; each
-/// byte that isn't printable ASCII, and the backslash, as `\x1b`. After an error, which is for want of memory only, `out` is
-/// as it was.
+/// header the verb or return code, the transaction id, and the endpoint's name or the comment; then its parameters in their
+/// order and the lines of its description. A name whose domain is `own`, compared without case, stands without it, and any
+/// other is whole; where `own` is empty all are. `waited` is how long the command had been waiting for this answer, in ms, and
+/// is shown behind it, as ` +12 ms`. Of a value of more than 64 bytes the front is shown, and `..`; each byte that isn't
+/// printable ASCII, and the backslash, as `\x1b`. After an error, which is for want of memory only, `out` is as it was.
 pub fn put_message(
     alloc: Global,
     out: &mut Vec<u8>,
+    own: &[u8],
     stamp: Stamp,
     way: Way,
     text: &[u8],
     waited: Option<u64>,
 ) -> Result<(), OutOfMemory>
-    ensures ok { OnOk result (out.new.items ≡ out.old.items ++ message_line stamp way text.now waited) }
+    ensures ok { OnOk result (out.new.items ≡ out.old.items ++ message_line own.now stamp way text.now waited) }
     ensures err { OnErr result (out.new.items ≡ out.old.items) }
 {
-    let line = message_line(alloc, stamp, way, text, waited)?;
+    let line = message_line(alloc, own, stamp, way, text, waited)?;
     out.extend_from_slice(&line)?;
     Ok(())
 }
@@ -122,28 +124,35 @@ pub fn put_note(
 }
 
 #[tactic(auto, unfolding(crate::specs::Lines::given_up_line))]
-fn given_up_line(alloc: Global, stamp: Stamp, text: &[u8]) -> Result<Vec<u8>, OutOfMemory>
-    ensures { IfOk result (λ line. line.items ≡ given_up_line stamp text.now) }
+fn given_up_line(
+    alloc: Global,
+    own: &[u8],
+    stamp: Stamp,
+    text: &[u8],
+) -> Result<Vec<u8>, OutOfMemory>
+    ensures { IfOk result (λ line. line.items ≡ given_up_line own.now stamp text.now) }
 {
     let mut line = begun(alloc, stamp)?;
     line.extend_from_slice(b" ! given up:")?;
-    put_header(&mut line, text)?;
+    put_header(&mut line, own, text)?;
     line.push(b'\n')?;
     Ok(line)
 }
 
 /// Puts that the gateway's own command of this text is given up (RFC 3435, 4.3), as `12:03:27.123 10.0.0.7:2727 ! given up:
-/// NTFY 10000003 aaln/1`. After an error, which is for want of memory only, `out` is as it was.
+/// NTFY 10000003 aaln/1`, the name as `put_message` puts it. After an error, which is for want of memory only, `out` is as it
+/// was.
 pub fn put_given_up(
     alloc: Global,
     out: &mut Vec<u8>,
+    own: &[u8],
     stamp: Stamp,
     text: &[u8],
 ) -> Result<(), OutOfMemory>
-    ensures ok { OnOk result (out.new.items ≡ out.old.items ++ given_up_line stamp text.now) }
+    ensures ok { OnOk result (out.new.items ≡ out.old.items ++ given_up_line own.now stamp text.now) }
     ensures err { OnErr result (out.new.items ≡ out.old.items) }
 {
-    let line = given_up_line(alloc, stamp, text)?;
+    let line = given_up_line(alloc, own, stamp, text)?;
     out.extend_from_slice(&line)?;
     Ok(())
 }

@@ -3,10 +3,10 @@ ghost use Rattle.std.specs.Prelude.{◌≡◌, ◌++◌, OnOk};
 ghost use Rattle.std.specs.List.{flat_map};
 ghost use Rattle.mg_bytes.specs.Lines.{lines_of};
 ghost use Rattle.mg_bytes.specs.Words.{words as words_of};
-ghost use Rattle.exchange_log.specs.Messages.{set_off, local_name, header_shown, line_shown, message_shown, header_of};
+ghost use Rattle.exchange_log.specs.Messages.{set_off, name_shown, header_shown, line_shown, message_shown, header_of};
 
 use crate::escaping::put_shown;
-use mg_bytes::{OutOfMemory, lines, split_once, words};
+use mg_bytes::{OutOfMemory, lines, same_no_case, split_once, words};
 
 // A value, behind a blank.
 fn put_set_off(out: &mut Vec<u8>, value: &[u8]) -> Result<(), OutOfMemory>
@@ -16,21 +16,21 @@ fn put_set_off(out: &mut Vec<u8>, value: &[u8]) -> Result<(), OutOfMemory>
     put_shown(out, value)
 }
 
-// An endpoint's name without its domain.
-#[tactic(auto, unfolding(crate::specs::Messages::local_name))]
-fn local_name(name: &[u8]) -> &[u8]
-    ensures { result.now ≡ local_name name.now }
+// An endpoint's name, without its domain where that is the gateway's own.
+#[tactic(auto, unfolding(crate::specs::Messages::name_shown))]
+fn name_shown<'n>(own: &[u8], name: &'n [u8]) -> &'n [u8]
+    ensures { result.now ≡ name_shown own.now name.now }
 {
     match split_once(name, b'@') {
-        Some((local, _domain)) => local,
-        None => name,
+        Some((local, domain)) if !own.is_empty() && same_no_case(domain, own) => local,
+        _ => name,
     }
 }
 
 // The first words of a header.
 #[tactic(auto, unfolding(crate::specs::Messages::header_shown))]
-fn put_words(out: &mut Vec<u8>, header: &[u8]) -> Result<(), OutOfMemory>
-    ensures { OnOk result (out.new.items ≡ out.old.items ++ header_shown (words_of header.now)) }
+fn put_words(out: &mut Vec<u8>, own: &[u8], header: &[u8]) -> Result<(), OutOfMemory>
+    ensures { OnOk result (out.new.items ≡ out.old.items ++ header_shown own.now (words_of header.now)) }
 {
     let mut left = words(header);
     let Some(kind) = left.next() else {
@@ -44,7 +44,7 @@ fn put_words(out: &mut Vec<u8>, header: &[u8]) -> Result<(), OutOfMemory>
     let Some(name) = left.next() else {
         return Ok(());
     };
-    put_set_off(out, local_name(name))
+    put_set_off(out, name_shown(own, name))
 }
 
 // The lines of a text that aren't empty, each behind a blank.
@@ -59,28 +59,29 @@ fn put_lines(out: &mut Vec<u8>, text: &[u8]) -> Result<(), OutOfMemory>
     Ok(())
 }
 
-/// Puts a message: the verb or return code, the transaction id, and the endpoint's local name or the comment, and then its
-/// further lines, the parameters in their order and the description, each behind a blank.
+/// Puts a message: the verb or return code, the transaction id, and the endpoint's name or the comment, and then its further
+/// lines, the parameters in their order and the description, each behind a blank. Of a name of the gateway's own domain the
+/// local name is put; where `own` is empty it has none.
 #[tactic(auto, unfolding(crate::specs::Messages::message_shown))]
-pub(crate) fn put_text(out: &mut Vec<u8>, text: &[u8]) -> Result<(), OutOfMemory>
-    ensures { OnOk result (out.new.items ≡ out.old.items ++ message_shown text.now) }
+pub(crate) fn put_text(out: &mut Vec<u8>, own: &[u8], text: &[u8]) -> Result<(), OutOfMemory>
+    ensures { OnOk result (out.new.items ≡ out.old.items ++ message_shown own.now text.now) }
 {
     let mut left = lines(text);
     let Some(header) = left.next() else {
         return Ok(());
     };
-    put_words(out, header)?;
+    put_words(out, own, header)?;
     put_lines(out, left.rest())
 }
 
-/// Puts what is first of a message alone: the verb, the transaction id and the endpoint's local name.
+/// Puts what is first of a message alone: the verb, the transaction id and the endpoint's name, as `put_text` does.
 #[tactic(auto, unfolding(crate::specs::Messages::header_of))]
-pub(crate) fn put_header(out: &mut Vec<u8>, text: &[u8]) -> Result<(), OutOfMemory>
-    ensures { OnOk result (out.new.items ≡ out.old.items ++ header_of text.now) }
+pub(crate) fn put_header(out: &mut Vec<u8>, own: &[u8], text: &[u8]) -> Result<(), OutOfMemory>
+    ensures { OnOk result (out.new.items ≡ out.old.items ++ header_of own.now text.now) }
 {
     let mut left = lines(text);
     let Some(header) = left.next() else {
         return Ok(());
     };
-    put_words(out, header)
+    put_words(out, own, header)
 }

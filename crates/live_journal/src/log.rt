@@ -1,8 +1,9 @@
 //! The log, for people, on standard error: a line a message, and a line for what is to be noted beside it.
 use crate::recent::Recent;
 use exchange_log::{Note, Stamp, Way, put_given_up, put_message, put_note};
+use gateway_core::Gateway;
 use live_ends::{Now, Record};
-use mg_bytes::OutOfMemory;
+use mg_bytes::{OutOfMemory, Text};
 use mgcp_text::{Message, TextFault, TransactionId, read_message};
 use piggyback::parts;
 use plain_machine::line_of_id;
@@ -43,6 +44,8 @@ pub struct Refusal {
 pub struct Log {
     pub alloc: Global,
     pub record: Record,
+    /// The gateway's domain, which its names are shown without.
+    pub domain: Text,
     answered: Recent,
     // What each line sent last; line 0 is the gateway itself.
     own: BTreeMap<u16, OwnCommand>,
@@ -53,11 +56,13 @@ pub struct Log {
 }
 
 impl Log {
-    /// A log of which nothing is told yet.
-    pub fn new(alloc: Global, is_on: bool) -> Result<Log, OutOfMemory> {
+    /// The log of this gateway, of which nothing is told yet.
+    pub fn new(alloc: Global, is_on: bool, gateway: &Gateway) -> Result<Log, OutOfMemory> {
+        let domain = gateway.setup().names.domain.as_bytes();
         Ok(Log {
             alloc,
             record: Record::new(alloc, is_on),
+            domain: Text::of(Vec::from_slice(alloc, domain)?),
             answered: Recent::new(alloc)?,
             own: BTreeMap::new(alloc),
             came: Stamp {
@@ -100,6 +105,7 @@ impl Log {
         put_message(
             self.alloc,
             &mut self.record.out,
+            self.domain.as_bytes(),
             self.came,
             Way::Came,
             text,
@@ -137,6 +143,19 @@ impl Log {
         }
     }
 
+    // Puts a text that is sent.
+    fn put_sent(&mut self, to: Stamp, text: &[u8], waited: Option<u64>) -> Result<(), OutOfMemory> {
+        put_message(
+            self.alloc,
+            &mut self.record.out,
+            self.domain.as_bytes(),
+            to,
+            Way::Sent,
+            text,
+            waited,
+        )
+    }
+
     // A response to a command that came is sent.
     fn answer_sent(
         &mut self,
@@ -147,7 +166,7 @@ impl Log {
     ) -> Result<(), OutOfMemory> {
         let Refusal { id, code } = refusal;
         if code < LEAST_ANSWER {
-            return put_message(self.alloc, &mut self.record.out, to, Way::Sent, text, None);
+            return self.put_sent(to, text, None);
         }
         if self.answered.is_repeat(now.clock, id.number()) {
             return put_note(
@@ -161,21 +180,20 @@ impl Log {
             self.refused.push(refusal)?;
         }
         let waited = Some(now.time.saturating_sub(self.came.moment) / MICROSECONDS);
-        put_message(
-            self.alloc,
-            &mut self.record.out,
-            to,
-            Way::Sent,
-            text,
-            waited,
-        )
+        self.put_sent(to, text, waited)
     }
 
     // What the line of this command sent before it was given up, where it wasn't answered.
     fn give_up(&mut self, to: Stamp, line: u16) -> Result<(), OutOfMemory> {
         match self.own.get(&line) {
             Some(own) if !own.is_answered => {
-                put_given_up(self.alloc, &mut self.record.out, to, own.text.as_slice())
+                put_given_up(
+                    self.alloc,
+                    &mut self.record.out,
+                    self.domain.as_bytes(),
+                    to,
+                    own.text.as_slice(),
+                )
             }
             _ => Ok(()),
         }
@@ -196,7 +214,7 @@ impl Log {
             return put_note(self.alloc, &mut self.record.out, to, Note::SentAgain(id));
         }
         self.give_up(to, line)?;
-        put_message(self.alloc, &mut self.record.out, to, Way::Sent, text, None)?;
+        self.put_sent(to, text, None)?;
         let own = OwnCommand {
             id: id.number(),
             first: now.time,

@@ -19,9 +19,10 @@ fn note_of(fate: Fate) -> Option<Note> {
 
 impl Log {
     fn put_lost(&mut self, from: Stamp, bytes: &[u8]) -> Result<(), OutOfMemory> {
+        let own = self.domain.as_bytes();
         let out = &mut self.record.out;
         for text in parts(bytes) {
-            put_message(self.alloc, out, from, Way::Came, text, None)?;
+            put_message(self.alloc, out, own, from, Way::Came, text, None)?;
         }
         put_note(self.alloc, out, from, Note::Lost)
     }

@@ -151,7 +151,7 @@ fn serve_with<'w, R: Files + Net + Clock + RandomSource + Print + Eprint>(
     config: &[u8],
     gateway: &mut Gateway,
 ) -> Ending<'w> {
-    match open(rt, alloc, settings, config) {
+    match open(rt, alloc, settings, config, gateway) {
         Ok(mut opened) => serve_opened(rt, alloc, settings, gateway, &mut opened),
         Err(unopened) => unopened.ending(settings),
     }

@@ -2,6 +2,7 @@
 use crate::ending::Ending;
 use crate::words::Settings;
 use bad_network::BadNetwork;
+use gateway_core::Gateway;
 use live_ends::{CommandSocket, LiveClock, Readiness};
 use live_gateway::{Ends, LiveWire, Outlets, boxed};
 use live_journal::{Capture, Journal, Log, MessageTally, Trace, TraceEntry};
@@ -182,16 +183,17 @@ fn trace_of(alloc: Global, is_on: bool, config: &[u8]) -> Trace {
     trace
 }
 
-// The journal of a gateway whose socket is here.
+// The journal of this gateway, whose socket is here.
 fn journal_of(
     alloc: Global,
     settings: &Settings<'_>,
     config: &[u8],
+    gateway: &Gateway,
     here: SocketAddrV4,
     desk: Option<Box<Desk>>,
 ) -> Result<Box<Journal>, AllocError> {
     let tally = boxed(alloc, MessageTally::new(alloc)?)?;
-    let log = boxed(alloc, Log::new(alloc, settings.log)?)?;
+    let log = boxed(alloc, Log::new(alloc, settings.log, gateway)?)?;
     let trace = boxed(alloc, trace_of(alloc, settings.trace, config))?;
     let capture = Capture::new(alloc, settings.capture.is_some(), here);
     let journal = Journal {
@@ -222,24 +224,26 @@ fn assembled<'a, R: Net + Clock, F: Drop>(
     alloc: Global,
     settings: &Settings<'_>,
     config: &[u8],
+    gateway: &Gateway,
     ends: Box<Ends<'a, R>>,
     outlets: Outlets<F>,
 ) -> Result<Opened<'a, R, F>, AllocError> {
     let here = known(ends.socket.local_addr()).unwrap_or(settings.listen);
     let desk = desk_of(alloc, &outlets.site)?;
-    let journal = journal_of(alloc, settings, config, here, desk)?;
+    let journal = journal_of(alloc, settings, config, gateway, here, desk)?;
     let wire = LiveWire::new(ends, journal);
     Ok(Opened { wire, outlets })
 }
 
-/// A wire over the sockets that are asked for, whose trace has begun with this configuration; and the outlets.
+/// A wire for this gateway over the sockets that are asked for, whose trace has begun with this configuration; and the outlets.
 pub fn open<'a, R: Files + Net + Clock>(
     rt: &'a R,
     alloc: Global,
     settings: &Settings<'_>,
     config: &[u8],
+    gateway: &Gateway,
 ) -> Result<Opened<'a, R, R::File>, Unopened> {
     let ends = open_ends(rt, alloc, settings)?;
     let outlets = open_outlets(rt, alloc, settings, &ends.ready)?;
-    Ok(assembled(alloc, settings, config, ends, outlets)?)
+    Ok(assembled(alloc, settings, config, gateway, ends, outlets)?)
 }

@@ -1,5 +1,6 @@
-//! Calls about the log of a live gateway: the line that each puts.
+//! Calls about the log of a live gateway, whose domain is that of the rows: the line that each puts.
 use crate::values::capturing::{address_of, number_of, parted};
+use crate::values::names::DOMAIN;
 use exchange_log::{Note, Stamp, Way, put_given_up, put_message, put_note, put_refused};
 use mg_bytes::OutOfMemory;
 use mgcp_text::TransactionId;
@@ -21,7 +22,7 @@ fn put_told(row: &mut Row<'_>, stamp: Stamp, way: Way, value: &[u8]) -> Result<(
         b"-" => None,
         _ => Some(number_of(row, word)),
     };
-    put_message(row.alloc, &mut row.given, stamp, way, text, waited)
+    put_message(row.alloc, &mut row.given, DOMAIN, stamp, way, text, waited)
 }
 
 // `1207 WHY`.
@@ -70,7 +71,7 @@ fn put_line(row: &mut Row<'_>, call: &str, stamp: Stamp, value: &[u8]) -> Result
     match call {
         "log came" => put_told(row, stamp, Way::Came, value),
         "log sent" => put_told(row, stamp, Way::Sent, value),
-        "log given up" => put_given_up(row.alloc, &mut row.given, stamp, value),
+        "log given up" => put_given_up(row.alloc, &mut row.given, DOMAIN, stamp, value),
         "log refused" => put_why(row, stamp, value),
         _ => {
             let note = note_of(row, call, value);
