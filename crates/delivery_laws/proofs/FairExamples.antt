@@ -27,11 +27,15 @@ is_handed setup within number moment w [] = false
 is_handed setup within number moment w (step ∷ steps) =
     (is_handing number step && is_soon setup within number moment w) || is_handed setup within number moment (went setup w step) steps
 
+-- so it is of a packet with this number, sent at this moment; or it isn't so old yet
+abbrev pub is_in_time : Setup → ℕ → ℕ → List WorldStep → ℕ → ℕ → Bool
+is_in_time setup within now steps number moment = nat_lt now (moment + within) || is_handed setup within number moment world_opening steps
+
 -- and so it is of all packets, of which the first has this number
-abbrev pub all_handed : Setup → ℕ → List WorldStep → ℕ → List Posted → Bool
-all_handed setup within steps number [] = true
-all_handed setup within steps number (post ∷ posts) =
-    is_handed setup within number post.packet.moment world_opening steps && all_handed setup within steps (number + 1) posts
+abbrev pub all_handed : Setup → ℕ → ℕ → List WorldStep → ℕ → List Posted → Bool
+all_handed setup within now steps number [] = true
+all_handed setup within now steps number (post ∷ posts) =
+    is_in_time setup within now steps number post.packet.moment && all_handed setup within now steps (number + 1) posts
 
 it_hands : (number : ℕ) (step : WorldStep) → is_handing number step ≡ true → step ≡ delivering number
 it_hands number (issuing verb name rest) is = absurd cc
@@ -84,27 +88,36 @@ module _ (setup : Setup) (within : ℕ) (steps : List WorldStep) (number : ℕ) 
         by_test true both is on = here both
         by_test false both is on = on is
 
-handed_at : (setup : Setup) (within : ℕ) (steps : List WorldStep) (first : ℕ) (posts : List Posted) (place : ℕ) (post : Posted) → slice_get posts place ≡ Some post
-    → all_handed setup within steps first posts ≡ true → is_handed setup within (first + place) post.packet.moment world_opening steps ≡ true
-handed_at setup within steps first [] place post found all = absurd (none-some post found)
-handed_at setup within steps first (one ∷ posts) zero post found all =
-    subst (λ (p : Posted). is_handed setup within (first + 0) p.packet.moment world_opening steps ≡ true) (ap (λ (o : Option Posted). unwrap_or o one) found)
-    (subst (λ (n : ℕ). is_handed setup within n one.packet.moment world_opening steps ≡ true) (same first)
-    (and_parts (is_handed setup within first one.packet.moment world_opening steps) (all_handed setup within steps (first + 1) posts) all).0) where
+handed_at : (setup : Setup) (within now : ℕ) (steps : List WorldStep) (first : ℕ) (posts : List Posted) (place : ℕ) (post : Posted) → slice_get posts place ≡ Some post
+    → all_handed setup within now steps first posts ≡ true → is_in_time setup within now steps (first + place) post.packet.moment ≡ true
+handed_at setup within now steps first [] place post found all = absurd (none-some post found)
+handed_at setup within now steps first (one ∷ posts) zero post found all =
+    subst (λ (p : Posted). is_in_time setup within now steps (first + 0) p.packet.moment ≡ true) (ap (λ (o : Option Posted). unwrap_or o one) found)
+    (subst (λ (n : ℕ). is_in_time setup within now steps n one.packet.moment ≡ true) (same first)
+    (and_parts (is_in_time setup within now steps first one.packet.moment) (all_handed setup within now steps (first + 1) posts) all).0) where
       same : (n : ℕ) → n ≡ n + 0
       same n = omega arith
-handed_at setup within steps first (one ∷ posts) (suc place) post found all =
-    subst (λ (n : ℕ). is_handed setup within n post.packet.moment world_opening steps ≡ true) (same first place)
-    (handed_at setup within steps (first + 1) posts place post found
-    (and_parts (is_handed setup within first one.packet.moment world_opening steps) (all_handed setup within steps (first + 1) posts) all).1) where
+handed_at setup within now steps first (one ∷ posts) (suc place) post found all =
+    subst (λ (n : ℕ). is_in_time setup within now steps n post.packet.moment ≡ true) (same first place)
+    (handed_at setup within now steps (first + 1) posts place post found
+    (and_parts (is_in_time setup within now steps first one.packet.moment) (all_handed setup within now steps (first + 1) posts) all).1) where
       same : (n m : ℕ) → n + 1 + m ≡ n + suc m
       same n m = omega arith
 
-pub fair_is : (setup : Setup) (steps : List WorldStep) (within : ℕ) → all_handed setup within steps 0 (plain_world setup steps).posted ≡ true → IsFair setup steps within
+not_young : (now old : ℕ) (b : Bool) → old ≤ now → (nat_lt now old || b) ≡ true → b ≡ true
+not_young now old b late either = by_test (nat_lt now old) refl either where
+  by_test : (young : Bool) → nat_lt now old ≡ young → (young || b) ≡ true → b ≡ true
+  by_test true is all = absurd (let soon = ltb-true now old is in omega (arith, soon, late))
+  by_test false is all = all
+
+pub fair_is : (setup : Setup) (steps : List WorldStep) (within : ℕ) → all_handed setup within (now_in setup (plain_world setup steps)) steps 0 (plain_world setup steps).posted ≡ true
+    → IsFair setup steps within
 unfolding world_after
 fair_is setup steps within all = λ number post found late.
+    let now = now_in setup (plain_world setup steps) in
     handed setup within steps number post found [] steps world_opening refl refl
-    (subst (λ (n : ℕ). is_handed setup within n post.packet.moment world_opening steps ≡ true) (same number)
-    (handed_at setup within steps 0 (plain_world setup steps).posted number post found all)) where
+    (not_young now (post.packet.moment + within) (is_handed setup within number post.packet.moment world_opening steps) late
+    (subst (λ (n : ℕ). is_in_time setup within now steps n post.packet.moment ≡ true) (same number)
+    (handed_at setup within now steps 0 (plain_world setup steps).posted number post found all))) where
       same : (n : ℕ) → 0 + n ≡ n
       same n = omega arith

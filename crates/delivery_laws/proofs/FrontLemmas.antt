@@ -1,8 +1,10 @@
 -- What holds of each beginning of a list; for worked examples, in which it computes.
-use Rattle.std.proofs.Common.{◌≡◌, ℕ, ◌+◌, Bool, true, false, ◌||◌, ◌&&◌, List, [], ◌∷◌, ◌++◌, Option, Some, None, refl, sym, ap, ◌∙◌, subst}
+use Rattle.std.proofs.Common.{◌≡◌, ℕ, ◌+◌, Bool, true, false, ◌||◌, ◌&&◌, List, [], ◌∷◌, ◌++◌, length, Option, Some, None, refl, sym, ap, ◌∙◌, subst, append_assoc}
 use Rattle.std.specs.Prelude.{nat_le, nat_lt, not}
-use Rattle.std.proofs.lemmas.Bool.{and_parts, leb-true}
+use Rattle.std.proofs.lemmas.Bool.{and_parts, leb-true, ltb-true}
 use Rattle.std.proofs.lemmas.Bool.Decides.{Decides-ltb}
+use Rattle.history.specs.Kept.{young_firsts}
+use Rattle.history.specs.Memory.{most_firsts}
 use Rattle.event_requests.specs.declared.request.Request.{Request}
 use Rattle.mg_line.specs.declared.state.State.{State}
 use Rattle.mg_line.specs.declared.state.State.TheVariants.{Normal, Notification, Lockstep}
@@ -13,7 +15,10 @@ use Rattle.plain_machine.specs.Event.{GatewayEvent}
 use Rattle.plain_machine.specs.Lists.{plain}
 use Rattle.plain_machine.specs.Machine.{Machine, endpoint_at}
 use Rattle.dialled_once.specs.Course.{course_from, requests_in}
+use Rattle.agent_core.specs.World.{WorldStep, now_in, plain_world}
+use Rattle.delivery_laws.specs.Fairness.{AgentAlwaysHasRoom}
 use Rattle.delivery_laws.specs.Rounds.{IsAnsweredWithin, IsAskedWithin, IsAwaited}
+use Rattle.delivery_laws.specs.Taking.{agent_history}
 
 first_same : {X : Type 0} (x y : X) (xs ys : List X) → x ∷ xs ≡ y ∷ ys → x ≡ y
 first_same x y xs ys same = cc
@@ -121,3 +126,26 @@ asked_within setup line before events wait all = λ some between later endpoint 
     (both_are (locked_by (endpoint_at m.endpoints line)) (nat_lt (m.now + wait) next) locked long)
     (stretch_holds (is_asked setup line before wait) events some between later all order) in
     let clash : true ≡ false = sym some_asked ∙ ap has_some none in cc
+
+-- a line that never waits for a request is asked in any time
+
+abbrev pub is_free : Setup → ℕ → List GatewayEvent → List GatewayEvent → Bool
+is_free setup line before some = not (locked_by (endpoint_at (plain setup (before ++ some)).endpoints line))
+
+pub never_locked : (setup : Setup) (line : ℕ) (before events : List GatewayEvent) (wait : ℕ) → on_fronts (is_free setup line before) events ≡ true
+    → IsAskedWithin setup line before events wait
+never_locked setup line before events wait all = λ some between later endpoint order at state late none.
+    let m : Machine = plain setup (before ++ some) in
+    let locked : locked_by (endpoint_at m.endpoints line) ≡ true = ap locked_by at ∙ ap is_locked state in
+    let free = front_holds (is_free setup line before) events some (between ++ later) all (order ∙ append_assoc some between later) in
+    let clash : false ≡ true = sym (ap not locked) ∙ free in cc
+
+-- Whether an agent has room
+
+abbrev pub has_room : Setup → List WorldStep → Bool
+has_room setup before = let w = plain_world setup before in nat_lt (length (young_firsts (now_in setup w) (agent_history setup w))) most_firsts
+
+pub agent_has_room : (setup : Setup) (steps : List WorldStep) → on_fronts (has_room setup) steps ≡ true → AgentAlwaysHasRoom setup steps
+agent_has_room setup steps all = λ before later order.
+    let w = plain_world setup before in
+    ltb-true (length (young_firsts (now_in setup w) (agent_history setup w))) most_firsts (front_holds (has_room setup) steps before later all order)

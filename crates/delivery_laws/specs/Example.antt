@@ -1,15 +1,19 @@
 -- The worlds of the worked examples: the agent audits line 1 of rgw.example.net.
 use Rattle.std.specs.Prelude.{ℕ, ◌+◌, ◌*◌, codes, List, [], ◌∷◌, ◌++◌, drop, length, map, Option, option_and_then, option_map}
 use Rattle.std.specs.List.{range_with_len}
+use Rattle.std.specs.Option.{unwrap_or}
 use Rattle.mg_line.specs.declared.state.State.{State}
-use Rattle.plain_machine.specs.Example.{two_lines, response, rqnt}
+use Rattle.plain_machine.specs.Example.{ready, two_lines, response, rqnt}
 use Rattle.dialled_once.specs.Example.{asks_for_all}
-use Rattle.plain_machine.specs.Machine.{endpoint_at}
+use Rattle.plain_machine.specs.declared.setup.Setup.{Setup}
+use Rattle.plain_machine.specs.declared.endpoint.Endpoint.{Endpoint}
+use Rattle.plain_machine.specs.Machine.{endpoint_at, opening_endpoint}
+use Rattle.plain_machine.specs.Lists.{plain}
 use Rattle.machine_laws.specs.Saying.{Begun}
 use Rattle.mg_line.specs.declared.phone.Act.TheVariants.{OffHook, Key}
 use Rattle.mg_line.specs.declared.phone.Key.TheVariants.{Five, Six}
 use Rattle.plain_machine.specs.Event.{GatewayEvent, phone, tick}
-use Rattle.agent_core.specs.World.{WorldStep, gateway_in, delivering, dialling, issuing, ticking}
+use Rattle.agent_core.specs.World.{World, WorldStep, gateway_in, delivering, dialling, issuing, plain_world, ticking}
 use Rattle.world_laws.specs.Example.{world, announced, audits}
 use Rattle.dialled_end_to_end.specs.Example as both_ends
 use Rattle.delivery_laws.specs.Copies.{gateway_firsts}
@@ -116,3 +120,64 @@ took_first steps = (world steps).gateway_took
 
 abbrev pub took_since : List WorldStep → List GatewayEvent
 took_since steps = drop (length (took_first steps)) (took_first rested)
+
+-- behind these, up to the end of those
+abbrev pub took_between : List WorldStep → List WorldStep → List GatewayEvent
+took_between first steps = drop (length (took_first first)) (took_first steps)
+
+-- Where one premise alone is missing
+
+-- 1 ms later the notification is handed over; meanwhile 5 was dialled
+abbrev pub pressed_since : List WorldStep
+pressed_since = kept_back ++ ticking 2 ∷ dialling 1 (Key Five) ∷ delivering 4 ∷ []
+
+-- 5 and 6 are dialled at once, and each packet takes 5 ms: L/hd and 5 are told at 16
+abbrev pub pressed_at_once : List WorldStep
+pressed_at_once = kept_back ++ dialling 1 (Key Five) ∷ dialling 1 (Key Six) ∷ []
+
+abbrev pub slowly : List WorldStep
+slowly = pressed_at_once ++ ticking 6 ∷ delivering 4 ∷ ticking 11 ∷ delivering 5 ∷ ticking 16 ∷ delivering 6 ∷ []
+
+-- the same gateway, whose lines wait for 100 ms before they announce themselves
+abbrev pub hasty : Setup
+hasty = record two_lines { disconnected_wait = 100 }
+
+abbrev pub hasty_world : List WorldStep → World
+hasty_world steps = plain_world hasty steps
+
+abbrev pub hasty_took : List WorldStep → List GatewayEvent
+hasty_took steps = (hasty_world steps).gateway_took
+
+abbrev pub hasty_took_between : List WorldStep → List WorldStep → List GatewayEvent
+hasty_took_between first steps = drop (length (hasty_took first)) (hasty_took steps)
+
+-- line 1 of it after these
+abbrev pub hasty_line : List GatewayEvent → Endpoint
+hasty_line events = unwrap_or (endpoint_at (plain hasty events).endpoints 1) (opening_endpoint hasty 1)
+
+-- the notification and its repeats, packets 4 to 11, are lost: at 23,501 it is given up, and at 23,550 nothing is in flight
+abbrev pub lost : List WorldStep
+lost = kept_back ++ up_to 23 ++ ticking 23550 ∷ []
+
+-- its announcement, packet 12, goes out at 23,601, and is answered at 24,001
+abbrev pub announced_anew : List WorldStep
+announced_anew = kept_back ++ up_to 24 ++ delivering 12 ∷ delivering 13 ∷ []
+
+-- line 1 is asked in step and lifted, and dials 5, and then nothing comes for 24 seconds
+abbrev pub held_on : List GatewayEvent
+held_on = ready ++ in_step 7 ∷ phone 1 OffHook ∷ phone 1 (Key Five) ∷ []
+
+abbrev pub nothing_comes : List GatewayEvent
+nothing_comes = tick 24000 ∷ tick 25000 ∷ []
+
+-- a gateway that isn't set up well: its agent's name has a line with a dot alone, which parts the messages of a packet; line 1 is asked for
+-- that name
+abbrev pub parting : Setup
+parting = record two_lines { agent = record { text = codes "a\r\n.\r\n200 9 OK"; route = two_lines.agent.route } }
+
+abbrev pub asked_for_its_agent : List WorldStep
+asked_for_its_agent = audits_with (codes "F: N\r\n") ∷ delivering 0 ∷ []
+
+-- and one whose domain has lines of its own
+abbrev pub confirming : Setup
+confirming = record two_lines { names = record { domain = codes "x MGCP 1.0\r\nK: 5\r\nZ:"; lines = 2; table = two_lines.names.table } }

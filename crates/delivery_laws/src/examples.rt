@@ -12,15 +12,21 @@ ghost use Rattle.mg_line.specs.declared.state.State.TheVariants.{Notification, L
 ghost use Rattle.plain_machine.specs.Machine.{serves};
 ghost use Rattle.plain_machine.specs.Example.{agent, other_agent, ready, response, two_lines};
 ghost use Rattle.agent_core.specs.declared.packet.End.TheVariants.{GatewayEnd, AgentEnd};
-ghost use Rattle.agent_core.specs.World.{delivering, gateway_address, gateway_in, now_in, steps_are_taken, ticking, world_opening};
+ghost use Rattle.agent_core.specs.World.{agent_in, delivering, gateway_address, gateway_in, now_in, plain_world, steps_are_taken, ticking, world_opening};
 ghost use Rattle.world_laws.specs.Reached.{issued_in, key_reached, own_in, taken_in};
-ghost use Rattle.world_laws.specs.Example.{world, texts_in, moments_in, code_in, announced, audits, seconds};
+ghost use Rattle.world_laws.specs.Example.{world, texts_in, texts_with, moments_in, code_in, announced, audits, seconds};
+ghost use Rattle.mgcp_text.specs.declared.message.Message.TheVariants as messages;
+ghost use Rattle.mgcp_text.specs.declared.message.Verb.TheVariants.{Rsip};
+ghost use Rattle.mgcp_text.specs.Reading.{message, read_text};
+ghost use Rattle.transmission.specs.Texts.{texts_of};
 ghost use Rattle.mg_bytes.specs.declared.letter.Letter.TheVariants.{Timer};
 ghost use Rattle.mg_packages.specs.declared.event.LineEvent.TheVariants as events;
 ghost use Rattle.mg_packages.specs.declared.signal.Signal.TheVariants.{Ringing};
 ghost use Rattle.event_values.specs.declared.observed.Observed.TheVariants.{Happened, Ended};
 ghost use Rattle.plain_machine.specs.Event.{tick};
-ghost use Rattle.plain_machine.specs.Lists.{plain, sent_of};
+ghost use Rattle.plain_machine.specs.Lists.{plain, sent_from, sent_of};
+ghost use Rattle.plain_machine.specs.Setup.{IsSetUp};
+ghost use Rattle.call_agent.specs.Agent.{observed_on};
 ghost use Rattle.dialled_once.specs.Example.{five, left_then as left_at, lifted as off_hook, six};
 ghost use Rattle.dialled_once.specs.Course.{course_from, course_of};
 ghost use Rattle.dialled_once.specs.Dialled.{IsAskedForAll, done_in};
@@ -37,7 +43,9 @@ ghost use Rattle.delivery_laws.specs.GoingOn.{IsPlainAnswer};
 ghost use Rattle.delivery_laws.specs.Taking.{IsConfirmedIn, agent_history};
 ghost use Rattle.delivery_laws.specs.Asking.{AsksBy};
 ghost use Rattle.delivery_laws.specs.Example.{audit, asked, audits_with, stored_in, answered, confirmed, up_to, last_copy};
-ghost use Rattle.delivery_laws.specs.Example.{freed, held, in_step, took_first, took_since};
+ghost use Rattle.delivery_laws.specs.Example.{announced_anew, hasty, hasty_line, hasty_took, hasty_took_between, hasty_world, held_on, lost, nothing_comes};
+ghost use Rattle.delivery_laws.specs.Example.{freed, held, in_step, asked_for_its_agent, confirming, parting, pressed_at_once, pressed_since, slowly};
+ghost use Rattle.delivery_laws.specs.Example.{took_between, took_first, took_since};
 ghost use Rattle.delivery_laws.specs.Example.{both_lifted, brought, kept_back, key_begun, lifted, rested, notified, notification, redirected, flying_after, state_after, state_on};
 
 /// An audit is handed over once, and so is its answer: it has its answer. Without the one or the other it has none.
@@ -53,6 +61,7 @@ pub fn an_audit_is_served()
     ensures carried { IsCarried two_lines (asked ++ delivering 2 ∷ delivering 3 ∷ []) audit 2 }
     ensures no_copy { code_in 1 (asked ++ delivering 1 ∷ []) ≡ None }
     ensures nothing_back { code_in 1 (asked ++ delivering 2 ∷ []) ≡ None }
+    ensures no_response { code_in 1 (asked ++ delivering 0 ∷ []) ≡ None }
 {}
 
 /// A copy is that of its number, its sender and its text, and it goes to the other end.
@@ -67,10 +76,13 @@ pub fn what_a_copy_is()
     ensures not_back { arrives GatewayEnd two_lines (record { moment = 1; sender = agent; to = other_agent; bytes = [] }) ≡ false }
 {}
 
-/// Where each packet is handed over at the moment at which it was sent the network is fair within 0 ms; where one isn't it is not.
+/// Where each packet is handed over at the moment at which it was sent the network is fair within 0 ms; where one isn't it is not. It
+/// is fair within 1 ms as long as that isn't over, and then what was issued needn't be answered.
 pub fn what_a_fair_network_is()
     ensures fair { IsFair two_lines answered 0 }
     ensures lost { ¬ IsFair two_lines (asked ++ delivering 2 ∷ []) 0 }
+    ensures fair_yet { IsFair two_lines asked 1 }
+    ensures not_yet { code_in 1 asked ≡ None }
 {}
 
 /// Once a K of a later audit confirms it, a copy gets silence; a K of an earlier one confirms nothing.
@@ -82,13 +94,18 @@ pub fn what_is_confirmed_gets_silence()
 {}
 
 /// A command goes out eight times. The last copy and its answer are enough, where that comes less than 23,500 ms after the command
-/// was issued at 1; at 23,500 ms it is given up.
+/// was issued at 1; at 23,500 ms it is given up. Seven that are lost are too many before the eighth goes out; and an answer comes too
+/// late if the clock goes back, which no world takes.
 pub fn the_last_copy_is_enough()
     ensures moments { moments_in (asked ++ up_to 20) ≡ 1 ∷ 1 ∷ 1 ∷ 501 ∷ 1501 ∷ 3501 ∷ 7501 ∷ 11501 ∷ 15501 ∷ 19501 ∷ [] }
     ensures taken { steps_are_taken two_lines world_opening (last_copy ++ ticking 23500 ∷ delivering 10 ∷ []) ≡ true }
     ensures soon { code_in 1 (last_copy ++ ticking 23500 ∷ delivering 10 ∷ []) ≡ Some 200 }
     ensures too_late { code_in 1 (last_copy ++ ticking 23501 ∷ delivering 10 ∷ []) ≡ None }
     ensures all_lost { code_in 1 (last_copy ++ ticking 23500 ∷ []) ≡ None }
+    ensures seven_lost { code_in 1 (asked ++ up_to 19) ≡ None }
+    ensures goes_back { now_in two_lines (world (last_copy ++ ticking 23501 ∷ ticking 23000 ∷ [])) ≡ 23000 }
+    ensures not_taken { steps_are_taken two_lines world_opening (last_copy ++ ticking 23501 ∷ ticking 23000 ∷ delivering 10 ∷ []) ≡ false }
+    ensures not_had { code_in 1 (last_copy ++ ticking 23501 ∷ ticking 23000 ∷ delivering 10 ∷ []) ≡ None }
 {}
 
 /// A notification that is handed over is taken, and its answer is packet 3. One that goes to another address is lost.
@@ -102,7 +119,7 @@ pub fn a_notification_is_taken()
     ensures confirmed { IsConfirmedIn 7 (first_entry 7 0 [] ∷ Confirmation ((record { first = 5; last = 9 }) ∷ []) ∷ []) }
 {}
 
-/// It is brought where the network is fair and where it goes to the agent; one that goes elsewhere needn't be.
+/// It is brought where the network is fair and where it goes to the agent; one that goes elsewhere needn't be, and then its line waits.
 pub fn a_notification_is_brought()
     ensures own { map key_begun (own_in two_lines (world brought)) ≡ (1, 1) ∷ (10000000, 1) ∷ [] }
     ensures fair { IsFair two_lines brought 0 }
@@ -110,10 +127,14 @@ pub fn a_notification_is_brought()
     ensures took { map key_reached (taken_in (world brought)) ≡ (1, 1) ∷ (10000000, 1) ∷ [] }
     ensures goes_not { ¬ GoesToAgent two_lines (world redirected) (codes "NTFY 10000000 aaln/1@rgw.example.net MGCP 1.0\r\nX: A0\r\nO: L/hd\r\n") }
     ensures reaches_not { ¬ ReachTheAgent two_lines redirected 1 }
+    ensures fair_too { IsFair two_lines (redirected ++ delivering 4 ∷ ticking 2 ∷ []) 0 }
+    ensures took_too { took_first (redirected ++ delivering 4 ∷ ticking 2 ∷ []) ≡ took_first redirected ++ tick 2 ∷ [] }
+    ensures not_answered { ¬ IsAnsweredWithin two_lines 1 (took_first redirected) (tick 2 ∷ []) 0 }
 {}
 
 /// Where the network is fair and the telephone rests the agent was told all that it did; while a notification is kept back it wasn't, and
-/// its line wasn't answered. All that the law asks for holds at once, where the line is asked and lifted, and then a ms passes.
+/// its line wasn't answered, nor had it its time. All that the law asks for holds at once, where the line is asked and lifted, and then a
+/// ms passes.
 pub fn what_rests_is_taken()
     ensures steps { steps_are_taken two_lines world_opening rested ≡ true }
     ensures numbers { HasNumbersLeft (own_in two_lines (world rested)) }
@@ -138,6 +159,126 @@ pub fn what_rests_is_taken()
     ensures none_left { left_then kept_back ≡ [] }
     ensures none_told { told_then kept_back ≡ [] }
     ensures done_too { done_then kept_back ≡ off_hook ∷ [] }
+    ensures fair_yet { IsFair two_lines kept_back 1 }
+    ensures not_its_time { ¬ HadItsTime two_lines kept_back 1 (endpoint_then kept_back).post.pending }
+{}
+
+/// Where the telephone doesn't rest, or something is quarantined, the agent wasn't told all, though all else that the law asks for holds.
+pub fn what_is_pressed_since_is_told_later()
+    ensures steps { steps_are_taken two_lines world_opening pressed_since ≡ true }
+    ensures numbers { HasNumbersLeft (own_in two_lines (world pressed_since)) }
+    ensures events { took_first pressed_since ≡ took_first asked_for_all ++ took_between asked_for_all pressed_since }
+    ensures asked { IsAskedForAll (course_of two_lines 1 (took_first asked_for_all))
+        (course_from two_lines (plain two_lines (took_first asked_for_all)) 1 (took_between asked_for_all pressed_since))
+        (endpoint_then pressed_since).line }
+    ensures nothing_given_up { has_given_up (of_line 1 (sent_of two_lines (took_first pressed_since))) (endpoint_then pressed_since).post
+        ≡ false }
+    ensures fair { IsFair two_lines pressed_since 1 }
+    ensures room { AgentAlwaysHasRoom two_lines pressed_since }
+    ensures reaches { ReachTheAgent two_lines pressed_since 1 }
+    ensures its_time { HadItsTime two_lines pressed_since 1 (endpoint_then pressed_since).post.pending }
+    ensures split { took_first pressed_since ≡ took_first kept_back ++ took_between kept_back pressed_since }
+    ensures answered { IsAnsweredWithin two_lines 1 (took_first kept_back) (took_between kept_back pressed_since) 1 }
+    ensures asked_again { IsAskedWithin two_lines 1 (took_first kept_back) (took_between kept_back pressed_since) 0 }
+    ensures late { (plain two_lines (took_first kept_back)).now + rounds_take 0 1 0 < now_in two_lines (world pressed_since) }
+    ensures not_rests { done_in (course_from two_lines (plain two_lines (took_first kept_back)) 1 (took_between kept_back pressed_since))
+        ≡ five ∷ [] }
+    ensures some_left { left_then pressed_since ≡ five ∷ [] }
+    ensures done { done_then pressed_since ≡ off_hook ∷ five ∷ [] }
+    ensures told { told_then pressed_since ≡ off_hook ∷ [] }
+{}
+
+/// Where packets take 5 ms, what was quarantined isn't told 15 ms later: two rounds take 20 ms, and no answer comes in 0.
+pub fn what_is_pressed_at_once_takes_its_rounds()
+    ensures steps { steps_are_taken two_lines world_opening slowly ≡ true }
+    ensures asked { IsAskedForAll (course_of two_lines 1 (took_first asked_for_all))
+        (course_from two_lines (plain two_lines (took_first asked_for_all)) 1 (took_between asked_for_all slowly)) (endpoint_then slowly).line }
+    ensures nothing_given_up { has_given_up (of_line 1 (sent_of two_lines (took_first slowly))) (endpoint_then slowly).post ≡ false }
+    ensures fair { IsFair two_lines slowly 5 }
+    ensures room { AgentAlwaysHasRoom two_lines slowly }
+    ensures reaches { ReachTheAgent two_lines slowly 1 }
+    ensures its_time { HadItsTime two_lines slowly 5 (endpoint_then slowly).post.pending }
+    ensures split { took_first slowly ≡ took_first pressed_at_once ++ took_between pressed_at_once slowly }
+    ensures answered { IsAnsweredWithin two_lines 1 (took_first pressed_at_once) (took_between pressed_at_once slowly) 10 }
+    ensures not_answered { ¬ IsAnsweredWithin two_lines 1 (took_first pressed_at_once) (took_between pressed_at_once slowly) 0 }
+    ensures asked_again { IsAskedWithin two_lines 1 (took_first pressed_at_once) (took_between pressed_at_once slowly) 0 }
+    ensures begins { left_then pressed_at_once ≡ five ∷ six ∷ [] }
+    ensures begins_at { now_in two_lines (world pressed_at_once) ≡ 1 }
+    ensures ends_at { now_in two_lines (world slowly) ≡ 16 }
+    ensures two_rounds { rounds_take 2 10 0 ≡ 20 }
+    ensures no_round { rounds_take 2 0 0 ≡ 0 }
+    ensures rests { done_in (course_from two_lines (plain two_lines (took_first pressed_at_once)) 1 (took_between pressed_at_once slowly)) ≡ [] }
+    ensures done { done_then pressed_at_once ≡ off_hook ∷ five ∷ six ∷ [] }
+    ensures told { told_then slowly ≡ off_hook ∷ five ∷ [] }
+{}
+
+/// What a line gave up the agent is never told, though it serves again: all else that the law asks for holds, where the network brings
+/// nothing older than 25 s late.
+pub fn what_is_given_up_is_never_told()
+    ensures set_up { IsSetUp hasty }
+    ensures steps { steps_are_taken hasty world_opening announced_anew ≡ true }
+    ensures numbers { HasNumbersLeft (own_in hasty (hasty_world announced_anew)) }
+    ensures events { hasty_took announced_anew ≡ hasty_took asked_for_all ++ hasty_took_between asked_for_all announced_anew }
+    ensures asked { IsAskedForAll (course_of hasty 1 (hasty_took asked_for_all))
+        (course_from hasty (plain hasty (hasty_took asked_for_all)) 1 (hasty_took_between asked_for_all announced_anew))
+        (hasty_line (hasty_took announced_anew)).line }
+    ensures given_up { has_given_up (of_line 1 (sent_of hasty (hasty_took announced_anew))) (hasty_line (hasty_took announced_anew)).post
+        ≡ true }
+    ensures fair { IsFair hasty announced_anew 25000 }
+    ensures room { AgentAlwaysHasRoom hasty announced_anew }
+    ensures reaches { ReachTheAgent hasty announced_anew 1 }
+    ensures its_time { HadItsTime hasty announced_anew 25000 (hasty_line (hasty_took announced_anew)).post.pending }
+    ensures split { hasty_took announced_anew ≡ hasty_took kept_back ++ hasty_took_between kept_back announced_anew }
+    ensures serves { serves (plain hasty (hasty_took kept_back)).endpoints ≡ true }
+    ensures answered { IsAnsweredWithin hasty 1 (hasty_took kept_back) (hasty_took_between kept_back announced_anew) 23500 }
+    ensures asked_again { IsAskedWithin hasty 1 (hasty_took kept_back) (hasty_took_between kept_back announced_anew) 0 }
+    ensures none_held { length (hasty_line (hasty_took kept_back)).line.quarantined.events ≡ 0 }
+    ensures late { (plain hasty (hasty_took kept_back)).now + rounds_take 0 23500 0 < now_in hasty (hasty_world announced_anew) }
+    ensures rests { done_in (course_from hasty (plain hasty (hasty_took kept_back)) 1 (hasty_took_between kept_back announced_anew)) ≡ [] }
+    ensures none_left { (hasty_line (hasty_took announced_anew)).line.quarantined.events ≡ [] }
+    ensures done_by_then { done_in (course_of hasty 1 (hasty_took kept_back)) ≡ off_hook ∷ [] }
+    ensures done { done_in (course_of hasty 1 (hasty_took announced_anew)) ≡ off_hook ∷ [] }
+    ensures none_told { observed_on 1 (agent_in hasty (hasty_world announced_anew)) ≡ [] }
+{}
+
+/// Before it announces itself, a line that gave something up waits with nothing in flight, though the network is as fair.
+pub fn who_gave_up_waits_for_no_answer()
+    ensures steps { steps_are_taken hasty world_opening lost ≡ true }
+    ensures fair { IsFair hasty lost 25000 }
+    ensures room { AgentAlwaysHasRoom hasty lost }
+    ensures reaches { ReachTheAgent hasty lost 1 }
+    ensures split { hasty_took lost ≡ hasty_took kept_back ++ hasty_took_between kept_back lost }
+    ensures given_up { has_given_up (of_line 1 (sent_of hasty (hasty_took lost))) (hasty_line (hasty_took lost)).post ≡ true }
+    ensures not_answered { ¬ IsAnsweredWithin hasty 1 (hasty_took kept_back) (hasty_took_between kept_back lost) 50000 }
+{}
+
+/// Where a line gives something up, what is quarantined stays, though the line waits for no answer longer than 23,500 ms.
+pub fn what_is_given_up_lets_none_go()
+    ensures serves { (hasty_line held_on).post.restart ≡ Serving }
+    ensures held { (hasty_line held_on).line.quarantined.events ≡ five ∷ [] }
+    ensures given_up { has_given_up (of_line 1 (sent_from hasty (plain hasty held_on) nothing_comes))
+        (hasty_line (held_on ++ nothing_comes)).post ≡ true }
+    ensures answered { IsAnsweredWithin hasty 1 held_on nothing_comes 23500 }
+    ensures asked { IsAskedWithin hasty 1 held_on nothing_comes 0 }
+    ensures late { (plain hasty held_on).now + rounds_take 1 23500 0 < (plain hasty (held_on ++ nothing_comes)).now }
+    ensures rests { done_in (course_from hasty (plain hasty held_on) 1 nothing_comes) ≡ [] }
+    ensures stays { of_telephone (hasty_line (held_on ++ nothing_comes)).line.quarantined.events ≡ five ∷ [] }
+{}
+
+/// Where a gateway isn't set up well its answer may be no text of a packet, and what it announces may have a K.
+pub fn who_is_not_set_up_says_otherwise()
+    ensures parting { ¬ IsSetUp parting }
+    ensures issued { map key_begun (issued_in parting (plain_world parting asked_for_its_agent)) ≡ (1, 0) ∷ [] }
+    ensures stored { map (λ first. first.answer) (gateway_firsts parting (plain_world parting asked_for_its_agent))
+        ≡ codes "200 1 OK\r\nN: a\r\n.\r\n200 9 OK\r\n" ∷ [] }
+    ensures cut { map texts_of (texts_with parting asked_for_its_agent)
+        ≡ (codes "AUEP 1 aaln/1@rgw.example.net MGCP 1.0\r\nF: N\r\n" ∷ [])
+        ∷ (codes "200 1 OK\r\nN: a\r\n" ∷ codes "200 9 OK\r\n" ∷ []) ∷ [] }
+    ensures confirming { ¬ IsSetUp confirming }
+    ensures announced { texts_with confirming (ticking 1 ∷ []) ≡ codes "RSIP 1 *@x MGCP 1.0\r\nK: 5\r\nZ: MGCP 1.0\r\nRM: restart\r\n" ∷ [] }
+    ensures confirms { read_text (codes "RSIP 1 *@x MGCP 1.0\r\nK: 5\r\nZ: MGCP 1.0\r\nRM: restart\r\n")
+        ≡ message (messages.Command Rsip 1 (codes "*@x") ((record { code = codes "K"; value = codes "5" })
+        ∷ (record { code = codes "Z"; value = codes "MGCP 1.0" }) ∷ (record { code = codes "RM"; value = codes "restart" }) ∷ []) []) }
 {}
 
 /// It goes out again at its moments, but not once a response to it came.
@@ -173,7 +314,8 @@ pub fn two_answers_share_a_packet()
     ensures elsewhere { ¬ IsPlainAnswer 7 (codes "521 7 Redirected\r\n") }
 {}
 
-/// A gateway that nobody answers gives its announcement up after 23,500 ms, and begins anew 1 ms later; a line does so after 5,000.
+/// A gateway that nobody answers gives its announcement up after 23,500 ms, and begins anew 1 ms later; a line does so after 5,000, but if
+/// the clock goes back, which no world takes.
 pub fn who_is_unanswered_asks_again()
     ensures gateway { moments_in (seconds 25) ≡ 1 ∷ 501 ∷ 1501 ∷ 3501 ∷ 7501 ∷ 11501 ∷ 15501 ∷ 19501 ∷ 23502 ∷ [] }
     ensures line { moments_in (notified ++ up_to 29)
@@ -182,6 +324,10 @@ pub fn who_is_unanswered_asks_again()
     ensures too_long { ¬ AsksBy (Waiting 13) 10 2 None }
     ensures nothing_flies { ¬ AsksBy Announced 10 2 None }
     ensures serves { AsksBy Serving 10 2 None }
+    ensures not_taken { steps_are_taken two_lines world_opening (notified ++ up_to 24 ++ ticking 23500 ∷ []) ≡ false }
+    ensures goes_back { now_in two_lines (world (notified ++ up_to 24 ++ ticking 23500 ∷ [])) ≡ 23500 }
+    ensures waits_on { (endpoint_then (notified ++ up_to 24 ++ ticking 23500 ∷ [])).post.restart ≡ Waiting 28501 }
+    ensures asks_not { ¬ AsksBy (Waiting 28501) two_lines.disconnected_wait 23500 None }
 {}
 
 /// What is quarantined goes out once the line is answered and asked, in either order, and one event at a time; in loop once it is

@@ -1,18 +1,21 @@
-use Rattle.std.proofs.Common.{◌≡◌, ℕ, zero, suc, true, false, List, [], ◌∷◌, Option, Some, codes, inl, inr, refl, sym, ap, ◌∙◌, subst}
+use Rattle.std.proofs.Common.{◌≡◌, ℕ, zero, suc, ◌+◌, ◌≤◌, true, false, List, [], ◌∷◌, ◌++◌, Option, Some, None, codes, inl, inr, refl, sym, ap, ◌∙◌, subst, arith}
 use Rattle.std.specs.Prelude.{Any, slice_get, unwrap_or}
 use Rattle.std.proofs.lemmas.Option.{none-some}
+use Rattle.outbound.specs.Flight.{InFlight}
 use Rattle.transmission.specs.Texts.{texts_of}
+use Rattle.plain_machine.specs.Event.{tick}
 use Rattle.plain_machine.specs.Example.{two_lines}
 use Rattle.machine_laws.specs.Saying.{Begun}
 use Rattle.machine_laws.proofs.EachLemmas.{any_from_one}
 use Rattle.agent_core.specs.declared.packet.End.TheVariants.{GatewayEnd, AgentEnd}
 use Rattle.agent_core.specs.declared.packet.Packet.{Packet}
 use Rattle.agent_core.specs.declared.packet.Posted.{Posted}
-use Rattle.agent_core.specs.World.{gateway_address, plain_world}
+use Rattle.agent_core.specs.World.{delivering, gateway_address, plain_world, ticking}
 use Rattle.world_laws.specs.Reached.{own_in}
 use Rattle.delivery_laws.specs.Copies.{arrives}
 use Rattle.delivery_laws.specs.Fairness.{GoesToAgent}
-use Rattle.delivery_laws.specs.Example.{brought, redirected}
+use Rattle.dialled_end_to_end.specs.Example.{endpoint_in}
+use Rattle.delivery_laws.specs.Example.{brought, redirected, took_first}
 use Rattle.delivery_laws.proofs.Computing.{on_examples}
 use Rattle.delivery_laws.proofs.FairExamples.{fair_is}
 use Rattle.delivery_laws.proofs.examples.a_notification_is_brought.Goals as goal
@@ -65,3 +68,21 @@ it_began =
 
 pub returns-clause-reaches_not : goal.returns-clause-reaches_not
 returns-clause-reaches_not c = λ reach. goes_elsewhere (reach (record { id = 10000000; moment = 1; text = elsewhere }) it_began refl)
+
+-- where it goes elsewhere its line isn't answered a ms later
+
+pub returns-clause-fair_too : goal.returns-clause-fair_too
+unfolding on_examples
+returns-clause-fair_too c = fair_is two_lines (redirected ++ delivering 4 ∷ ticking 2 ∷ []) 0 refl
+
+first_of : Option InFlight → ℕ
+first_of None = 0
+first_of (Some flight) = flight.first
+
+pub returns-clause-not_answered : goal.returns-clause-not_answered
+unfolding on_examples first_of
+returns-clause-not_answered c = λ answered.
+    let is = answered (tick 2 ∷ []) [] (endpoint_in 1 (took_first redirected ++ tick 2 ∷ [])) refl refl refl in
+    let first : 1 ≡ is.flight.first = ap first_of is.flies in
+    let lately : 2 ≤ is.flight.first + 0 = is.lately in
+    omega (arith, first, lately)

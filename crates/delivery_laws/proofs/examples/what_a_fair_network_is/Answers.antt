@@ -18,3 +18,7 @@ unfolding on_examples hand_over
 returns-clause-lost c = λ fair.
     let post : Posted = record { end = GatewayEnd; packet = record { moment = 1; sender = gateway_address two_lines; to = agent; bytes = codes "200 1 OK\r\n" } } in
     none_handed two_lines (asked ++ delivering 2 ∷ []) 0 3 post refl (fair 3 post refl (omega arith))
+
+pub returns-clause-fair_yet : goal.returns-clause-fair_yet
+unfolding on_examples
+returns-clause-fair_yet c = fair_is two_lines asked 1 refl

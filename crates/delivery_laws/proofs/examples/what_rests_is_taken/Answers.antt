@@ -1,25 +1,20 @@
-use Rattle.std.proofs.Common.{◌≡◌, ℕ, ◌+◌, ◌<◌, ◌≤◌, Bool, true, List, [], ◌∷◌, ◌++◌, length, Option, Some, None, codes, refl, sym, ap, subst, arith}
-use Rattle.std.specs.Prelude.{nat_lt}
-use Rattle.std.proofs.lemmas.Bool.{ltb-true}
-use Rattle.history.specs.Kept.{young_firsts}
-use Rattle.history.specs.Memory.{most_firsts}
+use Rattle.std.proofs.Common.{◌≡◌, ℕ, ◌+◌, ◌<◌, ◌≤◌, true, [], ◌∷◌, ◌++◌, length, Option, Some, None, codes, refl, sym, ap, subst, arith}
 use Rattle.outbound.specs.Flight.{InFlight}
 use Rattle.plain_machine.specs.Event.{tick}
 use Rattle.plain_machine.specs.Example.{two_lines, agent}
 use Rattle.dialled_once.proofs.AskingLemmas.{notifies_each}
 use Rattle.agent_core.specs.declared.packet.End.TheVariants.{GatewayEnd}
 use Rattle.agent_core.specs.declared.packet.Posted.{Posted}
-use Rattle.agent_core.specs.World.{World, WorldStep, gateway_address, now_in, plain_world}
+use Rattle.agent_core.specs.World.{gateway_address, plain_world}
 use Rattle.world_laws.specs.Reached.{own_in}
 use Rattle.world_laws.specs.Example.{world}
 use Rattle.dialled_end_to_end.specs.Example.{endpoint_in}
 use Rattle.dialled_end_to_end.proofs.NumberLemmas.{few_are_begun}
-use Rattle.delivery_laws.specs.Taking.{agent_history}
 use Rattle.delivery_laws.specs.Example.{kept_back, rested, took_first, took_since}
 use Rattle.delivery_laws.proofs.Computing.{on_examples}
 use Rattle.delivery_laws.proofs.ExampleLemmas.{all_go, hand_over, it_goes, none_handed}
 use Rattle.delivery_laws.proofs.FairExamples.{fair_is}
-use Rattle.delivery_laws.proofs.FrontLemmas.{answered_within, asked_within, front_holds, on_fronts}
+use Rattle.delivery_laws.proofs.FrontLemmas.{agent_has_room, answered_within, asked_within}
 use Rattle.delivery_laws.proofs.examples.what_rests_is_taken.Goals as goal
 
 -- the gateway announced itself, and one event was notified
@@ -47,19 +42,9 @@ returns-clause-not_fair c = λ fair.
 
 -- At no beginning is room wanting
 
-has_room : World → Bool
-has_room w = nat_lt (length (young_firsts (now_in two_lines w) (agent_history two_lines w))) most_firsts
-
-room_then : List WorldStep → Bool
-room_then before = has_room (plain_world two_lines before)
-
-all_then : on_fronts room_then rested ≡ true
-unfolding on_examples room_then has_room
-all_then = refl
-
 pub returns-clause-room : goal.returns-clause-room
-unfolding room_then has_room
-returns-clause-room c = λ before later order. ltb-true _ _ (front_holds room_then rested before later all_then order)
+unfolding on_examples
+returns-clause-room c = agent_has_room two_lines rested refl
 
 -- All packets of the gateway go to the agent
 
@@ -91,3 +76,13 @@ returns-clause-not_answered c = λ answered.
     let first : 1 ≡ is.flight.first = ap first_of is.flies in
     let lately : 2 ≤ is.flight.first + 0 = is.lately in
     omega (arith, first, lately)
+
+-- Where it is kept back its time isn't over
+
+pub returns-clause-fair_yet : goal.returns-clause-fair_yet
+unfolding on_examples
+returns-clause-fair_yet c = fair_is two_lines kept_back 1 refl
+
+pub returns-clause-not_its_time : goal.returns-clause-not_its_time
+unfolding on_examples
+returns-clause-not_its_time c = λ had. let late : 2 ≤ 1 = had.0 in absurd (omega (arith, late))

@@ -7,3 +7,6 @@ returns-clause-too_long c = λ asks. absurd (omega (arith, asks.1))
 
 pub returns-clause-nothing_flies : goal.returns-clause-nothing_flies
 returns-clause-nothing_flies c = λ asks. absurd (none-some asks.0 asks.1)
+
+pub returns-clause-asks_not : goal.returns-clause-asks_not
+returns-clause-asks_not c = λ asks. absurd (omega (arith, asks.1))
