@@ -1,9 +1,9 @@
 -- A network that hands each packet over in time answers each command in twice the time.
-use Rattle.std.proofs.Common.{◌≡◌, ◌≢◌, ℕ, zero, suc, ◌+◌, ◌*◌, ◌<◌, ◌≤◌, true, ◌==◌, List, [], ◌∷◌, ◌++◌, length, Option, Some, inl, inr, refl, sym, ap, ◌∙◌, subst, arith, append_assoc}
-use Rattle.std.specs.Prelude.{◌⊎◌, All, AllPairs, IfSome, slice_get}
+use Rattle.std.proofs.Common.{◌≡◌, ◌≢◌, ℕ, Bool, zero, suc, ◌+◌, ◌-◌, ◌*◌, ◌<◌, ◌≤◌, true, false, ◌==◌, if◌then◌else◌, List, [], ◌∷◌, ◌++◌, length, Option, Some, None, inl, inr, refl, sym, ap, ◌∙◌, subst, arith, append_assoc}
+use Rattle.std.specs.Prelude.{◌⊎◌, All, AllPairs, IfSome, is_none, nat_lt, slice_get}
 use Rattle.std.specs.Str.{bytes_eq}
 use Rattle.std.proofs.lemmas.Bool.{and_parts}
-use Rattle.std.proofs.lemmas.Bool.Decides.{Decides-eqb}
+use Rattle.std.proofs.lemmas.Bool.Decides.{Decides-eqb, nat_tests}
 use Rattle.std.proofs.lemmas.Option.{none-some}
 use Rattle.mgcp_text.specs.declared.message.Message.TheVariants as messages
 use Rattle.mgcp_text.specs.Reading.{Outcome, message, no_header, bad_version, bad_body, read_text}
@@ -14,12 +14,12 @@ use Rattle.plain_machine.specs.declared.setup.Setup.{Setup}
 use Rattle.plain_machine.specs.Event.{datagram}
 use Rattle.plain_machine.specs.Setup.{IsSetUp}
 use Rattle.machine_laws.specs.Saying.{Begun, Carries, IsAnswerTo, OneOf, Tells, is_command_as}
-use Rattle.machine_laws.proofs.EachLemmas.{Each, any_from_one, each_at, each_from_all, one_from_any, one_of_each, one_to, one_weaker}
+use Rattle.machine_laws.proofs.EachLemmas.{Each, any_from_one, each_at, each_from_all, is_none-None, one_from_any, one_of_each, one_to, one_weaker}
 use Rattle.call_agent.specs.Agent.{AgentMachine}
 use Rattle.agent_core.specs.declared.packet.Posted.{Posted}
 use Rattle.agent_core.specs.declared.packet.End.{End}
 use Rattle.agent_core.specs.declared.packet.End.TheVariants.{AgentEnd as agent_end, GatewayEnd as gateway_end}
-use Rattle.agent_core.specs.World.{World, WorldStep, agent_in, delivering, now_in, oldest_packet, plain_world, steps_are_taken, world_opening}
+use Rattle.agent_core.specs.World.{World, WorldStep, WorldRefusal, agent_in, delivering, delivery_refusal, now_in, oldest_packet, packet_too_old, plain_world, step_refusal, steps_are_taken, went, world_after, world_opening}
 use Rattle.world_laws.specs.Reached.{issued_in}
 use Rattle.world_laws.proofs.AgentLaws.{WasIssued}
 use Rattle.world_laws.proofs.WorldLaws.{Posts, Sends, Sound, agent_answers, gateway_clock, world_sound}
@@ -200,8 +200,37 @@ there_soon issued within sent now back is soon at = omega (arith, is, soon, at)
 back_late : (issued within sent now : ℕ) → sent ≤ issued + within → issued + 2 * within ≤ now → sent + within ≤ now
 back_late issued within sent now soon late = omega (arith, soon, late)
 
-back_soon : (issued within sent now : ℕ) → within ≤ oldest_packet → sent ≤ issued + within → now ≤ sent + within → now < issued + answer_wait
-back_soon issued within sent now short soon back = omega (arith, short, soon, back)
+back_soon : (issued sent now : ℕ) → sent ≤ issued + 10000 → now ≤ sent + 10000 → now < issued + answer_wait
+back_soon issued sent now soon back = omega (arith, soon, back)
+
+there_young : (issued sent now back : ℕ) → sent ≡ issued + 0 → now ≤ sent + 10000 → back ≡ now → back ≤ issued + 10000
+there_young issued sent now back is young at = omega (arith, is, young, at)
+
+-- what is handed over is 10,000 ms old at most
+
+taken_last : (setup : Setup) (w : World) (front : List WorldStep) (step : WorldStep) → steps_are_taken setup w (front ++ step ∷ []) ≡ true
+    → step_refusal setup (world_after setup w front) step ≡ None
+unfolding steps_are_taken world_after
+taken_last setup w [] step all = is_none-None (step_refusal setup w step) (and_parts (is_none (step_refusal setup w step)) true all).0
+taken_last setup w (first ∷ front) step all =
+    taken_last setup (went setup w first) front step (and_parts (is_none (step_refusal setup w first)) (steps_are_taken setup (went setup w first) (front ++ step ∷ [])) all).1
+
+not_old : (now moment : ℕ) → nat_lt oldest_packet (now - moment) ≡ false → now ≤ moment + 10000
+not_old now moment test = grind (arith, nat_tests, test)
+
+is_young : (now : ℕ) (post : Posted) → delivery_refusal (Some post) now ≡ None → now ≤ post.packet.moment + 10000
+is_young now post is = by_age (nat_lt oldest_packet (now - post.packet.moment)) refl is where
+  by_age : (old : Bool) → nat_lt oldest_packet (now - post.packet.moment) ≡ old → ◌≡◌ {A = Option WorldRefusal} (if old then Some packet_too_old else None) None
+      → now ≤ post.packet.moment + 10000
+  by_age true test same = absurd cc
+  by_age false test same = not_old now post.packet.moment test
+
+handed_young : (setup : Setup) (before : List WorldStep) (number : ℕ) (post : Posted) → steps_are_taken setup world_opening (before ++ delivering number ∷ []) ≡ true
+    → slice_get (plain_world setup before).posted number ≡ Some post → now_in setup (plain_world setup before) ≤ post.packet.moment + 10000
+unfolding step_refusal
+handed_young setup before number post all sent =
+    is_young (now_in setup (plain_world setup before)) post
+    (subst (λ (o : Option Posted). delivery_refusal o (now_in setup (plain_world setup before)) ≡ None) sent (taken_last setup world_opening before (delivering number) all))
 
 -- what is found is found later too
 pub stays_found : (setup : Setup) (id : ℕ) (steps more : List WorldStep) (number : ℕ) (post : Posted) → slice_get (plain_world setup steps).posted number ≡ Some post
@@ -210,7 +239,7 @@ stays_found setup id steps more number post found =
     let grows = plain_grows setup id steps more in
     subst (λ (posted : List Posted). slice_get posted number ≡ Some post) (sym grows.posted) (found_before (plain_world setup steps).posted grows.more number post found)
 
-module _ (setup : Setup) (steps : List WorldStep) (within : ℕ) (b : Begun) (set_up : IsSetUp setup) (taken : steps_are_taken setup world_opening steps ≡ true) (short : within ≤ oldest_packet)
+module _ (setup : Setup) (steps : List WorldStep) (within : ℕ) (b : Begun) (set_up : IsSetUp setup) (taken : steps_are_taken setup world_opening steps ≡ true)
     (fair : IsFair setup steps within) (roomy : AlwaysHasRoom setup steps) (unconfirmed : IsNeverConfirmed setup steps b.id) (issued : IsIssued setup (plain_world setup steps) b)
     (late : b.moment + 2 * within ≤ now_in setup (plain_world setup steps)) where
   taken_to : (front more : List WorldStep) → steps ≡ front ++ more → steps_are_taken setup world_opening front ≡ true
@@ -219,8 +248,8 @@ module _ (setup : Setup) (steps : List WorldStep) (within : ℕ) (b : Begun) (se
   -- the way back: the answer is handed over in its time
   came_back : (before later : List WorldStep) (number : ℕ) → let first = before ++ delivering number ∷ [] in steps ≡ first ++ later
       → (answer : IsAnswered setup (plain_world setup before) (plain_world setup first) b.id) → IsIssued setup (plain_world setup before) b
-      → answer.copy.post.packet.moment ≤ b.moment + within → HasAnswer b.id (agent_in setup (plain_world setup steps))
-  came_back before later number is answer told soon = has_answer b.id setup (plain_world setup steps) had where
+      → answer.copy.post.packet.moment ≤ b.moment + within → answer.copy.post.packet.moment ≤ b.moment + 10000 → HasAnswer b.id (agent_in setup (plain_world setup steps))
+  came_back before later number is answer told soon young = has_answer b.id setup (plain_world setup steps) had where
     first : List WorldStep
     first = before ++ delivering number ∷ []
 
@@ -260,7 +289,8 @@ module _ (setup : Setup) (steps : List WorldStep) (within : ℕ) (b : Begun) (se
         subst (λ (s : List WorldStep). HasIn b.id setup (plain_world setup s)) (sym back.order)
         ((plain_grows setup b.id whole back.later).has
         (had_in setup back.before answer.number b answer.text reads.code reads.params reads.body set_up (taken_to whole back.later back.order) still
-        (back_soon b.moment within post.packet.moment (now_in setup (plain_world setup back.before)) short soon back.soon) copy reads.reads
+        (back_soon b.moment post.packet.moment (now_in setup (plain_world setup back.before)) young
+        (handed_young setup back.before answer.number post (taken_to whole back.later back.order) back.sent)) copy reads.reads
         (stored_final setup first b.id answer.text set_up answer.stored reads.code b.id reads.params reads.body reads.reads)))
 
   -- the way there: the first copy is handed over in its time
@@ -294,11 +324,14 @@ module _ (setup : Setup) (steps : List WorldStep) (within : ℕ) (b : Begun) (se
         came_back there.before there.later sent.number there.order answer told
         (there_soon b.moment within sent.copy.post.packet.moment (now_in setup (plain_world setup there.before)) answer.copy.post.packet.moment sent.moment there.soon
         (answer.moment ∙ handed_now setup there.before b.text sent.number copy))
+        (there_young b.moment sent.copy.post.packet.moment (now_in setup (plain_world setup there.before)) answer.copy.post.packet.moment sent.moment
+        (handed_young setup there.before sent.number sent.copy.post (taken_to first there.later there.order) there.sent)
+        (answer.moment ∙ handed_now setup there.before b.text sent.number copy))
 
-pub answered_in_time : (setup : Setup) (steps : List WorldStep) (within : ℕ) (b : Begun) → IsSetUp setup → steps_are_taken setup world_opening steps ≡ true → within ≤ oldest_packet
+pub answered_in_time : (setup : Setup) (steps : List WorldStep) (within : ℕ) (b : Begun) → IsSetUp setup → steps_are_taken setup world_opening steps ≡ true
     → IsFair setup steps within → AlwaysHasRoom setup steps → IsNeverConfirmed setup steps b.id → let w = plain_world setup steps in IsIssued setup w b
     → b.moment + 2 * within ≤ now_in setup w → HasAnswer b.id (agent_in setup w)
-answered_in_time setup steps within b set_up taken short fair roomy unconfirmed issued late = by_case (sent_eight_times setup steps b set_up taken issued) where
+answered_in_time setup steps within b set_up taken fair roomy unconfirmed issued late = by_case (sent_eight_times setup steps b set_up taken issued) where
   w : World
   w = plain_world setup steps
 
@@ -306,4 +339,4 @@ answered_in_time setup steps within b set_up taken short fair roomy unconfirmed 
   by_case (inl has) = has
   by_case (inr sent) =
       let first : b.moment + 0 ≤ now_in setup w → IsSentAfter setup w b 0 = (each_from_all (λ (wait : ℕ). b.moment + wait ≤ now_in setup w → IsSentAfter setup w b wait) chances sent).0 in
-      came setup steps within b set_up taken short fair roomy unconfirmed issued late (first (omega (arith, late)))
+      came setup steps within b set_up taken fair roomy unconfirmed issued late (first (omega (arith, late)))

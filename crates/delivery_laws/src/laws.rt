@@ -39,7 +39,7 @@ ghost use Rattle.call_agent.specs.Agent.{observed_on};
 ghost use Rattle.call_agent.specs.Hearing.{AgentEvent, plain_agent};
 ghost use Rattle.agent_core.specs.declared.packet.End.TheVariants.{GatewayEnd, AgentEnd};
 ghost use Rattle.agent_core.specs.declared.packet.Posted.{Posted};
-ghost use Rattle.agent_core.specs.World.{WorldStep, agent_in, delivering, gateway_in, now_in, oldest_packet, plain_world, steps_are_taken, world_opening};
+ghost use Rattle.agent_core.specs.World.{WorldStep, agent_in, delivering, gateway_in, now_in, plain_world, steps_are_taken, world_opening};
 ghost use Rattle.world_laws.specs.Landing.{is_final};
 ghost use Rattle.world_laws.specs.Reached.{Reached, own_in, taken_in};
 ghost use Rattle.dialled_end_to_end.specs.GivenUp.{has_given_up};
@@ -112,7 +112,7 @@ pub fn one_copy_of_eight_is_enough()
 /// K confirms it and where room is never wanting.
 pub fn a_fair_network_answers_each_command()
     ensures { (setup : Setup) (steps : List WorldStep) (within : ℕ) (b : Begun) → IsSetUp setup →
-        steps_are_taken setup world_opening steps ≡ true → within ≤ oldest_packet → IsFair setup steps within → AlwaysHasRoom setup steps →
+        steps_are_taken setup world_opening steps ≡ true → IsFair setup steps within → AlwaysHasRoom setup steps →
         IsNeverConfirmed setup steps b.id → let w = plain_world setup steps in IsIssued setup w b →
         b.moment + 2 * within ≤ now_in setup w → HasAnswer b.id (agent_in setup w) }
 {}
