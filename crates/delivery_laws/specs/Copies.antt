@@ -10,6 +10,7 @@ use Rattle.history.specs.Answers.{IsConfirmed}
 use Rattle.transmission.specs.Texts.{texts_of}
 use Rattle.transmission.specs.Packing.{same_address}
 use Rattle.plain_machine.specs.declared.setup.Setup.{Setup}
+use Rattle.plain_machine.specs.Setup.{IsSetUp}
 use Rattle.plain_machine.specs.Transactions.{commands_of}
 use Rattle.machine_laws.specs.Saying.{Begun}
 use Rattle.call_agent.specs.Agent.{AgentMachine, FinalAnswer, answer_for}
@@ -20,6 +21,10 @@ use Rattle.agent_core.specs.declared.packet.Posted.{Posted}
 use Rattle.agent_core.specs.World.{World, WorldStep, delivering, agent_in, gateway_address, is_among, now_in, plain_world, steps_are_taken, world_opening}
 use Rattle.world_laws.specs.Landing.{is_final}
 use Rattle.world_laws.specs.Reached.{issued_in}
+
+-- these steps are a run: the world is set up, and none of them is refused
+abbrev pub IsRun : Setup → List WorldStep → Type 0
+IsRun setup steps = IsSetUp setup × (steps_are_taken setup world_opening steps ≡ true)
 
 -- a packet of this end's goes to an address of the other's; what goes elsewhere is lost
 abbrev pub arrives : End → Setup → Packet → Bool

@@ -39,11 +39,11 @@ ghost use Rattle.call_agent.specs.Agent.{observed_on};
 ghost use Rattle.call_agent.specs.Hearing.{AgentEvent, plain_agent};
 ghost use Rattle.agent_core.specs.declared.packet.End.TheVariants.{GatewayEnd, AgentEnd};
 ghost use Rattle.agent_core.specs.declared.packet.Posted.{Posted};
-ghost use Rattle.agent_core.specs.World.{WorldStep, agent_in, delivering, gateway_in, now_in, plain_world, steps_are_taken, world_opening};
+ghost use Rattle.agent_core.specs.World.{WorldStep, agent_in, delivering, gateway_in, now_in, plain_world};
 ghost use Rattle.world_laws.specs.Landing.{is_final};
 ghost use Rattle.world_laws.specs.Reached.{Reached, own_in, taken_in};
 ghost use Rattle.dialled_end_to_end.specs.GivenUp.{has_given_up};
-ghost use Rattle.delivery_laws.specs.Copies.{IsCopy, IsIssued, answer_wait, gateway_firsts, IsConfirmedAmong, HasRoom, IsAnswered, IsFinal, HasAnswer, IsServed};
+ghost use Rattle.delivery_laws.specs.Copies.{IsRun, IsCopy, IsIssued, answer_wait, gateway_firsts, IsConfirmedAmong, HasRoom, IsAnswered, IsFinal, HasAnswer, IsServed};
 ghost use Rattle.delivery_laws.specs.Taking.{AgentHasRoom, IsConfirmedIn, IsOwn, IsTaken, agent_history};
 ghost use Rattle.delivery_laws.specs.Asking.{KeepsAsking};
 ghost use Rattle.delivery_laws.specs.Fairness.{IsFair, AlwaysHasRoom, IsNeverConfirmed, AgentAlwaysHasRoom, GoesToAgent, HadItsTime, ReachTheAgent};
@@ -55,8 +55,7 @@ ghost use Rattle.delivery_laws.specs.OwnChances.{HasCome, IsOfLine, IsResponse, 
 /// A copy of a command that is handed to the gateway is answered at once: a packet with the stored answer goes to the agent,
 /// unless a K of a later command confirmed it, or as many firsts are young as there may be (RFC 3435, 3.5.1).
 pub fn a_delivered_command_is_answered_at_once()
-    ensures { (setup : Setup) (steps : List WorldStep) (number : ℕ) (b : Begun) → IsSetUp setup →
-        steps_are_taken setup world_opening (steps ++ delivering number ∷ []) ≡ true → let w = plain_world setup steps in
+    ensures { (setup : Setup) (steps : List WorldStep) (number : ℕ) (b : Begun) → IsRun setup (steps ++ delivering number ∷ []) → let w = plain_world setup steps in
         let after = plain_world setup (steps ++ delivering number ∷ []) in IsIssued setup w b → IsCopy setup w AgentEnd b.text number →
         HasRoom (now_in setup after) (gateway_firsts setup after) →
         IsConfirmedAmong b.id (gateway_firsts setup after) ⊎ IsAnswered setup w after b.id }
@@ -74,7 +73,7 @@ pub fn stored_answers_are_final()
 /// answer, whatever else was lost, copied or late (RFC 3435, 3.5).
 pub fn an_answer_that_comes_in_time_is_had()
     ensures { (setup : Setup) (steps : List WorldStep) (number : ℕ) (b : Begun) (text : List ℕ) (code : ℕ) (params : List Param)
-        (body : List ℕ) → IsSetUp setup → steps_are_taken setup world_opening (steps ++ delivering number ∷ []) ≡ true →
+        (body : List ℕ) → IsRun setup (steps ++ delivering number ∷ []) →
         let w = plain_world setup steps in IsIssued setup w b → now_in setup w < b.moment + answer_wait →
         IsCopy setup w GatewayEnd text number → read_text text ≡ message (messages.Response code b.id params body) →
         is_final code ≡ true → HasAnswer b.id (agent_in setup (plain_world setup (steps ++ delivering number ∷ []))) }
@@ -83,8 +82,7 @@ pub fn an_answer_that_comes_in_time_is_had()
 /// Both: a copy of a command that is handed to the gateway makes a packet with the stored answer, and where that is handed to
 /// the agent less than 23,500 ms after the command was issued, the command has an answer from then on.
 pub fn a_command_is_answered()
-    ensures { (setup : Setup) (steps : List WorldStep) (number : ℕ) (b : Begun) → IsSetUp setup →
-        let first = steps ++ delivering number ∷ [] in steps_are_taken setup world_opening first ≡ true →
+    ensures { (setup : Setup) (steps : List WorldStep) (number : ℕ) (b : Begun) → let first = steps ++ delivering number ∷ [] in IsRun setup first →
         let w = plain_world setup steps in let after = plain_world setup first in IsIssued setup w b →
         IsCopy setup w AgentEnd b.text number → HasRoom (now_in setup after) (gateway_firsts setup after) →
         IsConfirmedAmong b.id (gateway_firsts setup after)
@@ -94,16 +92,14 @@ pub fn a_command_is_answered()
 /// Until a command has its answer, a copy of it goes to the gateway 0, 500, 1,500, 3,500, 7,500, 11,500, 15,500 and 19,500 ms
 /// after it was issued, each once the clock is so late (RFC 3435, 3.5.3).
 pub fn a_command_is_sent_eight_times()
-    ensures { (setup : Setup) (steps : List WorldStep) (b : Begun) → IsSetUp setup →
-        steps_are_taken setup world_opening steps ≡ true → let w = plain_world setup steps in IsIssued setup w b →
+    ensures { (setup : Setup) (steps : List WorldStep) (b : Begun) → IsRun setup steps → let w = plain_world setup steps in IsIssued setup w b →
         HasAnswer b.id (agent_in setup w)
         ⊎ All (λ (wait : ℕ). b.moment + wait ≤ now_in setup w → IsSentAfter setup w b wait) chances }
 {}
 
 /// So where at most seven of these copies are lost, each with its answer, the command has an answer.
 pub fn one_copy_of_eight_is_enough()
-    ensures { (setup : Setup) (steps : List WorldStep) (b : Begun) (lost : List ℕ) → IsSetUp setup →
-        steps_are_taken setup world_opening steps ≡ true → let w = plain_world setup steps in IsIssued setup w b →
+    ensures { (setup : Setup) (steps : List WorldStep) (b : Begun) (lost : List ℕ) → IsRun setup steps → let w = plain_world setup steps in IsIssued setup w b →
         b.moment + last_chance ≤ now_in setup w → length lost ≤ most_repeats → ((number : ℕ) → IsCopy setup w AgentEnd b.text number →
         ¬ Any (λ (n : ℕ). n ≡ number) lost → IsCarried setup steps b number) → HasAnswer b.id (agent_in setup w) }
 {}
@@ -111,8 +107,7 @@ pub fn one_copy_of_eight_is_enough()
 /// So a network that hands each packet over at most so many ms after it was sent answers each command in twice the time, where no
 /// K confirms it and where room is never wanting.
 pub fn a_fair_network_answers_each_command()
-    ensures { (setup : Setup) (steps : List WorldStep) (within : ℕ) (b : Begun) → IsSetUp setup →
-        steps_are_taken setup world_opening steps ≡ true → IsFair setup steps within → AlwaysHasRoom setup steps →
+    ensures { (setup : Setup) (steps : List WorldStep) (within : ℕ) (b : Begun) → IsRun setup steps → IsFair setup steps within → AlwaysHasRoom setup steps →
         IsNeverConfirmed setup steps b.id → let w = plain_world setup steps in IsIssued setup w b →
         b.moment + 2 * within ≤ now_in setup w → HasAnswer b.id (agent_in setup w) }
 {}
@@ -120,20 +115,18 @@ pub fn a_fair_network_answers_each_command()
 /// No command that the gateway's end posts has a K; so nothing that the agent keeps confirms any id (RFC 3435, 3.2.2.1).
 pub fn the_gateway_confirms_nothing()
     ensures posted { (setup : Setup) (steps : List WorldStep) (number : ℕ) (post : Posted) (text : List ℕ) (verb : Verb) (id : ℕ)
-        (name : List ℕ) (params : List Param) (body : List ℕ) → IsSetUp setup → steps_are_taken setup world_opening steps ≡ true →
+        (name : List ℕ) (params : List Param) (body : List ℕ) → IsRun setup steps →
         slice_get (plain_world setup steps).posted number ≡ Some post → post.end ≡ GatewayEnd →
         Any (λ (one : List ℕ). one ≡ text) (texts_of post.packet.bytes) →
         read_text text ≡ message (messages.Command verb id name params body) → param_at (codes "K") params ≡ None }
-    ensures kept { (setup : Setup) (steps : List WorldStep) (id : ℕ) → IsSetUp setup →
-        steps_are_taken setup world_opening steps ≡ true → ¬ IsConfirmedIn id (agent_history setup (plain_world setup steps)) }
+    ensures kept { (setup : Setup) (steps : List WorldStep) (id : ℕ) → IsRun setup steps → ¬ IsConfirmedIn id (agent_history setup (plain_world setup steps)) }
 {}
 
 /// A copy of a notification or an announcement that is handed to the agent is taken at once, if it wasn't before, and a packet with
 /// the stored answer goes back to the gateway, unless as many firsts of the agent are young as there may be (RFC 3435, 2.3.4, 2.3.12
 /// and 3.5.1).
 pub fn a_delivered_notification_is_taken_at_once()
-    ensures { (setup : Setup) (steps : List WorldStep) (number : ℕ) (b : Begun) → IsSetUp setup →
-        steps_are_taken setup world_opening (steps ++ delivering number ∷ []) ≡ true → let w = plain_world setup steps in
+    ensures { (setup : Setup) (steps : List WorldStep) (number : ℕ) (b : Begun) → IsRun setup (steps ++ delivering number ∷ []) → let w = plain_world setup steps in
         let after = plain_world setup (steps ++ delivering number ∷ []) in IsOwn setup w b → IsCopy setup w GatewayEnd b.text number →
         AgentHasRoom setup after → IsTaken setup w after b.id }
 {}
@@ -142,12 +135,10 @@ pub fn a_delivered_notification_is_taken_at_once()
 /// goes to the agent there in that time, and the agent takes it; and a response to it comes back in twice the time, where room is
 /// never wanting (RFC 3435, 2.3.4 and 2.3.12).
 pub fn a_fair_network_brings_each_notification()
-    ensures taken { (setup : Setup) (steps : List WorldStep) (within : ℕ) (b : Begun) → IsSetUp setup →
-        steps_are_taken setup world_opening steps ≡ true → IsFair setup steps within → AgentAlwaysHasRoom setup steps →
+    ensures taken { (setup : Setup) (steps : List WorldStep) (within : ℕ) (b : Begun) → IsRun setup steps → IsFair setup steps within → AgentAlwaysHasRoom setup steps →
         let w = plain_world setup steps in IsOwn setup w b → GoesToAgent setup w b.text →
         b.moment + within ≤ now_in setup w → Any (λ (one : Reached). one.asked.id ≡ b.id) (taken_in w) }
-    ensures answered { (setup : Setup) (steps : List WorldStep) (within : ℕ) (b : Begun) → IsSetUp setup →
-        steps_are_taken setup world_opening steps ≡ true → IsFair setup steps within → AgentAlwaysHasRoom setup steps →
+    ensures answered { (setup : Setup) (steps : List WorldStep) (within : ℕ) (b : Begun) → IsRun setup steps → IsFair setup steps within → AgentAlwaysHasRoom setup steps →
         let w = plain_world setup steps in IsOwn setup w b → GoesToAgent setup w b.text →
         b.moment + 2 * within ≤ now_in setup w → HasCome w b.id }
 {}
@@ -160,7 +151,7 @@ pub fn a_fair_network_brings_each_notification()
 /// agent, an answer takes twice the time of the network at most (RFC 3435, 4.4.1).
 pub fn what_is_dialled_is_taken_in_time()
     ensures taken { (setup : Setup) (steps : List WorldStep) (within line : ℕ) (before after : List GatewayEvent)
-        (endpoint : Endpoint) → IsSetUp setup → steps_are_taken setup world_opening steps ≡ true → let w = plain_world setup steps in
+        (endpoint : Endpoint) → IsRun setup steps → let w = plain_world setup steps in
         HasNumbersLeft (own_in setup w) → w.gateway_took ≡ before ++ after →
         endpoint_at (gateway_in setup w).endpoints line ≡ Some endpoint →
         IsAskedForAll (course_of setup line before) (course_from setup (plain setup before) line after) endpoint.line →
@@ -169,7 +160,7 @@ pub fn what_is_dialled_is_taken_in_time()
         done_in (course_of setup line w.gateway_took)
         ≡ happened_in (observed_on line (agent_in setup w)) ++ happened_in endpoint.line.quarantined.events }
     ensures whole { (setup : Setup) (steps : List WorldStep) (within line : ℕ) (before after : List GatewayEvent)
-        (endpoint : Endpoint) → IsSetUp setup → steps_are_taken setup world_opening steps ≡ true → let w = plain_world setup steps in
+        (endpoint : Endpoint) → IsRun setup steps → let w = plain_world setup steps in
         HasNumbersLeft (own_in setup w) → w.gateway_took ≡ before ++ after →
         endpoint_at (gateway_in setup w).endpoints line ≡ Some endpoint →
         IsAskedForAll (course_of setup line before) (course_from setup (plain setup before) line after) endpoint.line →
@@ -178,7 +169,7 @@ pub fn what_is_dialled_is_taken_in_time()
         happened_in endpoint.line.quarantined.events ≡ [] →
         done_in (course_of setup line w.gateway_took) ≡ happened_in (observed_on line (agent_in setup w)) }
     ensures by_then { (setup : Setup) (steps : List WorldStep) (within line : ℕ) (before after some later : List GatewayEvent)
-        (answering asking : ℕ) (was endpoint : Endpoint) → IsSetUp setup → steps_are_taken setup world_opening steps ≡ true →
+        (answering asking : ℕ) (was endpoint : Endpoint) → IsRun setup steps →
         let w = plain_world setup steps in HasNumbersLeft (own_in setup w) → w.gateway_took ≡ before ++ after →
         endpoint_at (gateway_in setup w).endpoints line ≡ Some endpoint →
         IsAskedForAll (course_of setup line before) (course_from setup (plain setup before) line after) endpoint.line →
@@ -189,7 +180,7 @@ pub fn what_is_dialled_is_taken_in_time()
         (plain setup some).now + rounds_take (length was.line.quarantined.events) answering asking < now_in setup w →
         (rest : List Observed) × (happened_in (observed_on line (agent_in setup w)) ≡ done_in (course_of setup line some) ++ rest) }
     ensures rests { (setup : Setup) (steps : List WorldStep) (within line : ℕ) (before after some later : List GatewayEvent)
-        (answering asking : ℕ) (was endpoint : Endpoint) → IsSetUp setup → steps_are_taken setup world_opening steps ≡ true →
+        (answering asking : ℕ) (was endpoint : Endpoint) → IsRun setup steps →
         let w = plain_world setup steps in HasNumbersLeft (own_in setup w) → w.gateway_took ≡ before ++ after →
         endpoint_at (gateway_in setup w).endpoints line ≡ Some endpoint →
         IsAskedForAll (course_of setup line before) (course_from setup (plain setup before) line after) endpoint.line →
@@ -201,7 +192,7 @@ pub fn what_is_dialled_is_taken_in_time()
         done_in (course_from setup (plain setup some) line later) ≡ [] →
         done_in (course_of setup line w.gateway_took) ≡ happened_in (observed_on line (agent_in setup w)) }
     ensures fair_by_then { (setup : Setup) (steps : List WorldStep) (within line : ℕ) (before after some later : List GatewayEvent)
-        (asking : ℕ) (was endpoint : Endpoint) → IsSetUp setup → steps_are_taken setup world_opening steps ≡ true →
+        (asking : ℕ) (was endpoint : Endpoint) → IsRun setup steps →
         let w = plain_world setup steps in HasNumbersLeft (own_in setup w) → w.gateway_took ≡ before ++ after →
         endpoint_at (gateway_in setup w).endpoints line ≡ Some endpoint →
         IsAskedForAll (course_of setup line before) (course_from setup (plain setup before) line after) endpoint.line →
@@ -212,7 +203,7 @@ pub fn what_is_dialled_is_taken_in_time()
         (plain setup some).now + rounds_take (length was.line.quarantined.events) (2 * within) asking < now_in setup w →
         (rest : List Observed) × (happened_in (observed_on line (agent_in setup w)) ≡ done_in (course_of setup line some) ++ rest) }
     ensures fair_rests { (setup : Setup) (steps : List WorldStep) (within line : ℕ) (before after some later : List GatewayEvent)
-        (asking : ℕ) (was endpoint : Endpoint) → IsSetUp setup → steps_are_taken setup world_opening steps ≡ true →
+        (asking : ℕ) (was endpoint : Endpoint) → IsRun setup steps →
         let w = plain_world setup steps in HasNumbersLeft (own_in setup w) → w.gateway_took ≡ before ++ after →
         endpoint_at (gateway_in setup w).endpoints line ≡ Some endpoint →
         IsAskedForAll (course_of setup line before) (course_from setup (plain setup before) line after) endpoint.line →
@@ -259,7 +250,7 @@ pub fn what_is_quarantined_goes_out_in_time()
 /// (RFC 3435, 3.5 and 4.4.1).
 pub fn a_fair_network_answers_each_notification_in_time()
     ensures { (setup : Setup) (steps : List WorldStep) (within line : ℕ) (some later : List GatewayEvent) (endpoint : Endpoint) →
-        IsSetUp setup → steps_are_taken setup world_opening steps ≡ true → let w = plain_world setup steps in
+        IsRun setup steps → let w = plain_world setup steps in
         HasNumbersLeft (own_in setup w) → IsFair setup steps within → AgentAlwaysHasRoom setup steps → ReachTheAgent setup steps line →
         w.gateway_took ≡ some ++ later → serves (plain setup some).endpoints ≡ true →
         endpoint_at (gateway_in setup w).endpoints line ≡ Some endpoint →
@@ -271,23 +262,20 @@ pub fn a_fair_network_answers_each_notification_in_time()
 /// itself go out 0, 500, 1,500, 3,500, 7,500, 11,500, 15,500 and 19,500 ms after their first send, each once the clock is so late
 /// (RFC 3435, 3.5.3).
 pub fn a_notification_is_sent_eight_times()
-    ensures line { (setup : Setup) (steps : List WorldStep) (line : ℕ) (endpoint : Endpoint) (b : Begun) → IsSetUp setup →
-        steps_are_taken setup world_opening steps ≡ true → let w = plain_world setup steps in
+    ensures line { (setup : Setup) (steps : List WorldStep) (line : ℕ) (endpoint : Endpoint) (b : Begun) → IsRun setup steps → let w = plain_world setup steps in
         endpoint_at (gateway_in setup w).endpoints line ≡ Some endpoint → IsOfLine setup w line b →
         HasCome w b.id ⊎ All (λ (wait : ℕ). b.moment + wait ≤ now_in setup w → IsToldAfter setup w b wait) chances }
-    ensures own { (setup : Setup) (steps : List WorldStep) (b : Begun) → IsSetUp setup →
-        steps_are_taken setup world_opening steps ≡ true → let w = plain_world setup steps in IsOfLine setup w 0 b →
+    ensures own { (setup : Setup) (steps : List WorldStep) (b : Begun) → IsRun setup steps → let w = plain_world setup steps in IsOfLine setup w 0 b →
         HasCome w b.id ⊎ All (λ (wait : ℕ). b.moment + wait ≤ now_in setup w → IsToldAfter setup w b wait) chances }
 {}
 
 /// Until it is answered the gateway keeps asking: its announcement is in flight, or it waits for `restart_wait` ms at most from now
 /// on; and so does each line whose command was given up, for `disconnected_wait` ms (RFC 3435, 4.4.6 and 4.4.7).
 pub fn who_is_unanswered_keeps_asking()
-    ensures own { (setup : Setup) (steps : List WorldStep) → IsSetUp setup → steps_are_taken setup world_opening steps ≡ true →
+    ensures own { (setup : Setup) (steps : List WorldStep) → IsRun setup steps →
         let w = plain_world setup steps in
         KeepsAsking setup.restart_wait (now_in setup w) (gateway_in setup w).endpoints.own }
-    ensures line { (setup : Setup) (steps : List WorldStep) (line : ℕ) (endpoint : Endpoint) → IsSetUp setup →
-        steps_are_taken setup world_opening steps ≡ true → let w = plain_world setup steps in
+    ensures line { (setup : Setup) (steps : List WorldStep) (line : ℕ) (endpoint : Endpoint) → IsRun setup steps → let w = plain_world setup steps in
         endpoint_at (gateway_in setup w).endpoints line ≡ Some endpoint →
         KeepsAsking setup.disconnected_wait (now_in setup w) endpoint.post }
 {}
@@ -323,8 +311,7 @@ pub fn an_answer_lets_its_line_go_on()
         All (IsPlainAnswer id) texts → (gateway_in setup w).endpoints.own.pending ≡ Some flight → flight.id ≡ id →
         serves (gateway_in setup after).endpoints ≡ true }
     ensures over { (setup : Setup) (before later : List WorldStep) (number : ℕ) (text : List ℕ) (code id : ℕ) (params : List Param)
-        (body : List ℕ) (line : ℕ) (endpoint : Endpoint) (flight : InFlight) → IsSetUp setup →
-        let steps = (before ++ delivering number ∷ []) ++ later in steps_are_taken setup world_opening steps ≡ true →
+        (body : List ℕ) (line : ℕ) (endpoint : Endpoint) (flight : InFlight) → let steps = (before ++ delivering number ∷ []) ++ later in IsRun setup steps →
         let w = plain_world setup steps in HasNumbersLeft (own_in setup w) → IsCopy setup (plain_world setup before) AgentEnd text number →
         read_text text ≡ message (messages.Response code id params body) → is_final code ≡ true → code ≢ 521 →
         endpoint_at (gateway_in setup w).endpoints line ≡ Some endpoint → endpoint.post.pending ≡ Some flight → flight.id ≢ id }

@@ -17,4 +17,5 @@ pub returns-clause-own_amid : goal.returns-clause-own_amid
 returns-clause-own_amid c = gateway_goes_on_amid
 
 pub returns-clause-over : goal.returns-clause-over
-returns-clause-over c = over_once_answered
+returns-clause-over c = λ setup before later number text code id params body line endpoint flight run.
+    over_once_answered setup before later number text code id params body line endpoint flight run.0 run.1
