@@ -1,6 +1,6 @@
 -- A network that hands each packet over in time answers each command in twice the time.
 use Rattle.std.proofs.Common.{◌≡◌, ◌≢◌, ℕ, Bool, zero, suc, ◌+◌, ◌-◌, ◌*◌, ◌<◌, ◌≤◌, true, false, ◌==◌, if◌then◌else◌, List, [], ◌∷◌, ◌++◌, length, Option, Some, None, inl, inr, refl, sym, ap, ◌∙◌, subst, arith, append_assoc}
-use Rattle.std.specs.Prelude.{◌⊎◌, All, AllPairs, IfSome, is_none, nat_lt, slice_get}
+use Rattle.std.specs.Prelude.{◌⊎◌, All, AllPairs, Any, IfSome, flat_map, is_none, nat_lt, slice_get}
 use Rattle.std.specs.Str.{bytes_eq}
 use Rattle.std.proofs.lemmas.Bool.{and_parts}
 use Rattle.std.proofs.lemmas.Bool.Decides.{Decides-eqb, nat_tests}
@@ -8,28 +8,35 @@ use Rattle.std.proofs.lemmas.Option.{none-some}
 use Rattle.mgcp_text.specs.declared.message.Message.TheVariants as messages
 use Rattle.mgcp_text.specs.Reading.{Outcome, message, no_header, bad_version, bad_body, read_text}
 use Rattle.history.specs.declared.entry.KeptFirst.{KeptFirst}
+use Rattle.history.specs.Arrival.{Arrival, unanswered}
 use Rattle.history.specs.Kept.{firsts_in}
 use Rattle.transmission.specs.Texts.{texts_of}
 use Rattle.plain_machine.specs.declared.setup.Setup.{Setup}
-use Rattle.plain_machine.specs.Event.{datagram}
+use Rattle.plain_machine.specs.Arriving.{arrivals_of}
 use Rattle.plain_machine.specs.Setup.{IsSetUp}
 use Rattle.machine_laws.specs.Saying.{Begun, Carries, IsAnswerTo, OneOf, Tells, is_command_as}
-use Rattle.machine_laws.proofs.EachLemmas.{Each, any_from_one, each_at, each_from_all, is_none-None, one_from_any, one_of_each, one_to, one_weaker}
-use Rattle.call_agent.specs.Agent.{AgentMachine}
+use Rattle.machine_laws.proofs.EachLemmas.{Each, any_from_one, each_at, each_from_all, is_none-None, one_from_any, one_mapped, one_of_each, one_to, one_unmapped, one_weaker}
+use Rattle.call_agent.specs.Agent.{AgentMachine, agent_opening}
+use Rattle.call_agent.specs.Hearing.{AgentEvent, issued_from}
 use Rattle.agent_core.specs.declared.packet.Posted.{Posted}
 use Rattle.agent_core.specs.declared.packet.End.{End}
 use Rattle.agent_core.specs.declared.packet.End.TheVariants.{AgentEnd as agent_end, GatewayEnd as gateway_end}
-use Rattle.agent_core.specs.World.{World, WorldStep, WorldRefusal, agent_in, delivering, delivery_refusal, now_in, oldest_packet, packet_too_old, plain_world, step_refusal, steps_are_taken, went, world_after, world_opening}
-use Rattle.world_laws.specs.Reached.{issued_in}
+use Rattle.agent_core.specs.World.{World, WorldStep, WorldRefusal, agent_in, agent_of, delivering, delivery_refusal, now_in, oldest_packet, packet_too_old, plain_world, step_refusal, steps_are_taken, went, world_after, world_opening}
+use Rattle.world_laws.specs.Reached.{Reached, as_arrival, executed_in, issued_in, reached}
 use Rattle.world_laws.proofs.AgentLaws.{WasIssued}
-use Rattle.world_laws.proofs.WorldLaws.{Posts, Sends, Sound, agent_answers, gateway_clock, world_sound}
+use Rattle.world_laws.proofs.FirstLaws.{executed_firsts}
+use Rattle.world_laws.proofs.ReachedLaws.{executed_each}
+use Rattle.world_laws.proofs.WorldLaws.{Came, Comes, Posts, Sends, Sound, agent_answers, ids_apart, world_sound}
 use Rattle.delivery_laws.specs.Copies.{IsCopy, IsIssued, IsAnswered, IsConfirmedAmong, HasAnswer, answer_wait, gateway_firsts}
 use Rattle.delivery_laws.specs.Chances.{IsSentAfter, chances}
-use Rattle.delivery_laws.specs.Fairness.{IsHandedOver, IsFair, AlwaysHasRoom, IsNeverConfirmed}
-use Rattle.delivery_laws.proofs.StepLemmas.{HasIn, handed_to_gateway, has_answer, plain_grows, step_more, taken_front}
+use Rattle.delivery_laws.specs.Fairness.{IsHandedOver, IsFair, AlwaysHasRoom}
+use Rattle.delivery_laws.proofs.StepLemmas.{HasIn, has_answer, plain_grows, taken_front}
 use Rattle.delivery_laws.proofs.PlaceLemmas.{found_before}
 use Rattle.delivery_laws.proofs.ChanceLaws.{sent_eight_times}
 use Rattle.delivery_laws.proofs.ServedLaws.{answered_at_once, had_in, stored_final, stored_is}
+use Rattle.delivery_laws.proofs.ClockLemmas.{front_forward, handed_now}
+use Rattle.delivery_laws.proofs.FirstCopyLemmas.{HasFirst, confirmed_has, stored_has}
+use Rattle.delivery_laws.proofs.FirstAnswerLaws.{HasFirstIn, WasAnswered, was_answered}
 
 -- Two beginnings of one list
 
@@ -119,14 +126,22 @@ told_issued all firsts now next b name moment issued answers reads (inr (inl ans
 told_issued all firsts now next b name moment issued answers reads (inr (inr is)) =
     absurd (let e : is_command_as b.id name (message (messages.Response 0 is.id [] [])) ≡ true = ap (is_command_as b.id name) (sym is.reads) ∙ reads in cc)
 
+-- what was issued with its id is the command itself
+named_issued : (setup : Setup) (steps more : List WorldStep) (b : Begun) → steps_are_taken setup world_opening (steps ++ more) ≡ true
+    → IsIssued setup (plain_world setup (steps ++ more)) b → OneOf (λ (c : Begun). c.id ≡ b.id) (issued_in setup (plain_world setup steps)) → IsIssued setup (plain_world setup steps) b
+named_issued setup steps more b taken issued named =
+    let all = issued_in setup (plain_world setup steps) in
+    let whole = issued_in setup (plain_world setup (steps ++ more)) in
+    any_from_one (λ (one : Begun). one ≡ b) all
+    (found_one all whole b (apart_from whole (ids_apart setup (steps ++ more) taken)) (one_from_any (λ (one : Begun). one ≡ b) whole issued)
+    (λ c is. (plain_grows setup b.id steps more).issued c is) named)
+
 -- so where a copy of it was sent, it was issued
 pub sent_issued : (setup : Setup) (steps more : List WorldStep) (b : Begun) (number : ℕ) → steps_are_taken setup world_opening (steps ++ more) ≡ true
     → IsIssued setup (plain_world setup (steps ++ more)) b → IsCopy setup (plain_world setup steps) agent_end b.text number → IsIssued setup (plain_world setup steps) b
 sent_issued setup steps more b number taken issued copy =
-    any_from_one (λ (one : Begun). one ≡ b) all
-    (found_one all (issued_in setup whole) b (apart_from (issued_in setup whole) last.agrees.agent.apart) (one_from_any (λ (one : Begun). one ≡ b) (issued_in setup whole) issued)
-    (λ c is. (plain_grows setup b.id steps more).issued c is)
-    (told_issued all firsts m.now m.next b was.name copy.post.packet.moment s.agrees.agent.issued (agent_answers all m s.agrees.agent) was.reads told)) where
+    named_issued setup steps more b taken issued
+    (told_issued all firsts m.now m.next b was.name copy.post.packet.moment s.agrees.agent.issued (agent_answers all m s.agrees.agent) was.reads told) where
       w : World
       w = plain_world setup steps
 
@@ -165,6 +180,31 @@ sent_issued setup steps more b number taken issued copy =
           (one_of_each (λ (text : List ℕ). Tells all firsts text copy.post.packet.moment × (copy.post.packet.moment ≤ m.now)) (λ (text : List ℕ). text ≡ b.text)
           (texts_of copy.post.packet.bytes) posts (one_from_any (λ (one : List ℕ). one ≡ b.text) (texts_of copy.post.packet.bytes) copy.inside))
 
+-- and where it's one of the gateway's firsts
+first_issued : (setup : Setup) (steps more : List WorldStep) (b : Begun) → steps_are_taken setup world_opening (steps ++ more) ≡ true
+    → IsIssued setup (plain_world setup (steps ++ more)) b → HasFirstIn setup b.id (plain_world setup steps) → IsIssued setup (plain_world setup steps) b
+first_issued setup steps more b taken issued has = named_issued setup steps more b taken issued named where
+  w : World
+  w = plain_world setup steps
+
+  all : List Begun
+  all = issued_in setup w
+
+  came : Each (Came all) (executed_in w)
+  came =
+      executed_each (Came all) (flat_map reached (arrivals_of w.gateway_took)) (world_sound setup steps (taken_front setup world_opening steps more taken)).agrees.came
+
+  executed : OneOf (λ (one : Reached). one.asked.id ≡ b.id) (executed_in w)
+  executed =
+      one_unmapped (λ (a : Arrival). a.id ≡ b.id) as_arrival (executed_in w)
+      (subst (HasFirst b.id) (sym (executed_firsts setup w.gateway_took)) (one_mapped (λ (a : Arrival). a.id ≡ b.id) unanswered (gateway_firsts setup w) has))
+
+  named : OneOf (λ (c : Begun). c.id ≡ b.id) all
+  named =
+      one_to (λ (one : Reached). Came all one × (one.asked.id ≡ b.id)) (OneOf (λ (c : Begun). c.id ≡ b.id) all)
+      (λ one both. one_weaker (Comes one) (λ (c : Begun). c.id ≡ b.id) (λ c comes. comes.id ∙ both.1) all both.0) (executed_in w)
+      (one_of_each (Came all) (λ (one : Reached). one.asked.id ≡ b.id) (executed_in w) came executed)
+
 -- An answer in twice the time
 
 -- a packet that is sent later is handed over later
@@ -182,20 +222,13 @@ later_before setup id a b x y number post same since sent = by_first (one_first 
       let within = found_within (plain_world setup b).posted number post sent in
       omega (arith, since, less, within))
 
--- a packet that is handed over leaves the clock
-handed_now : (setup : Setup) (steps : List WorldStep) (text : List ℕ) (number : ℕ) → IsCopy setup (plain_world setup steps) agent_end text number
-    → now_in setup (plain_world setup (steps ++ delivering number ∷ [])) ≡ now_in setup (plain_world setup steps)
-handed_now setup steps text number copy =
-    ap (now_in setup) (step_more setup steps (delivering number) ∙ handed_to_gateway setup (plain_world setup steps) text number copy)
-    ∙ gateway_clock setup (plain_world setup steps) (datagram copy.post.packet.sender copy.post.packet.bytes)
-
 -- the moments
 
 there_late : (issued within sent now : ℕ) → sent ≡ issued + 0 → issued + 2 * within ≤ now → sent + within ≤ now
 there_late issued within sent now is late = omega (arith, is, late)
 
-there_soon : (issued within sent now back : ℕ) → sent ≡ issued + 0 → now ≤ sent + within → back ≡ now → back ≤ issued + within
-there_soon issued within sent now back is soon at = omega (arith, is, soon, at)
+there_soon : (issued within sent now back : ℕ) → sent ≡ issued + 0 → now ≤ sent + within → back ≤ now → back ≤ issued + within
+there_soon issued within sent now back is soon early = omega (arith, is, soon, early)
 
 back_late : (issued within sent now : ℕ) → sent ≤ issued + within → issued + 2 * within ≤ now → sent + within ≤ now
 back_late issued within sent now soon late = omega (arith, soon, late)
@@ -203,8 +236,8 @@ back_late issued within sent now soon late = omega (arith, soon, late)
 back_soon : (issued sent now : ℕ) → sent ≤ issued + 10000 → now ≤ sent + 10000 → now < issued + answer_wait
 back_soon issued sent now soon back = omega (arith, soon, back)
 
-there_young : (issued sent now back : ℕ) → sent ≡ issued + 0 → now ≤ sent + 10000 → back ≡ now → back ≤ issued + 10000
-there_young issued sent now back is young at = omega (arith, is, young, at)
+there_young : (issued sent now back : ℕ) → sent ≡ issued + 0 → now ≤ sent + 10000 → back ≤ now → back ≤ issued + 10000
+there_young issued sent now back is young early = omega (arith, is, young, early)
 
 -- what is handed over is 10,000 ms old at most
 
@@ -240,10 +273,16 @@ stays_found setup id steps more number post found =
     subst (λ (posted : List Posted). slice_get posted number ≡ Some post) (sym grows.posted) (found_before (plain_world setup steps).posted grows.more number post found)
 
 module _ (setup : Setup) (steps : List WorldStep) (within : ℕ) (b : Begun) (set_up : IsSetUp setup) (taken : steps_are_taken setup world_opening steps ≡ true)
-    (fair : IsFair setup steps within) (roomy : AlwaysHasRoom setup steps) (unconfirmed : IsNeverConfirmed setup steps b.id) (issued : IsIssued setup (plain_world setup steps) b)
+    (fair : IsFair setup steps within) (roomy : AlwaysHasRoom setup steps) (issued : IsIssued setup (plain_world setup steps) b)
     (late : b.moment + 2 * within ≤ now_in setup (plain_world setup steps)) where
+  taken_as : (front more : List WorldStep) → steps ≡ front ++ more → steps_are_taken setup world_opening (front ++ more) ≡ true
+  taken_as front more is = subst (λ (x : List WorldStep). steps_are_taken setup world_opening x ≡ true) is taken
+
   taken_to : (front more : List WorldStep) → steps ≡ front ++ more → steps_are_taken setup world_opening front ≡ true
-  taken_to front more is = taken_front setup world_opening front more (subst (λ (x : List WorldStep). steps_are_taken setup world_opening x ≡ true) is taken)
+  taken_to front more is = taken_front setup world_opening front more (taken_as front more is)
+
+  issued_as : (front more : List WorldStep) → steps ≡ front ++ more → IsIssued setup (plain_world setup (front ++ more)) b
+  issued_as front more is = subst (λ (x : List WorldStep). IsIssued setup (plain_world setup x) b) is issued
 
   -- the way back: the answer is handed over in its time
   came_back : (before later : List WorldStep) (number : ℕ) → let first = before ++ delivering number ∷ [] in steps ≡ first ++ later
@@ -293,9 +332,9 @@ module _ (setup : Setup) (steps : List WorldStep) (within : ℕ) (b : Begun) (se
         (handed_young setup back.before answer.number post (taken_to whole back.later back.order) back.sent)) copy reads.reads
         (stored_final setup first b.id answer.text set_up answer.stored reads.code b.id reads.params reads.body reads.reads)))
 
-  -- the way there: the first copy is handed over in its time
+  -- the way there: the first copy is handed over in its time; so by then the command came, and was answered when it came first
   came : IsSentAfter setup (plain_world setup steps) b 0 → HasAnswer b.id (agent_in setup (plain_world setup steps))
-  came sent = by_answer (answered_at_once setup there.before sent.number b set_up (taken_to first there.later there.order) told copy (roomy first there.later there.order)) where
+  came sent = came_back was.before more was.number order was.answered told soon young where
     there : IsHandedOver setup steps within sent.number sent.copy.post
     there =
         fair sent.number sent.copy.post sent.copy.found (there_late b.moment within sent.copy.post.packet.moment (now_in setup (plain_world setup steps)) sent.moment late)
@@ -303,35 +342,65 @@ module _ (setup : Setup) (steps : List WorldStep) (within : ℕ) (b : Begun) (se
     first : List WorldStep
     first = there.before ++ delivering sent.number ∷ []
 
-    more : List WorldStep
-    more = delivering sent.number ∷ there.later
-
-    order : steps ≡ there.before ++ more
-    order = there.order ∙ append_assoc there.before (delivering sent.number ∷ []) there.later
+    taken_first : steps_are_taken setup world_opening first ≡ true
+    taken_first = taken_to first there.later there.order
 
     copy : IsCopy setup (plain_world setup there.before) agent_end b.text sent.number
     copy = record { post = sent.copy.post; found = there.sent; sender = sent.copy.sender; goes = sent.copy.goes; inside = sent.copy.inside }
 
-    told : IsIssued setup (plain_world setup there.before) b
-    told =
-        sent_issued setup there.before more b sent.number (subst (λ (s : List WorldStep). steps_are_taken setup world_opening s ≡ true) order taken)
-        (subst (λ (s : List WorldStep). IsIssued setup (plain_world setup s) b) order issued) copy
+    told_there : IsIssued setup (plain_world setup there.before) b
+    told_there =
+        let rest : List WorldStep = delivering sent.number ∷ there.later in
+        let is : steps ≡ there.before ++ rest = there.order ∙ append_assoc there.before (delivering sent.number ∷ []) there.later in
+        sent_issued setup there.before rest b sent.number (taken_as there.before rest is) (issued_as there.before rest is) copy
 
     by_answer : IsConfirmedAmong b.id (gateway_firsts setup (plain_world setup first)) ⊎ IsAnswered setup (plain_world setup there.before) (plain_world setup first) b.id
-        → HasAnswer b.id (agent_in setup (plain_world setup steps))
-    by_answer (inl confirmed) = absurd (unconfirmed first there.later there.order confirmed)
-    by_answer (inr answer) =
-        came_back there.before there.later sent.number there.order answer told
-        (there_soon b.moment within sent.copy.post.packet.moment (now_in setup (plain_world setup there.before)) answer.copy.post.packet.moment sent.moment there.soon
-        (answer.moment ∙ handed_now setup there.before b.text sent.number copy))
-        (there_young b.moment sent.copy.post.packet.moment (now_in setup (plain_world setup there.before)) answer.copy.post.packet.moment sent.moment
-        (handed_young setup there.before sent.number sent.copy.post (taken_to first there.later there.order) there.sent)
-        (answer.moment ∙ handed_now setup there.before b.text sent.number copy))
+        → HasFirstIn setup b.id (plain_world setup first)
+    by_answer (inl confirmed) = confirmed_has b.id (gateway_firsts setup (plain_world setup first)) confirmed
+    by_answer (inr answer) = stored_has b.id answer.text (gateway_firsts setup (plain_world setup first)) answer.stored
+
+    was : WasAnswered setup b.id first
+    was =
+        was_answered setup b.id first set_up taken_first
+        (by_answer (answered_at_once setup there.before sent.number b set_up taken_first told_there copy (roomy first there.later there.order)))
+
+    new : List WorldStep
+    new = was.before ++ delivering was.number ∷ []
+
+    more : List WorldStep
+    more = was.later ++ there.later
+
+    order : steps ≡ new ++ more
+    order = there.order ∙ ap (λ (s : List WorldStep). s ++ there.later) was.order ∙ append_assoc new was.later there.later
+
+    told : IsIssued setup (plain_world setup was.before) b
+    told =
+        subst (λ (took : List AgentEvent). Any (λ (one : Begun). one ≡ b) (issued_from (agent_of setup) (agent_opening (agent_of setup)) took)) was.alone
+        (first_issued setup new more b (taken_as new more order) (issued_as new more order)
+        (stored_has b.id was.answered.text (gateway_firsts setup (plain_world setup new)) was.answered.stored))
+
+    early : was.answered.copy.post.packet.moment ≤ now_in setup (plain_world setup there.before)
+    early =
+        let on : now_in setup (plain_world setup new) ≤ now_in setup (plain_world setup (new ++ was.later)) =
+        front_forward setup new was.later (subst (λ (s : List WorldStep). steps_are_taken setup world_opening s ≡ true) was.order taken_first) in
+        let same : now_in setup (plain_world setup (new ++ was.later)) ≡ now_in setup (plain_world setup there.before) =
+        ap (λ (s : List WorldStep). now_in setup (plain_world setup s)) (sym was.order) ∙ handed_now setup there.before sent.number in
+        let at : was.answered.copy.post.packet.moment ≡ now_in setup (plain_world setup new) = was.answered.moment in
+        omega (arith, on, same, at)
+
+    soon : was.answered.copy.post.packet.moment ≤ b.moment + within
+    soon =
+        there_soon b.moment within sent.copy.post.packet.moment (now_in setup (plain_world setup there.before)) was.answered.copy.post.packet.moment sent.moment there.soon early
+
+    young : was.answered.copy.post.packet.moment ≤ b.moment + 10000
+    young =
+        there_young b.moment sent.copy.post.packet.moment (now_in setup (plain_world setup there.before)) was.answered.copy.post.packet.moment sent.moment
+        (handed_young setup there.before sent.number sent.copy.post taken_first there.sent) early
 
 pub answered_in_time : (setup : Setup) (steps : List WorldStep) (within : ℕ) (b : Begun) → IsSetUp setup → steps_are_taken setup world_opening steps ≡ true
-    → IsFair setup steps within → AlwaysHasRoom setup steps → IsNeverConfirmed setup steps b.id → let w = plain_world setup steps in IsIssued setup w b
+    → IsFair setup steps within → AlwaysHasRoom setup steps → let w = plain_world setup steps in IsIssued setup w b
     → b.moment + 2 * within ≤ now_in setup w → HasAnswer b.id (agent_in setup w)
-answered_in_time setup steps within b set_up taken fair roomy unconfirmed issued late = by_case (sent_eight_times setup steps b set_up taken issued) where
+answered_in_time setup steps within b set_up taken fair roomy issued late = by_case (sent_eight_times setup steps b set_up taken issued) where
   w : World
   w = plain_world setup steps
 
@@ -339,4 +408,4 @@ answered_in_time setup steps within b set_up taken fair roomy unconfirmed issued
   by_case (inl has) = has
   by_case (inr sent) =
       let first : b.moment + 0 ≤ now_in setup w → IsSentAfter setup w b 0 = (each_from_all (λ (wait : ℕ). b.moment + wait ≤ now_in setup w → IsSentAfter setup w b wait) chances sent).0 in
-      came setup steps within b set_up taken fair roomy unconfirmed issued late (first (omega (arith, late)))
+      came setup steps within b set_up taken fair roomy issued late (first (omega (arith, late)))

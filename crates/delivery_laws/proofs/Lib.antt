@@ -15,6 +15,9 @@ pub mod QuietLemmas
 pub mod ChanceLaws
 pub mod ServedLaws
 pub mod CarryLaws
+pub mod ClockLemmas
+pub mod FirstCopyLemmas
+pub mod FirstAnswerLaws
 pub mod FairLaws
 pub mod LookLemmas
 pub mod TakeLemmas

@@ -1,5 +1,5 @@
 -- A command that is handed to the gateway is answered at once, and an answer that comes in time is had.
-use Rattle.std.proofs.Common.{◌≡◌, ℕ, ◌+◌, ◌<◌, true, List, [], ◌∷◌, ◌++◌, map, Some, inl, inr, refl, sym, ap, ◌∙◌, subst, append-nil, append_assoc}
+use Rattle.std.proofs.Common.{◌≡◌, ℕ, ◌+◌, ◌<◌, ◌≤◌, true, List, [], ◌∷◌, ◌++◌, map, length, Some, inl, inr, refl, sym, ap, ◌∙◌, subst, append-nil, append_assoc}
 use Rattle.std.specs.Prelude.{◌⊎◌, All, slice_get}
 use Rattle.std.specs.declared.net.socket_addr.SocketAddrV4.{SocketAddrV4}
 use Rattle.mgcp_text.specs.declared.message.Param.{Param}
@@ -46,7 +46,7 @@ use Rattle.world_laws.proofs.LinkLaws.{world_linked}
 use Rattle.delivery_laws.specs.Copies.{IsCopy, IsIssued, answer_wait, gateway_firsts, IsStored, IsConfirmedAmong, HasRoom, IsAnswered, IsFinal, HasAnswer, IsServed}
 use Rattle.delivery_laws.proofs.PlaceLemmas.{one_beyond}
 use Rattle.delivery_laws.proofs.PacketLemmas.{HasMessage, packed_has}
-use Rattle.delivery_laws.proofs.StoredLemmas.{IsStoredAs, Answers, AnswersIn, texts_answer}
+use Rattle.delivery_laws.proofs.StoredLemmas.{IsStoredAs, Says, Answers, AnswersIn, texts_answer}
 use Rattle.delivery_laws.proofs.FinalLemmas.{HasFinal, firsts_final}
 use Rattle.delivery_laws.proofs.SenderLemmas.{agent_sender, first_among}
 use Rattle.delivery_laws.proofs.HearLemmas.{Of, HasOne, texts_had}
@@ -62,6 +62,11 @@ commands_more setup m [] e = append-nil (commands_with setup m e)
 commands_more setup m (x ∷ es) e =
     ap (λ (rest : List Arrival). commands_with setup m x ++ rest) (commands_more setup (effect setup m x).value es e)
     ∙ sym (append_assoc (commands_with setup m x) (commands_from setup (effect setup m x).value es) (commands_with setup (machine_after setup (effect setup m x).value es) e))
+
+-- the firsts with those of one event more
+pub firsts_more : (setup : Setup) (w : World) (e : GatewayEvent)
+    → gateway_firsts setup (to_gateway setup w e) ≡ firsts_of most_firsts (commands_of setup w.gateway_took ++ commands_with setup (gateway_in setup w) e)
+firsts_more setup w e = ap (firsts_of most_firsts) (commands_more setup (opening setup) w.gateway_took e)
 
 -- this text goes to this address at this moment
 abbrev Tells : SocketAddrV4 → ℕ → List ℕ → Posted → Type 0
@@ -83,6 +88,62 @@ datagram_says : (setup : Setup) (m : Machine) (source : SocketAddrV4) (bytes : L
 unfolding effect
 datagram_says setup m source bytes = refl
 
+-- what the gateway says to where the agent's packet came from goes to the agent
+pub said_answered : (setup : Setup) (steps : List WorldStep) (number id : ℕ) (post : Posted) → IsSetUp setup → steps_are_taken setup world_opening steps ≡ true
+    → slice_get (plain_world setup steps).posted number ≡ Some post → post.end ≡ agent_end → (after : World)
+    → let w = plain_world setup steps in let m = gateway_in setup w in after ≡ to_gateway setup w (datagram post.packet.sender post.packet.bytes)
+    → Says id m.now post.packet.sender (gateway_firsts setup after) (took_all setup m post.packet.sender (texts_of post.packet.bytes)).sent → IsAnswered setup w after id
+said_answered setup steps number id post set_up taken found sender after is says = record {
+  text = says.text;
+  stored = any_from_one (IsStoredAs id says.text) (gateway_firsts setup after) says.stored;
+  number = told.0;
+  since = told.2;
+  copy = record {
+    post = told.1;
+    found = subst (λ (x : List Posted). slice_get x told.0 ≡ Some told.1) (sym posted) told.3;
+    sender = told.4.0;
+    goes = ap (is_among setup.agent.route) told.4.1 ∙ among;
+    inside = any_from_one (λ (one : List ℕ). one ≡ says.text) (texts_of told.1.packet.bytes) told.4.3;
+  };
+  moment = told.4.2 ∙ sym now;
+} where
+  w : World
+  w = plain_world setup steps
+
+  m : Machine
+  m = gateway_in setup w
+
+  source : SocketAddrV4
+  source = post.packet.sender
+
+  e : GatewayEvent
+  e = datagram source post.packet.bytes
+
+  sent : List Sent
+  sent = (took_all setup m source (texts_of post.packet.bytes)).sent
+
+  now : now_in setup after ≡ m.now
+  now = ap (now_in setup) is ∙ gateway_clock setup w e
+
+  holds : All IsOut sent
+  holds =
+      let linked = world_linked setup steps set_up taken in
+      subst (All IsOut) (datagram_says setup m source post.packet.bytes) (event_goes setup m e linked.links.gateway.fits linked.links.gateway.kept).sent
+
+  outs : List Posted
+  outs = map (posted_as gateway_end (gateway_address setup)) (put_out sent)
+
+  posted : after.posted ≡ w.posted ++ outs
+  posted =
+      ap (λ (x : World). x.posted) is
+      ∙ ap (λ (said : List Sent). w.posted ++ map (posted_as gateway_end (gateway_address setup)) (put_out said)) (datagram_says setup m source post.packet.bytes)
+
+  among : is_among setup.agent.route source ≡ true
+  among = ap (is_among setup.agent.route) (agent_sender setup steps number post found sender) ∙ first_among setup.agent.route
+
+  told : (place : ℕ) × (one : Posted) × (length w.posted ≤ place) × (slice_get (w.posted ++ outs) place ≡ Some one) × Tells source m.now says.text one
+  told = one_beyond (Tells source m.now says.text) w.posted outs (posts_it (gateway_address setup) source m.now says.text sent holds says.goes)
+
 -- a command that comes to the gateway is answered at once
 gateway_answers : (setup : Setup) (steps : List WorldStep) (number : ℕ) (b : Begun) (name : List ℕ) → IsSetUp setup → steps_are_taken setup world_opening steps ≡ true
     → is_command_as b.id name (read_text b.text) ≡ true → (copy : IsCopy setup (plain_world setup steps) agent_end b.text number) → (after : World)
@@ -102,14 +163,11 @@ gateway_answers setup steps number b name set_up taken reads copy after is room 
   bytes : List ℕ
   bytes = copy.post.packet.bytes
 
-  e : GatewayEvent
-  e = datagram source bytes
-
   now : now_in setup after ≡ m.now
-  now = ap (now_in setup) is ∙ gateway_clock setup w e
+  now = ap (now_in setup) is ∙ gateway_clock setup w (datagram source bytes)
 
   firsts : gateway_firsts setup after ≡ firsts_of most_firsts (commands_of setup w.gateway_took ++ commands_in setup m source (texts_of bytes))
-  firsts = ap (gateway_firsts setup) is ∙ ap (firsts_of most_firsts) (commands_more setup (opening setup) w.gateway_took e)
+  firsts = ap (gateway_firsts setup) is ∙ firsts_more setup w (datagram source bytes)
 
   answers : AnswersIn b.id source m.now (commands_of setup w.gateway_took ++ commands_in setup m source (texts_of bytes)) (took_all setup m source (texts_of bytes)).sent
       → Answers b.id m.now source (gateway_firsts setup after) (took_all setup m source (texts_of bytes)).sent
@@ -122,40 +180,10 @@ gateway_answers setup steps number b name set_up taken reads copy after is room 
       texts_answer setup m source (texts_of bytes) (commands_of setup w.gateway_took) b.id name b.text (history_is setup w.gateway_took) reads
       (one_from_any (λ (one : List ℕ). one ≡ b.text) (texts_of bytes) copy.inside)
 
-  holds : All IsOut (took_all setup m source (texts_of bytes)).sent
-  holds =
-      let linked = world_linked setup steps set_up taken in
-      subst (All IsOut) (datagram_says setup m source bytes) (event_goes setup m e linked.links.gateway.fits linked.links.gateway.kept).sent
-
-  posted : after.posted ≡ w.posted ++ map (posted_as gateway_end (gateway_address setup)) (put_out (took_all setup m source (texts_of bytes)).sent)
-  posted =
-      ap (λ (x : World). x.posted) is
-      ∙ ap (λ (sent : List Sent). w.posted ++ map (posted_as gateway_end (gateway_address setup)) (put_out sent)) (datagram_says setup m source bytes)
-
-  among : is_among setup.agent.route source ≡ true
-  among = ap (is_among setup.agent.route) (agent_sender setup steps number copy.post copy.found copy.sender) ∙ first_among setup.agent.route
-
   by_answers : Answers b.id m.now source (gateway_firsts setup after) (took_all setup m source (texts_of bytes)).sent
       → IsConfirmedAmong b.id (gateway_firsts setup after) ⊎ IsAnswered setup w after b.id
   by_answers (inl confirmed) = inl confirmed
-  by_answers (inr says) =
-      let sent = (took_all setup m source (texts_of bytes)).sent in
-      let told = one_beyond (Tells source m.now says.text) w.posted (map (posted_as gateway_end (gateway_address setup)) (put_out sent))
-      (posts_it (gateway_address setup) source m.now says.text sent holds says.goes) in
-      inr (record {
-        text = says.text;
-        stored = any_from_one (IsStoredAs b.id says.text) (gateway_firsts setup after) says.stored;
-        number = told.0;
-        since = told.2;
-        copy = record {
-          post = told.1;
-          found = subst (λ (x : List Posted). slice_get x told.0 ≡ Some told.1) (sym posted) told.3;
-          sender = told.4.0;
-          goes = ap (is_among setup.agent.route) told.4.1 ∙ among;
-          inside = any_from_one (λ (one : List ℕ). one ≡ says.text) (texts_of told.1.packet.bytes) told.4.3;
-        };
-        moment = told.4.2 ∙ sym now;
-      })
+  by_answers (inr says) = inr (said_answered setup steps number b.id copy.post set_up taken copy.found copy.sender after is says)
 
 -- what holds of each issued command holds of this one
 issued_one : (P : Begun → Type 0) (setup : Setup) (w : World) (b : Begun) → IsIssued setup w b → OneOf (λ (one : Begun). P one × (one ≡ b)) (issued_in setup w) → P b

@@ -165,7 +165,7 @@ text_answers setup m source earlier id name outcome keeps reads room =
     (subst (λ (i : ℕ). Answers i m.now source (firsts_of most_firsts (earlier ++ command_arrival m f.t ∷ [])) (transacted m source f.t).sent) f.same
     (command_answers m source f.t earlier keeps room))
 
-first_kept : (setup : Setup) (m : Machine) (source : SocketAddrV4) (outcome : Outcome) (earlier : List Arrival) → Keeps m earlier
+pub first_kept : (setup : Setup) (m : Machine) (source : SocketAddrV4) (outcome : Outcome) (earlier : List Arrival) → Keeps m earlier
     → Keeps (handled setup m source outcome).value (earlier ++ arriving m (transaction_of setup m outcome))
 unfolding handled
 first_kept setup m source outcome earlier keeps = arrived_on (transaction_of setup m outcome) setup m source outcome earlier keeps

@@ -9,7 +9,7 @@ use Rattle.machine_laws.specs.Saying.{Begun}
 use Rattle.agent_core.specs.declared.packet.Posted.{Posted}
 use Rattle.agent_core.specs.declared.packet.End.TheVariants.{GatewayEnd as gateway_end}
 use Rattle.agent_core.specs.World.{World, WorldStep, delivering, now_in, plain_world}
-use Rattle.delivery_laws.specs.Copies.{HasRoom, IsConfirmedAmong, arrives, gateway_firsts}
+use Rattle.delivery_laws.specs.Copies.{HasRoom, arrives, gateway_firsts}
 use Rattle.delivery_laws.specs.Taking.{AgentHasRoom, IsOwn}
 
 -- these steps hand the packet with this number over, so many ms after it was sent at the latest
@@ -32,12 +32,7 @@ AlwaysHasRoom setup steps =
     (before later : List WorldStep) → steps ≡ before ++ later
     → HasRoom (now_in setup (plain_world setup before)) (gateway_firsts setup (plain_world setup before))
 
--- and at none was the command with this id confirmed
-abbrev pub IsNeverConfirmed : Setup → List WorldStep → ℕ → Type 0
-IsNeverConfirmed setup steps id =
-    (before later : List WorldStep) → steps ≡ before ++ later → ¬ IsConfirmedAmong id (gateway_firsts setup (plain_world setup before))
-
--- The same of what the agent takes, of which nothing is ever confirmed
+-- The same of what the agent takes
 
 abbrev pub AgentAlwaysHasRoom : Setup → List WorldStep → Type 0
 AgentAlwaysHasRoom setup steps = (before later : List WorldStep) → steps ≡ before ++ later → AgentHasRoom setup (plain_world setup before)

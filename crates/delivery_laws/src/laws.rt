@@ -46,7 +46,7 @@ ghost use Rattle.dialled_end_to_end.specs.GivenUp.{has_given_up};
 ghost use Rattle.delivery_laws.specs.Copies.{IsRun, IsCopy, IsIssued, answer_wait, gateway_firsts, IsConfirmedAmong, HasRoom, IsAnswered, IsFinal, HasAnswer, IsServed};
 ghost use Rattle.delivery_laws.specs.Taking.{AgentHasRoom, IsConfirmedIn, IsOwn, IsTaken, agent_history};
 ghost use Rattle.delivery_laws.specs.Asking.{KeepsAsking};
-ghost use Rattle.delivery_laws.specs.Fairness.{IsFair, AlwaysHasRoom, IsNeverConfirmed, AgentAlwaysHasRoom, GoesToAgent, HadItsTime, ReachTheAgent};
+ghost use Rattle.delivery_laws.specs.Fairness.{IsFair, AlwaysHasRoom, AgentAlwaysHasRoom, GoesToAgent, HadItsTime, ReachTheAgent};
 ghost use Rattle.delivery_laws.specs.GoingOn.{GoesOn, GoesOnAmid, IsPlainAnswer};
 ghost use Rattle.delivery_laws.specs.Rounds.{IsAnsweredWithin, IsAskedWithin, of_telephone, rounds_take};
 ghost use Rattle.delivery_laws.specs.Chances.{chances, last_chance, IsSentAfter, IsCarried};
@@ -104,12 +104,11 @@ pub fn one_copy_of_eight_is_enough()
         ¬ Any (λ (n : ℕ). n ≡ number) lost → IsCarried setup steps b number) → HasAnswer b.id (agent_in setup w) }
 {}
 
-/// So a network that hands each packet over at most so many ms after it was sent answers each command in twice the time, where no
-/// K confirms it and where room is never wanting.
+/// So a network that hands each packet over at most so many ms after it was sent answers each command in twice the time, where room
+/// is never wanting.
 pub fn a_fair_network_answers_each_command()
     ensures { (setup : Setup) (steps : List WorldStep) (within : ℕ) (b : Begun) → IsRun setup steps → IsFair setup steps within → AlwaysHasRoom setup steps →
-        IsNeverConfirmed setup steps b.id → let w = plain_world setup steps in IsIssued setup w b →
-        b.moment + 2 * within ≤ now_in setup w → HasAnswer b.id (agent_in setup w) }
+        let w = plain_world setup steps in IsIssued setup w b → b.moment + 2 * within ≤ now_in setup w → HasAnswer b.id (agent_in setup w) }
 {}
 
 /// No command that the gateway's end posts has a K; so nothing that the agent keeps confirms any id (RFC 3435, 3.2.2.1).
