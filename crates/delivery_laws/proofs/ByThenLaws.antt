@@ -29,7 +29,7 @@ use Rattle.dialled_once.specs.Dialled.{IsAskedForAll, done_in}
 use Rattle.dialled_once.specs.Keeping.{AreOfPhone, KeepsAll, happened_in, is_of_phone}
 use Rattle.dialled_once.proofs.CountLemmas.{IsCounted}
 use Rattle.dialled_once.proofs.CourseLemmas.{AnyResponse, LineGoes, Stands, call_turns, events_stand, hear_all}
-use Rattle.dialled_once.proofs.DialledLemmas.{BeginsUntouched, Told, calls_begin, calls_count, calls_told, done_both, opening_begins, told_from}
+use Rattle.dialled_once.proofs.DialledLemmas.{BeginsUntouched, Told, calls_begin, calls_count, calls_told, opening_begins, told_from}
 use Rattle.dialled_once.proofs.OverLists.{always}
 use Rattle.call_agent.specs.Agent.{observed_on}
 use Rattle.agent_core.specs.World.{World, WorldStep, agent_in, gateway_in, now_in, plain_world, steps_are_taken, world_opening}
@@ -39,8 +39,9 @@ use Rattle.dialled_end_to_end.proofs.FlightLemmas.{Flies, FliesBeside, flight_tu
 use Rattle.delivery_laws.specs.Fairness.{AgentAlwaysHasRoom, HadItsTime, IsFair}
 use Rattle.delivery_laws.specs.Rounds.{IsAnsweredWithin, IsAskedWithin, of_telephone, rounds_take}
 use Rattle.delivery_laws.proofs.DialledLaws.{taken_in_time}
-use Rattle.delivery_laws.proofs.RoundLaws.{course_on, out_in_time, sent_on}
+use Rattle.delivery_laws.proofs.RoundLaws.{out_in_time, sent_on}
 use Rattle.delivery_laws.proofs.RoundTurns.{announced_behind, has_announced}
+use Rattle.delivery_laws.proofs.UnservedLemmas.{done_on}
 
 -- Where all is asked for, what happened of what is quarantined is the telephone's
 
@@ -185,9 +186,7 @@ module _ (setup : Setup) (steps : List WorldStep) (within line : ℕ) (before af
   whole = taken_in_time setup steps within line before after endpoint set_up taken few took at asked none fair roomy had
 
   parts : done_in (course_of setup line w.gateway_took) ≡ done_in (course_of setup line some) ++ since
-  parts =
-      ap (λ (x : List GatewayEvent). done_in (course_of setup line x)) split ∙ ap done_in (course_on setup (opening setup) line some later)
-      ∙ done_both (course_of setup line some) (course_from setup (plain setup some) line later)
+  parts = ap (λ (x : List GatewayEvent). done_in (course_of setup line x)) split ∙ done_on setup line some later
 
   left_few : length left ≤ length since
   left_few =

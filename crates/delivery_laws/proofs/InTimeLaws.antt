@@ -37,6 +37,7 @@ use Rattle.delivery_laws.specs.Rounds.{IsAnsweredWithin, IsAskedWithin, IsAwaite
 use Rattle.delivery_laws.specs.Taking.{IsOwn}
 use Rattle.delivery_laws.proofs.AnsweredLaws.{over_once_answered}
 use Rattle.delivery_laws.proofs.ByThenLaws.{all_by_then, serving_then, told_by_then}
+use Rattle.delivery_laws.proofs.DialledLaws.{taken_in_time}
 use Rattle.delivery_laws.proofs.FairFronts.{fair_front}
 use Rattle.delivery_laws.proofs.FairLaws.{stays_found}
 use Rattle.delivery_laws.proofs.FrontSteps.{TookThem, few_front, own_stays, took_them}
@@ -44,6 +45,7 @@ use Rattle.delivery_laws.proofs.LineLaws.{of_its_line as its_line}
 use Rattle.delivery_laws.proofs.PostedLemmas.{one_member}
 use Rattle.delivery_laws.proofs.ReturnedLaws.{IsReturned, is_returned}
 use Rattle.delivery_laws.proofs.StepLemmas.{taken_front}
+use Rattle.delivery_laws.proofs.UnservedLemmas.{done_on, none_before, unserved_undone}
 use Rattle.delivery_laws.proofs.WaitingTurns.{HasFlight, HasOnceServing, has_turns}
 
 -- In a world: what is in flight was first sent in twice the time
@@ -152,16 +154,46 @@ module _ (setup : Setup) (steps : List WorldStep) (within line : ℕ) (before af
     (asked : IsAskedForAll (course_of setup line before) (course_from setup (plain setup before) line after) endpoint.line)
     (none : has_given_up (of_line line (sent_of setup (plain_world setup steps).gateway_took)) endpoint.post ≡ false) (fair : IsFair setup steps within) (roomy : AgentAlwaysHasRoom setup steps)
     (reach : ReachTheAgent setup steps line) (had : HadItsTime setup steps within endpoint.post.pending) (split : (plain_world setup steps).gateway_took ≡ some ++ later)
-    (there : endpoint_at (plain setup some).endpoints line ≡ Some was) (serving : serves (plain setup some).endpoints ≡ true) (is_asked : IsAskedWithin setup line some later asking)
+    (there : endpoint_at (plain setup some).endpoints line ≡ Some was) (is_asked : IsAskedWithin setup line some later asking)
     (late : (plain setup some).now + rounds_take (length was.line.quarantined.events) (2 * within) asking < now_in setup (plain_world setup steps)) where
-  is_answered : IsAnsweredWithin setup line some later (2 * within)
-  is_answered = waits_in_time setup steps within line some later endpoint set_up taken few fair roomy reach split serving at none
+  abbrev told : List Observed
+  told = happened_in (observed_on line (agent_in setup (plain_world setup steps)))
 
-  pub fair_told_by_then : (rest : List Observed) × (happened_in (observed_on line (agent_in setup (plain_world setup steps))) ≡ done_in (course_of setup line some) ++ rest)
-  fair_told_by_then =
-      told_by_then setup steps within line before after some later (2 * within) asking was endpoint set_up taken few took at asked none fair roomy had split there is_answered is_asked late
+  abbrev done_then : List Observed
+  done_then = done_in (course_of setup line some)
 
-  pub fair_all_by_then : done_in (course_from setup (plain setup some) line later) ≡ []
-      → done_in (course_of setup line (plain_world setup steps).gateway_took) ≡ happened_in (observed_on line (agent_in setup (plain_world setup steps)))
-  fair_all_by_then rests =
-      all_by_then setup steps within line before after some later (2 * within) asking was endpoint set_up taken few took at asked none fair roomy had split there is_answered is_asked late rests
+  abbrev done_all : List Observed
+  done_all = done_in (course_of setup line (plain_world setup steps).gateway_took)
+
+  -- while the gateway serves
+  is_answered : serves (plain setup some).endpoints ≡ true → IsAnsweredWithin setup line some later (2 * within)
+  is_answered serving = waits_in_time setup steps within line some later endpoint set_up taken few fair roomy reach split serving at none
+
+  -- before that nothing was done
+  undone : serves (plain setup some).endpoints ≡ false → done_then ≡ []
+  undone closed = unserved_undone setup line before after some later was endpoint.line (sym took ∙ split) there closed asked
+
+  pub fair_told_by_then : (rest : List Observed) × (told ≡ done_then ++ rest)
+  fair_told_by_then = by_serving (serves (plain setup some).endpoints) refl where
+    by_serving : (b : Bool) → serves (plain setup some).endpoints ≡ b → (rest : List Observed) × (told ≡ done_then ++ rest)
+    by_serving true serving =
+        told_by_then setup steps within line before after some later (2 * within) asking was endpoint set_up taken few took at asked none fair roomy had split there (is_answered serving)
+        is_asked late
+    by_serving false closed = (told, ap (λ (x : List Observed). x ++ told) (sym (undone closed)))
+
+  -- nor by now, where the telephone rests since
+  all_undone : done_in (course_from setup (plain setup some) line later) ≡ [] → serves (plain setup some).endpoints ≡ false → done_all ≡ []
+  all_undone rests closed =
+      ap (λ (x : List GatewayEvent). done_in (course_of setup line x)) split ∙ done_on setup line some later
+      ∙ ap (λ (x : List Observed). x ++ done_in (course_from setup (plain setup some) line later)) (undone closed) ∙ rests
+
+  pub fair_all_by_then : done_in (course_from setup (plain setup some) line later) ≡ [] → done_all ≡ told
+  fair_all_by_then rests = by_serving (serves (plain setup some).endpoints) refl where
+    by_serving : (b : Bool) → serves (plain setup some).endpoints ≡ b → done_all ≡ told
+    by_serving true serving =
+        all_by_then setup steps within line before after some later (2 * within) asking was endpoint set_up taken few took at asked none fair roomy had split there (is_answered serving)
+        is_asked late rests
+    by_serving false closed =
+        let nothing : done_all ≡ [] = all_undone rests closed in
+        let whole = taken_in_time setup steps within line before after endpoint set_up taken few took at asked none fair roomy had in
+        nothing ∙ sym (none_before told (happened_in endpoint.line.quarantined.events) (sym whole ∙ nothing))

@@ -40,6 +40,7 @@ pub mod GatewayChanceLaws
 pub mod OutLemmas
 pub mod RoundTurns
 pub mod RoundLaws
+pub mod UnservedLemmas
 pub mod WaitingTurns
 pub mod ByThenLaws
 pub mod InTimeLaws

@@ -229,7 +229,6 @@ pub fn what_is_given_up_is_never_told()
     ensures reaches { ReachTheAgent hasty announced_anew 1 }
     ensures its_time { HadItsTime hasty announced_anew 25000 (hasty_line (hasty_took announced_anew)).post.pending }
     ensures split { hasty_took announced_anew ≡ hasty_took kept_back ++ hasty_took_between kept_back announced_anew }
-    ensures serves { serves (plain hasty (hasty_took kept_back)).endpoints ≡ true }
     ensures answered { IsAnsweredWithin hasty 1 (hasty_took kept_back) (hasty_took_between kept_back announced_anew) 23500 }
     ensures asked_again { IsAskedWithin hasty 1 (hasty_took kept_back) (hasty_took_between kept_back announced_anew) 0 }
     ensures none_held { length (hasty_line (hasty_took kept_back)).line.quarantined.events ≡ 0 }
@@ -248,6 +247,7 @@ pub fn who_gave_up_waits_for_no_answer()
     ensures room { AgentAlwaysHasRoom hasty lost }
     ensures reaches { ReachTheAgent hasty lost 1 }
     ensures split { hasty_took lost ≡ hasty_took kept_back ++ hasty_took_between kept_back lost }
+    ensures serves { serves (plain hasty (hasty_took kept_back)).endpoints ≡ true }
     ensures given_up { has_given_up (of_line 1 (sent_of hasty (hasty_took lost))) (hasty_line (hasty_took lost)).post ≡ true }
     ensures not_answered { ¬ IsAnsweredWithin hasty 1 (hasty_took kept_back) (hasty_took_between kept_back lost) 50000 }
 {}

@@ -146,8 +146,8 @@ pub fn a_fair_network_brings_each_notification()
 /// the line has in flight is so old; and where nothing is quarantined it is all that the agent was told. It is so where the law of both
 /// ends, `what_is_dialled_reaches_the_agent_once`, says that it reaches the agent once. Where from a moment on the line waits for no
 /// answer and no request for longer than so many ms each, that is, so many rounds later, what the telephone had done by then the agent
-/// was told; and all of it, where the telephone rests since. Where the gateway serves then, and all that the line sends reaches the
-/// agent, an answer takes twice the time of the network at most (RFC 3435, 4.4.1).
+/// was told; and all of it, where the telephone rests since. Where all that the line sends reaches the agent, an answer takes twice the
+/// time of the network at most (RFC 3435, 4.4.1).
 pub fn what_is_dialled_is_taken_in_time()
     ensures taken { (setup : Setup) (steps : List WorldStep) (within line : ℕ) (before after : List GatewayEvent)
         (endpoint : Endpoint) → IsRun setup steps → let w = plain_world setup steps in
@@ -198,7 +198,7 @@ pub fn what_is_dialled_is_taken_in_time()
         has_given_up (of_line line (sent_of setup w.gateway_took)) endpoint.post ≡ false → IsFair setup steps within →
         AgentAlwaysHasRoom setup steps → ReachTheAgent setup steps line → HadItsTime setup steps within endpoint.post.pending →
         w.gateway_took ≡ some ++ later → endpoint_at (plain setup some).endpoints line ≡ Some was →
-        serves (plain setup some).endpoints ≡ true → IsAskedWithin setup line some later asking →
+        IsAskedWithin setup line some later asking →
         (plain setup some).now + rounds_take (length was.line.quarantined.events) (2 * within) asking < now_in setup w →
         (rest : List Observed) × (happened_in (observed_on line (agent_in setup w)) ≡ done_in (course_of setup line some) ++ rest) }
     ensures fair_rests { (setup : Setup) (steps : List WorldStep) (within line : ℕ) (before after some later : List GatewayEvent)
@@ -209,7 +209,7 @@ pub fn what_is_dialled_is_taken_in_time()
         has_given_up (of_line line (sent_of setup w.gateway_took)) endpoint.post ≡ false → IsFair setup steps within →
         AgentAlwaysHasRoom setup steps → ReachTheAgent setup steps line → HadItsTime setup steps within endpoint.post.pending →
         w.gateway_took ≡ some ++ later → endpoint_at (plain setup some).endpoints line ≡ Some was →
-        serves (plain setup some).endpoints ≡ true → IsAskedWithin setup line some later asking →
+        IsAskedWithin setup line some later asking →
         (plain setup some).now + rounds_take (length was.line.quarantined.events) (2 * within) asking < now_in setup w →
         done_in (course_from setup (plain setup some) line later) ≡ [] →
         done_in (course_of setup line w.gateway_took) ≡ happened_in (observed_on line (agent_in setup w)) }
