@@ -193,9 +193,6 @@ module _ (setup : Setup) (steps : List WorldStep) (within line : ℕ) (before af
       let keeps = keeps_all setup line before after endpoint (subst (λ (x : List GatewayEvent). endpoint_at (plain setup x).endpoints line ≡ Some endpoint) took at) asked in
       subst (λ (x : List Observed). length x ≤ length since) (phone_is endpoint.line.quarantined.events keeps.of_phone)
       (out_in_time setup some later line answering asking was endpoint there
-      (serving_then setup line (place_of (plain setup some).endpoints line was there).0 some later was endpoint there
-      (subst (λ (x : List GatewayEvent). endpoint_at (plain setup x).endpoints line ≡ Some endpoint) split at)
-      (subst (λ (x : List GatewayEvent). has_given_up (of_line line (sent_of setup x)) endpoint.post ≡ false) split none))
       (subst (λ (x : List GatewayEvent). endpoint_at (plain setup x).endpoints line ≡ Some endpoint) split at)
       (none_since setup line some later endpoint.post (subst (λ (x : List GatewayEvent). has_given_up (of_line line (sent_of setup x)) endpoint.post ≡ false) split none)) is_answered is_asked
       (subst (λ (x : List GatewayEvent). (plain setup some).now + rounds_take (length was.line.quarantined.events) answering asking < (plain setup x).now) split late))

@@ -135,16 +135,16 @@ module _ (setup : Setup) (line : ℕ) (before : List GatewayEvent) (answering as
   PhaseAt Notification after rest pending = (flight : InFlight) × (pending ≡ Some flight) × (flight.first + each + rounds each rest ≤ deadline)
   PhaseAt Lockstep after rest pending = (pending ≡ None) × Waits after rest
 
-  abbrev RoundAt : List Observed → State → List GatewayEvent → Restart → Option InFlight → Type 0
-  RoundAt [] state after restart pending = Unit {0}
-  RoundAt (event ∷ rest) state after restart pending = (restart ≡ Serving) × PhaseAt state after rest pending
+  abbrev RoundAt : List Observed → State → List GatewayEvent → Option InFlight → Type 0
+  RoundAt [] state after pending = Unit {0}
+  RoundAt (event ∷ rest) state after pending = PhaseAt state after rest pending
 
   record KeepsAt (after : List GatewayEvent) (s : Endpoint) : Type 0 where
     old : List Observed
     new : List Observed
     order : s.line.quarantined.events ≡ old ++ new
     few : length (of_telephone new) ≤ length (done_in (course_since after))
-    round : RoundAt old s.line.state after s.post.restart s.post.pending
+    round : RoundAt old s.line.state after s.post.pending
 
   abbrev HeldAt : List GatewayEvent → Endpoint → Type 0
   HeldAt after s = Gone (sent_since after) s ⊎ KeepsAt after s
@@ -228,10 +228,10 @@ module _ (setup : Setup) (line : ℕ) (before : List GatewayEvent) (answering as
           }
 
     back_round : (old : List Observed) (s : Endpoint) → endpoint_at (at (after ++ event ∷ [])).endpoints line ≡ Some s
-        → Round answering asking deadline now since H (Waits after) T times old s.line.state (course_next after event) s.post.restart s.post.pending
-        → RoundAt old s.line.state (after ++ event ∷ []) s.post.restart s.post.pending
+        → Round answering asking deadline now since H (Waits after) T times old s.line.state (course_next after event) s.post.pending
+        → RoundAt old s.line.state (after ++ event ∷ []) s.post.pending
     back_round [] s there round = tt
-    back_round (first ∷ rest) s there round = (round.0, back_phase s.line.state rest s there refl round.1)
+    back_round (first ∷ rest) s there round = back_phase s.line.state rest s there refl round
 
     back : (s : Endpoint) → endpoint_at (at (after ++ event ∷ [])).endpoints line ≡ Some s → HeldNow (course_next after event) (sent_next after event) s → HeldAt (after ++ event ∷ []) s
     back s there (inl (inl is)) = inl (inl (ap has_announced (sent_grows after event) ∙ announced_behind (sent_since after) (sent_next after event) is))
@@ -285,10 +285,10 @@ module _ (setup : Setup) (line : ℕ) (before : List GatewayEvent) (answering as
           let fit : (at w.some).now + asking + rounds each rest ≤ deadline = w.fit in
           record { none = phase.0; fit = omega (arith, soon, fit); from = inr (w, refl) }
 
-      forth_round : (old : List Observed) (s : Endpoint) → endpoint_at (at after).endpoints line ≡ Some s → RoundAt old s.line.state after s.post.restart s.post.pending
-          → Round answering asking deadline (at after).now (length (done_in (course_since after))) H (Waits after) T times old s.line.state [] s.post.restart s.post.pending
+      forth_round : (old : List Observed) (s : Endpoint) → endpoint_at (at after).endpoints line ≡ Some s → RoundAt old s.line.state after s.post.pending
+          → Round answering asking deadline (at after).now (length (done_in (course_since after))) H (Waits after) T times old s.line.state [] s.post.pending
       forth_round [] s there round = tt
-      forth_round (first ∷ rest) s there round = (round.0, forth_phase s.line.state rest s there refl round.1)
+      forth_round (first ∷ rest) s there round = forth_phase s.line.state rest s there refl round
 
       forth : has_announced (sent_since after) ≡ false → (s : Endpoint) → endpoint_at (at after).endpoints line ≡ Some s → HeldAt after s
           → Held answering asking deadline (at after).now (length (done_in (course_since after))) H (Waits after) T times [] [] s
@@ -378,9 +378,9 @@ module _ (setup : Setup) (line : ℕ) (before : List GatewayEvent) (answering as
       up_clash Serving is none = cc
     ends s there none late (inr k) = by_old k.old k.new k.order k.few k.round where
       by_old : (old new : List Observed) → s.line.quarantined.events ≡ old ++ new → length (of_telephone new) ≤ length (done_in (course_since whole))
-          → RoundAt old s.line.state whole s.post.restart s.post.pending → length (of_telephone s.line.quarantined.events) ≤ length (done_in (course_since whole))
+          → RoundAt old s.line.state whole s.post.pending → length (of_telephone s.line.quarantined.events) ≤ length (done_in (course_since whole))
       by_old [] new order few round = subst (λ (x : List Observed). length (of_telephone x) ≤ length (done_in (course_since whole))) (sym order) few
-      by_old (event ∷ rest) new order few round = absurd (over s there late event rest s.line.state refl round.1)
+      by_old (event ∷ rest) new order few round = absurd (over s there late event rest s.line.state refl round)
 
 -- At the beginning
 
@@ -398,7 +398,7 @@ none_flies true line s is order = by_restart s.post.restart s.post.pending order
   by_restart Serving (Some flight) order = absurd (clash order.0)
 
 module _ (setup : Setup) (line answering asking : ℕ) (before whole : List GatewayEvent) (was : Endpoint) (there : endpoint_at (plain setup before).endpoints line ≡ Some was)
-    (serving : was.post.restart ≡ Serving) (is_answered : IsAnsweredWithin setup line before whole answering) where
+    (is_answered : IsAnsweredWithin setup line before whole answering) where
   abbrev start : ℕ
   start = (plain setup before).now
 
@@ -429,9 +429,9 @@ module _ (setup : Setup) (line answering asking : ℕ) (before whole : List Gate
         record { some = []; idle = []; order = refl; was = was; there = here; state = is; fit = omega (arith, total, same); none = refl },
       )
 
-  begins_round : (old : List Observed) → was.line.quarantined.events ≡ old → RoundAt setup line before answering asking last old was.line.state [] was.post.restart was.post.pending
+  begins_round : (old : List Observed) → was.line.quarantined.events ≡ old → RoundAt setup line before answering asking last old was.line.state [] was.post.pending
   begins_round [] order = tt
-  begins_round (event ∷ rest) order = (serving, begins event rest order was.line.state refl)
+  begins_round (event ∷ rest) order = begins event rest order was.line.state refl
 
   begins_held : KeepsAt setup line before answering asking last [] was
   begins_held = record {
@@ -446,18 +446,18 @@ some_same : (a b : Endpoint) → Some a ≡ Some b → a ≡ b
 some_same a b same = cc
 
 pub out_in_time : (setup : Setup) (before after : List GatewayEvent) (line answering asking : ℕ) (was is : Endpoint) → endpoint_at (plain setup before).endpoints line ≡ Some was
-    → was.post.restart ≡ Serving → endpoint_at (plain setup (before ++ after)).endpoints line ≡ Some is → has_given_up (of_line line (sent_from setup (plain setup before) after)) is.post ≡ false
+    → endpoint_at (plain setup (before ++ after)).endpoints line ≡ Some is → has_given_up (of_line line (sent_from setup (plain setup before) after)) is.post ≡ false
     → IsAnsweredWithin setup line before after answering → IsAskedWithin setup line before after asking
     → (plain setup before).now + rounds_take (length was.line.quarantined.events) answering asking < (plain setup (before ++ after)).now
     → length (of_telephone is.line.quarantined.events) ≤ length (done_in (course_from setup (plain setup before) line after))
-out_in_time setup before after line answering asking was is there serving at none is_answered is_asked late =
+out_in_time setup before after line answering asking was is there at none is_answered is_asked late =
     let some = (place_of (plain setup before).endpoints line was there).0 in
     let last : ℕ = (plain setup before).now + rounds (answering + asking) was.line.quarantined.events in
     let same : rounds (answering + asking) was.line.quarantined.events ≡ rounds_take (length was.line.quarantined.events) answering asking = rounds_are (answering + asking) was.line.quarantined.events in
     ends setup line before answering asking last after is_answered is_asked some is at none
     (subst (λ (n : ℕ). (plain setup before).now + n < (plain setup (before ++ after)).now) (sym same) late)
     (all_hold setup line before answering asking last after is_answered is_asked some [] after refl
-    (λ s here. inr (subst (KeepsAt setup line before answering asking last []) (the_same s here) (begins_held setup line answering asking before after was there serving is_answered)))
+    (λ s here. inr (subst (KeepsAt setup line before answering asking last []) (the_same s here) (begins_held setup line answering asking before after was there is_answered)))
     is at) where
       the_same : (s : Endpoint) → endpoint_at (plain setup (before ++ [])).endpoints line ≡ Some s → was ≡ s
       the_same s here =
@@ -469,10 +469,10 @@ none_of (event ∷ events) count few none = absurd (omega (arith, few, none))
 
 -- while its telephone rests none of it is quarantined then
 pub rests_in_time : (setup : Setup) (before after : List GatewayEvent) (line answering asking : ℕ) (was is : Endpoint) → endpoint_at (plain setup before).endpoints line ≡ Some was
-    → was.post.restart ≡ Serving → endpoint_at (plain setup (before ++ after)).endpoints line ≡ Some is → has_given_up (of_line line (sent_from setup (plain setup before) after)) is.post ≡ false
+    → endpoint_at (plain setup (before ++ after)).endpoints line ≡ Some is → has_given_up (of_line line (sent_from setup (plain setup before) after)) is.post ≡ false
     → IsAnsweredWithin setup line before after answering → IsAskedWithin setup line before after asking
     → (plain setup before).now + rounds_take (length was.line.quarantined.events) answering asking < (plain setup (before ++ after)).now
     → done_in (course_from setup (plain setup before) line after) ≡ [] → of_telephone is.line.quarantined.events ≡ []
-rests_in_time setup before after line answering asking was is there serving at none is_answered is_asked late rests =
+rests_in_time setup before after line answering asking was is there at none is_answered is_asked late rests =
     none_of (of_telephone is.line.quarantined.events) (length (done_in (course_from setup (plain setup before) line after)))
-    (out_in_time setup before after line answering asking was is there serving at none is_answered is_asked late) (ap (λ (x : List Observed). length x) rests)
+    (out_in_time setup before after line answering asking was is there at none is_answered is_asked late) (ap (λ (x : List Observed). length x) rests)

@@ -195,43 +195,43 @@ module _ (answering asking deadline now since : ℕ) (H : Type 0) (S : List Obse
   Phase Notification rest course pending = Flies rest pending
   Phase Lockstep rest course pending = Rests rest course pending
 
-  abbrev pub Round : List Observed → State → List CourseStep → Restart → Option InFlight → Type 0
-  Round [] state course restart pending = Unit {0}
-  Round (event ∷ rest) state course restart pending = (restart ≡ Serving) × Phase state rest course pending
+  abbrev pub Round : List Observed → State → List CourseStep → Option InFlight → Type 0
+  Round [] state course pending = Unit {0}
+  Round (event ∷ rest) state course pending = Phase state rest course pending
 
   -- of what is quarantined these were so before, and of the others the telephone did no more than it did since
-  pub record Keeps (course : List CourseStep) (events : List Observed) (state : State) (restart : Restart) (pending : Option InFlight) : Type 0 where
+  pub record Keeps (course : List CourseStep) (events : List Observed) (state : State) (pending : Option InFlight) : Type 0 where
     pub old : List Observed
     pub new : List Observed
     pub order : events ≡ old ++ new
     pub few : length (of_telephone new) ≤ since + length (done_in course)
-    pub round : Round old state course restart pending
+    pub round : Round old state course pending
 
   abbrev pub Held : List CourseStep → List Sent → Endpoint → Type 0
-  Held course sent s = Gone sent s ⊎ Keeps course s.line.quarantined.events s.line.state s.post.restart s.post.pending
+  Held course sent s = Gone sent s ⊎ Keeps course s.line.quarantined.events s.line.state s.post.pending
 
   abbrev pub HeldIn : Bool → List CourseStep → List Sent → Endpoint → Type 0
   HeldIn serving course sent s = T course sent → Held course sent s
 
   -- Where nothing changes
 
-  round_on : (old : List Observed) (state : State) (course after : List CourseStep) (restart : Restart) (pending : Option InFlight) → (requests_in course ≡ [] → requests_in after ≡ [])
-      → Round old state course restart pending → Round old state after restart pending
-  round_on [] state course after restart pending quiet round = tt
-  round_on (event ∷ rest) Normal course after restart pending quiet round = round
-  round_on (event ∷ rest) Notification course after restart pending quiet round = round
-  round_on (event ∷ rest) Lockstep course after restart pending quiet round =
-      (round.0, record { none = round.1.none; fit = round.1.fit; from = by_from round.1.from }) where
+  round_on : (old : List Observed) (state : State) (course after : List CourseStep) (pending : Option InFlight) → (requests_in course ≡ [] → requests_in after ≡ [])
+      → Round old state course pending → Round old state after pending
+  round_on [] state course after pending quiet round = tt
+  round_on (event ∷ rest) Normal course after pending quiet round = round
+  round_on (event ∷ rest) Notification course after pending quiet round = round
+  round_on (event ∷ rest) Lockstep course after pending quiet round =
+      record { none = round.none; fit = round.fit; from = by_from round.from } where
         by_from : (H × (now + asking + rounds each rest ≤ deadline)) ⊎ (S rest × (requests_in course ≡ []))
             → (H × (now + asking + rounds each rest ≤ deadline)) ⊎ (S rest × (requests_in after ≡ []))
         by_from (inl fresh) = inl fresh
         by_from (inr stale) = inr (stale.0, quiet stale.1)
 
-  waits_in : (event : Observed) (rest : List Observed) (state : State) (course : List CourseStep) (restart : Restart) (pending : Option InFlight)
-      → Round (event ∷ rest) state course restart pending → IsWaiting state
-  waits_in event rest Normal course restart pending round = absurd round.1
-  waits_in event rest Notification course restart pending round = tt
-  waits_in event rest Lockstep course restart pending round = tt
+  waits_in : (event : Observed) (rest : List Observed) (state : State) (course : List CourseStep) (pending : Option InFlight)
+      → Round (event ∷ rest) state course pending → IsWaiting state
+  waits_in event rest Normal course pending round = absurd round
+  waits_in event rest Notification course pending round = tt
+  waits_in event rest Lockstep course pending round = tt
 
   few_on : (course more : List CourseStep) (count : ℕ) → count ≤ since + length (done_in course) → count ≤ since + length (done_in (course ++ more))
   few_on course more count few = let sum = done_more course more in omega (arith, few, sum)
@@ -244,19 +244,19 @@ module _ (answering asking deadline now since : ℕ) (H : Type 0) (S : List Obse
     new = k.new;
     order = k.order;
     few = few_on course more (length (of_telephone k.new)) k.few;
-    round = round_on k.old s.line.state course (course ++ more) s.post.restart s.post.pending (λ quiet. none_both course more quiet none) k.round;
+    round = round_on k.old s.line.state course (course ++ more) s.post.pending (λ quiet. none_both course more quiet none) k.round;
   })
 
   -- what was quarantined before is out
-  free_keeps : (course : List CourseStep) (events new : List Observed) (state : State) (restart : Restart) (pending : Option InFlight) → events ≡ new
-      → length (of_telephone new) ≤ since + length (done_in course) → Keeps course events state restart pending
-  free_keeps course events new state restart pending is few = record { old = []; new = new; order = is; few = few; round = tt }
+  free_keeps : (course : List CourseStep) (events new : List Observed) (state : State) (pending : Option InFlight) → events ≡ new
+      → length (of_telephone new) ≤ since + length (done_in course) → Keeps course events state pending
+  free_keeps course events new state pending is few = record { old = []; new = new; order = is; few = few; round = tt }
 
   free_noted : (setup : Setup) (course : List CourseStep) (sent : List Sent) (line moment : ℕ) (from : Endpoint) (done : LineDone) (new : List Observed) → held_in done ≡ new
       → length (of_telephone new) ≤ since + length (done_in course) → Held course sent (noted setup line moment from done).value
   free_noted setup course sent line moment from done new is few =
       let turn : Effect Endpoint = noted setup line moment from done in
-      inr (free_keeps course turn.value.line.quarantined.events new turn.value.line.state turn.value.post.restart turn.value.post.pending
+      inr (free_keeps course turn.value.line.quarantined.events new turn.value.line.state turn.value.post.pending
       (ap (λ (l : LineState). l.quarantined.events) (noted_line setup line moment from done) ∙ is) few)
 
   up_noted : (setup : Setup) (course : List CourseStep) (sent : List Sent) (line moment : ℕ) (from : Endpoint) (done : LineDone) → done.notice ≡ None → done.line.state ≡ from.line.state
@@ -268,15 +268,15 @@ module _ (answering asking deadline now since : ℕ) (H : Type 0) (S : List Obse
   -- a line that waits on
   waits_noted : (setup : Setup) (course after : List CourseStep) (sent : List Sent) (line moment : ℕ) (from : Endpoint) (done : LineDone) (old new : List Observed) → done.notice ≡ None
       → done.line.state ≡ from.line.state → held_in done ≡ old ++ new → length (of_telephone new) ≤ since + length (done_in after) → (requests_in course ≡ [] → requests_in after ≡ [])
-      → Round old from.line.state course from.post.restart from.post.pending → Held after sent (noted setup line moment from done).value
+      → Round old from.line.state course from.post.pending → Held after sent (noted setup line moment from done).value
   waits_noted setup course after sent line moment from done old new silent same order few quiet round =
       subst (λ (t : Effect Endpoint). Held after sent t.value) (sym (noted_silent setup line moment from done silent)) (inr (record {
         old = old;
         new = new;
         order = order;
         few = few;
-        round = subst (λ (state : State). Round old state after from.post.restart from.post.pending) (sym same)
-            (round_on old from.line.state course after from.post.restart from.post.pending quiet round);
+        round = subst (λ (state : State). Round old state after from.post.pending) (sym same)
+            (round_on old from.line.state course after from.post.pending quiet round);
       }))
 
   -- Something is detected
@@ -289,7 +289,7 @@ module _ (answering asking deadline now since : ℕ) (H : Type 0) (S : List Obse
     turn = noted setup line moment from done
 
     by_old : (old new : List Observed) → from.line.quarantined.events ≡ old ++ new → length (of_telephone new) ≤ since + length (done_in course)
-        → Round old from.line.state course from.post.restart from.post.pending → Held after (sent ++ turn.sent) turn.value
+        → Round old from.line.state course from.post.pending → Held after (sent ++ turn.sent) turn.value
     by_old [] new order few round =
         let g = grown most [] new (held_in done) (subst (λ (x : List Observed). Grows most x (held_in done)) order shape.grows) in
         let more : length (of_telephone g.now) ≤ length (of_telephone new) + most = g.few in
@@ -297,7 +297,7 @@ module _ (answering asking deadline now since : ℕ) (H : Type 0) (S : List Obse
     by_old (event ∷ rest) new order few round =
         let g = grown most (event ∷ rest) new (held_in done) (subst (λ (x : List Observed). Grows most x (held_in done)) order shape.grows) in
         let more : length (of_telephone g.now) ≤ length (of_telephone new) + most = g.few in
-        let waits = shape.waits (waits_in event rest from.line.state course from.post.restart from.post.pending round) in
+        let waits = shape.waits (waits_in event rest from.line.state course from.post.pending round) in
         waits_noted setup course after (sent ++ turn.sent) line moment from done (event ∷ rest) g.now waits.0 waits.1 g.order (omega (arith, few, more, grows)) quiet round
 
     by_held : Held course sent from → Held after (sent ++ turn.sent) turn.value
@@ -309,28 +309,28 @@ module _ (answering asking deadline now since : ℕ) (H : Type 0) (S : List Obse
 
   -- One round more
 
-  goes_out : (setup : Setup) (after : List CourseStep) (sent : List Sent) (line moment : ℕ) (from : Endpoint) (done : LineDone) (rest new : List Observed) → from.post.restart ≡ Serving
+  goes_out : (setup : Setup) (after : List CourseStep) (sent : List Sent) (line moment : ℕ) (from : Endpoint) (done : LineDone) (rest new : List Observed)
       → AwaitsIfNotified done → Out (rest ++ new) done → length (of_telephone new) ≤ since + length (done_in after) → now + rounds each rest ≤ deadline
       → ((one : Sent) → (noted setup line moment from done).sent ≡ one ∷ [] → one.moment ≡ now) → Held after sent (noted setup line moment from done).value
   unfolding noted
-  goes_out setup after sent line moment from done rest new serving awaits out few fit at = by_notice done.notice awaits out.whole at where
+  goes_out setup after sent line moment from done rest new awaits out few fit at = by_notice done.notice awaits out.whole at where
     parts : Parts rest new (held_in done)
     parts = parts_of_back rest new (held_in done) out.back
 
     fewer : length (of_telephone parts.new) ≤ since + length (done_in after)
     fewer = let less : length (of_telephone parts.new) ≤ length (of_telephone new) = back_few new parts.new parts.back in omega (arith, less, few)
 
-    begins : (flight : InFlight) → flight.first ≡ now → (old : List Observed) → length old ≤ length rest → Round old Notification after from.post.restart (Some flight)
+    begins : (flight : InFlight) → flight.first ≡ now → (old : List Observed) → length old ≤ length rest → Round old Notification after (Some flight)
     begins flight same [] less = tt
     begins flight same (event ∷ old) less =
         let whole : each + rounds each old ≤ rounds each rest = rounds_less each (event ∷ old) rest less in
-        (serving, record { flight = flight; is = refl; fit = omega (arith, whole, fit, same); young = omega (arith, same) })
+        record { flight = flight; is = refl; fit = omega (arith, whole, fit, same); young = omega (arith, same) }
 
     by_notice : (notice : Option Notice) → IfSome notice (λ n. Awaits done.line) → IfNone notice (held_in done ≡ [])
         → ((one : Sent) → (with_notice setup line moment (record from { line = done.line }) notice).sent ≡ one ∷ [] → one.moment ≡ now)
         → Held after sent (with_notice setup line moment (record from { line = done.line }) notice).value
     by_notice None awaits whole at =
-        inr (free_keeps after (held_in done) [] done.line.state from.post.restart from.post.pending whole (omega arith))
+        inr (free_keeps after (held_in done) [] done.line.state from.post.pending whole (omega arith))
     by_notice (Some notice) awaits whole at =
         let flight : InFlight = sent_first (id_on line from.post.number) from.post.entity.route (written (notification setup line (id_on line from.post.number) notice)) moment in
         inr (record {
@@ -338,7 +338,7 @@ module _ (answering asking deadline now since : ℕ) (H : Type 0) (S : List Obse
           new = parts.new;
           order = parts.order;
           few = fewer;
-          round = subst (λ (state : State). Round parts.old state after from.post.restart (Some flight)) (sym awaits.state) (begins flight (at _ refl) parts.old parts.few);
+          round = subst (λ (state : State). Round parts.old state after (Some flight)) (sym awaits.state) (begins flight (at _ refl) parts.old parts.few);
         })
 
   -- A request
@@ -363,30 +363,30 @@ module _ (answering asking deadline now since : ℕ) (H : Type 0) (S : List Obse
     waits is = asked_waits (Some request) from.line moment is
 
     by_waiting : (event : Observed) (rest new : List Observed) → from.line.quarantined.events ≡ (event ∷ rest) ++ new → length (of_telephone new) ≤ since + length (done_in course)
-        → from.line.state ≡ Notification → from.post.restart ≡ Serving → Flies rest from.post.pending
+        → from.line.state ≡ Notification → Flies rest from.post.pending
         → (held_in done ≡ from.line.quarantined.events) ⊎ (held_in done ≡ []) → Held after (sent ++ turn.sent) turn.value
-    by_waiting event rest new order few is serving flies (inr none) = free_noted setup after (sent ++ turn.sent) line moment from done [] none (omega arith)
-    by_waiting event rest new order few is serving flies (inl same) =
+    by_waiting event rest new order few is flies (inr none) = free_noted setup after (sent ++ turn.sent) line moment from done [] none (omega arith)
+    by_waiting event rest new order few is flies (inl same) =
         subst (λ (t : Effect Endpoint). Held after (sent ++ turn.sent) t.value) (sym (noted_silent setup line moment from done (waits is).silent)) (inr (record {
           old = event ∷ rest;
           new = new;
           order = same ∙ order;
           few = longer (length (of_telephone new)) few;
-          round = subst (λ (state : State). Round (event ∷ rest) state after from.post.restart from.post.pending) (sym (waits is).state) (serving, flies);
+          round = subst (λ (state : State). Round (event ∷ rest) state after from.post.pending) (sym (waits is).state) flies;
         }))
 
     by_state : (event : Observed) (rest new : List Observed) → from.line.quarantined.events ≡ (event ∷ rest) ++ new → length (of_telephone new) ≤ since + length (done_in course)
-        → (state : State) → from.line.state ≡ state → Round (event ∷ rest) state course from.post.restart from.post.pending → Held after (sent ++ turn.sent) turn.value
-    by_state event rest new order few Normal is round = absurd round.1
+        → (state : State) → from.line.state ≡ state → Round (event ∷ rest) state course from.post.pending → Held after (sent ++ turn.sent) turn.value
+    by_state event rest new order few Normal is round = absurd round
     by_state event rest new order few Notification is round =
-        by_waiting event rest new order few is round.0 round.1 (asked_waiting from.line request moment is)
+        by_waiting event rest new order few is round (asked_waiting from.line request moment is)
     by_state event rest new order few Lockstep is round =
-        goes_out setup after (sent ++ turn.sent) line moment from done rest new round.0 (notifies_once.request from.line request moment)
-        (asked_out from.line request moment event (rest ++ new) is order) (longer (length (of_telephone new)) few) round.1.fit
+        goes_out setup after (sent ++ turn.sent) line moment from done rest new (notifies_once.request from.line request moment)
+        (asked_out from.line request moment event (rest ++ new) is order) (longer (length (of_telephone new)) few) round.fit
         (λ one same. times.asked_at course (steps_in turn.sent) request sent one (subst (λ (x : List Sent). T after (sent ++ x)) same time))
 
     by_old : (old new : List Observed) → from.line.quarantined.events ≡ old ++ new → length (of_telephone new) ≤ since + length (done_in course)
-        → Round old from.line.state course from.post.restart from.post.pending → Held after (sent ++ turn.sent) turn.value
+        → Round old from.line.state course from.post.pending → Held after (sent ++ turn.sent) turn.value
     by_old [] new order few round =
         let less : length (of_telephone (held_in done)) ≤ length (of_telephone new) =
         back_few new (held_in done) (subst (λ (x : List Observed). BackOf x (held_in done)) order (asked_back from.line request moment)) in
@@ -439,13 +439,13 @@ module _ (answering asking deadline now since : ℕ) (H : Type 0) (S : List Obse
     after : List CourseStep
     after = course ++ steps_in turn.sent
 
-    by_state : (event : Observed) (rest : List Observed) (state : State) → endpoint.line.state ≡ state → Round (event ∷ rest) state course endpoint.post.restart endpoint.post.pending → ⊥
-    by_state event rest Normal is round = round.1
-    by_state event rest Notification is round = none-some round.1.flight (sym closed.pending ∙ round.1.is)
+    by_state : (event : Observed) (rest : List Observed) (state : State) → endpoint.line.state ≡ state → Round (event ∷ rest) state course endpoint.post.pending → ⊥
+    by_state event rest Normal is round = round
+    by_state event rest Notification is round = none-some round.flight (sym closed.pending ∙ round.is)
     by_state event rest Lockstep is round = let clash : Notification ≡ Lockstep = sym closed.state ∙ is in cc
 
     by_old : (old new : List Observed) → endpoint.line.quarantined.events ≡ old ++ new → length (of_telephone new) ≤ since + length (done_in course)
-        → Round old endpoint.line.state course endpoint.post.restart endpoint.post.pending → Held after (sent ++ turn.sent) turn.value
+        → Round old endpoint.line.state course endpoint.post.pending → Held after (sent ++ turn.sent) turn.value
     by_old [] new order few round =
         let less : length (of_telephone (held_in done)) ≤ length (of_telephone new) =
         back_few new (held_in done) (subst (λ (x : List Observed). BackOf x (held_in done)) order (opened_back endpoint.line moment)) in
@@ -477,22 +477,22 @@ module _ (answering asking deadline now since : ℕ) (H : Type 0) (S : List Obse
 
     by_state : (flight : InFlight) (repeat : Repeat) (event : Observed) (rest new : List Observed) → endpoint.post.pending ≡ Some flight
         → endpoint.line.quarantined.events ≡ (event ∷ rest) ++ new → length (of_telephone new) ≤ since + length (done_in course) → (state : State) → endpoint.line.state ≡ state
-        → Round (event ∷ rest) state course endpoint.post.restart endpoint.post.pending → let turn = posted endpoint (repeated_as repeat setup line moment endpoint.post flight) in
+        → Round (event ∷ rest) state course endpoint.post.pending → let turn = posted endpoint (repeated_as repeat setup line moment endpoint.post flight) in
         repeat_of flight moment ≡ repeat → Held (course ++ []) (sent ++ turn.sent) turn.value
-    by_state flight repeat event rest new flies order few Normal is round e = absurd round.1
-    by_state flight repeat event rest new flies order few Lockstep is round e = absurd (none-some flight (sym round.1.none ∙ flies))
+    by_state flight repeat event rest new flies order few Normal is round e = absurd round
+    by_state flight repeat event rest new flies order few Lockstep is round e = absurd (none-some flight (sym round.none ∙ flies))
     by_state flight SentAgain event rest new flies order few Notification is round e =
-        let first : round.1.flight.first ≡ flight.first = its_first flight rest flies round.1 in
+        let first : round.flight.first ≡ flight.first = its_first flight rest flies round in
         let same : (repeated flight moment).first ≡ flight.first = (repeat_same flight moment).same_start in
-        let fit : round.1.flight.first + each + rounds each rest ≤ deadline = round.1.fit in
-        let young : now ≤ round.1.flight.first + answering = round.1.young in
+        let fit : round.flight.first + each + rounds each rest ≤ deadline = round.fit in
+        let young : now ≤ round.flight.first + answering = round.young in
         inr (record {
           old = event ∷ rest;
           new = new;
           order = order;
           few = few_on course [] (length (of_telephone new)) few;
-          round = subst (λ (state : State). Round (event ∷ rest) state (course ++ []) endpoint.post.restart (Some (repeated flight moment))) (sym is)
-              (round.0, record { flight = repeated flight moment; is = refl; fit = omega (arith, fit, first, same); young = omega (arith, young, first, same) });
+          round = subst (λ (state : State). Round (event ∷ rest) state (course ++ []) (Some (repeated flight moment))) (sym is)
+              (record { flight = repeated flight moment; is = refl; fit = omega (arith, fit, first, same); young = omega (arith, young, first, same) });
         })
     by_state flight GivenUp event rest new flies order few Notification is round e = inl (inr (record { waits = refl; none = refl; state_is = is }))
 
@@ -502,11 +502,11 @@ module _ (answering asking deadline now since : ℕ) (H : Type 0) (S : List Obse
     by_repeat flight repeat flies e (inl (inr up)) = absurd (up_clash flight flies up)
     by_repeat flight repeat flies e (inr k) = by_old k.old k.new k.order k.few k.round where
       by_old : (old new : List Observed) → endpoint.line.quarantined.events ≡ old ++ new → length (of_telephone new) ≤ since + length (done_in course)
-          → Round old endpoint.line.state course endpoint.post.restart endpoint.post.pending → let turn = posted endpoint (repeated_as repeat setup line moment endpoint.post flight) in
+          → Round old endpoint.line.state course endpoint.post.pending → let turn = posted endpoint (repeated_as repeat setup line moment endpoint.post flight) in
           Held (course ++ []) (sent ++ turn.sent) turn.value
       by_old [] new order few round =
           let turn : Effect Endpoint = posted endpoint (repeated_as repeat setup line moment endpoint.post flight) in
-          inr (free_keeps (course ++ []) endpoint.line.quarantined.events new endpoint.line.state turn.value.post.restart turn.value.post.pending order
+          inr (free_keeps (course ++ []) endpoint.line.quarantined.events new endpoint.line.state turn.value.post.pending order
           (few_on course [] (length (of_telephone new)) few))
       by_old (event ∷ rest) new order few round = by_state flight repeat event rest new flies order few endpoint.line.state refl round e
 
@@ -580,10 +580,10 @@ module _ (answering asking deadline now since : ℕ) (H : Type 0) (S : List Obse
       by_from (inl fresh) = inl fresh
       by_from (inr stale) = inr (stale.0, none_both course [] stale.1 refl)
 
-    by_round : (old : List Observed) → Round old endpoint.line.state course endpoint.post.restart endpoint.post.pending
-        → Round old endpoint.line.state (course ++ []) endpoint.post.restart (other endpoint.post.pending)
+    by_round : (old : List Observed) → Round old endpoint.line.state course endpoint.post.pending
+        → Round old endpoint.line.state (course ++ []) (other endpoint.post.pending)
     by_round [] round = tt
-    by_round (event ∷ rest) round = (round.0, by_phase endpoint.line.state rest round.1)
+    by_round (event ∷ rest) round = by_phase endpoint.line.state rest round
 
     by_held : Held course sent endpoint → Held (course ++ []) (sent ++ []) (record endpoint { post = record endpoint.post { pending = other endpoint.post.pending } })
     by_held (inl (inl is)) = inl (inl (announced_before sent [] is))
@@ -621,7 +621,7 @@ module _ (answering asking deadline now since : ℕ) (H : Type 0) (S : List Obse
     by_answer event rest new order few flies (inl out) =
         let fit : flies.flight.first + each + rounds each rest ≤ deadline = flies.fit in
         let young : now ≤ flies.flight.first + answering = flies.young in
-        goes_out setup after (sent ++ turn.sent) line moment to done rest new refl (notifies_once.answering endpoint.line moment) out (longer (length (of_telephone new)) few)
+        goes_out setup after (sent ++ turn.sent) line moment to done rest new (notifies_once.answering endpoint.line moment) out (longer (length (of_telephone new)) few)
         (omega (arith, fit, young)) (λ one same. times.heard_at h after sent one (subst (λ (x : List Sent). T after (sent ++ x)) same time))
     by_answer event rest new order few flies (inr waits) =
         let fit : flies.flight.first + each + rounds each rest ≤ deadline = flies.fit in
@@ -633,18 +633,18 @@ module _ (answering asking deadline now since : ℕ) (H : Type 0) (S : List Obse
           new = new;
           order = ap held_in waits ∙ order;
           few = longer (length (of_telephone new)) few;
-          round = subst (λ (s : State). Round (event ∷ rest) s after Serving None) (sym state)
-              (refl, record { none = refl; fit = omega (arith, fit, young); from = inl (h, omega (arith, fit, young)) });
+          round = subst (λ (s : State). Round (event ∷ rest) s after None) (sym state)
+              (record { none = refl; fit = omega (arith, fit, young); from = inl (h, omega (arith, fit, young)) });
         }))
 
     by_state : (event : Observed) (rest new : List Observed) → endpoint.line.quarantined.events ≡ (event ∷ rest) ++ new → length (of_telephone new) ≤ since + length (done_in course)
-        → (state : State) → Round (event ∷ rest) state course endpoint.post.restart endpoint.post.pending → Held after (sent ++ turn.sent) turn.value
-    by_state event rest new order few Normal round = absurd round.1
-    by_state event rest new order few Notification round = by_answer event rest new order few round.1 (answered_out endpoint.line moment event (rest ++ new) order)
-    by_state event rest new order few Lockstep round = absurd (none_clash round.1.none)
+        → (state : State) → Round (event ∷ rest) state course endpoint.post.pending → Held after (sent ++ turn.sent) turn.value
+    by_state event rest new order few Normal round = absurd round
+    by_state event rest new order few Notification round = by_answer event rest new order few round (answered_out endpoint.line moment event (rest ++ new) order)
+    by_state event rest new order few Lockstep round = absurd (none_clash round.none)
 
     by_old : (old new : List Observed) → endpoint.line.quarantined.events ≡ old ++ new → length (of_telephone new) ≤ since + length (done_in course)
-        → Round old endpoint.line.state course endpoint.post.restart endpoint.post.pending → Held after (sent ++ turn.sent) turn.value
+        → Round old endpoint.line.state course endpoint.post.pending → Held after (sent ++ turn.sent) turn.value
     by_old [] new order few round =
         let less : length (of_telephone (held_in done)) ≤ length (of_telephone new) =
         back_few new (held_in done) (subst (λ (x : List Observed). BackOf x (held_in done)) order (answered_back endpoint.line moment)) in

@@ -254,7 +254,6 @@ pub fn who_gave_up_waits_for_no_answer()
 
 /// Where a line gives something up, what is quarantined stays, though the line waits for no answer longer than 23,500 ms.
 pub fn what_is_given_up_lets_none_go()
-    ensures serves { (hasty_line held_on).post.restart ≡ Serving }
     ensures held { (hasty_line held_on).line.quarantined.events ≡ five ∷ [] }
     ensures given_up { has_given_up (of_line 1 (sent_from hasty (plain hasty held_on) nothing_comes))
         (hasty_line (held_on ++ nothing_comes)).post ≡ true }

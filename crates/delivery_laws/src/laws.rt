@@ -7,7 +7,6 @@ ghost use Rattle.mg_line.specs.declared.state.State.TheVariants.{Lockstep};
 ghost use Rattle.mg_line.specs.Answering.{answered};
 ghost use Rattle.mg_line.specs.Line.{LineState};
 ghost use Rattle.mg_line.specs.Requesting.{asked};
-ghost use Rattle.restart.specs.declared.restart.Restart.TheVariants.{Serving};
 ghost use Rattle.mgcp_text.specs.declared.message.Message.TheVariants as messages;
 ghost use Rattle.mgcp_text.specs.declared.message.Param.{Param};
 ghost use Rattle.mgcp_text.specs.declared.message.Verb.{Verb};
@@ -229,14 +228,14 @@ pub fn each_round_lets_one_go()
 /// than the telephone did since, and none where that rests (RFC 3435, 4.4.1).
 pub fn what_is_quarantined_goes_out_in_time()
     ensures out { (setup : Setup) (before after : List GatewayEvent) (line answering asking : ℕ) (was is : Endpoint) →
-        endpoint_at (plain setup before).endpoints line ≡ Some was → was.post.restart ≡ Serving →
+        endpoint_at (plain setup before).endpoints line ≡ Some was →
         endpoint_at (plain setup (before ++ after)).endpoints line ≡ Some is →
         has_given_up (of_line line (sent_from setup (plain setup before) after)) is.post ≡ false →
         IsAnsweredWithin setup line before after answering → IsAskedWithin setup line before after asking →
         (plain setup before).now + rounds_take (length was.line.quarantined.events) answering asking < (plain setup (before ++ after)).now →
         length (of_telephone is.line.quarantined.events) ≤ length (done_in (course_from setup (plain setup before) line after)) }
     ensures rests { (setup : Setup) (before after : List GatewayEvent) (line answering asking : ℕ) (was is : Endpoint) →
-        endpoint_at (plain setup before).endpoints line ≡ Some was → was.post.restart ≡ Serving →
+        endpoint_at (plain setup before).endpoints line ≡ Some was →
         endpoint_at (plain setup (before ++ after)).endpoints line ≡ Some is →
         has_given_up (of_line line (sent_from setup (plain setup before) after)) is.post ≡ false →
         IsAnsweredWithin setup line before after answering → IsAskedWithin setup line before after asking →
