@@ -21,7 +21,6 @@ use Rattle.outbound.specs.declared.reply.Reply.TheVariants.{Answered, Provisiona
 use Rattle.outbound.specs.Flight.{InFlight, reply_of, heard}
 use Rattle.transmission.specs.Texts.{texts_of}
 use Rattle.plain_machine.specs.Event.{datagram, phone, tick}
-use Rattle.machine_laws.proofs.MessageLaws.{code_is}
 use Rattle.machine_laws.proofs.EachLemmas.{Each, each_both}
 use Rattle.call_agent.specs.declared.setup.AgentSetup.{AgentSetup}
 use Rattle.call_agent.specs.Agent.{AgentMachine, agent_opening}
@@ -30,7 +29,8 @@ use Rattle.call_agent.specs.Responding.{replied, responded, responded_to}
 use Rattle.call_agent.specs.Taking.{GatewayCommand, answer_to, code_for, command_of, transacted_by, faulty_command, read_command}
 use Rattle.call_agent.specs.Hearing.{AgentEvent, agent_after, agent_effect, handled, handled_as, hears, issues, took_all}
 use Rattle.delivery_laws.specs.GoingOn.{IsPlainAnswer}
-use Rattle.delivery_laws.proofs.FinalLemmas.{final_of, written_code}
+use Rattle.delivery_laws.proofs.FinalLemmas.{final_of}
+use Rattle.delivery_laws.proofs.FirstLines.{written_code}
 
 -- whatever the id
 abbrev pub HasPlain : KeptFirst → Type 0
@@ -60,7 +60,7 @@ verb_plain Other = record { low = omega arith; high = omega arith; other = λ sa
 
 plain_written : (id code : ℕ) → IsId id → IsPlainCode code → (asked : ℕ) → IsPlainAnswer asked (written (response_of id (plain_code code)))
 plain_written id code has is asked = λ said params body reads.
-    let same : code ≡ said = written_code id (plain_code code) has (code_is code is.high) said asked params body reads in (
+    let same : code ≡ said = written_code id (plain_code code) has is.high said asked params body reads in (
       final_of said (subst (λ (c : ℕ). 200 ≤ c) same is.low) (subst (λ (c : ℕ). c ≤ 999) same is.high),
       λ e. is.other (same ∙ e),
     )

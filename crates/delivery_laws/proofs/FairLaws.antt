@@ -330,7 +330,7 @@ module _ (setup : Setup) (steps : List WorldStep) (within : ℕ) (b : Begun) (se
         (had_in setup back.before answer.number b answer.text reads.code reads.params reads.body set_up (taken_to whole back.later back.order) still
         (back_soon b.moment post.packet.moment (now_in setup (plain_world setup back.before)) young
         (handed_young setup back.before answer.number post (taken_to whole back.later back.order) back.sent)) copy reads.reads
-        (stored_final setup first b.id answer.text set_up answer.stored reads.code b.id reads.params reads.body reads.reads)))
+        (stored_final setup first b.id answer.text answer.stored reads.code b.id reads.params reads.body reads.reads)))
 
   -- the way there: the first copy is handed over in its time; so by then the command came, and was answered when it came first
   came : IsSentAfter setup (plain_world setup steps) b 0 → HasAnswer b.id (agent_in setup (plain_world setup steps))

@@ -7,6 +7,7 @@ pub mod HearLemmas
 pub mod StepLemmas
 pub mod SenderLemmas
 pub mod ReportCodes
+pub mod FirstLines
 pub mod FinalLemmas
 pub mod AgentFinalLemmas
 pub mod PutOffLemmas

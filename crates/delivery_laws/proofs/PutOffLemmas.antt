@@ -79,10 +79,10 @@ kept_final [] all = tt
 kept_final (first ∷ firsts) all = (all.0, kept_final firsts all.1)
 
 -- all answers that the gateway of a world keeps are final
-history_final : (setup : Setup) (w : World) → IsSetUp setup → Each (λ (first : KeptFirst). IsFinal first.answer) (firsts_in (gateway_in setup w).history)
-history_final setup w set_up =
+history_final : (setup : Setup) (w : World) → Each (λ (first : KeptFirst). IsFinal first.answer) (firsts_in (gateway_in setup w).history)
+history_final setup w =
     subst (λ (history : List Entry). Each (λ (first : KeptFirst). IsFinal first.answer) (firsts_in history)) (sym (history_is setup w.gateway_took))
-    (kept_final _ (firsts_final setup most_firsts w.gateway_took set_up))
+    (kept_final _ (firsts_final setup most_firsts w.gateway_took))
 
 texts_none : (log : List Begun) (firsts : List KeptFirst) (now moment at : ℕ) (source : SocketAddrV4) (texts : List (List ℕ)) → Each IsCommand log
     → Each (λ (first : KeptFirst). IsFinal first.answer) firsts → Each (λ (text : List ℕ). Tells log firsts text moment × (moment ≤ now)) texts
@@ -103,45 +103,45 @@ agent_none setup w event all with' =
     subst (Each (λ (a : TextArrival). NoneProvisional a.outcome)) (sym (agent_arrivals w setup event now refl))
     (each_both (λ (a : TextArrival). NoneProvisional a.outcome) (arrivals_of (heard_in w)) (arrives_with now event) all with')
 
-packet_none : (setup : Setup) (w : World) (packet : Packet) → IsSetUp setup → Linked setup w
+packet_none : (setup : Setup) (w : World) (packet : Packet) → Linked setup w
     → GatewayPosts (own_in setup w) (firsts_in (gateway_in setup w).history) (now_in setup w) gateway_end packet
     → Each (λ (a : TextArrival). NoneProvisional a.outcome) (map (arrival (clock_from 0 (heard_in w)) packet.sender) (texts_of packet.bytes))
-packet_none setup w packet set_up l sends =
+packet_none setup w packet l sends =
     texts_none (own_in setup w) (firsts_in (gateway_in setup w).history) (now_in setup w) packet.moment (clock_from 0 (heard_in w)) packet.sender (texts_of packet.bytes)
     (each_weaker (WasBegun (now_in setup w)) IsCommand (λ b was. record { name = was.name; reads = was.reads }) (own_in setup w) l.links.gateway.stands.logged.begun)
-    (history_final setup w set_up) sends
+    (history_final setup w) sends
 
-delivered_none : (setup : Setup) (w : World) (end : End) (packet : Packet) → IsSetUp setup → Linked setup w → AllNone w
+delivered_none : (setup : Setup) (w : World) (end : End) (packet : Packet) → Linked setup w → AllNone w
     → GatewayPosts (own_in setup w) (firsts_in (gateway_in setup w).history) (now_in setup w) end packet → AllNone (delivered_from end setup w packet)
-delivered_none setup w agent_end packet set_up l all sends = by_test (same_address packet.to (gateway_address setup)) where
+delivered_none setup w agent_end packet l all sends = by_test (same_address packet.to (gateway_address setup)) where
   by_test : (x : Bool) → AllNone (if x then to_gateway setup w (datagram packet.sender packet.bytes) else w)
   by_test true = all
   by_test false = all
-delivered_none setup w gateway_end packet set_up l all sends = by_test (is_among setup.agent.route packet.to) where
+delivered_none setup w gateway_end packet l all sends = by_test (is_among setup.agent.route packet.to) where
   by_test : (x : Bool) → AllNone (if x then to_agent setup w (hears (datagram packet.sender packet.bytes)) else w)
-  by_test true = agent_none setup w (hears (datagram packet.sender packet.bytes)) all (packet_none setup w packet set_up l sends)
+  by_test true = agent_none setup w (hears (datagram packet.sender packet.bytes)) all (packet_none setup w packet l sends)
   by_test false = all
 
-step_none : (setup : Setup) (w : World) (step : WorldStep) → IsSetUp setup → Linked setup w → AllNone w → AllNone (went setup w step)
+step_none : (setup : Setup) (w : World) (step : WorldStep) → Linked setup w → AllNone w → AllNone (went setup w step)
 unfolding went
-step_none setup w (issuing verb name rest) set_up l all = agent_none setup w (issues verb name rest) all tt
-step_none setup w (dialling line act) set_up l all = all
-step_none setup w (ticking moment) set_up l all = agent_none setup (to_gateway setup w (tick moment)) (hears (tick moment)) all tt
-step_none setup w (delivering number) set_up l all =
+step_none setup w (issuing verb name rest) l all = agent_none setup w (issues verb name rest) all tt
+step_none setup w (dialling line act) l all = all
+step_none setup w (ticking moment) l all = agent_none setup (to_gateway setup w (tick moment)) (hears (tick moment)) all tt
+step_none setup w (delivering number) l all =
     by_post (slice_get w.posted number) (each_at (GatewaySends (own_in setup w) (firsts_in (gateway_in setup w).history) (now_in setup w)) w.posted number l.links.posted) where
       by_post : (found : Option Posted) → IfSome found (GatewaySends (own_in setup w) (firsts_in (gateway_in setup w).history) (now_in setup w)) → AllNone (delivered found setup w)
       by_post None sends = all
-      by_post (Some post) sends = delivered_none setup w post.end post.packet set_up l all sends
+      by_post (Some post) sends = delivered_none setup w post.end post.packet l all sends
 
-steps_none : (setup : Setup) (w : World) (steps : List WorldStep) → IsSetUp setup → Linked setup w → AllNone w → steps_are_taken setup w steps ≡ true
+steps_none : (setup : Setup) (w : World) (steps : List WorldStep) → Linked setup w → AllNone w → steps_are_taken setup w steps ≡ true
     → AllNone (world_after setup w steps)
 unfolding steps_are_taken world_after
-steps_none setup w [] set_up l all taken = all
-steps_none setup w (step ∷ steps) set_up l all taken =
+steps_none setup w [] l all taken = all
+steps_none setup w (step ∷ steps) l all taken =
     let both = and_parts (is_none (step_refusal setup w step)) (steps_are_taken setup (went setup w step) steps) taken in
     let none = is_none-None (step_refusal setup w step) both.0 in
-    steps_none setup (went setup w step) steps set_up (record { sound = step_sound setup w step l.sound none; links = step_links setup w step l none })
-    (step_none setup w step set_up l all) both.1
+    steps_none setup (went setup w step) steps (record { sound = step_sound setup w step l.sound none; links = step_links setup w step l none })
+    (step_none setup w step l all) both.1
 
 opening_none : AllNone world_opening
 unfolding arrivals_from
@@ -150,4 +150,4 @@ opening_none = tt
 -- nothing provisional comes to the agent
 pub none_provisional : (setup : Setup) (steps : List WorldStep) → IsSetUp setup → steps_are_taken setup world_opening steps ≡ true
     → Each (λ (a : TextArrival). NoneProvisional a.outcome) (arrivals_of (heard_in (plain_world setup steps)))
-none_provisional setup steps set_up taken = steps_none setup world_opening steps set_up (opening_linked setup set_up) opening_none taken
+none_provisional setup steps set_up taken = steps_none setup world_opening steps (opening_linked setup set_up) opening_none taken

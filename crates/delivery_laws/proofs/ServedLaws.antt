@@ -252,11 +252,11 @@ stored_is setup steps id text set_up taken stored =
     (one_of_each (λ (first : KeptFirst). IsAnswerTo first.id first.answer) (IsAnsweredBy id text) firsts (world_linked setup steps set_up taken).links.gateway.answers kept)
 
 -- and a final one
-pub stored_final : (setup : Setup) (steps : List WorldStep) (id : ℕ) (text : List ℕ) → IsSetUp setup → IsStored id text (gateway_firsts setup (plain_world setup steps)) → IsFinal text
-stored_final setup steps id text set_up stored =
+pub stored_final : (setup : Setup) (steps : List WorldStep) (id : ℕ) (text : List ℕ) → IsStored id text (gateway_firsts setup (plain_world setup steps)) → IsFinal text
+stored_final setup steps id text stored =
     let firsts = gateway_firsts setup (plain_world setup steps) in
     one_to (λ (first : Arrival). HasFinal first × IsStoredAs id text first) (IsFinal text) (λ first both. subst IsFinal both.1.1 both.0) firsts
-    (one_of_each HasFinal (IsStoredAs id text) firsts (firsts_final setup most_firsts (plain_world setup steps).gateway_took set_up) (one_from_any (IsStoredAs id text) firsts stored))
+    (one_of_each HasFinal (IsStoredAs id text) firsts (firsts_final setup most_firsts (plain_world setup steps).gateway_took) (one_from_any (IsStoredAs id text) firsts stored))
 
 pub served_by : (setup : Setup) (first : List WorldStep) (b : Begun) (number : ℕ) (text : List ℕ) → IsSetUp setup → steps_are_taken setup world_opening first ≡ true
     → let w = plain_world setup first in IsIssued setup w b → IsCopy setup w gateway_end text number → IsStored b.id text (gateway_firsts setup w) → IsServed setup first b number
@@ -269,7 +269,7 @@ served_by setup first b number text set_up taken issued copy stored = λ between
     let still : IsIssued setup (plain_world setup before) b =
     any_from_one (λ (one : Begun). one ≡ b) (issued_in setup (plain_world setup before)) (grows.issued b (one_from_any (λ (one : Begun). one ≡ b) (issued_in setup w) issued)) in
     let had = had_in setup before number b text is.code is.params is.body set_up (taken_front setup world_opening last later all) still soon
-    (copy_stays setup b.id w (plain_world setup before) gateway_end text number grows copy) is.reads (stored_final setup first b.id text set_up stored is.code b.id is.params is.body is.reads) in
+    (copy_stays setup b.id w (plain_world setup before) gateway_end text number grows copy) is.reads (stored_final setup first b.id text stored is.code b.id is.params is.body is.reads) in
     has_answer b.id setup (plain_world setup (last ++ later)) ((plain_grows setup b.id last later).has had)
 
 pub served : (setup : Setup) (steps : List WorldStep) (number : ℕ) (b : Begun) → IsSetUp setup → steps_are_taken setup world_opening (steps ++ delivering number ∷ []) ≡ true

@@ -24,7 +24,6 @@ ghost use Rattle.plain_machine.specs.declared.setup.Setup.{Setup};
 ghost use Rattle.plain_machine.specs.declared.endpoint.Endpoint.{Endpoint};
 ghost use Rattle.plain_machine.specs.Answering.{took_all};
 ghost use Rattle.plain_machine.specs.Machine.{serves, endpoint_at};
-ghost use Rattle.plain_machine.specs.Setup.{IsSetUp};
 ghost use Rattle.plain_machine.specs.Event.{GatewayEvent};
 ghost use Rattle.plain_machine.specs.Transactions.{commands_of};
 ghost use Rattle.plain_machine.specs.Lists.{plain, sent_from, sent_of};
@@ -62,7 +61,7 @@ pub fn a_delivered_command_is_answered_at_once()
 
 /// Each answer that the gateway stores is a final response, and so is each that an agent stores, which is never 521 (RFC 3435, 2.4).
 pub fn stored_answers_are_final()
-    ensures gateway { (setup : Setup) (events : List GatewayEvent) → IsSetUp setup →
+    ensures gateway { (setup : Setup) (events : List GatewayEvent) →
         All (λ (first : Arrival). IsFinal first.answer) (firsts_of most_firsts (commands_of setup events)) }
     ensures agent { (setup : AgentSetup) (events : List AgentEvent) →
         All (λ (first : KeptFirst). (id : ℕ) → IsPlainAnswer id first.answer) (firsts_in (plain_agent setup events).history) }

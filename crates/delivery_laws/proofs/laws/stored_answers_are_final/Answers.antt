@@ -10,7 +10,7 @@ use Rattle.delivery_laws.proofs.FinalLemmas.{HasFinal, firsts_final}
 use Rattle.delivery_laws.proofs.laws.stored_answers_are_final.Goals as goal
 
 pub returns-clause-gateway : goal.returns-clause-gateway
-returns-clause-gateway c = λ setup events set_up. all_from_each HasFinal (firsts_of most_firsts (commands_of setup events)) (firsts_final setup most_firsts events set_up)
+returns-clause-gateway c = λ setup events. all_from_each HasFinal (firsts_of most_firsts (commands_of setup events)) (firsts_final setup most_firsts events)
 
 pub returns-clause-agent : goal.returns-clause-agent
 returns-clause-agent c = λ setup events. all_from_each HasPlain (firsts_in (agent_after setup (agent_opening setup) events).history) (agent_plain setup events)
