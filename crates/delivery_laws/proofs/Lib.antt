@@ -50,6 +50,7 @@ pub mod AmidLaws
 pub mod ServingLaws
 pub mod SoonTurns
 pub mod AskingLaws
+pub mod NumberLemmas
 pub mod Computing
 pub mod ExampleLemmas
 pub mod FrontLemmas

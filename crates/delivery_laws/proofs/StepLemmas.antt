@@ -42,6 +42,14 @@ taken_front setup w (step ∷ a) b all =
     let both = and_parts (is_none (step_refusal setup w step)) (steps_are_taken setup (went setup w step) (a ++ b)) all in
     and_from (is_none (step_refusal setup w step)) (steps_are_taken setup (went setup w step) a) both.0 (taken_front setup (went setup w step) a b both.1)
 
+pub taken_both : (setup : Setup) (w : World) (a b : List WorldStep) → steps_are_taken setup w a ≡ true → steps_are_taken setup (world_after setup w a) b ≡ true
+    → steps_are_taken setup w (a ++ b) ≡ true
+unfolding steps_are_taken world_after
+taken_both setup w [] b one two = two
+taken_both setup w (step ∷ a) b one two =
+    let both = and_parts (is_none (step_refusal setup w step)) (steps_are_taken setup (went setup w step) a) one in
+    and_from (is_none (step_refusal setup w step)) (steps_are_taken setup (went setup w step) (a ++ b)) both.0 (taken_both setup (went setup w step) a b both.1 two)
+
 -- what the agent becomes with one event more
 pub agent_more : (setup : Setup) (w : World) (event : AgentEvent) → agent_in setup (to_agent setup w event) ≡ (agent_effect (agent_of setup) (agent_in setup w) event).machine
 agent_more setup w event = after_on (agent_of setup) (agent_opening (agent_of setup)) w.agent_took (event ∷ []) ∙ alone (agent_of setup) (agent_in setup w) event

@@ -10,7 +10,7 @@ use Rattle.plain_machine.specs.declared.endpoint.Endpoint.{Endpoint}
 use Rattle.plain_machine.specs.Machine.{endpoint_at, opening_endpoint}
 use Rattle.plain_machine.specs.Lists.{plain}
 use Rattle.machine_laws.specs.Saying.{Begun}
-use Rattle.mg_line.specs.declared.phone.Act.TheVariants.{OffHook, Key}
+use Rattle.mg_line.specs.declared.phone.Act.TheVariants.{OffHook, OnHook, Key}
 use Rattle.mg_line.specs.declared.phone.Key.TheVariants.{Five, Six}
 use Rattle.plain_machine.specs.Event.{GatewayEvent, phone, tick}
 use Rattle.agent_core.specs.World.{World, WorldStep, gateway_in, delivering, dialling, issuing, plain_world, ticking}
@@ -56,6 +56,11 @@ key_begun b = (b.id, b.moment)
 -- the notification is handed over at once, and so is its answer
 abbrev pub brought : List WorldStep
 brought = notified ++ delivering 2 ∷ delivering 3 ∷ []
+
+-- then line 1 is asked for the next event, packet 4, accepts that, packet 5, and is hung up: its notification, packet 6, is never handed over
+abbrev pub hung_up : List WorldStep
+hung_up =
+    issuing (codes "RQNT") (codes "aaln/1@rgw.example.net") (codes "X: C2\r\nR: L/hu(N)\r\n") ∷ delivering 4 ∷ delivering 5 ∷ dialling 1 OnHook ∷ []
 
 -- both lines are lifted, what goes out of them again at 501 is packet 4, and the agent answers it in one, packet 5
 abbrev pub both_lifted : List WorldStep

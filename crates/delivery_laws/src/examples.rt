@@ -3,7 +3,7 @@
 //! `full_history.txt` play one for each end.
 #![tactic(auto, unfolding(crate::proofs::Computing::on_examples))]
 
-ghost use Rattle.std.specs.Prelude.{◌≡◌, ◌<◌, ◌+◌, ◌++◌, codes, [], ◌∷◌, length, map, true, false, None, Some};
+ghost use Rattle.std.specs.Prelude.{◌≡◌, ◌<◌, ◌+◌, ◌++◌, codes, List, [], ◌∷◌, length, map, true, false, None, Some};
 ghost use Rattle.history.specs.declared.entry.Entry.TheVariants.{Confirmation};
 ghost use Rattle.history.specs.Firsts.{young_of};
 ghost use Rattle.history.specs.Kept.{first_entry, young_firsts};
@@ -12,7 +12,7 @@ ghost use Rattle.mg_line.specs.declared.state.State.TheVariants.{Notification, L
 ghost use Rattle.plain_machine.specs.Machine.{serves};
 ghost use Rattle.plain_machine.specs.Example.{agent, other_agent, ready, response, two_lines};
 ghost use Rattle.agent_core.specs.declared.packet.End.TheVariants.{GatewayEnd, AgentEnd};
-ghost use Rattle.agent_core.specs.World.{agent_in, delivering, gateway_address, gateway_in, now_in, plain_world, steps_are_taken, ticking, world_opening};
+ghost use Rattle.agent_core.specs.World.{WorldStep, agent_in, delivering, gateway_address, gateway_in, now_in, plain_world, steps_are_taken, ticking, world_opening};
 ghost use Rattle.world_laws.specs.Reached.{issued_in, key_reached, own_in, taken_in};
 ghost use Rattle.world_laws.specs.Example.{world, texts_in, texts_with, moments_in, code_in, announced, audits, seconds};
 ghost use Rattle.mgcp_text.specs.declared.message.Message.TheVariants as messages;
@@ -299,6 +299,14 @@ pub fn an_answer_lets_line_1_go_on()
     ensures goes_on { state_after (notified ++ delivering 2 ∷ delivering 3 ∷ []) ≡ Some Lockstep }
     ensures serves { serves (gateway_in two_lines (world announced)).endpoints ≡ true }
     ensures serves_not { serves (gateway_in two_lines (world (ticking 1 ∷ delivering 0 ∷ []))).endpoints ≡ false }
+{}
+
+/// Where all numbers of a line are used up the first comes again, and the law fails, though all else that it asks for holds: nobody
+/// answers line 1 any more, and in the end a command with the id 10000000 is in flight again, the answer to which was handed over. The
+/// steps are too many to compute; that there are some is shown by induction.
+pub fn numbers_that_are_used_up_come_again()
+    ensures { (later : List WorldStep) × (steps_are_taken two_lines world_opening (brought ++ later) ≡ true)
+        × (flying_after (brought ++ later) ≡ Some 10000000) × (¬ HasNumbersLeft (own_in two_lines (world (brought ++ later)))) }
 {}
 
 /// Two answers in one packet let both lines go on. A provisional response is no answer, and 521 none that lets a line go on.

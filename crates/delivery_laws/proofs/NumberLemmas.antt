@@ -1,0 +1,278 @@
+-- A line whose commands nobody answers uses its numbers up, one in 28,500 ms, and behind the last the first comes again.
+use Rattle.std.proofs.Common.{◌≡◌, ℕ, zero, suc, ◌+◌, ◌-◌, ◌*◌, ◌^◌, ◌<◌, ◌≤◌, Bool, true, ◌&&◌, if◌then◌else◌, List, [], ◌∷◌, Option, Some, None, refl, sym, ap, ◌∙◌, subst, arith}
+use Rattle.std.specs.Prelude.{nat_lt, is_none, option_map, option_and_then}
+use Rattle.std.proofs.lemmas.Bool.{and_from, le-leb, lt-leb, le-ltb, lt-ltb, ne_eqb}
+use Rattle.endpoint_names.specs.declared.entity.Entity.{Entity}
+use Rattle.mgcp_text.specs.Writing.{written}
+use Rattle.history.specs.declared.entry.Entry.{Entry}
+use Rattle.outbound.specs.declared.repeat.Repeat.{Repeat}
+use Rattle.outbound.specs.declared.repeat.Repeat.TheVariants.{Sent as SentAgain, GivenUp}
+use Rattle.outbound.specs.Flight.{InFlight, repeat_of, repeated, sent_first}
+use Rattle.outbound.specs.Sends.{most_repeats, sending_time, wait_after}
+use Rattle.outbound.proofs.LifeLaws.{sent_later}
+use Rattle.restart.specs.declared.restart.Restart.{Restart}
+use Rattle.restart.specs.declared.restart.Restart.TheVariants.{Waiting, Announced}
+use Rattle.restart.specs.Restarting.{announced_at}
+use Rattle.timers.specs.declared.due_item.DueItem.{DueItem}
+use Rattle.timers.specs.declared.kind.LineDue.{LineDue}
+use Rattle.timers.specs.Order.{earlier}
+use Rattle.mg_line.specs.Falling.{due_of}
+use Rattle.plain_machine.specs.declared.endpoint.Endpoint.{Endpoint}
+use Rattle.plain_machine.specs.declared.post.Post.{Post}
+use Rattle.plain_machine.specs.declared.refusal.Refusal.{Refusal}
+use Rattle.plain_machine.specs.declared.setup.Setup.{Setup}
+use Rattle.plain_machine.specs.Announcing.{announced, announcement}
+use Rattle.plain_machine.specs.Effect.{Effect}
+use Rattle.plain_machine.specs.Event.{tick}
+use Rattle.plain_machine.specs.Falling.{announcement_item, command_item, due_by, due_on, first_due, happened, happened_on, if_by, line_item, pass, post_due}
+use Rattle.plain_machine.specs.Happening.{effect, ticked}
+use Rattle.plain_machine.specs.Machine.{Endpoints, Machine, endpoint_at, on_line, opening}
+use Rattle.plain_machine.specs.Posting.{id_on, number_after, numbers, repeated_as}
+use Rattle.plain_machine.specs.Refusing.{refusal_of, tick_refusal}
+use Rattle.plain_machine.proofs.FallingLaws.{pass_none, pass_some}
+use Rattle.plain_machine.proofs.ListLaws.{machine_on}
+use Rattle.agent_core.specs.World.{World, WorldStep, gateway_in, gateway_refused, step_refusal, steps_are_taken, ticking, went, world_after}
+use Rattle.world_laws.proofs.WorldLaws.{gateway_alone}
+use Rattle.delivery_laws.proofs.WaitLemmas.{again_is, offset, offset_last, offset_next, offset_rises}
+
+-- the id of the command of line 1 that is in flight, if there is one
+abbrev pub flying_in : Machine → Option ℕ
+flying_in m = option_map (λ flight. flight.id) (option_and_then (λ endpoint. endpoint.post.pending) (endpoint_at m.endpoints 1))
+
+tick_taken : (now moment : ℕ) → now ≤ moment → moment ≤ now + 1000 → moment < 2 ^ 62 → tick_refusal now moment ≡ None
+tick_taken now moment on near below = rw (le-ltb (now + 1000) moment near, lt-leb (2 ^ 62) moment below, le-ltb moment now on) refl
+
+-- Steps
+
+module _ (setup : Setup) where
+  -- where the gateway stands so, the clock brings line 1 the first of its ids
+  abbrev Comes : Machine → Type 0
+  Comes m = (w : World) → gateway_in setup w ≡ m
+      → (later : List WorldStep) × (steps_are_taken setup w later ≡ true) × (flying_in (gateway_in setup (world_after setup w later)) ≡ Some numbers)
+
+  it_flies : (m : Machine) → flying_in m ≡ Some numbers → Comes m
+  unfolding steps_are_taken world_after
+  it_flies m flies = λ w is. ([], refl, ap flying_in is ∙ flies)
+
+  -- the agent has no part in it: the gateway alone judges a tick
+  comes_at : (m : Machine) (moment : ℕ) → refusal_of m (tick moment) ≡ None → Comes (effect setup m (tick moment)).value → Comes m
+  unfolding steps_are_taken world_after step_refusal went
+  comes_at m moment fine comes = λ w is.
+      let becomes : gateway_in setup (went setup w (ticking moment)) ≡ (effect setup m (tick moment)).value =
+      machine_on setup (opening setup) w.gateway_took (tick moment ∷ []) ∙ gateway_alone setup (gateway_in setup w) (tick moment)
+      ∙ ap (λ (x : Machine). (effect setup x (tick moment)).value) is in
+      let none : is_none (step_refusal setup w (ticking moment)) ≡ true =
+      ap (λ (x : Machine). is_none (gateway_refused (refusal_of x (tick moment)))) is ∙ ap (λ (r : Option Refusal). is_none (gateway_refused r)) fine in
+      let more = comes (went setup w (ticking moment)) becomes in
+      (ticking moment ∷ more.0, and_from _ _ none more.1, more.2)
+
+-- Flights
+
+offset_seven : offset most_repeats ≡ 19500
+unfolding offset
+offset_seven = refl
+
+-- a flight that began then, and that was repeated so often
+pub record IsAt (f : InFlight) (first repeats : ℕ) : Type 0 where
+  pub begins : f.first ≡ first
+  pub count : f.repeats ≡ repeats
+  pub due : f.due ≡ first + offset (repeats + 1)
+
+may_again : (f : InFlight) (first repeats : ℕ) → IsAt f first repeats → repeats < most_repeats → repeat_of f f.due ≡ SentAgain
+may_again f first repeats at less =
+    let last = offset_rises (repeats + 1) most_repeats (omega (arith, less)) in
+    let few : nat_lt f.repeats most_repeats ≡ true = lt-ltb f.repeats most_repeats (omega (arith, at.count, less)) in
+    let soon : nat_lt (f.due - f.first) sending_time ≡ true = lt-ltb (f.due - f.first) sending_time (omega (arith, at.due, at.begins, last, offset_seven)) in
+    ap (λ (b : Bool). if b then SentAgain else GivenUp) (and_from _ _ few soon)
+
+no_more : (f : InFlight) → most_repeats ≤ f.repeats → repeat_of f f.due ≡ GivenUp
+no_more f many = ap (λ (b : Bool). if b && nat_lt (f.due - f.first) sending_time then SentAgain else GivenUp) (le-ltb f.repeats most_repeats many)
+
+again_at : (f : InFlight) (first repeats : ℕ) → IsAt f first repeats → repeat_of f f.due ≡ SentAgain → IsAt (repeated f f.due) first (repeats + 1)
+again_at f first repeats at is =
+    let same = again_is f f.due is in
+    let due : (repeated f f.due).due ≡ f.due + wait_after (f.repeats + 1) = ap (λ (g : InFlight). g.due) same in
+    let wait : wait_after (f.repeats + 1) ≡ wait_after (repeats + 1) = ap (λ (n : ℕ). wait_after (n + 1)) at.count in
+    record {
+      begins = ap (λ (g : InFlight). g.first) same ∙ at.begins;
+      count = ap (λ (g : InFlight). g.repeats) same ∙ ap (λ (n : ℕ). n + 1) at.count;
+      due = omega (arith, due, at.due, wait, offset_next (repeats + 1));
+    }
+
+-- What falls due
+
+none_last : (found : Option DueItem) → earlier found None ≡ found
+none_last None = refl
+none_last (Some item) = refl
+
+-- a gateway of two lines, where under the post of line 1 alone something falls due
+module _ (setup : Setup) (waits : setup.disconnected_wait ≡ 5000) (one two : Endpoint) (own : Post) (history : List Entry) (entity : Entity)
+    (line_rests : due_of one.line ≡ None) (other_rests : due_on (2, two) ≡ None) (own_rests : post_due 0 own ≡ None) where
+  abbrev pub lines_with : Post → Endpoints
+  lines_with post = record { list = (record one { post = post }) ∷ two ∷ []; own = own }
+
+  abbrev pub machine_with : ℕ → Post → Machine
+  machine_with now post = record { now = now; endpoints = lines_with post; history = history }
+
+  first_is : (post : Post) → first_due (lines_with post) ≡ post_due 1 post
+  unfolding first_due due_on
+  first_is post =
+      ap (λ (first : Option DueItem). earlier (earlier first (due_on (1, record one { post = post }))) (due_on (2, two))) own_rests
+      ∙ ap (λ (last : Option DueItem). earlier (due_on (1, record one { post = post })) last) other_rests
+      ∙ none_last (due_on (1, record one { post = post }))
+      ∙ ap (λ (found : Option (ℕ × LineDue)). earlier (option_map (line_item 1) found) (post_due 1 post)) line_rests
+
+  due_then : (post : Post) (item : DueItem) (moment : ℕ) → post_due 1 post ≡ Some item → item.moment ≤ moment → due_by (lines_with post) moment ≡ Some item
+  unfolding due_by
+  due_then post item moment is past = ap (if_by moment) (first_is post ∙ is) ∙ ap (λ (b : Bool). if b then Some item else None) (le-leb item.moment moment past)
+
+  none_yet : (post : Post) (item : DueItem) (moment : ℕ) → post_due 1 post ≡ Some item → moment < item.moment → due_by (lines_with post) moment ≡ None
+  unfolding due_by
+  none_yet post item moment is soon = ap (if_by moment) (first_is post ∙ is) ∙ ap (λ (b : Bool). if b then Some item else None) (lt-leb item.moment moment soon)
+
+  -- A tick
+
+  -- this falls due next under a post, and makes this of it
+  record Turns (item : DueItem) (post next : Post) : Type 0 where
+    due : post_due 1 post ≡ Some item
+    becomes : (happened setup (lines_with post) item).value ≡ lines_with next
+    following : DueItem
+    next_due : post_due 1 next ≡ Some following
+    later : item.moment < following.moment
+
+  taken_at : (now moment : ℕ) (post : Post) → now ≤ moment → moment ≤ now + 1000 → moment < 2 ^ 62 → refusal_of (machine_with now post) (tick moment) ≡ None
+  unfolding refusal_of
+  taken_at now moment post on near below = tick_taken now moment on near below
+
+  -- before that the clock alone changes
+  waits_on : (now moment : ℕ) (post : Post) → due_by (lines_with post) moment ≡ None → (effect setup (machine_with now post) (tick moment)).value ≡ machine_with moment post
+  unfolding effect
+  waits_on now moment post none = ap (λ (is : Effect Endpoints). (ticked (machine_with now post) moment is).value) (pass_none setup (lines_with post) moment none)
+
+  turns_at : (now : ℕ) (item : DueItem) (post next : Post) → Turns item post next → (effect setup (machine_with now post) (tick item.moment)).value ≡ machine_with item.moment next
+  unfolding effect
+  turns_at now item post next turn =
+      let moment = item.moment in
+      ap (λ (is : Effect Endpoints). (ticked (machine_with now post) moment is).value) (pass_some setup (lines_with post) moment item (due_then post item moment turn.due (omega arith)))
+      ∙ ap (λ (endpoints : Endpoints). (ticked (machine_with now post) moment (pass setup endpoints moment)).value) turn.becomes
+      ∙ waits_on now moment next (none_yet next turn.following moment turn.next_due turn.later)
+
+  -- so ms by ms the clock comes there
+  comes_by : (item : DueItem) (post next : Post) → Turns item post next → item.moment < 2 ^ 62 → Comes setup (machine_with item.moment next) → (wait now : ℕ) → now + suc wait ≡ item.moment
+      → Comes setup (machine_with now post)
+  comes_by item post next turn below comes zero now last =
+      comes_at setup (machine_with now post) item.moment (taken_at now item.moment post (omega (arith, last)) (omega (arith, last)) below)
+      (subst (Comes setup) (sym (turns_at now item post next turn)) comes)
+  comes_by item post next turn below comes (suc wait) now more =
+      comes_at setup (machine_with now post) (now + 1) (taken_at now (now + 1) post (omega arith) (omega arith) (omega (arith, more, below)))
+      (subst (Comes setup) (sym (waits_on now (now + 1) post (none_yet post item (now + 1) turn.due (omega (arith, more)))))
+      (comes_by item post next turn below comes wait (now + 1) (omega (arith, more))))
+
+  comes_before : (item : DueItem) (post next : Post) → Turns item post next → (now : ℕ) → now < item.moment → item.moment < 2 ^ 62 → Comes setup (machine_with item.moment next)
+      → Comes setup (machine_with now post)
+  comes_before item post next turn now soon below comes = comes_by item post next turn below comes (item.moment - now - 1) now (omega (arith, soon))
+
+  -- A post
+
+  abbrev flying : ℕ → Restart → InFlight → Post
+  flying n restart f = record { entity = entity; number = n; pending = Some f; restart = restart }
+
+  abbrev waiting : ℕ → ℕ → Post
+  waiting n until = record { entity = entity; number = n; pending = None; restart = Waiting until }
+
+  -- the announcement with this number as it is first sent, and the post from then on
+  abbrev first_sent : ℕ → ℕ → InFlight
+  first_sent n moment = sent_first (id_on 1 n) entity.route (written (announcement setup 1 (id_on 1 n))) moment
+
+  abbrev announcing : ℕ → ℕ → Post
+  announcing n moment = flying (number_after 1 n) Announced (first_sent n moment)
+
+  flight_due : (n : ℕ) (restart : Restart) (f : InFlight) → announced_at restart ≡ None → post_due 1 (flying n restart f) ≡ Some (command_item 1 f)
+  unfolding post_due
+  flight_due n restart f silent = ap (λ (until : Option ℕ). earlier (Some (command_item 1 f)) (option_map (announcement_item 1) until)) silent
+
+  wait_due : (n until : ℕ) → post_due 1 (waiting n until) ≡ Some (announcement_item 1 until)
+  unfolding post_due
+  wait_due n until = refl
+
+  resent_is : (n : ℕ) (restart : Restart) (f : InFlight) (repeat : Repeat) → repeat_of f f.due ≡ repeat
+      → (happened setup (lines_with (flying n restart f)) (command_item 1 f)).value ≡ lines_with (repeated_as repeat setup 1 f.due (flying n restart f) f).value
+  unfolding happened_on on_line
+  resent_is n restart f repeat is = ap (λ (r : Repeat). lines_with (repeated_as r setup 1 f.due (flying n restart f) f).value) is
+
+  goes_again : (n : ℕ) (restart : Restart) (f : InFlight) → announced_at restart ≡ None → repeat_of f f.due ≡ SentAgain → Turns (command_item 1 f) (flying n restart f) (flying n restart (repeated f f.due))
+  goes_again n restart f silent is = record {
+    due = flight_due n restart f silent;
+    becomes = resent_is n restart f _ is;
+    following = command_item 1 (repeated f f.due);
+    next_due = flight_due n restart (repeated f f.due) silent;
+    later = sent_later f f.due is;
+  }
+
+  gives_up : (n : ℕ) (restart : Restart) (f : InFlight) → announced_at restart ≡ None → repeat_of f f.due ≡ GivenUp
+      → Turns (command_item 1 f) (flying n restart f) (waiting n (f.due + setup.disconnected_wait))
+  gives_up n restart f silent is = record {
+    due = flight_due n restart f silent;
+    becomes = resent_is n restart f _ is;
+    following = announcement_item 1 (f.due + setup.disconnected_wait);
+    next_due = wait_due n (f.due + setup.disconnected_wait);
+    later = omega (arith, waits);
+  }
+
+  announces : (n until : ℕ) → Turns (announcement_item 1 until) (waiting n until) (announcing n until)
+  unfolding happened_on on_line announced
+  announces n until = record {
+    due = wait_due n until;
+    becomes = refl;
+    following = command_item 1 (first_sent n until);
+    next_due = flight_due (number_after 1 n) Announced (first_sent n until) refl;
+    later = omega arith;
+  }
+
+  -- A round: what is in flight is repeated as often as may be and given up, and then the line announces itself
+
+  until_given_up : (left repeats n : ℕ) (restart : Restart) (f : InFlight) (first : ℕ) → announced_at restart ≡ None → IsAt f first repeats → repeats + left ≡ most_repeats
+      → first + 23500 < 2 ^ 62 → Comes setup (machine_with (first + 23500) (waiting n (first + 23500 + setup.disconnected_wait))) → (now : ℕ) → now < f.due
+      → Comes setup (machine_with now (flying n restart f))
+  until_given_up zero repeats n restart f first silent at sum below comes now soon =
+      let last : offset (repeats + 1) ≡ offset (most_repeats + 1) = ap (λ (r : ℕ). offset (r + 1)) (let e : repeats ≡ most_repeats = omega (arith, sum) in e) in
+      let over : f.due ≡ first + 23500 = omega (arith, at.due, last, offset_last) in
+      comes_before (command_item 1 f) (flying n restart f) (waiting n (f.due + setup.disconnected_wait)) (gives_up n restart f silent (no_more f (omega (arith, at.count, sum)))) now soon
+      (omega (arith, over, below)) (subst (λ (moment : ℕ). Comes setup (machine_with moment (waiting n (moment + setup.disconnected_wait)))) (sym over) comes)
+  until_given_up (suc left) repeats n restart f first silent at sum below comes now soon =
+      let is = may_again f first repeats at (omega (arith, sum)) in
+      let last = offset_rises (repeats + 1) (most_repeats + 1) (omega (arith, sum)) in
+      comes_before (command_item 1 f) (flying n restart f) (flying n restart (repeated f f.due)) (goes_again n restart f silent is) now soon (omega (arith, at.due, last, offset_last, below))
+      (until_given_up left (repeats + 1) n restart (repeated f f.due) first silent (again_at f first repeats at is) (omega (arith, sum)) below comes f.due (sent_later f f.due is))
+
+  round : (n : ℕ) (restart : Restart) (f : InFlight) (first : ℕ) → announced_at restart ≡ None → IsAt f first 0 → first + 28500 < 2 ^ 62
+      → Comes setup (machine_with (first + 28500) (announcing n (first + 28500))) → (now : ℕ) → now < f.due → Comes setup (machine_with now (flying n restart f))
+  round n restart f first silent at below comes =
+      let until = first + 23500 + setup.disconnected_wait in
+      let over : until ≡ first + 28500 = omega (arith, waits) in
+      until_given_up most_repeats 0 n restart f first silent at refl (omega (arith, below))
+      (comes_before (announcement_item 1 until) (waiting n until) (announcing n until) (announces n until) (first + 23500) (omega (arith, waits)) (omega (arith, over, below))
+      (subst (λ (moment : ℕ). Comes setup (machine_with moment (announcing n moment))) (sym over) comes))
+
+  announced_first : (n moment : ℕ) → IsAt (first_sent n moment) moment 0
+  unfolding offset
+  announced_first n moment = record { begins = refl; count = refl; due = refl }
+
+  -- so many rounds, of which the last two are under the last number and the first
+  pub rounds : (k n : ℕ) (restart : Restart) (f : InFlight) (first : ℕ) → announced_at restart ≡ None → IsAt f first 0 → n + suc k ≡ numbers → first + (k + 2) * 28500 < 2 ^ 62
+      → (now : ℕ) → now < f.due → Comes setup (machine_with now (flying n restart f))
+  rounds zero n restart f first silent at last below =
+      let over : number_after 1 n ≡ 0 = ap (number_after 1) (let e : n ≡ 9999999 = omega (arith, last) in e) in
+      let next = first + 28500 in
+      let flight = first_sent n next in
+      round n restart f first silent at (omega (arith, below))
+      (subst (λ (m : ℕ). Comes setup (machine_with next (flying m Announced flight))) (sym over)
+      (round 0 Announced flight next refl (announced_first n next) (omega (arith, below))
+      (it_flies setup (machine_with (next + 28500) (announcing 0 (next + 28500))) refl) next (omega arith)))
+  rounds (suc k) n restart f first silent at more below =
+      let on : number_after 1 n ≡ n + 1 = ap (λ (b : Bool). if b then 0 else n + 1) (ne_eqb (n + 1) numbers (λ same. absurd (omega (arith, same, more)))) in
+      let next = first + 28500 in
+      let flight = first_sent n next in
+      round n restart f first silent at (omega (arith, below))
+      (subst (λ (m : ℕ). Comes setup (machine_with next (flying m Announced flight))) (sym on)
+      (rounds k (n + 1) Announced flight next refl (announced_first n next) (omega (arith, more)) (omega (arith, below)) next (omega arith)))

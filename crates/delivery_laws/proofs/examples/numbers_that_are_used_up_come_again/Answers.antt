@@ -1,0 +1,112 @@
+use Rattle.std.proofs.Common.{◌≡◌, ℕ, true, [], ◌∷◌, ◌++◌, List, Option, None, Some, codes, refl, ap, ◌∙◌, subst, arith, append_assoc}
+use Rattle.std.specs.Prelude.{option_and_then, option_map}
+use Rattle.std.specs.Option.{unwrap_or}
+use Rattle.std.proofs.lemmas.Option.{none-some}
+use Rattle.mgcp_text.specs.declared.message.Message.TheVariants as messages
+use Rattle.mgcp_text.specs.Reading.{message, read_text}
+use Rattle.outbound.specs.Flight.{InFlight, sent_first}
+use Rattle.restart.specs.declared.restart.Restart.TheVariants.{Serving}
+use Rattle.mg_line.specs.Falling.{due_of}
+use Rattle.plain_machine.specs.declared.endpoint.Endpoint.{Endpoint}
+use Rattle.plain_machine.specs.Example.{agent, agent_route, two_lines}
+use Rattle.plain_machine.specs.Falling.{due_on, post_due}
+use Rattle.plain_machine.specs.Setup.{IsSetUp}
+use Rattle.machine_laws.specs.Saying.{HasNumbersLeft}
+use Rattle.plain_machine.specs.Machine.{Machine, endpoint_at, opening_endpoint}
+use Rattle.agent_core.specs.declared.packet.End.TheVariants.{AgentEnd}
+use Rattle.agent_core.specs.World.{World, WorldStep, delivering, gateway_address, gateway_in, steps_are_taken, world_after, world_opening}
+use Rattle.world_laws.specs.Reached.{own_in}
+use Rattle.world_laws.specs.Example.{world}
+use Rattle.delivery_laws.specs.Copies.{IsCopy}
+use Rattle.delivery_laws.specs.Example.{brought, flying_after, hung_up, notified}
+use Rattle.delivery_laws.proofs.AnsweredLaws.{over_once_answered}
+use Rattle.delivery_laws.proofs.Computing.{on_examples}
+use Rattle.delivery_laws.proofs.ExampleLemmas.{copy_here}
+use Rattle.delivery_laws.proofs.NumberLemmas.{IsAt, flying_in, machine_with, rounds}
+use Rattle.delivery_laws.proofs.StepLemmas.{steps_more, taken_both}
+use Rattle.delivery_laws.proofs.WaitLemmas.{offset, offset_first}
+use Rattle.delivery_laws.proofs.examples.numbers_that_are_used_up_come_again.Goals as goal
+
+abbrev first_steps : List WorldStep
+first_steps = brought ++ hung_up
+
+-- what then stands: the notification of line 1 alone falls due
+abbrev gateway_then : Machine
+gateway_then = gateway_in two_lines (world first_steps)
+
+abbrev endpoint_of : ℕ → Endpoint
+endpoint_of line = unwrap_or (endpoint_at gateway_then.endpoints line) (opening_endpoint two_lines line)
+
+abbrev notification_then : InFlight
+notification_then = unwrap_or (endpoint_of 1).post.pending (sent_first 0 agent_route [] 0)
+
+taken_first : steps_are_taken two_lines world_opening first_steps ≡ true
+unfolding on_examples
+taken_first = refl
+
+line_rests : due_of (endpoint_of 1).line ≡ None
+unfolding on_examples
+line_rests = refl
+
+other_rests : due_on (2, endpoint_of 2) ≡ None
+unfolding on_examples
+other_rests = refl
+
+own_rests : post_due 0 gateway_then.endpoints.own ≡ None
+unfolding on_examples
+own_rests = refl
+
+starts : gateway_then
+    ≡ machine_with two_lines refl (endpoint_of 1) (endpoint_of 2) gateway_then.endpoints.own gateway_then.history (endpoint_of 1).post.entity line_rests other_rests own_rests 1
+    (record { entity = (endpoint_of 1).post.entity; number = 2; pending = Some notification_then; restart = Serving })
+unfolding on_examples
+starts = refl
+
+began : IsAt notification_then 1 0
+unfolding on_examples offset
+began = record { begins = refl; count = refl; due = refl }
+
+-- behind 9,999,997 rounds comes the last number, and then the first
+comes_again : (later : List WorldStep) × (steps_are_taken two_lines (world first_steps) later ≡ true)
+    × (flying_in (gateway_in two_lines (world_after two_lines (world first_steps) later)) ≡ Some 10000000)
+comes_again =
+    rounds two_lines refl (endpoint_of 1) (endpoint_of 2) gateway_then.endpoints.own gateway_then.history (endpoint_of 1).post.entity line_rests other_rests own_rests
+    9999997 2 Serving notification_then 1 refl began refl (omega arith) 1 (omega (arith, began.due, offset_first)) (world first_steps) starts
+
+-- The law would say otherwise, of which all other premises hold
+
+set_up : IsSetUp two_lines
+unfolding on_examples
+set_up = record { domain = refl; agent = refl; lines = omega arith; address = refl; ports = omega arith }
+
+answered : IsCopy two_lines (world (notified ++ delivering 2 ∷ [])) AgentEnd (codes "200 10000000 OK\r\n") 3
+unfolding on_examples
+answered =
+    copy_here two_lines (world (notified ++ delivering 2 ∷ []))
+    (record { end = AgentEnd; packet = record { moment = 1; sender = agent; to = gateway_address two_lines; bytes = codes "200 10000000 OK\r\n" } }) 3 (codes "200 10000000 OK\r\n") refl refl refl
+
+answer_reads : read_text (codes "200 10000000 OK\r\n") ≡ message (messages.Response 200 10000000 [] [])
+unfolding on_examples
+answer_reads = refl
+
+flight_of : (pending : Option InFlight) → option_map (λ flight. flight.id) pending ≡ Some 10000000 → (flight : InFlight) × (pending ≡ Some flight) × (flight.id ≡ 10000000)
+flight_of None flies = absurd (none-some 10000000 flies)
+flight_of (Some flight) flies = (flight, refl, ap (λ (id : Option ℕ). unwrap_or id 0) flies)
+
+none_left : (later : List WorldStep) → steps_are_taken two_lines world_opening (brought ++ later) ≡ true → (found : Option Endpoint)
+    → endpoint_at (gateway_in two_lines (world (brought ++ later))).endpoints 1 ≡ found
+    → option_map (λ flight. flight.id) (option_and_then (λ endpoint. endpoint.post.pending) found) ≡ Some 10000000 → HasNumbersLeft (own_in two_lines (world (brought ++ later))) → ⊥
+none_left later taken None at flies few = absurd (none-some 10000000 flies)
+none_left later taken (Some endpoint) at flies few =
+    let is = flight_of endpoint.post.pending flies in
+    over_once_answered two_lines (notified ++ delivering 2 ∷ []) later 3 (codes "200 10000000 OK\r\n") 200 10000000 [] [] 1 endpoint is.0 set_up taken few answered answer_reads refl
+    (λ same. absurd (omega (arith, same))) at is.1 is.2
+
+pub returns : goal.returns
+returns c =
+    let later = hung_up ++ comes_again.0 in
+    let order : first_steps ++ comes_again.0 ≡ brought ++ later = append_assoc brought hung_up comes_again.0 in
+    let taken = subst (λ (steps : List WorldStep). steps_are_taken two_lines world_opening steps ≡ true) order (taken_both two_lines world_opening first_steps comes_again.0 taken_first comes_again.1) in
+    let flies = subst (λ (steps : List WorldStep). flying_after steps ≡ Some 10000000) order
+    (ap (λ (w : World). flying_in (gateway_in two_lines w)) (steps_more two_lines world_opening first_steps comes_again.0) ∙ comes_again.2) in
+    (later, taken, flies, none_left later taken _ refl flies)
