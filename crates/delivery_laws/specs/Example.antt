@@ -3,18 +3,22 @@ use Rattle.std.specs.Prelude.{ℕ, ◌+◌, ◌*◌, codes, List, [], ◌∷◌,
 use Rattle.std.specs.List.{range_with_len}
 use Rattle.std.specs.Option.{unwrap_or}
 use Rattle.mg_line.specs.declared.state.State.{State}
-use Rattle.plain_machine.specs.Example.{ready, two_lines, response, rqnt}
+use Rattle.endpoint_names.specs.declared.route.Route.TheVariants.{Two}
+use Rattle.mgcp_text.specs.Reading.{id_in}
+use Rattle.plain_machine.specs.Example.{local_host, other_host, ready, two_lines, response, rqnt, wide}
 use Rattle.dialled_once.specs.Example.{asks_for_all}
 use Rattle.plain_machine.specs.declared.setup.Setup.{Setup}
 use Rattle.plain_machine.specs.declared.endpoint.Endpoint.{Endpoint}
 use Rattle.plain_machine.specs.Machine.{endpoint_at, opening_endpoint}
-use Rattle.plain_machine.specs.Lists.{plain}
-use Rattle.machine_laws.specs.Saying.{Begun}
+use Rattle.plain_machine.specs.Arriving.{arrivals_of}
+use Rattle.plain_machine.specs.Lists.{plain, sent_of}
+use Rattle.machine_laws.specs.Belonging.{of_line}
+use Rattle.machine_laws.specs.Saying.{Begun, begun_in}
 use Rattle.mg_line.specs.declared.phone.Act.TheVariants.{OffHook, OnHook, Key}
 use Rattle.mg_line.specs.declared.phone.Key.TheVariants.{Five, Six}
 use Rattle.plain_machine.specs.Event.{GatewayEvent, phone, tick}
 use Rattle.agent_core.specs.World.{World, WorldStep, gateway_in, delivering, dialling, issuing, plain_world, ticking}
-use Rattle.world_laws.specs.Example.{world, announced, audits}
+use Rattle.world_laws.specs.Example.{world, announced, audits, seconds}
 use Rattle.dialled_end_to_end.specs.Example as both_ends
 use Rattle.delivery_laws.specs.Copies.{gateway_firsts}
 
@@ -143,6 +147,16 @@ pressed_at_once = kept_back ++ dialling 1 (Key Five) ∷ dialling 1 (Key Six) �
 abbrev pub slowly : List WorldStep
 slowly = pressed_at_once ++ ticking 6 ∷ delivering 4 ∷ ticking 11 ∷ delivering 5 ∷ ticking 16 ∷ delivering 6 ∷ []
 
+-- what a gateway with another setup took, up to there and behind that, and its line 1 after these events
+abbrev pub took_with : Setup → List WorldStep → List GatewayEvent
+took_with setup steps = (plain_world setup steps).gateway_took
+
+abbrev pub took_between_with : Setup → List WorldStep → List WorldStep → List GatewayEvent
+took_between_with setup first steps = drop (length (took_with setup first)) (took_with setup steps)
+
+abbrev pub line_with : Setup → List GatewayEvent → Endpoint
+line_with setup events = unwrap_or (endpoint_at (plain setup events).endpoints 1) (opening_endpoint setup 1)
+
 -- the same gateway, whose lines wait for 100 ms before they announce themselves
 abbrev pub hasty : Setup
 hasty = record two_lines { disconnected_wait = 100 }
@@ -151,14 +165,14 @@ abbrev pub hasty_world : List WorldStep → World
 hasty_world steps = plain_world hasty steps
 
 abbrev pub hasty_took : List WorldStep → List GatewayEvent
-hasty_took steps = (hasty_world steps).gateway_took
+hasty_took steps = took_with hasty steps
 
 abbrev pub hasty_took_between : List WorldStep → List WorldStep → List GatewayEvent
-hasty_took_between first steps = drop (length (hasty_took first)) (hasty_took steps)
+hasty_took_between first steps = took_between_with hasty first steps
 
 -- line 1 of it after these
 abbrev pub hasty_line : List GatewayEvent → Endpoint
-hasty_line events = unwrap_or (endpoint_at (plain hasty events).endpoints 1) (opening_endpoint hasty 1)
+hasty_line events = line_with hasty events
 
 -- the notification and its repeats, packets 4 to 11, are lost: at 23,501 it is given up, and at 23,550 nothing is in flight
 abbrev pub lost : List WorldStep
@@ -175,14 +189,91 @@ held_on = ready ++ in_step 7 ∷ phone 1 OffHook ∷ phone 1 (Key Five) ∷ []
 abbrev pub nothing_comes : List GatewayEvent
 nothing_comes = tick 24000 ∷ tick 25000 ∷ []
 
--- a gateway that isn't set up well: its agent's name has a line with a dot alone, which parts the messages of a packet; line 1 is asked for
--- that name
+-- the same gateway, where the host ca2.example.net has two addresses, of which the second is the agent's
+abbrev pub roaming : Setup
+roaming = record two_lines {
+  names = record two_lines.names {
+    table = (record { name = codes "ca2.example.net"; route = Two other_host local_host }) ∷ two_lines.names.table;
+  };
+}
+
+-- line 1 is asked in step for all that its telephone does, and to notify that host
+abbrev pub asked_to_roam : List WorldStep
+asked_to_roam =
+    announced ++ issuing (codes "RQNT") (codes "aaln/1@rgw.example.net")
+    (codes "X: C2\r\nN: ca2.example.net\r\nR: L/hd(N),L/hu(N),L/hf(N),D/[0-9*#ABCD](N)\r\n") ∷ delivering 2 ∷ delivering 3 ∷ []
+
+-- it is lifted, and dials 5: its notification, packet 4, goes to the first address
+abbrev pub sent_astray : List WorldStep
+sent_astray = asked_to_roam ++ dialling 1 OffHook ∷ dialling 1 (Key Five) ∷ []
+
+-- and so does its first repeat, packet 5; the second, packet 6, goes to the agent, which answers it
+abbrev pub found_at_last : List WorldStep
+found_at_last = sent_astray ++ delivering 4 ∷ ticking 501 ∷ delivering 5 ∷ ticking 1501 ∷ delivering 6 ∷ delivering 7 ∷ []
+
+-- Where a step is refused: what it does is done all the same
+
+-- the agent issues a command whose verb is two words, packet 2
+abbrev pub garbled : Begun
+garbled = record { id = 1; moment = 1; text = codes "A B 1 aaln/1@rgw.example.net MGCP 1.0\r\n" }
+
+abbrev pub garbled_issued : List WorldStep
+garbled_issued = announced ++ issuing (codes "A B") (codes "aaln/1@rgw.example.net") [] ∷ []
+
+-- an audit with a line of a dot alone
+abbrev pub parted : Begun
+parted = record { id = 1; moment = 1; text = codes "AUEP 1 aaln/1@rgw.example.net MGCP 1.0\r\n.\r\n" }
+
+abbrev pub parted_issued : List WorldStep
+parted_issued = announced ++ audits_with (codes ".\r\n") ∷ []
+
+-- behind an audit, in one packet with it, packet 4, the agent answers the first notification of line 1, which wasn't sent yet
+abbrev pub answered_early : List WorldStep
+answered_early = both_ends.asked ++ audits_with (codes ".\r\n200 10000000 OK\r\n") ∷ []
+
+-- that comes, and line 1 is lifted: its notification is packet 6
+abbrev pub lifted_since : List WorldStep
+lifted_since = answered_early ++ delivering 4 ∷ dialling 1 OffHook ∷ []
+
+-- it comes again, and a ms passes; the notification is kept back
+abbrev pub answered_unheard : List WorldStep
+answered_unheard = lifted_since ++ delivering 4 ∷ ticking 2 ∷ []
+
+-- a notification is out, and the clock goes back
+abbrev pub put_back : List WorldStep
+put_back = notified ++ ticking 0 ∷ []
+
+-- the gateway gave its announcement up, and the clock goes back
+abbrev pub put_back_late : List WorldStep
+put_back_late = seconds 24 ++ ticking 23501 ∷ ticking 23500 ∷ []
+
+-- Where the gateway isn't set up well
+
+-- its agent's name has a line with a dot alone, which parts the messages of a packet; line 1 is asked for that name
 abbrev pub parting : Setup
 parting = record two_lines { agent = record { text = codes "a\r\n.\r\n200 9 OK"; route = two_lines.agent.route } }
 
 abbrev pub asked_for_its_agent : List WorldStep
 asked_for_its_agent = audits_with (codes "F: N\r\n") ∷ delivering 0 ∷ []
 
--- and one whose domain has lines of its own
+-- its domain has lines of its own, so that each of its commands confirms the first
 abbrev pub confirming : Setup
-confirming = record two_lines { names = record { domain = codes "x MGCP 1.0\r\nK: 5\r\nZ:"; lines = 2; table = two_lines.names.table } }
+confirming = record two_lines { names = record { domain = codes "x MGCP 1.0\r\nK: 1\r\nZ:"; lines = 2; table = two_lines.names.table } }
+
+-- its domain has a line with a dot alone
+abbrev pub dotted : Setup
+dotted = record two_lines { names = record { domain = codes "x\r\n.\r\n"; lines = 2; table = two_lines.names.table } }
+
+-- its domain is as long as a datagram may be; its announcement is handed over
+abbrev pub endless : Setup
+endless = wide 4000 1
+
+abbrev pub announced_endlessly : List WorldStep
+announced_endlessly = ticking 1 ∷ delivering 0 ∷ []
+
+-- the commands that a line of such a gateway sent, by their ids and moments, and the ids of what came to it
+abbrev pub own_keys : Setup → ℕ → List WorldStep → List (ℕ × ℕ)
+own_keys setup line steps = map key_begun (begun_in (of_line line (sent_of setup (took_with setup steps))))
+
+abbrev pub ids_come : Setup → List WorldStep → List (Option ℕ)
+ids_come setup steps = map (λ a. id_in a.outcome) (arrivals_of (took_with setup steps))

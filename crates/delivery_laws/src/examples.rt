@@ -45,6 +45,9 @@ ghost use Rattle.delivery_laws.specs.Asking.{AsksBy};
 ghost use Rattle.delivery_laws.specs.Example.{audit, asked, audits_with, stored_in, answered, confirmed, up_to, last_copy};
 ghost use Rattle.delivery_laws.specs.Example.{announced_anew, hasty, hasty_line, hasty_took, hasty_took_between, hasty_world, held_on, lost, nothing_comes};
 ghost use Rattle.delivery_laws.specs.Example.{freed, held, in_step, asked_for_its_agent, confirming, parting, pressed_at_once, pressed_since, slowly};
+ghost use Rattle.delivery_laws.specs.Example.{answered_early, answered_unheard, garbled, garbled_issued, lifted_since, parted, parted_issued, put_back, put_back_late};
+ghost use Rattle.delivery_laws.specs.Example.{announced_endlessly, asked_to_roam, dotted, endless, found_at_last, ids_come, own_keys, roaming, sent_astray};
+ghost use Rattle.delivery_laws.specs.Example.{line_with, took_between_with, took_with};
 ghost use Rattle.delivery_laws.specs.Example.{took_between, took_first, took_since};
 ghost use Rattle.delivery_laws.specs.Example.{both_lifted, brought, kept_back, key_begun, lifted, rested, notified, notification, redirected, flying_after, state_after, state_on};
 
@@ -274,10 +277,144 @@ pub fn who_is_not_set_up_says_otherwise()
         ≡ (codes "AUEP 1 aaln/1@rgw.example.net MGCP 1.0\r\nF: N\r\n" ∷ [])
         ∷ (codes "200 1 OK\r\nN: a\r\n" ∷ codes "200 9 OK\r\n" ∷ []) ∷ [] }
     ensures confirming { ¬ IsSetUp confirming }
-    ensures announced { texts_with confirming (ticking 1 ∷ []) ≡ codes "RSIP 1 *@x MGCP 1.0\r\nK: 5\r\nZ: MGCP 1.0\r\nRM: restart\r\n" ∷ [] }
-    ensures confirms { read_text (codes "RSIP 1 *@x MGCP 1.0\r\nK: 5\r\nZ: MGCP 1.0\r\nRM: restart\r\n")
-        ≡ message (messages.Command Rsip 1 (codes "*@x") ((record { code = codes "K"; value = codes "5" })
+    ensures announced { texts_with confirming (ticking 1 ∷ []) ≡ codes "RSIP 1 *@x MGCP 1.0\r\nK: 1\r\nZ: MGCP 1.0\r\nRM: restart\r\n" ∷ [] }
+    ensures confirms { read_text (codes "RSIP 1 *@x MGCP 1.0\r\nK: 1\r\nZ: MGCP 1.0\r\nRM: restart\r\n")
+        ≡ message (messages.Command Rsip 1 (codes "*@x") ((record { code = codes "K"; value = codes "1" })
         ∷ (record { code = codes "Z"; value = codes "MGCP 1.0" }) ∷ (record { code = codes "RM"; value = codes "restart" }) ∷ []) []) }
+{}
+
+/// Where each command of a gateway confirms its announcement, the agent keeps that, and is silent at one more copy of it.
+pub fn what_confirms_itself_gets_silence()
+    ensures taken { steps_are_taken confirming world_opening (notified ++ delivering 2 ∷ delivering 0 ∷ []) ≡ true }
+    ensures kept { IsConfirmedIn 1 (agent_history confirming (plain_world confirming (notified ++ delivering 2 ∷ []))) }
+    ensures own { map key_begun (own_in confirming (plain_world confirming (notified ++ delivering 2 ∷ []))) ≡ (1, 1) ∷ (10000000, 1) ∷ [] }
+    ensures copy { IsCopy confirming (plain_world confirming (notified ++ delivering 2 ∷ [])) GatewayEnd
+        (codes "RSIP 1 *@x MGCP 1.0\r\nK: 1\r\nZ: MGCP 1.0\r\nRM: restart\r\n") 0 }
+    ensures young { length (young_firsts 1 (agent_history confirming (plain_world confirming (notified ++ delivering 2 ∷ delivering 0 ∷ [])))) ≡ 2 }
+    ensures silence { texts_with confirming (notified ++ delivering 2 ∷ delivering 0 ∷ [])
+        ≡ texts_with confirming (notified ++ delivering 2 ∷ []) }
+{}
+
+/// What a dot in the domain parts is told in no packet: neither the announcement of the gateway, nor the notification of a line.
+pub fn what_a_dot_parts_is_never_told()
+    ensures dotted { ¬ IsSetUp dotted }
+    ensures taken { steps_are_taken dotted world_opening notified ≡ true }
+    ensures announced { own_keys dotted 0 (ticking 1 ∷ []) ≡ (1, 1) ∷ [] }
+    ensures none_came { ids_come dotted (ticking 1 ∷ []) ≡ [] }
+    ensures lifted { own_keys dotted 1 notified ≡ (10000000, 1) ∷ [] }
+    ensures one_came { ids_come dotted notified ≡ Some 1 ∷ [] }
+    ensures parted { map texts_of (texts_with dotted notified)
+        ≡ (codes "RSIP 1 *@x\r\n" ∷ codes " MGCP 1.0\r\nRM: restart\r\n" ∷ []) ∷ (codes "510 1\r\n" ∷ [])
+        ∷ (codes "NTFY 10000000 aaln/1@x\r\n" ∷ codes " MGCP 1.0\r\nX: 0\r\nO: L/hd\r\n" ∷ []) ∷ [] }
+{}
+
+/// An announcement that is longer than a datagram may be is handed over at once, but the agent never takes it, nor answers it.
+pub fn what_is_too_long_is_never_taken()
+    ensures endless { ¬ IsSetUp endless }
+    ensures taken { steps_are_taken endless world_opening announced_endlessly ≡ true }
+    ensures fair { IsFair endless announced_endlessly 0 }
+    ensures room { AgentAlwaysHasRoom endless announced_endlessly }
+    ensures own { own_keys endless 0 announced_endlessly ≡ (1, 1) ∷ [] }
+    ensures reaches { ReachTheAgent endless announced_endlessly 0 }
+    ensures not_taken { taken_in (plain_world endless announced_endlessly) ≡ [] }
+    ensures none_came { ids_come endless announced_endlessly ≡ [] }
+{}
+
+/// What the agent may not issue is carried all the same. Whose verb is no word has no answer, though all is handed over at once; and what
+/// a dot parts is in no packet.
+pub fn what_may_not_be_issued_has_no_answer()
+    ensures set_up { IsSetUp two_lines }
+    ensures refused { steps_are_taken two_lines world_opening garbled_issued ≡ false }
+    ensures issued { issued_in two_lines (world (garbled_issued ++ delivering 2 ∷ [])) ≡ garbled ∷ [] }
+    ensures copy { IsCopy two_lines (world garbled_issued) AgentEnd garbled.text 2 }
+    ensures fair { IsFair two_lines (garbled_issued ++ delivering 2 ∷ []) 0 }
+    ensures none_stored { gateway_firsts two_lines (world (garbled_issued ++ delivering 2 ∷ [])) ≡ [] }
+    ensures none_had { code_in 1 (garbled_issued ++ delivering 2 ∷ []) ≡ None }
+    ensures refused_too { steps_are_taken two_lines world_opening parted_issued ≡ false }
+    ensures issued_too { issued_in two_lines (world parted_issued) ≡ parted ∷ [] }
+    ensures none_had_too { code_in 1 parted_issued ≡ None }
+    ensures not_sent { map texts_of (texts_in parted_issued)
+        ≡ (codes "RSIP 1 *@rgw.example.net MGCP 1.0\r\nRM: restart\r\n" ∷ []) ∷ (codes "200 1 OK\r\n" ∷ [])
+        ∷ (codes "AUEP 1 aaln/1@rgw.example.net MGCP 1.0\r\n" ∷ [] ∷ []) ∷ [] }
+{}
+
+/// Nor may it answer, behind a command, what wasn't sent yet. Where it does, a notification flies that was answered before; and where
+/// that answer comes again the agent is never told, though all else that the law asks for holds.
+pub fn what_is_answered_early_is_never_told()
+    ensures refused { steps_are_taken two_lines world_opening answered_early ≡ false }
+    ensures early { IsCopy two_lines (world answered_early) AgentEnd (codes "200 10000000 OK\r\n") 4 }
+    ensures flies { flying_after lifted_since ≡ Some 10000000 }
+    ensures numbers { HasNumbersLeft (own_in two_lines (world answered_unheard)) }
+    ensures events { took_first answered_unheard ≡ took_first asked_for_all ++ took_between asked_for_all answered_unheard }
+    ensures asked { IsAskedForAll (course_of two_lines 1 (took_first asked_for_all))
+        (course_from two_lines (plain two_lines (took_first asked_for_all)) 1 (took_between asked_for_all answered_unheard))
+        (endpoint_then answered_unheard).line }
+    ensures nothing_given_up { has_given_up (of_line 1 (sent_of two_lines (took_first answered_unheard))) (endpoint_then answered_unheard).post
+        ≡ false }
+    ensures fair { IsFair two_lines answered_unheard 2 }
+    ensures room { AgentAlwaysHasRoom two_lines answered_unheard }
+    ensures reaches { ReachTheAgent two_lines answered_unheard 1 }
+    ensures its_time { HadItsTime two_lines answered_unheard 2 (endpoint_then answered_unheard).post.pending }
+    ensures split { took_first answered_unheard ≡ took_first lifted_since ++ took_between lifted_since answered_unheard }
+    ensures serves { serves (plain two_lines (took_first lifted_since)).endpoints ≡ true }
+    ensures answered { IsAnsweredWithin two_lines 1 (took_first lifted_since) (took_between lifted_since answered_unheard) 0 }
+    ensures asked_again { IsAskedWithin two_lines 1 (took_first lifted_since) (took_between lifted_since answered_unheard) 0 }
+    ensures none_held { length (endpoint_then lifted_since).line.quarantined.events ≡ 0 }
+    ensures late { (plain two_lines (took_first lifted_since)).now + rounds_take 0 4 0 < now_in two_lines (world answered_unheard) }
+    ensures rests { done_in (course_from two_lines (plain two_lines (took_first lifted_since)) 1 (took_between lifted_since answered_unheard))
+        ≡ [] }
+    ensures none_left { left_then answered_unheard ≡ [] }
+    ensures done_by_then { done_then lifted_since ≡ off_hook ∷ [] }
+    ensures done { done_then answered_unheard ≡ off_hook ∷ [] }
+    ensures none_told { told_then answered_unheard ≡ [] }
+{}
+
+/// Where the clock goes back a line waits for the answer to what it sends later, though all else that the law asks for holds; and the
+/// gateway waits 2 ms before it announces itself.
+pub fn who_puts_the_clock_back_waits_on()
+    ensures refused { steps_are_taken two_lines world_opening put_back ≡ false }
+    ensures numbers { HasNumbersLeft (own_in two_lines (world put_back)) }
+    ensures fair { IsFair two_lines put_back 0 }
+    ensures room { AgentAlwaysHasRoom two_lines put_back }
+    ensures reaches { ReachTheAgent two_lines put_back 1 }
+    ensures split { took_first put_back ≡ took_first notified ++ tick 0 ∷ [] }
+    ensures serves { serves (plain two_lines (took_first notified)).endpoints ≡ true }
+    ensures nothing_given_up { has_given_up (of_line 1 (sent_of two_lines (took_first put_back))) (endpoint_then put_back).post ≡ false }
+    ensures not_answered { ¬ IsAnsweredWithin two_lines 1 (took_first notified) (tick 0 ∷ []) 0 }
+    ensures refused_too { steps_are_taken two_lines world_opening put_back_late ≡ false }
+    ensures goes_back { now_in two_lines (world put_back_late) ≡ 23500 }
+    ensures waits_on { (gateway_in two_lines (world put_back_late)).endpoints.own.restart ≡ Waiting 23502 }
+    ensures asks_not { ¬ AsksBy (Waiting 23502) two_lines.restart_wait 23500 None }
+{}
+
+/// What goes to another address first, and to the agent at 1,501, takes longer than the network: what is quarantined behind it isn't told
+/// then, though all else that the law asks for holds.
+pub fn what_goes_elsewhere_first_is_told_later()
+    ensures set_up { IsSetUp roaming }
+    ensures steps { steps_are_taken roaming world_opening found_at_last ≡ true }
+    ensures numbers { HasNumbersLeft (own_in roaming (plain_world roaming found_at_last)) }
+    ensures events { took_with roaming found_at_last
+        ≡ took_with roaming asked_to_roam ++ took_between_with roaming asked_to_roam found_at_last }
+    ensures asked { IsAskedForAll (course_of roaming 1 (took_with roaming asked_to_roam))
+        (course_from roaming (plain roaming (took_with roaming asked_to_roam)) 1 (took_between_with roaming asked_to_roam found_at_last))
+        (line_with roaming (took_with roaming found_at_last)).line }
+    ensures nothing_given_up { has_given_up (of_line 1 (sent_of roaming (took_with roaming found_at_last)))
+        (line_with roaming (took_with roaming found_at_last)).post ≡ false }
+    ensures fair { IsFair roaming found_at_last 0 }
+    ensures room { AgentAlwaysHasRoom roaming found_at_last }
+    ensures reaches_not { ¬ ReachTheAgent roaming found_at_last 1 }
+    ensures its_time { HadItsTime roaming found_at_last 0 (line_with roaming (took_with roaming found_at_last)).post.pending }
+    ensures split { took_with roaming found_at_last
+        ≡ took_with roaming sent_astray ++ took_between_with roaming sent_astray found_at_last }
+    ensures serves { serves (plain roaming (took_with roaming sent_astray)).endpoints ≡ true }
+    ensures asked_again { IsAskedWithin roaming 1 (took_with roaming sent_astray) (took_between_with roaming sent_astray found_at_last) 0 }
+    ensures held { (line_with roaming (took_with roaming sent_astray)).line.quarantined.events ≡ five ∷ [] }
+    ensures late { (plain roaming (took_with roaming sent_astray)).now + rounds_take 1 0 0 < now_in roaming (plain_world roaming found_at_last) }
+    ensures rests { done_in (course_from roaming (plain roaming (took_with roaming sent_astray)) 1
+        (took_between_with roaming sent_astray found_at_last)) ≡ [] }
+    ensures done_by_then { done_in (course_of roaming 1 (took_with roaming sent_astray)) ≡ off_hook ∷ five ∷ [] }
+    ensures done { done_in (course_of roaming 1 (took_with roaming found_at_last)) ≡ off_hook ∷ five ∷ [] }
+    ensures told { observed_on 1 (agent_in roaming (plain_world roaming found_at_last)) ≡ off_hook ∷ [] }
 {}
 
 /// It goes out again at its moments, but not once a response to it came.
