@@ -33,7 +33,7 @@ use Rattle.plain_machine.proofs.FallingLaws.{pass_none, pass_some}
 use Rattle.plain_machine.proofs.ListLaws.{machine_on}
 use Rattle.agent_core.specs.World.{World, WorldStep, gateway_in, gateway_refused, step_refusal, steps_are_taken, ticking, went, world_after}
 use Rattle.world_laws.proofs.WorldLaws.{gateway_alone}
-use Rattle.delivery_laws.proofs.WaitLemmas.{again_is, offset, offset_last, offset_next, offset_rises}
+use Rattle.delivery_laws.proofs.WaitLemmas.{again_is, offset, offset_first, offset_last, offset_next, offset_rises}
 
 -- the id of the command of line 1 that is in flight, if there is one
 abbrev pub flying_in : Machine → Option ℕ
@@ -276,3 +276,31 @@ module _ (setup : Setup) (waits : setup.disconnected_wait ≡ 5000) (one two : E
       round n restart f first silent at (omega (arith, below))
       (subst (λ (m : ℕ). Comes setup (machine_with next (flying m Announced flight))) (sym on)
       (rounds k (n + 1) Announced flight next refl (announced_first n next) (omega (arith, more)) (omega (arith, below)) next (omega arith)))
+
+-- a gateway of two lines where nothing falls due but the command of line 1 that just went out, and the number of its next one
+pub record HasJustSent (m : Machine) (moment next : ℕ) : Type 0 where
+  pub now : m.now ≡ moment
+  pub one : Endpoint
+  pub two : Endpoint
+  pub flight : InFlight
+  pub lines : m.endpoints.list ≡ one ∷ two ∷ []
+  pub flies : one.post.pending ≡ Some flight
+  pub begins : flight.first ≡ moment
+  pub count : flight.repeats ≡ 0
+  pub due : flight.due ≡ moment + 500
+  pub number : one.post.number ≡ next
+  pub silent : announced_at one.post.restart ≡ None
+  pub line_rests : due_of one.line ≡ None
+  pub other_rests : due_on (2, two) ≡ None
+  pub own_rests : post_due 0 m.endpoints.own ≡ None
+
+pub first_id_comes : (setup : Setup) (m : Machine) (moment next k : ℕ) → setup.disconnected_wait ≡ 5000 → HasJustSent m moment next → next + suc k ≡ numbers → moment + (k + 2) * 28500 < 2 ^ 62
+    → Comes setup m
+first_id_comes setup m moment next k waits is sum below = λ w here.
+    let one = is.one in
+    let standing : Option InFlight → Machine =
+    λ pending. machine_with setup waits one is.two m.endpoints.own m.history one.post.entity is.line_rests is.other_rests is.own_rests m.now (record one.post { pending = pending }) in
+    let lines : m ≡ standing one.post.pending = ap (λ (list : List Endpoint). let some : Machine = record m { endpoints = record m.endpoints { list = list } } in some) is.lines in
+    rounds setup waits one is.two m.endpoints.own m.history one.post.entity is.line_rests is.other_rests is.own_rests k one.post.number one.post.restart is.flight moment is.silent
+    (record { begins = is.begins; count = is.count; due = omega (arith, is.due, offset_first) }) (omega (arith, is.number, sum)) below m.now (omega (arith, is.now, is.due)) w
+    (here ∙ lines ∙ ap standing is.flies)

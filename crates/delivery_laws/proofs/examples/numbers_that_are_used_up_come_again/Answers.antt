@@ -4,15 +4,12 @@ use Rattle.std.specs.Option.{unwrap_or}
 use Rattle.std.proofs.lemmas.Option.{none-some}
 use Rattle.mgcp_text.specs.declared.message.Message.TheVariants as messages
 use Rattle.mgcp_text.specs.Reading.{message, read_text}
-use Rattle.outbound.specs.Flight.{InFlight, sent_first}
-use Rattle.restart.specs.declared.restart.Restart.TheVariants.{Serving}
-use Rattle.mg_line.specs.Falling.{due_of}
+use Rattle.outbound.specs.Flight.{InFlight}
 use Rattle.plain_machine.specs.declared.endpoint.Endpoint.{Endpoint}
-use Rattle.plain_machine.specs.Example.{agent, agent_route, two_lines}
-use Rattle.plain_machine.specs.Falling.{due_on, post_due}
+use Rattle.plain_machine.specs.Example.{agent, two_lines}
 use Rattle.plain_machine.specs.Setup.{IsSetUp}
 use Rattle.machine_laws.specs.Saying.{HasNumbersLeft}
-use Rattle.plain_machine.specs.Machine.{Machine, endpoint_at, opening_endpoint}
+use Rattle.plain_machine.specs.Machine.{Machine, endpoint_at}
 use Rattle.agent_core.specs.declared.packet.End.TheVariants.{AgentEnd}
 use Rattle.agent_core.specs.World.{World, WorldStep, delivering, gateway_address, gateway_in, steps_are_taken, world_after, world_opening}
 use Rattle.world_laws.specs.Reached.{own_in}
@@ -22,9 +19,8 @@ use Rattle.delivery_laws.specs.Example.{brought, flying_after, hung_up, notified
 use Rattle.delivery_laws.proofs.AnsweredLaws.{over_once_answered}
 use Rattle.delivery_laws.proofs.Computing.{on_examples}
 use Rattle.delivery_laws.proofs.ExampleLemmas.{copy_here}
-use Rattle.delivery_laws.proofs.NumberLemmas.{IsAt, flying_in, machine_with, rounds}
+use Rattle.delivery_laws.proofs.NumberLemmas.{HasJustSent, first_id_comes, flying_in}
 use Rattle.delivery_laws.proofs.StepLemmas.{steps_more, taken_both}
-use Rattle.delivery_laws.proofs.WaitLemmas.{offset, offset_first}
 use Rattle.delivery_laws.proofs.examples.numbers_that_are_used_up_come_again.Goals as goal
 
 abbrev first_steps : List WorldStep
@@ -34,44 +30,33 @@ first_steps = brought ++ hung_up
 abbrev gateway_then : Machine
 gateway_then = gateway_in two_lines (world first_steps)
 
-abbrev endpoint_of : ℕ → Endpoint
-endpoint_of line = unwrap_or (endpoint_at gateway_then.endpoints line) (opening_endpoint two_lines line)
-
-abbrev notification_then : InFlight
-notification_then = unwrap_or (endpoint_of 1).post.pending (sent_first 0 agent_route [] 0)
-
 taken_first : steps_are_taken two_lines world_opening first_steps ≡ true
 unfolding on_examples
 taken_first = refl
 
-line_rests : due_of (endpoint_of 1).line ≡ None
+just_sent : HasJustSent gateway_then 1 2
 unfolding on_examples
-line_rests = refl
-
-other_rests : due_on (2, endpoint_of 2) ≡ None
-unfolding on_examples
-other_rests = refl
-
-own_rests : post_due 0 gateway_then.endpoints.own ≡ None
-unfolding on_examples
-own_rests = refl
-
-starts : gateway_then
-    ≡ machine_with two_lines refl (endpoint_of 1) (endpoint_of 2) gateway_then.endpoints.own gateway_then.history (endpoint_of 1).post.entity line_rests other_rests own_rests 1
-    (record { entity = (endpoint_of 1).post.entity; number = 2; pending = Some notification_then; restart = Serving })
-unfolding on_examples
-starts = refl
-
-began : IsAt notification_then 1 0
-unfolding on_examples offset
-began = record { begins = refl; count = refl; due = refl }
+just_sent = record {
+  now = refl;
+  one = _;
+  two = _;
+  flight = _;
+  lines = refl;
+  flies = refl;
+  begins = refl;
+  count = refl;
+  due = refl;
+  number = refl;
+  silent = refl;
+  line_rests = refl;
+  other_rests = refl;
+  own_rests = refl;
+}
 
 -- behind 9,999,997 rounds comes the last number, and then the first
 comes_again : (later : List WorldStep) × (steps_are_taken two_lines (world first_steps) later ≡ true)
     × (flying_in (gateway_in two_lines (world_after two_lines (world first_steps) later)) ≡ Some 10000000)
-comes_again =
-    rounds two_lines refl (endpoint_of 1) (endpoint_of 2) gateway_then.endpoints.own gateway_then.history (endpoint_of 1).post.entity line_rests other_rests own_rests
-    9999997 2 Serving notification_then 1 refl began refl (omega arith) 1 (omega (arith, began.due, offset_first)) (world first_steps) starts
+comes_again = first_id_comes two_lines gateway_then 1 2 9999997 refl just_sent refl (omega arith) (world first_steps) refl
 
 -- The law would say otherwise, of which all other premises hold
 
