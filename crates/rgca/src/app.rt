@@ -120,7 +120,7 @@ fn ending_of<'w, R: AllocGlobal + Files + Net + Clock + Print + Eprint>(
     rt: &R,
     words: &'w [String],
 ) -> Ending<'w> {
-    let settings = match read_words(rt.alloc(), words) {
+    let settings = match read_words(rt, words) {
         Ok(settings) => settings,
         Err(fault) => return Ending::from(fault),
     };
@@ -149,8 +149,11 @@ fn tell<R: Print + Eprint>(rt: &R, ending: &Ending<'_>) -> u8 {
 }
 
 // How the program ends by a check with these words.
-fn checked<'w, R: AllocGlobal + Net + Clock + Print>(rt: &R, words: &'w [String]) -> Ending<'w> {
-    let settings = match read_check_words(rt.alloc(), words) {
+fn checked<'w, R: AllocGlobal + Net + Clock + Print + Eprint>(
+    rt: &R,
+    words: &'w [String],
+) -> Ending<'w> {
+    let settings = match read_check_words(rt, words) {
         Ok(settings) => settings,
         Err(fault) => return check_words_ending(fault),
     };

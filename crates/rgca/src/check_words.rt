@@ -1,4 +1,5 @@
 //! Reads the words behind `check`.
+use crate::help::CHECK_USAGE;
 use crate::words::{WordFault, address_behind, fault_of, flag_word};
 use clap::{Arg, ArgMatches, Command};
 use live_agent::CheckSettings;
@@ -13,6 +14,7 @@ fn command<'a>(alloc: Global) -> Result<Command<'a>, AllocError> {
         .long("more-lines")
         .num_args(1usize..);
     Command::new(alloc, "check")
+        .override_usage(CHECK_USAGE)
         .arg(Arg::new(alloc, "address").required(true))?
         .arg(Arg::new(alloc, "domain").long("domain").required(true))?
         .arg(Arg::new(alloc, "line").long("line").required(true))?
@@ -49,10 +51,13 @@ fn settings_in<'a>(matches: &ArgMatches<'a>) -> Result<CheckSettings<'a>, WordFa
     })
 }
 
-/// Reads the words of a check, of which the first is `check`.
-pub fn read_check_words(alloc: Global, words: &[String]) -> Result<CheckSettings<'_>, WordFault> {
-    match command(alloc)?.try_get_matches_from(words) {
+/// Reads the words of a check, of which the first is `check`; standard error says which are wrong.
+pub fn read_check_words<'a, R: AllocGlobal + Eprint>(
+    rt: &R,
+    words: &'a [String],
+) -> Result<CheckSettings<'a>, WordFault> {
+    match command(rt.alloc())?.try_get_matches_from(words) {
         Ok(matches) => settings_in(&matches),
-        Err(fault) => Err(fault_of(fault.kind())),
+        Err(fault) => Err(fault_of(rt, &fault)),
     }
 }

@@ -26,6 +26,8 @@ pub enum Ending<'a> {
     Usage,
     /// The words behind `check` are other words.
     CheckUsage,
+    /// The words are other words, and standard error says which.
+    Told,
     /// What stands behind this word isn't an address.
     BadAddress {
         word: &'static str,
@@ -87,6 +89,7 @@ impl<'a> Ending<'a> {
             Ending::Checked { status } => *status,
             Ending::Usage
             | Ending::CheckUsage
+            | Ending::Told
             | Ending::BadAddress { .. }
             | Ending::BadNetwork { .. }
             | Ending::Config { .. } => 2,
@@ -110,6 +113,7 @@ impl<'a> From<WordFault> for Ending<'a> {
         match fault {
             WordFault::OutOfMemory => Ending::OutOfMemory,
             WordFault::Usage => Ending::Usage,
+            WordFault::Told => Ending::Told,
             WordFault::Help => Ending::Help,
             WordFault::Version => Ending::Version,
             WordFault::BadAddress { word } => Ending::BadAddress { word },
@@ -178,16 +182,16 @@ fn put_config<W: fmt::Write>(
 }
 
 // What is written: on standard output what the words ask, else a line on standard error, or nothing
-// where it served or checked.
+// where it served or checked, or where all was said.
 impl<'a> fmt::Display for Ending<'a> {
     fn fmt<W: fmt::Write>(&self, f: &mut fmt::Formatter<W>) -> fmt::Result {
         match self {
-            Ending::Served | Ending::Checked { .. } => Ok(()),
+            Ending::Served | Ending::Checked { .. } | Ending::Told => Ok(()),
             Ending::Help => put_pieces(f, &HELP),
             Ending::CheckHelp => put_pieces(f, &CHECK_HELP),
             Ending::Version => put_pieces(f, &VERSIONS),
-            Ending::Usage => put_pieces(f, &[USAGE, "\n"]),
-            Ending::CheckUsage => put_pieces(f, &[CHECK_USAGE, "\n"]),
+            Ending::Usage => put_pieces(f, &["usage: ", USAGE, "\n"]),
+            Ending::CheckUsage => put_pieces(f, &["usage: ", CHECK_USAGE, "\n"]),
             Ending::BadAddress { word } => put_pieces(f, &[*word, ": no address a.b.c.d:port\n"]),
             Ending::BadNetwork { fault } => put_pieces(f, &["--network: ", fault.text(), "\n"]),
             Ending::Config { file, refusal } => put_config(f, *file, refusal),

@@ -9,7 +9,7 @@ pub const CONTROL: &str = "127.0.0.1:4280";
 
 /// The words of the command line, in a line.
 pub const USAGE: &str =
-    "usage: rgca CONFIG [--listen ADDRESS] [--control ADDRESS] [--route] [--log] [--capture FILE] [--network TEXT] [--stop-after MS]";
+    "rgca CONFIG [--listen ADDRESS] [--control ADDRESS] [--route] [--log] [--capture FILE] [--network TEXT] [--stop-after MS]";
 
 // What the words say, from the end of the first line on. The place of the default is left open.
 const ABOVE: &str = "
@@ -55,11 +55,11 @@ More: the manual page rgca(1).
 ";
 
 /// How the program is used, in pieces.
-pub const HELP: [&str; 4] = [USAGE, ABOVE, CONTROL, BELOW];
+pub const HELP: [&str; 5] = ["usage: ", USAGE, ABOVE, CONTROL, BELOW];
 
 /// The words behind `check`, in a line.
 pub const CHECK_USAGE: &str =
-    "usage: rgca check ADDRESS --domain D --line NAME [--more-lines NAME] [--slow] [--json] [--own ADDRESS]";
+    "rgca check ADDRESS --domain D --line NAME [--more-lines NAME] [--slow] [--json] [--own ADDRESS]";
 
 // What they say, from the end of the first line on.
 const CHECK_BELOW: &str = "
@@ -83,7 +83,7 @@ The status is 0 where none failed, 1 where one did, 2 for other words, 3 where n
 ";
 
 /// How a check is asked for, in pieces.
-pub const CHECK_HELP: [&str; 2] = [CHECK_USAGE, CHECK_BELOW];
+pub const CHECK_HELP: [&str; 3] = ["usage: ", CHECK_USAGE, CHECK_BELOW];
 
 /// The version of the program, and of its protocol, in pieces.
 pub const VERSIONS: [&str; 3] = ["rgca ", VERSION, "\nMGCP 1.0 (RFC 3435)\n"];

@@ -1,8 +1,8 @@
 //! Reads the words of the command line.
-use crate::help::{CONTROL, VERSION};
+use crate::help::{CONTROL, USAGE, VERSION};
 use bad_network::{Spoiling, SpoilingFault};
 use clap::error::ErrorKind;
-use clap::{Arg, ArgAction, ArgMatches, Command};
+use clap::{Arg, ArgAction, ArgMatches, Command, Error};
 use std::alloc::{AllocError, Global};
 use std::net::SocketAddrV4;
 
@@ -34,6 +34,8 @@ pub enum WordFault {
     OutOfMemory,
     /// They are other words.
     Usage,
+    /// They are other words, and standard error says which.
+    Told,
     /// They ask how the program is used.
     Help,
     /// They ask for its version.
@@ -98,7 +100,9 @@ fn arg_of<'a>(alloc: Global, word: Word) -> Arg<'a> {
 }
 
 fn command<'a>(alloc: Global) -> Result<Command<'a>, AllocError> {
-    let mut command = Command::new(alloc, "rgca").version(VERSION);
+    let mut command = Command::new(alloc, "rgca")
+        .version(VERSION)
+        .override_usage(USAGE);
     for word in WORDS.iter() {
         command = command.arg(arg_of(alloc, *word))?;
     }
@@ -131,14 +135,21 @@ fn spoiling_behind(matches: &ArgMatches<'_>) -> Result<Option<Spoiling>, WordFau
     }
 }
 
-/// Why no settings are found in words, by the kind of clap's error.
-pub fn fault_of(kind: ErrorKind) -> WordFault {
-    match kind {
-        ErrorKind::OutOfMemory => WordFault::OutOfMemory,
-        ErrorKind::DisplayHelp => WordFault::Help,
-        ErrorKind::DisplayVersion => WordFault::Version,
-        _ => WordFault::Usage,
+/// Why no settings are found in words, by clap's error: which words are wrong goes to standard error.
+pub fn fault_of<R: Eprint>(rt: &R, fault: &Error) -> WordFault {
+    let kind = fault.kind();
+    if kind == ErrorKind::OutOfMemory {
+        return WordFault::OutOfMemory;
     }
+    if kind == ErrorKind::DisplayHelp {
+        return WordFault::Help;
+    }
+    if kind == ErrorKind::DisplayVersion {
+        return WordFault::Version;
+    }
+    // Nobody is left who could be told that standard error failed.
+    let _ = eprint!(rt; "{fault}");
+    WordFault::Told
 }
 
 fn settings_in<'a>(matches: &ArgMatches<'a>) -> Result<Settings<'a>, WordFault> {
@@ -160,10 +171,13 @@ fn settings_in<'a>(matches: &ArgMatches<'a>) -> Result<Settings<'a>, WordFault> 
     })
 }
 
-/// Reads the words of a command line, of which the first is the program's name.
-pub fn read_words(alloc: Global, words: &[String]) -> Result<Settings<'_>, WordFault> {
-    match command(alloc)?.try_get_matches_from(words) {
+/// Reads the words of a command line, of which the first is the program's name; standard error says which are wrong.
+pub fn read_words<'a, R: AllocGlobal + Eprint>(
+    rt: &R,
+    words: &'a [String],
+) -> Result<Settings<'a>, WordFault> {
+    match command(rt.alloc())?.try_get_matches_from(words) {
         Ok(matches) => settings_in(&matches),
-        Err(fault) => Err(fault_of(fault.kind())),
+        Err(fault) => Err(fault_of(rt, &fault)),
     }
 }

@@ -193,7 +193,7 @@ fn ending_of<'w, R: AllocGlobal + Files + Net + Clock + RandomSource + Print + E
     rt: &R,
     words: &'w [String],
 ) -> Ending<'w> {
-    let settings = match read_words(rt.alloc(), words) {
+    let settings = match read_words(rt, words) {
         Ok(settings) => settings,
         Err(fault) => return Ending::from(fault),
     };

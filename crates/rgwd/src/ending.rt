@@ -18,6 +18,8 @@ pub enum Ending<'a> {
     Version,
     /// The words of the command line are other words.
     Usage,
+    /// They are other words, and standard error says which.
+    Told,
     /// What stands behind this word isn't an address.
     BadAddress {
         word: &'static str,
@@ -60,6 +62,7 @@ impl<'a> Ending<'a> {
         match self {
             Ending::Served | Ending::Help | Ending::Version => 0,
             Ending::Usage
+            | Ending::Told
             | Ending::BadAddress { .. }
             | Ending::BadNetwork { .. }
             | Ending::Config { .. } => 2,
@@ -78,6 +81,7 @@ impl<'a> From<WordFault> for Ending<'a> {
         match fault {
             WordFault::OutOfMemory => Ending::OutOfMemory,
             WordFault::Usage => Ending::Usage,
+            WordFault::Told => Ending::Told,
             WordFault::Help => Ending::Help,
             WordFault::Version => Ending::Version,
             WordFault::BadAddress { word } => Ending::BadAddress { word },
@@ -104,7 +108,6 @@ fn put_config<W: fmt::Write>(
 // What a line is about.
 fn subject_of(ending: Ending<'_>) -> &str {
     match ending {
-        Ending::Usage => USAGE,
         Ending::BadAddress { word } => word,
         Ending::BadNetwork { .. } => "--network: ",
         Ending::Unreadable { file } | Ending::Unwritable { file } => file,
@@ -131,11 +134,12 @@ fn put_line<W: fmt::Write>(f: &mut fmt::Formatter<W>, subject: &str, fault: &str
 }
 
 // What is written: on standard output what the words ask, else a line on standard error, or nothing
-// where it served.
+// where it served, or where all was said.
 impl<'a> fmt::Display for Ending<'a> {
     fn fmt<W: fmt::Write>(&self, f: &mut fmt::Formatter<W>) -> fmt::Result {
         match *self {
-            Ending::Served => Ok(()),
+            Ending::Served | Ending::Told => Ok(()),
+            Ending::Usage => put_pieces(f, &["usage: ", USAGE, "\n"]),
             Ending::Help => put_pieces(f, &HELP),
             Ending::Version => put_pieces(f, &VERSIONS),
             Ending::Config { file, number, key } => put_config(f, file, number, key),

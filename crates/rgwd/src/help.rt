@@ -14,7 +14,7 @@ pub const PHONES: &str = "127.0.0.1:2428";
 
 /// The words of the command line, in a line.
 pub const USAGE: &str =
-    "usage: rgwd CONFIG [--listen ADDRESS] [--phones ADDRESS] [--http ADDRESS] [--log] [--capture FILE] [--trace] [--network TEXT] [--stop-after MS]";
+    "rgwd CONFIG [--listen ADDRESS] [--phones ADDRESS] [--http ADDRESS] [--log] [--capture FILE] [--trace] [--network TEXT] [--stop-after MS]";
 
 // What the words say, from the end of the first line on. The places of the defaults are left open.
 const ABOVE: &str = "
@@ -41,7 +41,7 @@ More: the manual page rgwd(8), and docs/OPERATING.md.
 ";
 
 /// How the program is used, in pieces.
-pub const HELP: [&str; 6] = [USAGE, ABOVE, LISTEN, BETWEEN, PHONES, BELOW];
+pub const HELP: [&str; 7] = ["usage: ", USAGE, ABOVE, LISTEN, BETWEEN, PHONES, BELOW];
 
 /// The version of the program, and of its protocol, in pieces.
 pub const VERSIONS: [&str; 3] = ["rgwd ", VERSION, "\nMGCP 1.0 (RFC 3435)\n"];

@@ -1,8 +1,8 @@
 //! Reads the words of the command line.
-use crate::help::{LISTEN, PHONES, VERSION};
+use crate::help::{LISTEN, PHONES, USAGE, VERSION};
 use bad_network::{Spoiling, SpoilingFault};
 use clap::error::ErrorKind;
-use clap::{Arg, ArgAction, ArgMatches, Command};
+use clap::{Arg, ArgAction, ArgMatches, Command, Error};
 use std::alloc::{AllocError, Global};
 use std::net::SocketAddrV4;
 
@@ -36,6 +36,8 @@ pub enum WordFault {
     OutOfMemory,
     /// They are other words.
     Usage,
+    /// They are other words, and standard error says which.
+    Told,
     /// They ask how the program is used.
     Help,
     /// They ask for its version.
@@ -76,7 +78,7 @@ const WORDS: [(&str, WordKind); 9] = [
 fn arg_of<'a>(alloc: Global, name: &'a str, kind: WordKind) -> Arg<'a> {
     let arg = Arg::new(alloc, name);
     match kind {
-        WordKind::Plain => arg,
+        WordKind::Plain => arg.required(true),
         WordKind::Valued => arg.long(name),
         WordKind::Number => arg.long(name).value_parser(clap::value_parser!(u64)),
         WordKind::Flag => arg.long(name).action(ArgAction::SetTrue),
@@ -84,7 +86,9 @@ fn arg_of<'a>(alloc: Global, name: &'a str, kind: WordKind) -> Arg<'a> {
 }
 
 fn command<'a>(alloc: Global) -> Result<Command<'a>, AllocError> {
-    let mut command = Command::new(alloc, "rgwd").version(VERSION);
+    let mut command = Command::new(alloc, "rgwd")
+        .version(VERSION)
+        .override_usage(USAGE);
     for (name, kind) in WORDS.iter() {
         command = command.arg(arg_of(alloc, *name, *kind))?;
     }
@@ -121,8 +125,9 @@ fn network_in(matches: &ArgMatches<'_>) -> Result<Option<Spoiling>, WordFault> {
     }
 }
 
-// Why no settings are found in words, by the kind of clap's error.
-fn fault_of(kind: ErrorKind) -> WordFault {
+// Why no settings are found in words, by the kind of clap's error: which words are wrong goes to standard error.
+fn fault_of<R: Eprint>(rt: &R, fault: &Error) -> WordFault {
+    let kind = fault.kind();
     if kind == ErrorKind::OutOfMemory {
         return WordFault::OutOfMemory;
     }
@@ -132,7 +137,9 @@ fn fault_of(kind: ErrorKind) -> WordFault {
     if kind == ErrorKind::DisplayVersion {
         return WordFault::Version;
     }
-    WordFault::Usage
+    // Nobody is left who could be told that standard error failed.
+    let _ = eprint!(rt; "{fault}");
+    WordFault::Told
 }
 
 fn settings_in<'a>(matches: &ArgMatches<'a>) -> Result<Settings<'a>, WordFault> {
@@ -159,17 +166,24 @@ fn settings_in<'a>(matches: &ArgMatches<'a>) -> Result<Settings<'a>, WordFault> 
 }
 
 // What words say to a command.
-fn settings_by<'a>(command: Command<'a>, words: &'a [String]) -> Result<Settings<'a>, WordFault> {
+fn settings_by<'a, R: Eprint>(
+    rt: &R,
+    command: Command<'a>,
+    words: &'a [String],
+) -> Result<Settings<'a>, WordFault> {
     match command.try_get_matches_from(words) {
         Ok(matches) => settings_in(&matches),
-        Err(fault) => Err(fault_of(fault.kind())),
+        Err(fault) => Err(fault_of(rt, &fault)),
     }
 }
 
-/// Reads the words of a command line, of which the first is the program's name.
-pub fn read_words(alloc: Global, words: &[String]) -> Result<Settings<'_>, WordFault> {
-    match command(alloc) {
-        Ok(command) => settings_by(command, words),
+/// Reads the words of a command line, of which the first is the program's name; standard error says which are wrong.
+pub fn read_words<'a, R: AllocGlobal + Eprint>(
+    rt: &R,
+    words: &'a [String],
+) -> Result<Settings<'a>, WordFault> {
+    match command(rt.alloc()) {
+        Ok(command) => settings_by(rt, command, words),
         Err(_) => Err(WordFault::OutOfMemory),
     }
 }
