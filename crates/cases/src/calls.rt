@@ -10,7 +10,7 @@
 //! Where nothing is printed the answer is `ok`; more than a line is all that is printed, with `\n` for each line end.
 use crate::played::{simulated, words_of};
 use mg_bytes::{OutOfMemory, Sequence};
-use rgw_cli::{Task, WordFault, asked};
+use rgw_play::{Task, WordFault, asked};
 use scenario_files::{
     Row, Scenario, WrittenScenario, number_in, put_line, read_scenario, value_of,
 };

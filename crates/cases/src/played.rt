@@ -1,6 +1,6 @@
 //! A scenario as it is played.
 use mg_bytes::split_once;
-use rgw_cli::{Ending, asked, perform, simulate};
+use rgw_play::{Ending, asked, perform, simulate};
 use scenario_files::{WrittenScenario, input_of};
 use std::alloc::Global;
 use std::io::{self, Write};

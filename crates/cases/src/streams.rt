@@ -6,8 +6,7 @@
 //! - `interrupted  2 commands, 1 refused  ..` each call of the reader but every second is interrupted, from the first on;
 //! - `read 1-32  read fault  ''` each of these calls of the reader fails in its turn, alone;
 //! - `write 2  write fault  line 1\s` this call of the writer fails, and all behind it.
-use rgw_cli::Ending;
-use rgw_play::{PlayFault, Played, play};
+use rgw_play::{Ending, PlayFault, Played, play};
 use scenario_files::{Row, SETTINGS, Scenario, bytes_of, range_in};
 use std::alloc::Global;
 use std::io::{self, Read, Write};

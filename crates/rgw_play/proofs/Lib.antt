@@ -1,1 +1,2 @@
 pub mod PlayLemmas
+pub mod Computing

@@ -1,1 +1,2 @@
 pub mod Player
+pub mod Ending

@@ -2,19 +2,29 @@
 //!
 //! The input is a configuration, a line `%%` and a script. All of it is judged before anything is written. What it says and
 //! how what it shows is printed is in `rgw_scripts`.
+//!
+//! The program's command line is here too: its words, its exit statuses and what it says on standard error.
 #![tactic(auto)]
 
+mod app;
+mod ending;
+pub mod examples;
+pub mod laws;
 mod player;
 mod scene;
 mod session;
 mod sockets;
 mod status;
 mod udp_wire;
+mod words;
 
+pub use crate::app::{asked, loopback, perform, run, simulate};
+pub use crate::ending::Ending;
 pub use crate::scene::{Scene, gateway_of, judge, read_key_at_fault};
 pub use crate::session::{carry, play};
 pub use crate::status::status_of;
 pub use crate::udp_wire::UdpWire;
+pub use crate::words::{Task, WordFault, read_words};
 pub use rgw_scripts::{
     Direct, LIMIT, LineStatus, Link, LinkFault, PlayFault, Played, ScriptLine, ScriptStep,
     StepFault, line_in, name_of_config_fault, put_line, put_refusal, read_limited,

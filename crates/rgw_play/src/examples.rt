@@ -3,8 +3,8 @@
 
 ghost use Rattle.std.specs.Prelude.{◌≡◌, codes, []};
 ghost use Rattle.rgw_scripts.specs.declared.played.PlayFault.TheVariants as faults;
-ghost use Rattle.rgw_cli.specs.declared.ending.Ending.TheVariants as endings;
-ghost use Rattle.rgw_cli.specs.Ending.{status_of, error_text};
+ghost use Rattle.rgw_play.specs.declared.ending.Ending.TheVariants as endings;
+ghost use Rattle.rgw_play.specs.Ending.{status_of, error_text};
 
 /// Each ending has its status.
 pub fn endings_have_their_status()

@@ -1,8 +1,8 @@
 //! How the program ends: its status, and its line on standard error.
 ghost use Rattle.std.specs.Prelude.{◌≡◌};
-ghost use Rattle.rgw_cli.specs.Ending.{status_of};
+ghost use Rattle.rgw_play.specs.Ending.{status_of};
 
-use rgw_play::{PlayFault, name_of_config_fault};
+use rgw_scripts::{PlayFault, name_of_config_fault};
 use std::fmt;
 
 /// How the program ends.
@@ -36,7 +36,7 @@ impl Ending {
 // What is written on standard error: a line, or nothing where the script was played.
 impl fmt::Display for Ending {
     ghost use Rattle.std.specs.Prelude.{Some};
-    ghost use Rattle.rgw_cli.specs.Ending.{error_text};
+    ghost use Rattle.rgw_play.specs.Ending.{error_text};
 
     ghost output = { λ ending. Some (error_text ending) };
 

@@ -5,11 +5,11 @@ ghost use Rattle.rgw_scripts.specs.declared.played.PlayFault.{PlayFault};
 ghost use Rattle.rgw_scripts.specs.declared.played.PlayFault.TheVariants as faults;
 ghost use Rattle.rgw_scripts.specs.Moves.{printed};
 ghost use Rattle.rgw_scripts.specs.Play.{Scene, judged, shown};
-ghost use Rattle.rgw_cli.specs.declared.words.Task.TheVariants as tasks;
-ghost use Rattle.rgw_cli.specs.declared.words.WordFault.TheVariants as word_faults;
-ghost use Rattle.rgw_cli.specs.declared.ending.Ending.{Ending};
-ghost use Rattle.rgw_cli.specs.declared.ending.Ending.TheVariants as endings;
-ghost use Rattle.rgw_cli.specs.Ending.{Ends};
+ghost use Rattle.rgw_play.specs.declared.words.Task.TheVariants as tasks;
+ghost use Rattle.rgw_play.specs.declared.words.WordFault.TheVariants as word_faults;
+ghost use Rattle.rgw_play.specs.declared.ending.Ending.{Ending};
+ghost use Rattle.rgw_play.specs.declared.ending.Ending.TheVariants as endings;
+ghost use Rattle.rgw_play.specs.Ending.{Ends};
 
 /// Where `simulate` ends well, the input is fine and its whole output was written; a fault that is told is the input's.
 pub fn simulate_plays_the_input()

@@ -5,12 +5,12 @@ use Rattle.rgw_scripts.specs.declared.played.PlayFault.TheVariants.{OutOfMemory,
 use Rattle.rgw_scripts.specs.Printing.{printed_line}
 use Rattle.rgw_scripts.specs.Fault.{name_of_config_fault}
 use Rattle.rgw_scripts.specs.Play.{judged, PlaysInto, Explains}
-use Rattle.rgw_cli.specs.declared.words.Task.{Task}
-use Rattle.rgw_cli.specs.declared.words.Task.TheVariants.{Simulate, Loopback}
-use Rattle.rgw_cli.specs.declared.words.WordFault.{WordFault}
-use Rattle.rgw_cli.specs.declared.words.WordFault.TheVariants as word_fault
-use Rattle.rgw_cli.specs.declared.ending.Ending.{Ending}
-use Rattle.rgw_cli.specs.declared.ending.Ending.TheVariants.{Played, Usage, Fault, WireFault}
+use Rattle.rgw_play.specs.declared.words.Task.{Task}
+use Rattle.rgw_play.specs.declared.words.Task.TheVariants.{Simulate, Loopback}
+use Rattle.rgw_play.specs.declared.words.WordFault.{WordFault}
+use Rattle.rgw_play.specs.declared.words.WordFault.TheVariants as word_fault
+use Rattle.rgw_play.specs.declared.ending.Ending.{Ending}
+use Rattle.rgw_play.specs.declared.ending.Ending.TheVariants.{Played, Usage, Fault, WireFault}
 
 -- 0 where the script was played, 1 where the input is refused, 2 at other words, 3 where memory, a stream or a socket failed
 abbrev pub status_of : Ending → ℕ

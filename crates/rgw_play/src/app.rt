@@ -1,11 +1,12 @@
 //! The program: reads its words, does what they ask, and says how it ended.
 ghost use Rattle.std.specs.Prelude.{◌≡◌, ◌≢◌, IfErr, Err};
-ghost use Rattle.rgw_cli.specs.Ending.{Ends, Simulates, Carries};
+ghost use Rattle.rgw_play.specs.Ending.{Ends, Simulates, Carries};
 
 use crate::ending::Ending;
+use crate::session::{carry, play};
 use crate::words::{Task, WordFault, read_words};
 use gateway_core::WireFault;
-use rgw_play::{LinkFault, PlayFault, carry, play};
+use rgw_scripts::{LinkFault, PlayFault};
 use std::alloc::Global;
 use std::io::{ErrorKind, Read, Write};
 use std::net::Net;
