@@ -3,7 +3,8 @@ use crate::live_wire::LiveWire;
 use gateway_core::Gateway;
 use live_ends::{CommandSocket, Readiness};
 use live_journal::{Faults, Journal, picture_of};
-use live_page::{Desk, Site};
+use live_page::Site;
+use page_answers::Board;
 use std::alloc::Global;
 use std::net::Net;
 use std::random::RandomSource;
@@ -26,11 +27,11 @@ pub fn earlier(one: Option<u64>, other: Option<u64>) -> Option<u64> {
 }
 
 // What the page asks for is asked of a telephone, where none is asked anything.
-fn ask(alloc: Global, desk: &mut Desk, telephones: &mut CommandSocket) {
+fn ask(alloc: Global, board: &mut Board, telephones: &mut CommandSocket) {
     if !telephones.is_idle() {
         return;
     }
-    if let Some(act) = desk.next_act() {
+    if let Some(act) = board.next_act() {
         let mut line = Vec::new(alloc);
         if act.put_line(alloc, &mut line).is_ok() {
             telephones.take(line.as_slice());
@@ -43,8 +44,8 @@ fn show(alloc: Global, gateway: &Gateway, journal: &mut Journal, faults: Faults)
     let Ok(picture) = picture_of(alloc, gateway, &journal.tally, faults) else {
         return;
     };
-    if let Some(desk) = &mut journal.desk {
-        desk.show(picture);
+    if let Some(board) = &mut journal.board {
+        board.show(picture);
     }
 }
 
@@ -56,9 +57,9 @@ fn serve_visitor(
     site: &mut Site,
     now: u64,
 ) {
-    if let Some(desk) = &mut journal.desk {
-        site.turn(desk, now);
-        ask(alloc, desk, telephones);
+    if let Some(board) = &mut journal.board {
+        site.turn(board, now);
+        ask(alloc, board, telephones);
     }
 }
 

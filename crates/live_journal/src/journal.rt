@@ -6,8 +6,7 @@ use crate::trace::{Trace, TraceEntry};
 use exchange_log::Way;
 use gateway_core::Input;
 use live_ends::Now;
-use live_page::Desk;
-use page_answers::Kind;
+use page_answers::{Board, Kind};
 use std::net::{Ipv4Addr, SocketAddrV4};
 
 /// The journal of a wire. What is large stands in boxes.
@@ -18,7 +17,7 @@ pub struct Journal {
     pub log: Box<Log>,
     pub capture: Box<Capture>,
     /// What the page is shown, where there is one.
-    pub desk: Option<Box<Desk>>,
+    pub board: Option<Box<Board>>,
     /// What was given at this turn.
     pub given: Option<Input>,
 }
@@ -26,9 +25,9 @@ pub struct Journal {
 impl Journal {
     // Shows the page what happened, and with whom on the network, if with anybody there.
     fn show(&mut self, moment: u64, kind: Kind, peer: Option<SocketAddrV4>, text: &[u8]) {
-        if let Some(desk) = &mut self.desk {
+        if let Some(board) = &mut self.board {
             let peer = peer.unwrap_or(SocketAddrV4::new(Ipv4Addr::UNSPECIFIED, 0));
-            desk.note(moment, kind, peer, text);
+            board.note(moment, kind, peer, text);
         }
     }
 

@@ -6,6 +6,8 @@ use Rattle.http.specs.HeaderMap.{get_all}
 use Rattle.http.specs.Uri.{uri_path, uri_query, uri_authority}
 use Rattle.http.specs.declared.request.Parts.{Parts}
 use Rattle.mg_bytes.specs.Numbers.{decimal_of}
+use Rattle.page_answers.specs.declared.board.ActOutcome.{ActOutcome}
+use Rattle.page_answers.specs.declared.board.ActOutcome.TheVariants.{Queued, NoRoom, Unreadable}
 use Rattle.live_page.specs.declared.route.Route.{Route}
 use Rattle.live_page.specs.declared.route.Route.TheVariants.{Page, Style, Script, State, Metrics, Events, Phone, Nothing}
 use Rattle.live_page.specs.declared.asked.Asked.{Asked}
@@ -81,3 +83,9 @@ refusal_status (Unsuited acts) = 405
 refusal_status Missing = 404
 refusal_status (Reading route) = 404
 refusal_status Acting = 404
+
+-- the status of an act that a page of this site asked for (RFC 9110, 15.3.3, 15.6.4 and 15.5.1)
+abbrev pub outcome_status : ActOutcome → ℕ
+outcome_status Queued = 202
+outcome_status NoRoom = 503
+outcome_status Unreadable = 400

@@ -18,6 +18,6 @@ mod visitor;
 
 pub use crate::access::{is_known_host, is_same_origin};
 pub use crate::asked::Asked;
-pub use crate::desk::{Desk, MOST_ACTS};
+pub use crate::desk::Desk;
 pub use crate::route::Route;
 pub use crate::site::Site;

@@ -3,6 +3,7 @@ use crate::desk::Desk;
 use crate::visitor::Visitor;
 use live_ends::{MOST_VISITORS, Readiness};
 use mio::net::{TcpListener, TcpStream};
+use page_answers::Board;
 use std::alloc::Global;
 use std::hash::RandomState;
 use std::io;
@@ -14,6 +15,8 @@ use std::random::RandomSource;
 pub struct Site {
     alloc: Global,
     listener: TcpListener,
+    // The address of its socket, where that is known.
+    address: Option<SocketAddrV4>,
     places: Vec<Option<Box<Visitor>>>,
     // Whether somebody may have come.
     may_accept: bool,
@@ -35,18 +38,23 @@ impl Site {
         }
         let mut listener = TcpListener::bind(rt, SocketAddr::V4(address))?;
         ready.watch_listener(&mut listener)?;
+        let address = match listener.local_addr() {
+            Ok(SocketAddr::V4(address)) => Some(address),
+            Ok(_) | Err(_) => None,
+        };
         Ok(Site {
             alloc,
             listener,
+            address,
             places,
             may_accept: true,
             last: 0,
         })
     }
 
-    /// The address of its socket.
-    pub fn address(&self) -> io::Result<SocketAddr> {
-        self.listener.local_addr()
+    /// The address of its socket, where that is known.
+    pub fn address(&self) -> Option<SocketAddrV4> {
+        self.address
     }
 
     // The next place behind the last whose visitor has more to do.
@@ -155,14 +163,18 @@ impl Site {
         }
     }
 
-    /// A turn of one visitor who has more to do, each in their turn.
-    pub fn turn(&mut self, desk: &mut Desk, now: u64) {
+    /// A turn of one visitor who has more to do, each in their turn: it is answered by this board.
+    pub fn turn(&mut self, board: &mut Board, now: u64) {
+        let Some(address) = self.address else {
+            return;
+        };
         let Some(place) = self.next_place() else {
             return;
         };
         self.last = place;
+        let mut desk = Desk::new(address, board);
         let stays = match self.places.get_mut(place) {
-            Some(Some(visitor)) => visitor.turn(desk, now),
+            Some(Some(visitor)) => visitor.turn(&mut desk, now),
             _ => true,
         };
         if stays {

@@ -116,7 +116,7 @@ impl Visitor {
     }
 
     /// Reads once, answers what came, and writes once: whether the visitor stays.
-    pub(crate) fn turn(&mut self, desk: &mut Desk, now: u64) -> bool {
+    pub(crate) fn turn(&mut self, desk: &mut Desk<'_>, now: u64) -> bool {
         if !self.read() {
             return false;
         }

@@ -6,6 +6,7 @@
 
 mod act;
 mod acting;
+mod board;
 mod counts;
 pub mod examples;
 mod families;
@@ -18,6 +19,7 @@ mod telling;
 
 pub use crate::act::{PhoneAct, QueuedAct};
 pub use crate::acting::read_act;
+pub use crate::board::{ActOutcome, Board, MOST_ACTS};
 pub use crate::counts::{CodeCount, Counts, VerbCount};
 pub use crate::metrics::metrics_text;
 pub use crate::picture::{ConnectionView, LineView, Picture, SignalView};

@@ -93,7 +93,7 @@ fn tell_addresses<R: Net + Clock + Eprint>(rt: &R, ends: &Ends<'_, R>, site: &Op
         let _ = eprintln!(rt; "listen {listen} phones {phones}");
         return;
     };
-    if let Some(http) = known(site.address()) {
+    if let Some(http) = site.address() {
         let _ = eprintln!(rt; "listen {listen} phones {phones} http {http}");
     }
 }

@@ -6,8 +6,9 @@ use gateway_core::Gateway;
 use live_ends::{CommandSocket, LiveClock, Readiness};
 use live_gateway::{Ends, LiveWire, Outlets, boxed};
 use live_journal::{Capture, Journal, Log, MessageTally, Trace, TraceEntry};
-use live_page::{Desk, Site};
+use live_page::Site;
 use mio::net::UdpSocket;
+use page_answers::Board;
 use std::alloc::{AllocError, Global};
 use std::fs::File;
 use std::io;
@@ -165,13 +166,10 @@ pub fn known(address: io::Result<SocketAddr>) -> Option<SocketAddrV4> {
     }
 }
 
-// What the page of a site is shown; its address counts.
-fn desk_of(alloc: Global, site: &Option<Box<Site>>) -> Result<Option<Box<Desk>>, AllocError> {
-    let Some(site) = site else {
-        return Ok(None);
-    };
-    match known(site.address()) {
-        Some(address) => Ok(Some(boxed(alloc, Desk::new(alloc, address))?)),
+// What the page of a site is shown, where there is one.
+fn board_of(alloc: Global, site: &Option<Box<Site>>) -> Result<Option<Box<Board>>, AllocError> {
+    match site {
+        Some(_) => Ok(Some(boxed(alloc, Board::new(alloc))?)),
         None => Ok(None),
     }
 }
@@ -190,7 +188,7 @@ fn journal_of(
     config: &[u8],
     gateway: &Gateway,
     here: SocketAddrV4,
-    desk: Option<Box<Desk>>,
+    board: Option<Box<Board>>,
 ) -> Result<Box<Journal>, AllocError> {
     let tally = boxed(alloc, MessageTally::new(alloc)?)?;
     let log = boxed(alloc, Log::new(alloc, settings.log, gateway)?)?;
@@ -201,7 +199,7 @@ fn journal_of(
         trace,
         log,
         capture: boxed(alloc, capture)?,
-        desk,
+        board,
         given: None,
     };
     boxed(alloc, journal)
@@ -229,8 +227,8 @@ fn assembled<'a, R: Net + Clock, F: Drop>(
     outlets: Outlets<F>,
 ) -> Result<Opened<'a, R, F>, AllocError> {
     let here = known(ends.socket.local_addr()).unwrap_or(settings.listen);
-    let desk = desk_of(alloc, &outlets.site)?;
-    let journal = journal_of(alloc, settings, config, gateway, here, desk)?;
+    let board = board_of(alloc, &outlets.site)?;
+    let journal = journal_of(alloc, settings, config, gateway, here, board)?;
     let wire = LiveWire::new(ends, journal);
     Ok(Opened { wire, outlets })
 }
