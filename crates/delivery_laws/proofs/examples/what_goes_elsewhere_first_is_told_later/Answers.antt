@@ -62,3 +62,13 @@ it_began = any_from_one (λ (one : Begun). one ≡ command) (own_in roaming (pla
 pub returns-clause-reaches_not : goal.returns-clause-reaches_not
 unfolding on_examples astray command post
 returns-clause-reaches_not c = λ reach. let e : false ≡ true = reach command it_began refl 4 post refl refl inside_it in absurd cc
+
+-- computed at once, which the search would do slowly
+
+pub returns-clause-events : goal.returns-clause-events
+unfolding on_examples
+returns-clause-events c = refl
+
+pub returns-clause-split : goal.returns-clause-split
+unfolding on_examples
+returns-clause-split c = refl

@@ -66,3 +66,13 @@ returns-clause-answered c = answered_within two_lines 1 (took_first lifted_since
 pub returns-clause-asked_again : goal.returns-clause-asked_again
 unfolding on_examples
 returns-clause-asked_again c = never_locked two_lines 1 (took_first lifted_since) (took_between lifted_since answered_unheard) 0 refl
+
+-- computed at once, which the search would do slowly
+
+pub returns-clause-events : goal.returns-clause-events
+unfolding on_examples
+returns-clause-events c = refl
+
+pub returns-clause-split : goal.returns-clause-split
+unfolding on_examples
+returns-clause-split c = refl

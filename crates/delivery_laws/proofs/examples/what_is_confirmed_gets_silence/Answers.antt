@@ -14,3 +14,13 @@ pub returns-clause-confirmed : goal.returns-clause-confirmed
 unfolding on_examples first later
 returns-clause-confirmed c =
     record { before = []; one = first; later = later ∷ []; order = refl; same = refl; named = confirmed_is 1 (later ∷ []) refl }
+
+-- computed at once, which the search would do slowly
+
+pub returns-clause-silence : goal.returns-clause-silence
+unfolding on_examples
+returns-clause-silence c = refl
+
+pub returns-clause-earlier : goal.returns-clause-earlier
+unfolding on_examples
+returns-clause-earlier c = refl

@@ -45,3 +45,13 @@ returns-clause-answered c = answered_within hasty 1 (hasty_took kept_back) (hast
 pub returns-clause-asked_again : goal.returns-clause-asked_again
 unfolding on_examples
 returns-clause-asked_again c = never_locked hasty 1 (hasty_took kept_back) (hasty_took_between kept_back announced_anew) 0 refl
+
+-- computed at once, which the search would do slowly
+
+pub returns-clause-events : goal.returns-clause-events
+unfolding on_examples
+returns-clause-events c = refl
+
+pub returns-clause-split : goal.returns-clause-split
+unfolding on_examples
+returns-clause-split c = refl

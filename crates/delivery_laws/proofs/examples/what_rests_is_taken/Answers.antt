@@ -86,3 +86,13 @@ returns-clause-fair_yet c = fair_is two_lines kept_back 1 refl
 pub returns-clause-not_its_time : goal.returns-clause-not_its_time
 unfolding on_examples
 returns-clause-not_its_time c = λ had. let late : 2 ≤ 1 = had.0 in absurd (omega (arith, late))
+
+-- computed at once, which the search would do slowly
+
+pub returns-clause-events : goal.returns-clause-events
+unfolding on_examples
+returns-clause-events c = refl
+
+pub returns-clause-split : goal.returns-clause-split
+unfolding on_examples
+returns-clause-split c = refl

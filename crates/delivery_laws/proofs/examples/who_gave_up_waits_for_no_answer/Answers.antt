@@ -28,3 +28,9 @@ unfolding on_examples
 returns-clause-not_answered c = λ answered.
     let is = answered (hasty_took_between kept_back lost) [] (hasty_line (hasty_took lost)) refl refl refl in
     none-some is.flight is.flies
+
+-- computed at once, which the search would do slowly
+
+pub returns-clause-split : goal.returns-clause-split
+unfolding on_examples
+returns-clause-split c = refl

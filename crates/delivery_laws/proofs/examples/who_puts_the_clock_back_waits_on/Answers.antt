@@ -51,3 +51,9 @@ returns-clause-not_answered c = λ answered.
 
 pub returns-clause-asks_not : goal.returns-clause-asks_not
 returns-clause-asks_not c = λ asks. absurd (omega (arith, asks.1))
+
+-- computed at once, which the search would do slowly
+
+pub returns-clause-split : goal.returns-clause-split
+unfolding on_examples
+returns-clause-split c = refl
