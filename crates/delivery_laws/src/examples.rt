@@ -338,8 +338,8 @@ pub fn what_may_not_be_issued_has_no_answer()
         ∷ (codes "AUEP 1 aaln/1@rgw.example.net MGCP 1.0\r\n" ∷ [] ∷ []) ∷ [] }
 {}
 
-/// Nor may it answer, behind a command, what wasn't sent yet. Where it does, a notification flies that was answered before; and where
-/// that answer comes again the agent is never told, though all else that the law asks for holds.
+/// The agent may not answer, behind a command, what wasn't sent yet. Where it does, a notification flies that was answered before; and
+/// where that answer comes again the agent is never told, though all else that the law asks for holds.
 pub fn what_is_answered_early_is_never_told()
     ensures refused { steps_are_taken two_lines world_opening answered_early ≡ false }
     ensures early { IsCopy two_lines (world answered_early) AgentEnd (codes "200 10000000 OK\r\n") 4 }
