@@ -3,6 +3,8 @@ use Rattle.std.specs.Prelude.{ℕ, ◌+◌, ◌*◌, codes, List, [], ◌∷◌,
 use Rattle.std.specs.List.{range_with_len}
 use Rattle.std.specs.Option.{unwrap_or}
 use Rattle.mg_line.specs.declared.state.State.{State}
+use Rattle.mg_line.specs.Answering.{answered as line_answered}
+use Rattle.restart.specs.declared.restart.Restart.{Restart}
 use Rattle.endpoint_names.specs.declared.route.Route.TheVariants.{Two}
 use Rattle.mgcp_text.specs.Reading.{id_in}
 use Rattle.plain_machine.specs.Example.{local_host, other_host, ready, two_lines, response, rqnt, wide}
@@ -17,7 +19,7 @@ use Rattle.machine_laws.specs.Saying.{Begun, begun_in}
 use Rattle.mg_line.specs.declared.phone.Act.TheVariants.{OffHook, OnHook, Key}
 use Rattle.mg_line.specs.declared.phone.Key.TheVariants.{Five, Six}
 use Rattle.plain_machine.specs.Event.{GatewayEvent, phone, tick}
-use Rattle.agent_core.specs.World.{World, WorldStep, gateway_in, delivering, dialling, issuing, plain_world, ticking}
+use Rattle.agent_core.specs.World.{World, WorldStep, gateway_in, delivering, dialling, issuing, now_in, plain_world, ticking}
 use Rattle.world_laws.specs.Example.{world, announced, audits, seconds}
 use Rattle.dialled_end_to_end.specs.Example as both_ends
 use Rattle.delivery_laws.specs.Copies.{gateway_firsts}
@@ -238,6 +240,56 @@ lifted_since = answered_early ++ delivering 4 ∷ dialling 1 OffHook ∷ []
 -- it comes again, and a ms passes; the notification is kept back
 abbrev pub answered_unheard : List WorldStep
 answered_unheard = lifted_since ++ delivering 4 ∷ ticking 2 ∷ []
+
+-- a verb that is a code and an id makes a response of what the agent issues, alone in its packet
+abbrev pub responds : List ℕ → List ℕ → WorldStep
+responds verb rest = issuing verb (codes "aaln/1@rgw.example.net") rest
+
+abbrev pub as_response : List ℕ → List ℕ → List ℕ
+as_response verb rest = verb ++ codes " 1 aaln/1@rgw.example.net MGCP 1.0\r\n" ++ rest
+
+-- so it does while line 1 waits for the answer to its notification, in packet 3, and while the gateway waits for that to its announcement,
+-- in packet 1
+abbrev pub responded : List ℕ → List WorldStep
+responded verb = notified ++ responds verb [] ∷ []
+
+abbrev pub own_responded : List ℕ → List ℕ → List WorldStep
+own_responded verb rest = ticking 1 ∷ responds verb rest ∷ []
+
+-- the agent that 521 names
+abbrev pub elsewhere : List ℕ
+elsewhere = codes "N: ca@[127.0.0.9]:2727\r\n"
+
+-- 521 comes for the announcement of line 1 of the hasty gateway, packet 10, in packet 11
+abbrev pub redirected_anew : List WorldStep
+redirected_anew = notified ++ up_to 24 ++ responds (codes "521 10000001") elsewhere ∷ []
+
+-- in one packet line 1 is asked for the next event, and then answered
+abbrev pub asked_and_answered : List WorldStep
+asked_and_answered =
+    notified ++ issuing (codes "RQNT") (codes "aaln/1@rgw.example.net") (codes "X: C2\r\nR: L/hu(N)\r\n.\r\n200 10000000 OK\r\n") ∷ []
+
+-- in one packet the gateway is redirected, and then answered
+abbrev pub redirected_and_answered : List WorldStep
+redirected_and_answered = ticking 1 ∷ issuing (codes "521 1") (codes "aaln/1@rgw.example.net") (elsewhere ++ codes ".\r\n200 1 OK\r\n") ∷ []
+
+-- the state of line 1, and the id of what it has in flight
+abbrev pub line_after : List WorldStep → Option State × Option ℕ
+line_after steps = (state_after steps, flying_after steps)
+
+-- the state in which an answer would leave it
+abbrev pub answered_state : List WorldStep → Option State
+answered_state steps =
+    option_map (λ endpoint. (line_answered endpoint.line (now_in two_lines (world steps))).line.state)
+    (endpoint_at (gateway_in two_lines (world steps)).endpoints 1)
+
+-- what there is to announce of line 1 of the hasty gateway, and the id of what it has in flight
+abbrev pub hasty_after : List WorldStep → Restart × Option ℕ
+hasty_after steps = let line = hasty_line (hasty_took steps) in (line.post.restart, option_map (λ flight. flight.id) line.post.pending)
+
+-- the id of what the gateway has in flight itself
+abbrev pub own_flying : List WorldStep → Option ℕ
+own_flying steps = option_map (λ flight. flight.id) (gateway_in two_lines (world steps)).endpoints.own.pending
 
 -- a notification is out, and the clock goes back
 abbrev pub put_back : List WorldStep

@@ -8,7 +8,7 @@ ghost use Rattle.history.specs.declared.entry.Entry.TheVariants.{Confirmation};
 ghost use Rattle.history.specs.Firsts.{young_of};
 ghost use Rattle.history.specs.Kept.{first_entry, young_firsts};
 ghost use Rattle.restart.specs.declared.restart.Restart.TheVariants.{Waiting, Announced, Serving};
-ghost use Rattle.mg_line.specs.declared.state.State.TheVariants.{Notification, Lockstep};
+ghost use Rattle.mg_line.specs.declared.state.State.TheVariants.{Normal, Notification, Lockstep};
 ghost use Rattle.plain_machine.specs.Machine.{serves};
 ghost use Rattle.plain_machine.specs.Example.{agent, other_agent, ready, response, two_lines};
 ghost use Rattle.agent_core.specs.declared.packet.End.TheVariants.{GatewayEnd, AgentEnd};
@@ -47,6 +47,8 @@ ghost use Rattle.delivery_laws.specs.Example.{announced_anew, hasty, hasty_line,
 ghost use Rattle.delivery_laws.specs.Example.{freed, held, in_step, asked_for_its_agent, confirming, parting, pressed_at_once, pressed_since, slowly};
 ghost use Rattle.delivery_laws.specs.Example.{answered_early, answered_unheard, garbled, garbled_issued, lifted_since, parted, parted_issued, put_back, put_back_late};
 ghost use Rattle.delivery_laws.specs.Example.{announced_endlessly, asked_to_roam, dotted, endless, found_at_last, ids_come, own_keys, roaming, sent_astray};
+ghost use Rattle.delivery_laws.specs.Example.{answered_state, as_response, asked_and_answered, elsewhere, hasty_after, line_after};
+ghost use Rattle.delivery_laws.specs.Example.{own_flying, own_responded, redirected_and_answered, redirected_anew, responded, responds};
 ghost use Rattle.delivery_laws.specs.Example.{line_with, took_between_with, took_with};
 ghost use Rattle.delivery_laws.specs.Example.{took_between, took_first, took_since};
 ghost use Rattle.delivery_laws.specs.Example.{both_lifted, brought, kept_back, key_begun, lifted, rested, notified, notification, redirected, flying_after, state_after, state_on};
@@ -436,6 +438,61 @@ pub fn an_answer_lets_line_1_go_on()
     ensures goes_on { state_after (notified ++ delivering 2 ∷ delivering 3 ∷ []) ≡ Some Lockstep }
     ensures serves { serves (gateway_in two_lines (world announced)).endpoints ≡ true }
     ensures serves_not { serves (gateway_in two_lines (world (ticking 1 ∷ delivering 0 ∷ []))).endpoints ≡ false }
+{}
+
+/// A provisional response, one to another command and 521 are no answer, and nor is a response where nothing is in flight, or a command:
+/// line 1 waits on. And an answer behind a request, in one packet with it, makes of the line what it does of a line that was asked.
+pub fn what_is_no_answer_lets_no_line_go_on()
+    ensures provisional { IsCopy two_lines (world (responded (codes "100 10000000"))) AgentEnd (as_response (codes "100 10000000") []) 3 }
+    ensures alone { texts_of (as_response (codes "100 10000000") []) ≡ as_response (codes "100 10000000") [] ∷ [] }
+    ensures reads { read_text (as_response (codes "100 10000000") []) ≡ message (messages.Response 100 10000000 [] []) }
+    ensures waits { line_after (responded (codes "100 10000000")) ≡ (Some Notification, Some 10000000) }
+    ensures would_go_on { answered_state (responded (codes "100 10000000")) ≡ Some Lockstep }
+    ensures waits_on { line_after (responded (codes "100 10000000") ++ delivering 3 ∷ []) ≡ (Some Notification, Some 10000000) }
+    ensures of_another { IsCopy two_lines (world (responded (codes "200 10000001"))) AgentEnd (as_response (codes "200 10000001") []) 3 }
+    ensures alone_too { texts_of (as_response (codes "200 10000001") []) ≡ as_response (codes "200 10000001") [] ∷ [] }
+    ensures reads_too { read_text (as_response (codes "200 10000001") []) ≡ message (messages.Response 200 10000001 [] []) }
+    ensures waits_too { line_after (responded (codes "200 10000001")) ≡ (Some Notification, Some 10000000) }
+    ensures waits_on_too { line_after (responded (codes "200 10000001") ++ delivering 3 ∷ []) ≡ (Some Notification, Some 10000000) }
+    ensures redirected { IsCopy hasty (hasty_world redirected_anew) AgentEnd (as_response (codes "521 10000001") elsewhere) 11 }
+    ensures alone_there { texts_of (as_response (codes "521 10000001") elsewhere) ≡ as_response (codes "521 10000001") elsewhere ∷ [] }
+    ensures reads_there { read_text (as_response (codes "521 10000001") elsewhere)
+        ≡ message (messages.Response 521 10000001 ((record { code = codes "N"; value = codes "ca@[127.0.0.9]:2727" }) ∷ []) []) }
+    ensures waits_there { hasty_after redirected_anew ≡ (Announced, Some 10000001) }
+    ensures waits_elsewhere { hasty_after (redirected_anew ++ delivering 11 ∷ []) ≡ (Announced, Some 10000002) }
+    ensures none_flies { line_after (own_responded (codes "200 10000000") []) ≡ (Some Notification, None) }
+    ensures would_go_on_then { answered_state (own_responded (codes "200 10000000") []) ≡ Some Lockstep }
+    ensures waits_on_then { line_after (own_responded (codes "200 10000000") [] ++ delivering 1 ∷ []) ≡ (Some Notification, None) }
+    ensures commanded { line_after (notified ++ audits ∷ delivering 3 ∷ []) ≡ (Some Notification, Some 10000000) }
+    ensures not_alone { IsCopy two_lines (world asked_and_answered) AgentEnd (codes "200 10000000 OK\r\n") 3 }
+    ensures waits_asked { line_after asked_and_answered ≡ (Some Notification, Some 10000000) }
+    ensures would_be_in_step { answered_state asked_and_answered ≡ Some Lockstep }
+    ensures goes_on { line_after (asked_and_answered ++ delivering 3 ∷ []) ≡ (Some Normal, None) }
+{}
+
+/// Nor do such responses make the gateway serve, nor an answer behind 521, in one packet with it.
+pub fn what_is_no_answer_makes_no_gateway_serve()
+    ensures provisional { IsCopy two_lines (world (own_responded (codes "100 1") [])) AgentEnd (as_response (codes "100 1") []) 1 }
+    ensures redirected { IsCopy two_lines (world (own_responded (codes "521 1") elsewhere)) AgentEnd (as_response (codes "521 1") elsewhere) 1 }
+    ensures of_another { IsCopy two_lines (world (own_responded (codes "200 2") [])) AgentEnd (as_response (codes "200 2") []) 1 }
+    ensures alone { map texts_of (as_response (codes "100 1") [] ∷ as_response (codes "521 1") elsewhere ∷ as_response (codes "200 2") [] ∷ [])
+        ≡ (as_response (codes "100 1") [] ∷ []) ∷ (as_response (codes "521 1") elsewhere ∷ []) ∷ (as_response (codes "200 2") [] ∷ []) ∷ [] }
+    ensures reads { map read_text (as_response (codes "100 1") [] ∷ as_response (codes "521 1") elsewhere ∷ as_response (codes "200 2") [] ∷ [])
+        ≡ message (messages.Response 100 1 [] [])
+        ∷ message (messages.Response 521 1 ((record { code = codes "N"; value = codes "ca@[127.0.0.9]:2727" }) ∷ []) [])
+        ∷ message (messages.Response 200 2 [] []) ∷ [] }
+    ensures waits { map own_flying (own_responded (codes "100 1") [] ∷ own_responded (codes "521 1") elsewhere ∷ own_responded (codes "200 2") [] ∷ [])
+        ≡ Some 1 ∷ Some 1 ∷ Some 1 ∷ [] }
+    ensures after_provisional { serves (gateway_in two_lines (world (own_responded (codes "100 1") [] ++ delivering 1 ∷ []))).endpoints ≡ false }
+    ensures after_redirection { serves (gateway_in two_lines (world (own_responded (codes "521 1") elsewhere ++ delivering 1 ∷ []))).endpoints
+        ≡ false }
+    ensures after_another { serves (gateway_in two_lines (world (own_responded (codes "200 2") [] ++ delivering 1 ∷ []))).endpoints ≡ false }
+    ensures none_flies { own_flying (responds (codes "200 1") [] ∷ []) ≡ None }
+    ensures after_none { serves (gateway_in two_lines (world (responds (codes "200 1") [] ∷ delivering 0 ∷ []))).endpoints ≡ false }
+    ensures commanded { serves (gateway_in two_lines (world (ticking 1 ∷ audits ∷ delivering 1 ∷ []))).endpoints ≡ false }
+    ensures not_alone { IsCopy two_lines (world redirected_and_answered) AgentEnd (codes "200 1 OK\r\n") 1 }
+    ensures waits_there { own_flying redirected_and_answered ≡ Some 1 }
+    ensures behind_redirection { serves (gateway_in two_lines (world (redirected_and_answered ++ delivering 1 ∷ []))).endpoints ≡ false }
 {}
 
 /// Where all numbers of a line are used up the first comes again, and the law fails, though all else that it asks for holds: nobody
