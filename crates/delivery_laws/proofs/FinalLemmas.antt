@@ -94,7 +94,7 @@ asks_final (Err code) setup endpoints moment id final = final code refl
 asks_final (Ok (Reports target audit)) setup endpoints moment id final = audit_final setup endpoints id target audit
 asks_final (Ok (Does target deed)) setup endpoints moment id final = target_final setup endpoints target deed moment
 
-commanded_final : (setup : Setup) (endpoints : Endpoints) (moment id : ℕ) (command : Command) (confirms : KValue)
+pub commanded_final : (setup : Setup) (endpoints : Endpoints) (moment id : ℕ) (command : Command) (confirms : KValue)
     → IsFinalCode (commanded setup endpoints moment id command confirms).answer.code
 commanded_final setup endpoints moment id command confirms =
     asks_final (form_while (serves endpoints) command confirms setup.names) setup endpoints moment id
@@ -105,7 +105,7 @@ commanded_final setup endpoints moment id command confirms =
 pub final_of : (code : ℕ) → 200 ≤ code → code ≤ 999 → is_final code ≡ true
 final_of code low high = rw (le-leb 200 code low, le-leb code 999 high) refl
 
-written_final : (id : ℕ) (given : AnswerContent) → IsId id → IsFinalCode given.code → IsFinal (written (response_of id given))
+pub written_final : (id : ℕ) (given : AnswerContent) → IsId id → IsFinalCode given.code → IsFinal (written (response_of id given))
 written_final id given has final = λ code other params body reads.
     let same : given.code ≡ code = written_code id given has final.1 code other params body reads in
     final_of code (subst (λ (c : ℕ). 200 ≤ c) same final.0) (subst (λ (c : ℕ). c ≤ 999) same final.1)

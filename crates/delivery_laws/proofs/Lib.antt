@@ -9,6 +9,8 @@ pub mod SenderLemmas
 pub mod ReportCodes
 pub mod FirstLines
 pub mod FinalLemmas
+pub mod UnaskedLemmas
+pub mod SaidFinal
 pub mod AgentFinalLemmas
 pub mod PutOffLemmas
 pub mod ChanceLemmas
@@ -23,6 +25,7 @@ pub mod FairLaws
 pub mod LookLemmas
 pub mod TakeLemmas
 pub mod UnconfirmedLaws
+pub mod PostedFinal
 pub mod TakeLaws
 pub mod PostedLemmas
 pub mod TakenLemmas

@@ -149,7 +149,7 @@ module _ (setup : Setup) (steps : List WorldStep) (limit within : ℕ) (b : Begu
   plain =
       let firsts = firsts_in (agent_history setup (plain_world setup first)) in
       one_to (λ (one : KeptFirst). HasPlain one × ((one.id ≡ b.id) × (one.answer ≡ took.text))) (IsPlainAnswer b.id took.text)
-      (λ one both. subst (IsPlainAnswer b.id) both.1.1 (both.0 b.id)) firsts
+      (λ one both. subst (IsPlainAnswer b.id) both.1.1 (both.0.0 b.id)) firsts
       (one_of_each HasPlain (λ (one : KeptFirst). (one.id ≡ b.id) × (one.answer ≡ took.text)) firsts (agent_plain (agent_of setup) (plain_world setup first).agent_took)
       (one_from_any (λ (one : KeptFirst). (one.id ≡ b.id) × (one.answer ≡ took.text)) firsts took.stored))
 

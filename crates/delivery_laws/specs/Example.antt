@@ -256,6 +256,10 @@ responded verb = notified ++ responds verb [] ∷ []
 abbrev pub own_responded : List ℕ → List ℕ → List WorldStep
 own_responded verb rest = ticking 1 ∷ responds verb rest ∷ []
 
+-- it asks for an acknowledgement, packet 1
+abbrev pub asked_to_acknowledge : List WorldStep
+asked_to_acknowledge = responds (codes "200 5") (codes "K:\r\n") ∷ delivering 0 ∷ []
+
 -- the agent that 521 names
 abbrev pub elsewhere : List ℕ
 elsewhere = codes "N: ca@[127.0.0.9]:2727\r\n"
@@ -307,6 +311,17 @@ parting = record two_lines { agent = record { text = codes "a\r\n.\r\n200 9 OK";
 
 abbrev pub asked_for_its_agent : List WorldStep
 asked_for_its_agent = audits_with (codes "F: N\r\n") ∷ delivering 0 ∷ []
+
+-- what stands behind such a line is no answer; line 1 is asked for that name, and audited
+abbrev pub putting_off : Setup
+putting_off = record two_lines { agent = record { text = codes "a\r\n.\r\n100 2 Pending"; route = two_lines.agent.route } }
+
+abbrev pub asked_twice : List WorldStep
+asked_twice = audits_with (codes "F: N\r\n") ∷ audits ∷ delivering 0 ∷ []
+
+-- its agent's name has an empty K behind it, which asks for an acknowledgement
+abbrev pub asking : Setup
+asking = record two_lines { agent = record { text = codes "a\r\nK:"; route = two_lines.agent.route } }
 
 -- its domain has lines of its own, so that each of its commands confirms the first
 abbrev pub confirming : Setup

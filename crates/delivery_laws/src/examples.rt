@@ -26,7 +26,7 @@ ghost use Rattle.event_values.specs.declared.observed.Observed.TheVariants.{Happ
 ghost use Rattle.plain_machine.specs.Event.{tick};
 ghost use Rattle.plain_machine.specs.Lists.{plain, sent_from, sent_of};
 ghost use Rattle.plain_machine.specs.Setup.{IsSetUp};
-ghost use Rattle.call_agent.specs.Agent.{observed_on};
+ghost use Rattle.call_agent.specs.Agent.{answer_for, observed_on};
 ghost use Rattle.dialled_once.specs.Example.{five, left_then as left_at, lifted as off_hook, six};
 ghost use Rattle.dialled_once.specs.Course.{course_from, course_of};
 ghost use Rattle.dialled_once.specs.Dialled.{IsAskedForAll, done_in};
@@ -44,7 +44,7 @@ ghost use Rattle.delivery_laws.specs.Taking.{IsConfirmedIn, agent_history};
 ghost use Rattle.delivery_laws.specs.Asking.{AsksBy};
 ghost use Rattle.delivery_laws.specs.Example.{audit, asked, audits_with, stored_in, answered, confirmed, up_to, last_copy};
 ghost use Rattle.delivery_laws.specs.Example.{announced_anew, hasty, hasty_line, hasty_took, hasty_took_between, hasty_world, held_on, lost, nothing_comes};
-ghost use Rattle.delivery_laws.specs.Example.{freed, held, in_step, asked_for_its_agent, confirming, parting, pressed_at_once, pressed_since, slowly};
+ghost use Rattle.delivery_laws.specs.Example.{freed, held, in_step, asked_for_its_agent, asked_to_acknowledge, asked_twice, asking, confirming, parting, pressed_at_once, pressed_since, putting_off, slowly};
 ghost use Rattle.delivery_laws.specs.Example.{answered_early, answered_unheard, garbled, garbled_issued, lifted_since, parted, parted_issued, put_back, put_back_late};
 ghost use Rattle.delivery_laws.specs.Example.{announced_endlessly, asked_to_roam, dotted, endless, found_at_last, ids_come, own_keys, roaming, sent_astray};
 ghost use Rattle.delivery_laws.specs.Example.{answered_state, as_response, asked_and_answered, elsewhere, hasty_after, line_after};
@@ -269,7 +269,8 @@ pub fn what_is_given_up_lets_none_go()
     ensures stays { of_telephone (hasty_line (held_on ++ nothing_comes)).line.quarantined.events ≡ five ∷ [] }
 {}
 
-/// Where a gateway isn't set up well its answer may be no text of a packet, and what it announces may have a K.
+/// Where a gateway isn't set up well its answer may be no text of a packet, what it sends may be no answer, and what it announces may
+/// have a K.
 pub fn who_is_not_set_up_says_otherwise()
     ensures parting { ¬ IsSetUp parting }
     ensures issued { map key_begun (issued_in parting (plain_world parting asked_for_its_agent)) ≡ (1, 0) ∷ [] }
@@ -278,6 +279,17 @@ pub fn who_is_not_set_up_says_otherwise()
     ensures cut { map texts_of (texts_with parting asked_for_its_agent)
         ≡ (codes "AUEP 1 aaln/1@rgw.example.net MGCP 1.0\r\nF: N\r\n" ∷ [])
         ∷ (codes "200 1 OK\r\nN: a\r\n" ∷ codes "200 9 OK\r\n" ∷ []) ∷ [] }
+    ensures putting_off { ¬ IsSetUp putting_off }
+    ensures taken { steps_are_taken putting_off world_opening (asked_twice ++ delivering 2 ∷ []) ≡ true }
+    ensures issued_too { map key_begun (issued_in putting_off (plain_world putting_off asked_twice)) ≡ (1, 0) ∷ (2, 0) ∷ [] }
+    ensures provisional { IsCopy putting_off (plain_world putting_off asked_twice) GatewayEnd (codes "100 2 Pending\r\n") 2 }
+    ensures reads { read_text (codes "100 2 Pending\r\n") ≡ message (messages.Response 100 2 [] []) }
+    ensures none_had { answer_for 2 (agent_in putting_off (plain_world putting_off (asked_twice ++ delivering 2 ∷ []))) ≡ None }
+    ensures asking { ¬ IsSetUp asking }
+    ensures taken_too { steps_are_taken asking world_opening (asked_for_its_agent ++ delivering 1 ∷ []) ≡ true }
+    ensures acknowledges { texts_with asking (asked_for_its_agent ++ delivering 1 ∷ [])
+        ≡ codes "AUEP 1 aaln/1@rgw.example.net MGCP 1.0\r\nF: N\r\n" ∷ codes "200 1 OK\r\nN: a\r\nK:\r\n" ∷ codes "000 1\r\n" ∷ [] }
+    ensures reads_so { read_text (codes "000 1\r\n") ≡ message (messages.Response 0 1 [] []) }
     ensures confirming { ¬ IsSetUp confirming }
     ensures announced { texts_with confirming (ticking 1 ∷ []) ≡ codes "RSIP 1 *@x MGCP 1.0\r\nK: 1\r\nZ: MGCP 1.0\r\nRM: restart\r\n" ∷ [] }
     ensures confirms { read_text (codes "RSIP 1 *@x MGCP 1.0\r\nK: 1\r\nZ: MGCP 1.0\r\nRM: restart\r\n")
@@ -323,7 +335,7 @@ pub fn what_is_too_long_is_never_taken()
 {}
 
 /// What the agent may not issue is carried all the same. Whose verb is no word has no answer, though all is handed over at once; and what
-/// a dot parts is in no packet.
+/// a dot parts is in no packet. Nor may it ask for an acknowledgement, which the gateway would send.
 pub fn what_may_not_be_issued_has_no_answer()
     ensures set_up { IsSetUp two_lines }
     ensures refused { steps_are_taken two_lines world_opening garbled_issued ≡ false }
@@ -338,6 +350,10 @@ pub fn what_may_not_be_issued_has_no_answer()
     ensures not_sent { map texts_of (texts_in parted_issued)
         ≡ (codes "RSIP 1 *@rgw.example.net MGCP 1.0\r\nRM: restart\r\n" ∷ []) ∷ (codes "200 1 OK\r\n" ∷ [])
         ∷ (codes "AUEP 1 aaln/1@rgw.example.net MGCP 1.0\r\n" ∷ [] ∷ []) ∷ [] }
+    ensures refused_asking { steps_are_taken two_lines world_opening asked_to_acknowledge ≡ false }
+    ensures acknowledged { texts_in asked_to_acknowledge
+        ≡ codes "200 5 1 aaln/1@rgw.example.net MGCP 1.0\r\nK:\r\n" ∷ codes "000 5\r\n" ∷ [] }
+    ensures reads { read_text (codes "000 5\r\n") ≡ message (messages.Response 0 5 [] []) }
 {}
 
 /// The agent may not answer, behind a command, what wasn't sent yet. Where it does, a notification flies that was answered before; and
@@ -440,12 +456,14 @@ pub fn an_answer_lets_line_1_go_on()
     ensures serves_not { serves (gateway_in two_lines (world (ticking 1 ∷ delivering 0 ∷ []))).endpoints ≡ false }
 {}
 
-/// A provisional response, one to another command and 521 are no answer, and nor is a response where nothing is in flight, or a command:
-/// line 1 waits on. And an answer behind a request, in one packet with it, makes of the line what it does of a line that was asked.
+/// A provisional response, one to another command, and 521 to an announcement, where it names another agent, are no answer, and nor is a
+/// response where nothing is in flight, or a command: line 1 waits on. 521 to a notification is its answer. And an answer behind a request,
+/// in one packet with it, makes of the line what it does of a line that was asked.
 pub fn what_is_no_answer_lets_no_line_go_on()
     ensures provisional { IsCopy two_lines (world (responded (codes "100 10000000"))) AgentEnd (as_response (codes "100 10000000") []) 3 }
     ensures alone { texts_of (as_response (codes "100 10000000") []) ≡ as_response (codes "100 10000000") [] ∷ [] }
     ensures reads { read_text (as_response (codes "100 10000000") []) ≡ message (messages.Response 100 10000000 [] []) }
+    ensures refused { steps_are_taken two_lines world_opening (responded (codes "100 10000000")) ≡ false }
     ensures waits { line_after (responded (codes "100 10000000")) ≡ (Some Notification, Some 10000000) }
     ensures would_go_on { answered_state (responded (codes "100 10000000")) ≡ Some Lockstep }
     ensures waits_on { line_after (responded (codes "100 10000000") ++ delivering 3 ∷ []) ≡ (Some Notification, Some 10000000) }
@@ -460,6 +478,7 @@ pub fn what_is_no_answer_lets_no_line_go_on()
         ≡ message (messages.Response 521 10000001 ((record { code = codes "N"; value = codes "ca@[127.0.0.9]:2727" }) ∷ []) []) }
     ensures waits_there { hasty_after redirected_anew ≡ (Announced, Some 10000001) }
     ensures waits_elsewhere { hasty_after (redirected_anew ++ delivering 11 ∷ []) ≡ (Announced, Some 10000002) }
+    ensures answered_so { line_after (responded (codes "521 10000000") ++ delivering 3 ∷ []) ≡ (Some Lockstep, None) }
     ensures none_flies { line_after (own_responded (codes "200 10000000") []) ≡ (Some Notification, None) }
     ensures would_go_on_then { answered_state (own_responded (codes "200 10000000") []) ≡ Some Lockstep }
     ensures waits_on_then { line_after (own_responded (codes "200 10000000") [] ++ delivering 1 ∷ []) ≡ (Some Notification, None) }

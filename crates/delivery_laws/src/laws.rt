@@ -59,22 +59,26 @@ pub fn a_delivered_command_is_answered_at_once()
         IsConfirmedAmong b.id (gateway_firsts setup after) ⊎ IsAnswered setup w after b.id }
 {}
 
-/// Each answer that the gateway stores is a final response, and so is each that an agent stores, which is never 521 (RFC 3435, 2.4).
+/// Each answer that the gateway stores is a final response, and so is each that an agent stores, which is never 521 (RFC 3435, 2.4). So is
+/// each response that either sends: none asks for an acknowledgement, which would be none (RFC 3435, 3.2.2.1 and 3.5.6).
 pub fn stored_answers_are_final()
     ensures gateway { (setup : Setup) (events : List GatewayEvent) →
         All (λ (first : Arrival). IsFinal first.answer) (firsts_of most_firsts (commands_of setup events)) }
     ensures agent { (setup : AgentSetup) (events : List AgentEvent) →
         All (λ (first : KeptFirst). (id : ℕ) → IsPlainAnswer id first.answer) (firsts_in (plain_agent setup events).history) }
+    ensures posted { (setup : Setup) (steps : List WorldStep) (number : ℕ) (post : Posted) (text : List ℕ) → IsRun setup steps →
+        slice_get (plain_world setup steps).posted number ≡ Some post → Any (λ (one : List ℕ). one ≡ text) (texts_of post.packet.bytes) →
+        IsFinal text }
 {}
 
-/// A final response that is handed to the agent less than 23,500 ms after its command was issued makes that the command has an
+/// A response that is handed to the agent less than 23,500 ms after its command was issued makes that the command has an
 /// answer, whatever else was lost, copied or late (RFC 3435, 3.5).
 pub fn an_answer_that_comes_in_time_is_had()
     ensures { (setup : Setup) (steps : List WorldStep) (number : ℕ) (b : Begun) (text : List ℕ) (code : ℕ) (params : List Param)
         (body : List ℕ) → IsRun setup (steps ++ delivering number ∷ []) →
         let w = plain_world setup steps in IsIssued setup w b → now_in setup w < b.moment + answer_wait →
         IsCopy setup w GatewayEnd text number → read_text text ≡ message (messages.Response code b.id params body) →
-        is_final code ≡ true → HasAnswer b.id (agent_in setup (plain_world setup (steps ++ delivering number ∷ []))) }
+        HasAnswer b.id (agent_in setup (plain_world setup (steps ++ delivering number ∷ []))) }
 {}
 
 /// Both: a copy of a command that is handed to the gateway makes a packet with the stored answer, and where that is handed to
@@ -278,9 +282,9 @@ pub fn who_is_unanswered_keeps_asking()
 {}
 
 /// The answer to the command in flight of a line, handed to the gateway, lets the line go on: in a packet of its own, and amid other
-/// texts, from what those before it made of the line. That to the announcement of the gateway itself makes it serve. The answer 521,
-/// which may name another agent, does neither. From then on the line has no command with its id in flight, unless its numbers are used
-/// up (RFC 3435, 2.4 and 3.5.5).
+/// texts, from what those before it made of the line. That to the announcement of the gateway itself makes it serve. The answer 521 to an
+/// announcement, where it names another agent, does neither. From then on the line has no command with its id in flight, unless its numbers
+/// are used up (RFC 3435, 2.4 and 3.5.5).
 pub fn an_answer_lets_its_line_go_on()
     ensures line { (setup : Setup) (steps : List WorldStep) (number : ℕ) (text : List ℕ) (code id : ℕ) (params : List Param)
         (body : List ℕ) (line : ℕ) (endpoint : Endpoint) (flight : InFlight) → let w = plain_world setup steps in
@@ -310,6 +314,6 @@ pub fn an_answer_lets_its_line_go_on()
     ensures over { (setup : Setup) (before later : List WorldStep) (number : ℕ) (text : List ℕ) (code id : ℕ) (params : List Param)
         (body : List ℕ) (line : ℕ) (endpoint : Endpoint) (flight : InFlight) → let steps = (before ++ delivering number ∷ []) ++ later in IsRun setup steps →
         let w = plain_world setup steps in HasNumbersLeft (own_in setup w) → IsCopy setup (plain_world setup before) AgentEnd text number →
-        read_text text ≡ message (messages.Response code id params body) → is_final code ≡ true → code ≢ 521 →
+        read_text text ≡ message (messages.Response code id params body) →
         endpoint_at (gateway_in setup w).endpoints line ≡ Some endpoint → endpoint.post.pending ≡ Some flight → flight.id ≢ id }
 {}
