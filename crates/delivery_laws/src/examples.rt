@@ -34,7 +34,7 @@ ghost use Rattle.machine_laws.specs.Belonging.{of_line};
 ghost use Rattle.machine_laws.specs.Saying.{HasNumbersLeft};
 ghost use Rattle.dialled_end_to_end.specs.GivenUp.{has_given_up};
 ghost use Rattle.dialled_end_to_end.specs.Example.{asked as asked_for_all, done_then, endpoint_then, left_then, told_then};
-ghost use Rattle.delivery_laws.specs.Copies.{arrives, IsCopy, IsConfirmedAmong, gateway_firsts};
+ghost use Rattle.delivery_laws.specs.Copies.{IsRun, arrives, IsCopy, IsConfirmedAmong, gateway_firsts};
 ghost use Rattle.delivery_laws.specs.Chances.{IsSentAfter, IsCarried};
 ghost use Rattle.delivery_laws.specs.OwnChances.{HasCome, IsOfLine, IsToldAfter};
 ghost use Rattle.delivery_laws.specs.Fairness.{AgentAlwaysHasRoom, GoesToAgent, HadItsTime, IsFair, ReachTheAgent};
@@ -55,7 +55,8 @@ ghost use Rattle.delivery_laws.specs.Example.{both_lifted, brought, kept_back, k
 
 /// An audit is handed over once, and so is its answer: it has its answer. Without the one or the other it has none.
 pub fn an_audit_is_served()
-    ensures taken { steps_are_taken two_lines world_opening (asked ++ delivering 2 ∷ delivering 3 ∷ []) ≡ true }
+    ensures run { IsRun two_lines (asked ++ delivering 2 ∷ delivering 3 ∷ []) }
+    ensures no_run { ¬ IsRun two_lines (asked ++ delivering 5 ∷ []) }
     ensures issued { issued_in two_lines (world asked) ≡ audit ∷ [] }
     ensures copy { IsCopy two_lines (world asked) AgentEnd audit.text 2 }
     ensures young { length (young_of 1 (gateway_firsts two_lines (world (asked ++ delivering 2 ∷ [])))) ≡ 1 }
@@ -141,7 +142,7 @@ pub fn a_notification_is_brought()
 /// its line wasn't answered, nor had it its time. All that the law asks for holds at once, where the line is asked and lifted, and then a
 /// ms passes.
 pub fn what_rests_is_taken()
-    ensures steps { steps_are_taken two_lines world_opening rested ≡ true }
+    ensures run { IsRun two_lines rested }
     ensures numbers { HasNumbersLeft (own_in two_lines (world rested)) }
     ensures events { (world rested).gateway_took ≡ took_first asked_for_all ++ took_since asked_for_all }
     ensures asked { IsAskedForAll (course_of two_lines 1 (took_first asked_for_all))
@@ -273,6 +274,7 @@ pub fn what_is_given_up_lets_none_go()
 /// have a K.
 pub fn who_is_not_set_up_says_otherwise()
     ensures parting { ¬ IsSetUp parting }
+    ensures no_run { ¬ IsRun parting [] }
     ensures issued { map key_begun (issued_in parting (plain_world parting asked_for_its_agent)) ≡ (1, 0) ∷ [] }
     ensures stored { map (λ first. first.answer) (gateway_firsts parting (plain_world parting asked_for_its_agent))
         ≡ codes "200 1 OK\r\nN: a\r\n.\r\n200 9 OK\r\n" ∷ [] }
