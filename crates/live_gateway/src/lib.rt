@@ -9,6 +9,7 @@ mod ends;
 mod live_wire;
 mod outlets;
 mod passage;
+mod reception;
 mod session;
 mod telephones;
 
@@ -16,4 +17,5 @@ pub use crate::boxing::boxed;
 pub use crate::ends::Ends;
 pub use crate::live_wire::LiveWire;
 pub use crate::outlets::Outlets;
+pub use crate::reception::Reception;
 pub use crate::session::{serve, write_records};

@@ -1,9 +1,9 @@
 //! Where what happens is told besides the network: a capture's file, and the page.
 use crate::live_wire::LiveWire;
+use crate::reception::Reception;
 use gateway_core::Gateway;
-use live_ends::{CommandSocket, Readiness};
+use live_ends::CommandSocket;
 use live_journal::{Faults, Journal, picture_of};
-use live_page::Site;
 use page_answers::Board;
 use std::alloc::Global;
 use std::net::Net;
@@ -12,9 +12,9 @@ use std::rt::Clock;
 
 /// The outlets of a gateway, each where it is asked for.
 #[derive(Drop)]
-pub struct Outlets<F> {
+pub struct Outlets<F, S> {
     pub capture: Option<F>,
-    pub site: Option<Box<Site>>,
+    pub site: Option<Box<S>>,
 }
 
 /// The earlier of two moments.
@@ -50,11 +50,11 @@ fn show(alloc: Global, gateway: &Gateway, journal: &mut Journal, faults: Faults)
 }
 
 // A visitor is answered, and what the page asks for is asked.
-fn serve_visitor(
+fn serve_visitor<S: Reception>(
     alloc: Global,
     journal: &mut Journal,
     telephones: &mut CommandSocket,
-    site: &mut Site,
+    site: &mut S,
     now: u64,
 ) {
     if let Some(board) = &mut journal.board {
@@ -63,27 +63,20 @@ fn serve_visitor(
     }
 }
 
-// What the system told of the site's sockets: somebody is let in, or goes.
-fn look<R: Net + RandomSource>(rt: &R, ready: &mut Readiness, site: &mut Site, now: u64) {
-    site.close_late(now);
-    site.look(ready);
-    site.accept(rt, ready, now);
-}
-
 /// A turn of the site, where there is one: somebody is let in, one visitor is answered, and what the page asks for is asked.
-pub fn serve_site<R: Net + Clock + RandomSource>(
+pub fn serve_site<R: Net + Clock + RandomSource, S: Reception>(
     rt: &R,
     alloc: Global,
     gateway: &Gateway,
     wire: &mut LiveWire<'_, R>,
-    site: &mut Option<Box<Site>>,
+    site: &mut Option<Box<S>>,
     faults: Faults,
 ) {
     let Some(site) = site else {
         return;
     };
     let now = wire.ends.clock.ticked();
-    look(rt, &mut wire.ends.ready, site, now);
+    site.attend(rt, &mut wire.ends.ready, now);
     if site.has_turn() {
         show(alloc, gateway, &mut wire.journal, faults);
     }
@@ -91,7 +84,7 @@ pub fn serve_site<R: Net + Clock + RandomSource>(
         alloc,
         &mut wire.journal,
         &mut wire.ends.telephones,
-        site,
+        &mut **site,
         now,
     );
     wire.ends.is_busy = site.is_busy();

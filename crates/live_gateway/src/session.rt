@@ -4,11 +4,11 @@ ghost use Rattle.std.specs.Prelude.{◌≤◌, ◌↔◌, IsTrue};
 use crate::ends::Ends;
 use crate::live_wire::LiveWire;
 use crate::outlets::{Outlets, earlier, serve_site};
+use crate::reception::Reception;
 use crate::telephones::{TelephoneRequest, next_request};
 use gateway_core::{Gateway, Input, Refusal, Served};
 use live_ends::CommandSocket;
 use live_journal::{Faults, Journal, MessageTally, Trace, TraceEntry, report};
-use live_page::Site;
 use mg_bytes::OutOfMemory;
 use mg_line::Act;
 use mg_packages::Hook;
@@ -225,7 +225,7 @@ pub fn write_records<R: Files + Print + Eprint>(
 }
 
 // The moment at which something falls due next, at the gateway or its site.
-fn next_due(gateway: &Gateway, site: &Option<Box<Site>>) -> Option<u64> {
+fn next_due<S: Reception>(gateway: &Gateway, site: &Option<Box<S>>) -> Option<u64> {
     match site {
         Some(site) => earlier(gateway.next_due(), site.next_deadline()),
         None => gateway.next_due(),
@@ -274,11 +274,11 @@ fn end_turn<R: Net + Clock>(
 }
 
 // Gives the gateway a turn, before which what was recorded is written.
-fn serve_turn<R: Files + Net + Clock + Print + Eprint>(
+fn serve_turn<R: Files + Net + Clock + Print + Eprint, S: Reception>(
     rt: &R,
     gateway: &mut Gateway,
     wire: &mut LiveWire<'_, R>,
-    outlets: &mut Outlets<R::File>,
+    outlets: &mut Outlets<R::File, S>,
 ) -> Served {
     write_records(rt, &mut wire.journal, &mut outlets.capture);
     wire.ends.due = next_due(gateway, &outlets.site);
@@ -286,12 +286,12 @@ fn serve_turn<R: Files + Net + Clock + Print + Eprint>(
 }
 
 /// Serves the wire until its end comes, and gives how often something failed. What happens is told by these outlets too.
-pub fn serve<R: Files + Net + Clock + RandomSource + Print + Eprint>(
+pub fn serve<R: Files + Net + Clock + RandomSource + Print + Eprint, S: Reception>(
     rt: &R,
     alloc: Global,
     gateway: &mut Gateway,
     wire: &mut LiveWire<'_, R>,
-    outlets: &mut Outlets<R::File>,
+    outlets: &mut Outlets<R::File, S>,
 ) -> Faults {
     let mut faults = Faults::NONE;
     for _ in 0..u64::MAX {

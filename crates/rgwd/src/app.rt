@@ -1,13 +1,13 @@
 //! The program: reads its words and its configuration, opens its sockets, and serves.
 use crate::ending::Ending;
 use crate::opening::{Opened, known, open};
+use crate::reception::PageReception;
 use crate::toml_fault::tell_toml_fault;
 use crate::words::{Settings, WordFault, read_words};
 use gateway_core::{ConfigKey, Gateway};
 use live_ends::RecordState;
 use live_gateway::{Ends, serve, write_records};
 use live_journal::{Journal, TraceEntry, report};
-use live_page::Site;
 use rgw_play::{LIMIT, PlayFault, gateway_of, read_key_at_fault, read_limited};
 use std::alloc::Global;
 use std::env;
@@ -82,18 +82,22 @@ fn config_text<R: Files>(rt: &R, alloc: Global, file: &str) -> Result<Vec<u8>, P
 }
 
 // Says on standard error where the sockets are.
-fn tell_addresses<R: Net + Clock + Eprint>(rt: &R, ends: &Ends<'_, R>, site: &Option<Box<Site>>) {
+fn tell_addresses<R: Net + Clock + Eprint>(
+    rt: &R,
+    ends: &Ends<'_, R>,
+    site: &Option<Box<PageReception>>,
+) {
     let Some(listen) = known(ends.socket.local_addr()) else {
         return;
     };
     let Some(phones) = known(ends.telephones.address()) else {
         return;
     };
-    let Some(site) = site else {
+    let Some(reception) = site else {
         let _ = eprintln!(rt; "listen {listen} phones {phones}");
         return;
     };
-    if let Some(http) = site.address() {
+    if let Some(http) = reception.site.address() {
         let _ = eprintln!(rt; "listen {listen} phones {phones} http {http}");
     }
 }

@@ -5,6 +5,7 @@ mod app;
 mod ending;
 mod help;
 mod opening;
+mod reception;
 mod toml_fault;
 mod words;
 

@@ -1,5 +1,6 @@
 //! Opens what the words ask for: sockets, a file for a capture, and the journal.
 use crate::ending::Ending;
+use crate::reception::PageReception;
 use crate::words::Settings;
 use bad_network::BadNetwork;
 use gateway_core::Gateway;
@@ -37,7 +38,7 @@ pub enum Unopened {
 #[derive(Drop)]
 pub struct Opened<'a, R, F> {
     pub wire: LiveWire<'a, R>,
-    pub outlets: Outlets<F>,
+    pub outlets: Outlets<F, PageReception>,
 }
 
 impl From<AllocError> for Unopened {
@@ -148,12 +149,12 @@ fn open_site<R: Net>(
     alloc: Global,
     settings: &Settings<'_>,
     ready: &Readiness,
-) -> Result<Option<Box<Site>>, Unopened> {
+) -> Result<Option<Box<PageReception>>, Unopened> {
     let Some(address) = settings.http else {
         return Ok(None);
     };
     match Site::open(rt, alloc, address, ready) {
-        Ok(site) => Ok(Some(boxed(alloc, site)?)),
+        Ok(site) => Ok(Some(boxed(alloc, PageReception { site })?)),
         Err(fault) => Err(Unopened::Http.by(fault.kind())),
     }
 }
@@ -167,7 +168,10 @@ pub fn known(address: io::Result<SocketAddr>) -> Option<SocketAddrV4> {
 }
 
 // What the page of a site is shown, where there is one.
-fn board_of(alloc: Global, site: &Option<Box<Site>>) -> Result<Option<Box<Board>>, AllocError> {
+fn board_of(
+    alloc: Global,
+    site: &Option<Box<PageReception>>,
+) -> Result<Option<Box<Board>>, AllocError> {
     match site {
         Some(_) => Ok(Some(boxed(alloc, Board::new(alloc))?)),
         None => Ok(None),
@@ -211,7 +215,7 @@ fn open_outlets<R: Files + Net>(
     alloc: Global,
     settings: &Settings<'_>,
     ready: &Readiness,
-) -> Result<Outlets<R::File>, Unopened> {
+) -> Result<Outlets<R::File, PageReception>, Unopened> {
     let capture = open_capture(rt, settings)?;
     let site = open_site(rt, alloc, settings, ready)?;
     Ok(Outlets { capture, site })
@@ -224,7 +228,7 @@ fn assembled<'a, R: Net + Clock, F: Drop>(
     config: &[u8],
     gateway: &Gateway,
     ends: Box<Ends<'a, R>>,
-    outlets: Outlets<F>,
+    outlets: Outlets<F, PageReception>,
 ) -> Result<Opened<'a, R, F>, AllocError> {
     let here = known(ends.socket.local_addr()).unwrap_or(settings.listen);
     let board = board_of(alloc, &outlets.site)?;
