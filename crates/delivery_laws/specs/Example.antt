@@ -63,10 +63,12 @@ key_begun b = (b.id, b.moment)
 abbrev pub brought : List WorldStep
 brought = notified ++ delivering 2 ∷ delivering 3 ∷ []
 
--- then line 1 is asked for the next event, packet 4, accepts that, packet 5, and is hung up: its notification, packet 6, is never handed over
+-- then line 1 is asked for the next event, packet 4, accepts that, packet 5, and is hung up: its notification, packet 6, is never
+-- handed over
 abbrev pub hung_up : List WorldStep
 hung_up =
-    issuing (codes "RQNT") (codes "aaln/1@rgw.example.net") (codes "X: C2\r\nR: L/hu(N)\r\n") ∷ delivering 4 ∷ delivering 5 ∷ dialling 1 OnHook ∷ []
+    issuing (codes "RQNT") (codes "aaln/1@rgw.example.net") (codes "X: C2\r\nR: L/hu(N)\r\n")
+    ∷ delivering 4 ∷ delivering 5 ∷ dialling 1 OnHook ∷ []
 
 -- both lines are lifted, what goes out of them again at 501 is packet 4, and the agent answers it in one, packet 5
 abbrev pub both_lifted : List WorldStep

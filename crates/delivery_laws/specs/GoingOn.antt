@@ -23,7 +23,8 @@ pub record GoesOn (line now : ℕ) (was is : Endpoint) : Type 0 where
 -- a text that is a response with this id is an answer, a final one; and not 521, which may name another agent (RFC 3435, 2.4)
 abbrev pub IsPlainAnswer : ℕ → List ℕ → Type 0
 IsPlainAnswer id text =
-    (code : ℕ) (params : List Param) (body : List ℕ) → read_text text ≡ message (messages.Response code id params body) → (is_final code ≡ true) × (code ≢ 521)
+    (code : ℕ) (params : List Param) (body : List ℕ) → read_text text ≡ message (messages.Response code id params body)
+    → (is_final code ≡ true) × (code ≢ 521)
 
 -- So it goes on at the first of these texts that is an answer to its command, from what those before it made of the line; those behind it
 -- find what it made of it (RFC 3435, 3.5.5).

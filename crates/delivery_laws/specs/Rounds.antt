@@ -36,7 +36,8 @@ IsAnsweredWithin setup line before events wait =
 -- nor does one that waits for a request: it accepts one where, from a moment at which it does, more than so many ms pass
 abbrev pub IsAskedWithin : Setup → ℕ → List GatewayEvent → List GatewayEvent → ℕ → Type 0
 IsAskedWithin setup line before events wait =
-    (some between later : List GatewayEvent) (endpoint : Endpoint) → events ≡ (some ++ between) ++ later → let m = plain setup (before ++ some) in
+    (some between later : List GatewayEvent) (endpoint : Endpoint) → events ≡ (some ++ between) ++ later
+    → let m = plain setup (before ++ some) in
     endpoint_at m.endpoints line ≡ Some endpoint → endpoint.line.state ≡ Lockstep
     → m.now + wait < (plain setup ((before ++ some) ++ between)).now → requests_in (course_from setup m line between) ≢ []
 

@@ -110,7 +110,8 @@ pub fn the_last_copy_is_enough()
     ensures all_lost { code_in 1 (last_copy ++ ticking 23500 ∷ []) ≡ None }
     ensures seven_lost { code_in 1 (asked ++ up_to 19) ≡ None }
     ensures goes_back { now_in two_lines (world (last_copy ++ ticking 23501 ∷ ticking 23000 ∷ [])) ≡ 23000 }
-    ensures not_taken { steps_are_taken two_lines world_opening (last_copy ++ ticking 23501 ∷ ticking 23000 ∷ delivering 10 ∷ []) ≡ false }
+    ensures not_taken { steps_are_taken two_lines world_opening
+        (last_copy ++ ticking 23501 ∷ ticking 23000 ∷ delivering 10 ∷ []) ≡ false }
     ensures not_had { code_in 1 (last_copy ++ ticking 23501 ∷ ticking 23000 ∷ delivering 10 ∷ []) ≡ None }
 {}
 
@@ -131,7 +132,8 @@ pub fn a_notification_is_brought()
     ensures fair { IsFair two_lines brought 0 }
     ensures goes { GoesToAgent two_lines (world brought) notification }
     ensures took { map key_reached (taken_in (world brought)) ≡ (1, 1) ∷ (10000000, 1) ∷ [] }
-    ensures goes_not { ¬ GoesToAgent two_lines (world redirected) (codes "NTFY 10000000 aaln/1@rgw.example.net MGCP 1.0\r\nX: A0\r\nO: L/hd\r\n") }
+    ensures goes_not { ¬ GoesToAgent two_lines (world redirected)
+        (codes "NTFY 10000000 aaln/1@rgw.example.net MGCP 1.0\r\nX: A0\r\nO: L/hd\r\n") }
     ensures reaches_not { ¬ ReachTheAgent two_lines redirected 1 }
     ensures fair_too { IsFair two_lines (redirected ++ delivering 4 ∷ ticking 2 ∷ []) 0 }
     ensures took_too { took_first (redirected ++ delivering 4 ∷ ticking 2 ∷ []) ≡ took_first redirected ++ tick 2 ∷ [] }
@@ -147,7 +149,8 @@ pub fn what_rests_is_taken()
     ensures events { (world rested).gateway_took ≡ took_first asked_for_all ++ took_since asked_for_all }
     ensures asked { IsAskedForAll (course_of two_lines 1 (took_first asked_for_all))
         (course_from two_lines (plain two_lines (took_first asked_for_all)) 1 (took_since asked_for_all)) (endpoint_then rested).line }
-    ensures nothing_given_up { has_given_up (of_line 1 (sent_of two_lines (world rested).gateway_took)) (endpoint_then rested).post ≡ false }
+    ensures nothing_given_up { has_given_up (of_line 1 (sent_of two_lines (world rested).gateway_took))
+        (endpoint_then rested).post ≡ false }
     ensures fair { IsFair two_lines rested 0 }
     ensures room { AgentAlwaysHasRoom two_lines rested }
     ensures reaches { ReachTheAgent two_lines rested 1 }
@@ -177,7 +180,8 @@ pub fn what_is_pressed_since_is_told_later()
     ensures asked { IsAskedForAll (course_of two_lines 1 (took_first asked_for_all))
         (course_from two_lines (plain two_lines (took_first asked_for_all)) 1 (took_between asked_for_all pressed_since))
         (endpoint_then pressed_since).line }
-    ensures nothing_given_up { has_given_up (of_line 1 (sent_of two_lines (took_first pressed_since))) (endpoint_then pressed_since).post
+    ensures nothing_given_up { has_given_up (of_line 1 (sent_of two_lines (took_first pressed_since)))
+        (endpoint_then pressed_since).post
         ≡ false }
     ensures fair { IsFair two_lines pressed_since 1 }
     ensures room { AgentAlwaysHasRoom two_lines pressed_since }
@@ -187,7 +191,8 @@ pub fn what_is_pressed_since_is_told_later()
     ensures answered { IsAnsweredWithin two_lines 1 (took_first kept_back) (took_between kept_back pressed_since) 1 }
     ensures asked_again { IsAskedWithin two_lines 1 (took_first kept_back) (took_between kept_back pressed_since) 0 }
     ensures late { (plain two_lines (took_first kept_back)).now + rounds_take 0 1 0 < now_in two_lines (world pressed_since) }
-    ensures not_rests { done_in (course_from two_lines (plain two_lines (took_first kept_back)) 1 (took_between kept_back pressed_since))
+    ensures not_rests { done_in (course_from two_lines (plain two_lines (took_first kept_back)) 1
+        (took_between kept_back pressed_since))
         ≡ five ∷ [] }
     ensures some_left { left_then pressed_since ≡ five ∷ [] }
     ensures done { done_then pressed_since ≡ off_hook ∷ five ∷ [] }
@@ -198,7 +203,8 @@ pub fn what_is_pressed_since_is_told_later()
 pub fn what_is_pressed_at_once_takes_its_rounds()
     ensures steps { steps_are_taken two_lines world_opening slowly ≡ true }
     ensures asked { IsAskedForAll (course_of two_lines 1 (took_first asked_for_all))
-        (course_from two_lines (plain two_lines (took_first asked_for_all)) 1 (took_between asked_for_all slowly)) (endpoint_then slowly).line }
+        (course_from two_lines (plain two_lines (took_first asked_for_all)) 1 (took_between asked_for_all slowly))
+        (endpoint_then slowly).line }
     ensures nothing_given_up { has_given_up (of_line 1 (sent_of two_lines (took_first slowly))) (endpoint_then slowly).post ≡ false }
     ensures fair { IsFair two_lines slowly 5 }
     ensures room { AgentAlwaysHasRoom two_lines slowly }
@@ -213,7 +219,8 @@ pub fn what_is_pressed_at_once_takes_its_rounds()
     ensures ends_at { now_in two_lines (world slowly) ≡ 16 }
     ensures two_rounds { rounds_take 2 10 0 ≡ 20 }
     ensures no_round { rounds_take 2 0 0 ≡ 0 }
-    ensures rests { done_in (course_from two_lines (plain two_lines (took_first pressed_at_once)) 1 (took_between pressed_at_once slowly)) ≡ [] }
+    ensures rests { done_in (course_from two_lines (plain two_lines (took_first pressed_at_once)) 1
+        (took_between pressed_at_once slowly)) ≡ [] }
     ensures done { done_then pressed_at_once ≡ off_hook ∷ five ∷ six ∷ [] }
     ensures told { told_then slowly ≡ off_hook ∷ five ∷ [] }
 {}
@@ -228,7 +235,8 @@ pub fn what_is_given_up_is_never_told()
     ensures asked { IsAskedForAll (course_of hasty 1 (hasty_took asked_for_all))
         (course_from hasty (plain hasty (hasty_took asked_for_all)) 1 (hasty_took_between asked_for_all announced_anew))
         (hasty_line (hasty_took announced_anew)).line }
-    ensures given_up { has_given_up (of_line 1 (sent_of hasty (hasty_took announced_anew))) (hasty_line (hasty_took announced_anew)).post
+    ensures given_up { has_given_up (of_line 1 (sent_of hasty (hasty_took announced_anew)))
+        (hasty_line (hasty_took announced_anew)).post
         ≡ true }
     ensures fair { IsFair hasty announced_anew 25000 }
     ensures room { AgentAlwaysHasRoom hasty announced_anew }
@@ -239,7 +247,8 @@ pub fn what_is_given_up_is_never_told()
     ensures asked_again { IsAskedWithin hasty 1 (hasty_took kept_back) (hasty_took_between kept_back announced_anew) 0 }
     ensures none_held { length (hasty_line (hasty_took kept_back)).line.quarantined.events ≡ 0 }
     ensures late { (plain hasty (hasty_took kept_back)).now + rounds_take 0 23500 0 < now_in hasty (hasty_world announced_anew) }
-    ensures rests { done_in (course_from hasty (plain hasty (hasty_took kept_back)) 1 (hasty_took_between kept_back announced_anew)) ≡ [] }
+    ensures rests { done_in (course_from hasty (plain hasty (hasty_took kept_back)) 1
+        (hasty_took_between kept_back announced_anew)) ≡ [] }
     ensures none_left { (hasty_line (hasty_took announced_anew)).line.quarantined.events ≡ [] }
     ensures done_by_then { done_in (course_of hasty 1 (hasty_took kept_back)) ≡ off_hook ∷ [] }
     ensures done { done_in (course_of hasty 1 (hasty_took announced_anew)) ≡ off_hook ∷ [] }
@@ -293,7 +302,8 @@ pub fn who_is_not_set_up_says_otherwise()
         ≡ codes "AUEP 1 aaln/1@rgw.example.net MGCP 1.0\r\nF: N\r\n" ∷ codes "200 1 OK\r\nN: a\r\nK:\r\n" ∷ codes "000 1\r\n" ∷ [] }
     ensures reads_so { read_text (codes "000 1\r\n") ≡ message (messages.Response 0 1 [] []) }
     ensures confirming { ¬ IsSetUp confirming }
-    ensures announced { texts_with confirming (ticking 1 ∷ []) ≡ codes "RSIP 1 *@x MGCP 1.0\r\nK: 1\r\nZ: MGCP 1.0\r\nRM: restart\r\n" ∷ [] }
+    ensures announced { texts_with confirming (ticking 1 ∷ [])
+        ≡ codes "RSIP 1 *@x MGCP 1.0\r\nK: 1\r\nZ: MGCP 1.0\r\nRM: restart\r\n" ∷ [] }
     ensures confirms { read_text (codes "RSIP 1 *@x MGCP 1.0\r\nK: 1\r\nZ: MGCP 1.0\r\nRM: restart\r\n")
         ≡ message (messages.Command Rsip 1 (codes "*@x") ((record { code = codes "K"; value = codes "1" })
         ∷ (record { code = codes "Z"; value = codes "MGCP 1.0" }) ∷ (record { code = codes "RM"; value = codes "restart" }) ∷ []) []) }
@@ -303,10 +313,12 @@ pub fn who_is_not_set_up_says_otherwise()
 pub fn what_confirms_itself_gets_silence()
     ensures taken { steps_are_taken confirming world_opening (notified ++ delivering 2 ∷ delivering 0 ∷ []) ≡ true }
     ensures kept { IsConfirmedIn 1 (agent_history confirming (plain_world confirming (notified ++ delivering 2 ∷ []))) }
-    ensures own { map key_begun (own_in confirming (plain_world confirming (notified ++ delivering 2 ∷ []))) ≡ (1, 1) ∷ (10000000, 1) ∷ [] }
+    ensures own { map key_begun (own_in confirming (plain_world confirming (notified ++ delivering 2 ∷ [])))
+        ≡ (1, 1) ∷ (10000000, 1) ∷ [] }
     ensures copy { IsCopy confirming (plain_world confirming (notified ++ delivering 2 ∷ [])) GatewayEnd
         (codes "RSIP 1 *@x MGCP 1.0\r\nK: 1\r\nZ: MGCP 1.0\r\nRM: restart\r\n") 0 }
-    ensures young { length (young_firsts 1 (agent_history confirming (plain_world confirming (notified ++ delivering 2 ∷ delivering 0 ∷ [])))) ≡ 2 }
+    ensures young { length (young_firsts 1 (agent_history confirming (plain_world confirming
+        (notified ++ delivering 2 ∷ delivering 0 ∷ [])))) ≡ 2 }
     ensures silence { texts_with confirming (notified ++ delivering 2 ∷ delivering 0 ∷ [])
         ≡ texts_with confirming (notified ++ delivering 2 ∷ []) }
 {}
@@ -369,7 +381,8 @@ pub fn what_is_answered_early_is_never_told()
     ensures asked { IsAskedForAll (course_of two_lines 1 (took_first asked_for_all))
         (course_from two_lines (plain two_lines (took_first asked_for_all)) 1 (took_between asked_for_all answered_unheard))
         (endpoint_then answered_unheard).line }
-    ensures nothing_given_up { has_given_up (of_line 1 (sent_of two_lines (took_first answered_unheard))) (endpoint_then answered_unheard).post
+    ensures nothing_given_up { has_given_up (of_line 1 (sent_of two_lines (took_first answered_unheard)))
+        (endpoint_then answered_unheard).post
         ≡ false }
     ensures fair { IsFair two_lines answered_unheard 2 }
     ensures room { AgentAlwaysHasRoom two_lines answered_unheard }
@@ -381,7 +394,8 @@ pub fn what_is_answered_early_is_never_told()
     ensures asked_again { IsAskedWithin two_lines 1 (took_first lifted_since) (took_between lifted_since answered_unheard) 0 }
     ensures none_held { length (endpoint_then lifted_since).line.quarantined.events ≡ 0 }
     ensures late { (plain two_lines (took_first lifted_since)).now + rounds_take 0 4 0 < now_in two_lines (world answered_unheard) }
-    ensures rests { done_in (course_from two_lines (plain two_lines (took_first lifted_since)) 1 (took_between lifted_since answered_unheard))
+    ensures rests { done_in (course_from two_lines (plain two_lines (took_first lifted_since)) 1
+        (took_between lifted_since answered_unheard))
         ≡ [] }
     ensures none_left { left_then answered_unheard ≡ [] }
     ensures done_by_then { done_then lifted_since ≡ off_hook ∷ [] }
@@ -399,7 +413,8 @@ pub fn who_puts_the_clock_back_waits_on()
     ensures reaches { ReachTheAgent two_lines put_back 1 }
     ensures split { took_first put_back ≡ took_first notified ++ tick 0 ∷ [] }
     ensures serves { serves (plain two_lines (took_first notified)).endpoints ≡ true }
-    ensures nothing_given_up { has_given_up (of_line 1 (sent_of two_lines (took_first put_back))) (endpoint_then put_back).post ≡ false }
+    ensures nothing_given_up { has_given_up (of_line 1 (sent_of two_lines (took_first put_back))) (endpoint_then put_back).post
+        ≡ false }
     ensures not_answered { ¬ IsAnsweredWithin two_lines 1 (took_first notified) (tick 0 ∷ []) 0 }
     ensures refused_too { steps_are_taken two_lines world_opening put_back_late ≡ false }
     ensures goes_back { now_in two_lines (world put_back_late) ≡ 23500 }
@@ -416,7 +431,8 @@ pub fn what_goes_elsewhere_first_is_told_later()
     ensures events { took_with roaming found_at_last
         ≡ took_with roaming asked_to_roam ++ took_between_with roaming asked_to_roam found_at_last }
     ensures asked { IsAskedForAll (course_of roaming 1 (took_with roaming asked_to_roam))
-        (course_from roaming (plain roaming (took_with roaming asked_to_roam)) 1 (took_between_with roaming asked_to_roam found_at_last))
+        (course_from roaming (plain roaming (took_with roaming asked_to_roam)) 1
+        (took_between_with roaming asked_to_roam found_at_last))
         (line_with roaming (took_with roaming found_at_last)).line }
     ensures nothing_given_up { has_given_up (of_line 1 (sent_of roaming (took_with roaming found_at_last)))
         (line_with roaming (took_with roaming found_at_last)).post ≡ false }
@@ -427,9 +443,11 @@ pub fn what_goes_elsewhere_first_is_told_later()
     ensures split { took_with roaming found_at_last
         ≡ took_with roaming sent_astray ++ took_between_with roaming sent_astray found_at_last }
     ensures serves { serves (plain roaming (took_with roaming sent_astray)).endpoints ≡ true }
-    ensures asked_again { IsAskedWithin roaming 1 (took_with roaming sent_astray) (took_between_with roaming sent_astray found_at_last) 0 }
+    ensures asked_again { IsAskedWithin roaming 1 (took_with roaming sent_astray)
+        (took_between_with roaming sent_astray found_at_last) 0 }
     ensures held { (line_with roaming (took_with roaming sent_astray)).line.quarantined.events ≡ five ∷ [] }
-    ensures late { (plain roaming (took_with roaming sent_astray)).now + rounds_take 1 0 0 < now_in roaming (plain_world roaming found_at_last) }
+    ensures late { (plain roaming (took_with roaming sent_astray)).now + rounds_take 1 0 0
+        < now_in roaming (plain_world roaming found_at_last) }
     ensures rests { done_in (course_from roaming (plain roaming (took_with roaming sent_astray)) 1
         (took_between_with roaming sent_astray found_at_last)) ≡ [] }
     ensures done_by_then { done_in (course_of roaming 1 (took_with roaming sent_astray)) ≡ off_hook ∷ five ∷ [] }
@@ -462,14 +480,16 @@ pub fn an_answer_lets_line_1_go_on()
 /// response where nothing is in flight, or a command: line 1 waits on. 521 to a notification is its answer. And an answer behind a request,
 /// in one packet with it, makes of the line what it does of a line that was asked.
 pub fn what_is_no_answer_lets_no_line_go_on()
-    ensures provisional { IsCopy two_lines (world (responded (codes "100 10000000"))) AgentEnd (as_response (codes "100 10000000") []) 3 }
+    ensures provisional { IsCopy two_lines (world (responded (codes "100 10000000"))) AgentEnd (as_response
+        (codes "100 10000000") []) 3 }
     ensures alone { texts_of (as_response (codes "100 10000000") []) ≡ as_response (codes "100 10000000") [] ∷ [] }
     ensures reads { read_text (as_response (codes "100 10000000") []) ≡ message (messages.Response 100 10000000 [] []) }
     ensures refused { steps_are_taken two_lines world_opening (responded (codes "100 10000000")) ≡ false }
     ensures waits { line_after (responded (codes "100 10000000")) ≡ (Some Notification, Some 10000000) }
     ensures would_go_on { answered_state (responded (codes "100 10000000")) ≡ Some Lockstep }
     ensures waits_on { line_after (responded (codes "100 10000000") ++ delivering 3 ∷ []) ≡ (Some Notification, Some 10000000) }
-    ensures of_another { IsCopy two_lines (world (responded (codes "200 10000001"))) AgentEnd (as_response (codes "200 10000001") []) 3 }
+    ensures of_another { IsCopy two_lines (world (responded (codes "200 10000001"))) AgentEnd (as_response
+        (codes "200 10000001") []) 3 }
     ensures alone_too { texts_of (as_response (codes "200 10000001") []) ≡ as_response (codes "200 10000001") [] ∷ [] }
     ensures reads_too { read_text (as_response (codes "200 10000001") []) ≡ message (messages.Response 200 10000001 [] []) }
     ensures waits_too { line_after (responded (codes "200 10000001")) ≡ (Some Notification, Some 10000000) }
@@ -494,26 +514,35 @@ pub fn what_is_no_answer_lets_no_line_go_on()
 /// Nor do such responses make the gateway serve, nor an answer behind 521, in one packet with it.
 pub fn what_is_no_answer_makes_no_gateway_serve()
     ensures provisional { IsCopy two_lines (world (own_responded (codes "100 1") [])) AgentEnd (as_response (codes "100 1") []) 1 }
-    ensures redirected { IsCopy two_lines (world (own_responded (codes "521 1") elsewhere)) AgentEnd (as_response (codes "521 1") elsewhere) 1 }
+    ensures redirected { IsCopy two_lines (world (own_responded (codes "521 1") elsewhere)) AgentEnd (as_response
+        (codes "521 1") elsewhere) 1 }
     ensures of_another { IsCopy two_lines (world (own_responded (codes "200 2") [])) AgentEnd (as_response (codes "200 2") []) 1 }
-    ensures alone { map texts_of (as_response (codes "100 1") [] ∷ as_response (codes "521 1") elsewhere ∷ as_response (codes "200 2") [] ∷ [])
-        ≡ (as_response (codes "100 1") [] ∷ []) ∷ (as_response (codes "521 1") elsewhere ∷ []) ∷ (as_response (codes "200 2") [] ∷ []) ∷ [] }
-    ensures reads { map read_text (as_response (codes "100 1") [] ∷ as_response (codes "521 1") elsewhere ∷ as_response (codes "200 2") [] ∷ [])
+    ensures alone { map texts_of (as_response (codes "100 1") [] ∷ as_response (codes "521 1") elsewhere ∷ as_response
+        (codes "200 2") [] ∷ [])
+        ≡ (as_response (codes "100 1") [] ∷ []) ∷ (as_response (codes "521 1") elsewhere ∷ []) ∷ (as_response
+        (codes "200 2") [] ∷ []) ∷ [] }
+    ensures reads { map read_text (as_response (codes "100 1") [] ∷ as_response (codes "521 1") elsewhere ∷ as_response
+        (codes "200 2") [] ∷ [])
         ≡ message (messages.Response 100 1 [] [])
         ∷ message (messages.Response 521 1 ((record { code = codes "N"; value = codes "ca@[127.0.0.9]:2727" }) ∷ []) [])
         ∷ message (messages.Response 200 2 [] []) ∷ [] }
-    ensures waits { map own_flying (own_responded (codes "100 1") [] ∷ own_responded (codes "521 1") elsewhere ∷ own_responded (codes "200 2") [] ∷ [])
+    ensures waits { map own_flying (own_responded (codes "100 1") [] ∷ own_responded (codes "521 1") elsewhere ∷ own_responded
+        (codes "200 2") [] ∷ [])
         ≡ Some 1 ∷ Some 1 ∷ Some 1 ∷ [] }
-    ensures after_provisional { serves (gateway_in two_lines (world (own_responded (codes "100 1") [] ++ delivering 1 ∷ []))).endpoints ≡ false }
-    ensures after_redirection { serves (gateway_in two_lines (world (own_responded (codes "521 1") elsewhere ++ delivering 1 ∷ []))).endpoints
+    ensures after_provisional { serves (gateway_in two_lines (world (own_responded
+        (codes "100 1") [] ++ delivering 1 ∷ []))).endpoints ≡ false }
+    ensures after_redirection { serves (gateway_in two_lines (world (own_responded
+        (codes "521 1") elsewhere ++ delivering 1 ∷ []))).endpoints
         ≡ false }
-    ensures after_another { serves (gateway_in two_lines (world (own_responded (codes "200 2") [] ++ delivering 1 ∷ []))).endpoints ≡ false }
+    ensures after_another { serves (gateway_in two_lines (world (own_responded
+        (codes "200 2") [] ++ delivering 1 ∷ []))).endpoints ≡ false }
     ensures none_flies { own_flying (responds (codes "200 1") [] ∷ []) ≡ None }
     ensures after_none { serves (gateway_in two_lines (world (responds (codes "200 1") [] ∷ delivering 0 ∷ []))).endpoints ≡ false }
     ensures commanded { serves (gateway_in two_lines (world (ticking 1 ∷ audits ∷ delivering 1 ∷ []))).endpoints ≡ false }
     ensures not_alone { IsCopy two_lines (world redirected_and_answered) AgentEnd (codes "200 1 OK\r\n") 1 }
     ensures waits_there { own_flying redirected_and_answered ≡ Some 1 }
-    ensures behind_redirection { serves (gateway_in two_lines (world (redirected_and_answered ++ delivering 1 ∷ []))).endpoints ≡ false }
+    ensures behind_redirection { serves (gateway_in two_lines (world (redirected_and_answered ++ delivering 1 ∷ []))).endpoints
+        ≡ false }
 {}
 
 /// Where all numbers of a line are used up the first comes again, and the law fails, though all else that it asks for holds: nobody

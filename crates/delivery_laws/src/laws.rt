@@ -53,8 +53,10 @@ ghost use Rattle.delivery_laws.specs.OwnChances.{HasCome, IsOfLine, IsResponse, 
 /// A copy of a command that is handed to the gateway is answered at once: a packet with the stored answer goes to the agent,
 /// unless a K of a later command confirmed it, or as many firsts are young as there may be (RFC 3435, 3.5.1).
 pub fn a_delivered_command_is_answered_at_once()
-    ensures { (setup : Setup) (steps : List WorldStep) (number : ℕ) (b : Begun) → IsRun setup (steps ++ delivering number ∷ []) → let w = plain_world setup steps in
-        let after = plain_world setup (steps ++ delivering number ∷ []) in IsIssued setup w b → IsCopy setup w AgentEnd b.text number →
+    ensures { (setup : Setup) (steps : List WorldStep) (number : ℕ) (b : Begun) →
+        IsRun setup (steps ++ delivering number ∷ []) → let w = plain_world setup steps in
+        let after = plain_world setup (steps ++ delivering number ∷ []) in IsIssued setup w b →
+        IsCopy setup w AgentEnd b.text number →
         HasRoom (now_in setup after) (gateway_firsts setup after) →
         IsConfirmedAmong b.id (gateway_firsts setup after) ⊎ IsAnswered setup w after b.id }
 {}
@@ -67,7 +69,8 @@ pub fn stored_answers_are_final()
     ensures agent { (setup : AgentSetup) (events : List AgentEvent) →
         All (λ (first : KeptFirst). (id : ℕ) → IsPlainAnswer id first.answer) (firsts_in (plain_agent setup events).history) }
     ensures posted { (setup : Setup) (steps : List WorldStep) (number : ℕ) (post : Posted) (text : List ℕ) → IsRun setup steps →
-        slice_get (plain_world setup steps).posted number ≡ Some post → Any (λ (one : List ℕ). one ≡ text) (texts_of post.packet.bytes) →
+        slice_get (plain_world setup steps).posted number ≡ Some post →
+        Any (λ (one : List ℕ). one ≡ text) (texts_of post.packet.bytes) →
         IsFinal text }
 {}
 
@@ -84,7 +87,8 @@ pub fn an_answer_that_comes_in_time_is_had()
 /// Both: a copy of a command that is handed to the gateway makes a packet with the stored answer, and where that is handed to
 /// the agent less than 23,500 ms after the command was issued, the command has an answer from then on.
 pub fn a_command_is_answered()
-    ensures { (setup : Setup) (steps : List WorldStep) (number : ℕ) (b : Begun) → let first = steps ++ delivering number ∷ [] in IsRun setup first →
+    ensures { (setup : Setup) (steps : List WorldStep) (number : ℕ) (b : Begun) →
+        let first = steps ++ delivering number ∷ [] in IsRun setup first →
         let w = plain_world setup steps in let after = plain_world setup first in IsIssued setup w b →
         IsCopy setup w AgentEnd b.text number → HasRoom (now_in setup after) (gateway_firsts setup after) →
         IsConfirmedAmong b.id (gateway_firsts setup after)
@@ -94,23 +98,28 @@ pub fn a_command_is_answered()
 /// Until a command has its answer, a copy of it goes to the gateway 0, 500, 1,500, 3,500, 7,500, 11,500, 15,500 and 19,500 ms
 /// after it was issued, each once the clock is so late (RFC 3435, 3.5.3).
 pub fn a_command_is_sent_eight_times()
-    ensures { (setup : Setup) (steps : List WorldStep) (b : Begun) → IsRun setup steps → let w = plain_world setup steps in IsIssued setup w b →
+    ensures { (setup : Setup) (steps : List WorldStep) (b : Begun) → IsRun setup steps → let w = plain_world setup steps in
+        IsIssued setup w b →
         HasAnswer b.id (agent_in setup w)
         ⊎ All (λ (wait : ℕ). b.moment + wait ≤ now_in setup w → IsSentAfter setup w b wait) chances }
 {}
 
 /// So where at most seven of these copies are lost, each with its answer, the command has an answer.
 pub fn one_copy_of_eight_is_enough()
-    ensures { (setup : Setup) (steps : List WorldStep) (b : Begun) (lost : List ℕ) → IsRun setup steps → let w = plain_world setup steps in IsIssued setup w b →
-        b.moment + last_chance ≤ now_in setup w → length lost ≤ most_repeats → ((number : ℕ) → IsCopy setup w AgentEnd b.text number →
+    ensures { (setup : Setup) (steps : List WorldStep) (b : Begun) (lost : List ℕ) → IsRun setup steps →
+        let w = plain_world setup steps in IsIssued setup w b →
+        b.moment + last_chance ≤ now_in setup w → length lost ≤ most_repeats → ((number : ℕ) →
+        IsCopy setup w AgentEnd b.text number →
         ¬ Any (λ (n : ℕ). n ≡ number) lost → IsCarried setup steps b number) → HasAnswer b.id (agent_in setup w) }
 {}
 
 /// So a network that hands each packet over at most so many ms after it was sent answers each command in twice the time, where room
 /// is never wanting.
 pub fn a_fair_network_answers_each_command()
-    ensures { (setup : Setup) (steps : List WorldStep) (within : ℕ) (b : Begun) → IsRun setup steps → IsFair setup steps within → AlwaysHasRoom setup steps →
-        let w = plain_world setup steps in IsIssued setup w b → b.moment + 2 * within ≤ now_in setup w → HasAnswer b.id (agent_in setup w) }
+    ensures { (setup : Setup) (steps : List WorldStep) (within : ℕ) (b : Begun) → IsRun setup steps →
+        IsFair setup steps within → AlwaysHasRoom setup steps →
+        let w = plain_world setup steps in IsIssued setup w b → b.moment + 2 * within ≤ now_in setup w →
+        HasAnswer b.id (agent_in setup w) }
 {}
 
 /// No command that the gateway's end posts has a K; so nothing that the agent keeps confirms any id (RFC 3435, 3.2.2.1).
@@ -120,15 +129,18 @@ pub fn the_gateway_confirms_nothing()
         slice_get (plain_world setup steps).posted number ≡ Some post → post.end ≡ GatewayEnd →
         Any (λ (one : List ℕ). one ≡ text) (texts_of post.packet.bytes) →
         read_text text ≡ message (messages.Command verb id name params body) → param_at (codes "K") params ≡ None }
-    ensures kept { (setup : Setup) (steps : List WorldStep) (id : ℕ) → IsRun setup steps → ¬ IsConfirmedIn id (agent_history setup (plain_world setup steps)) }
+    ensures kept { (setup : Setup) (steps : List WorldStep) (id : ℕ) → IsRun setup steps →
+        ¬ IsConfirmedIn id (agent_history setup (plain_world setup steps)) }
 {}
 
 /// A copy of a notification or an announcement that is handed to the agent is taken at once, if it wasn't before, and a packet with
 /// the stored answer goes back to the gateway, unless as many firsts of the agent are young as there may be (RFC 3435, 2.3.4, 2.3.12
 /// and 3.5.1).
 pub fn a_delivered_notification_is_taken_at_once()
-    ensures { (setup : Setup) (steps : List WorldStep) (number : ℕ) (b : Begun) → IsRun setup (steps ++ delivering number ∷ []) → let w = plain_world setup steps in
-        let after = plain_world setup (steps ++ delivering number ∷ []) in IsOwn setup w b → IsCopy setup w GatewayEnd b.text number →
+    ensures { (setup : Setup) (steps : List WorldStep) (number : ℕ) (b : Begun) →
+        IsRun setup (steps ++ delivering number ∷ []) → let w = plain_world setup steps in
+        let after = plain_world setup (steps ++ delivering number ∷ []) in IsOwn setup w b →
+        IsCopy setup w GatewayEnd b.text number →
         AgentHasRoom setup after → IsTaken setup w after b.id }
 {}
 
@@ -136,10 +148,12 @@ pub fn a_delivered_notification_is_taken_at_once()
 /// goes to the agent there in that time, and the agent takes it; and a response to it comes back in twice the time, where room is
 /// never wanting (RFC 3435, 2.3.4 and 2.3.12).
 pub fn a_fair_network_brings_each_notification()
-    ensures taken { (setup : Setup) (steps : List WorldStep) (within : ℕ) (b : Begun) → IsRun setup steps → IsFair setup steps within → AgentAlwaysHasRoom setup steps →
+    ensures taken { (setup : Setup) (steps : List WorldStep) (within : ℕ) (b : Begun) → IsRun setup steps →
+        IsFair setup steps within → AgentAlwaysHasRoom setup steps →
         let w = plain_world setup steps in IsOwn setup w b → GoesToAgent setup w b.text →
         b.moment + within ≤ now_in setup w → Any (λ (one : Reached). one.asked.id ≡ b.id) (taken_in w) }
-    ensures answered { (setup : Setup) (steps : List WorldStep) (within : ℕ) (b : Begun) → IsRun setup steps → IsFair setup steps within → AgentAlwaysHasRoom setup steps →
+    ensures answered { (setup : Setup) (steps : List WorldStep) (within : ℕ) (b : Begun) → IsRun setup steps →
+        IsFair setup steps within → AgentAlwaysHasRoom setup steps →
         let w = plain_world setup steps in IsOwn setup w b → GoesToAgent setup w b.text →
         b.moment + 2 * within ≤ now_in setup w → HasCome w b.id }
 {}
@@ -252,7 +266,8 @@ pub fn what_is_quarantined_goes_out_in_time()
 pub fn a_fair_network_answers_each_notification_in_time()
     ensures { (setup : Setup) (steps : List WorldStep) (within line : ℕ) (some later : List GatewayEvent) (endpoint : Endpoint) →
         IsRun setup steps → let w = plain_world setup steps in
-        HasNumbersLeft (own_in setup w) → IsFair setup steps within → AgentAlwaysHasRoom setup steps → ReachTheAgent setup steps line →
+        HasNumbersLeft (own_in setup w) → IsFair setup steps within → AgentAlwaysHasRoom setup steps →
+        ReachTheAgent setup steps line →
         w.gateway_took ≡ some ++ later → serves (plain setup some).endpoints ≡ true →
         endpoint_at (gateway_in setup w).endpoints line ≡ Some endpoint →
         has_given_up (of_line line (sent_of setup w.gateway_took)) endpoint.post ≡ false →
@@ -263,10 +278,12 @@ pub fn a_fair_network_answers_each_notification_in_time()
 /// itself go out 0, 500, 1,500, 3,500, 7,500, 11,500, 15,500 and 19,500 ms after their first send, each once the clock is so late
 /// (RFC 3435, 3.5.3).
 pub fn a_notification_is_sent_eight_times()
-    ensures line { (setup : Setup) (steps : List WorldStep) (line : ℕ) (endpoint : Endpoint) (b : Begun) → IsRun setup steps → let w = plain_world setup steps in
+    ensures line { (setup : Setup) (steps : List WorldStep) (line : ℕ) (endpoint : Endpoint) (b : Begun) → IsRun setup steps →
+        let w = plain_world setup steps in
         endpoint_at (gateway_in setup w).endpoints line ≡ Some endpoint → IsOfLine setup w line b →
         HasCome w b.id ⊎ All (λ (wait : ℕ). b.moment + wait ≤ now_in setup w → IsToldAfter setup w b wait) chances }
-    ensures own { (setup : Setup) (steps : List WorldStep) (b : Begun) → IsRun setup steps → let w = plain_world setup steps in IsOfLine setup w 0 b →
+    ensures own { (setup : Setup) (steps : List WorldStep) (b : Begun) → IsRun setup steps → let w = plain_world setup steps in
+        IsOfLine setup w 0 b →
         HasCome w b.id ⊎ All (λ (wait : ℕ). b.moment + wait ≤ now_in setup w → IsToldAfter setup w b wait) chances }
 {}
 
@@ -276,7 +293,8 @@ pub fn who_is_unanswered_keeps_asking()
     ensures own { (setup : Setup) (steps : List WorldStep) → IsRun setup steps →
         let w = plain_world setup steps in
         KeepsAsking setup.restart_wait (now_in setup w) (gateway_in setup w).endpoints.own }
-    ensures line { (setup : Setup) (steps : List WorldStep) (line : ℕ) (endpoint : Endpoint) → IsRun setup steps → let w = plain_world setup steps in
+    ensures line { (setup : Setup) (steps : List WorldStep) (line : ℕ) (endpoint : Endpoint) → IsRun setup steps →
+        let w = plain_world setup steps in
         endpoint_at (gateway_in setup w).endpoints line ≡ Some endpoint →
         KeepsAsking setup.disconnected_wait (now_in setup w) endpoint.post }
 {}
@@ -308,12 +326,15 @@ pub fn an_answer_lets_its_line_go_on()
         × GoesOnAmid setup (gateway_in setup w) source texts line id }
     ensures own_amid { (setup : Setup) (steps : List WorldStep) (number : ℕ) (text : List ℕ) (id : ℕ) (flight : InFlight) →
         let w = plain_world setup steps in let after = plain_world setup (steps ++ delivering number ∷ []) in
-        (copy : IsCopy setup w AgentEnd text number) → let texts = texts_of copy.post.packet.bytes in IsResponse id (read_text text) →
+        (copy : IsCopy setup w AgentEnd text number) → let texts = texts_of copy.post.packet.bytes in
+        IsResponse id (read_text text) →
         All (IsPlainAnswer id) texts → (gateway_in setup w).endpoints.own.pending ≡ Some flight → flight.id ≡ id →
         serves (gateway_in setup after).endpoints ≡ true }
     ensures over { (setup : Setup) (before later : List WorldStep) (number : ℕ) (text : List ℕ) (code id : ℕ) (params : List Param)
-        (body : List ℕ) (line : ℕ) (endpoint : Endpoint) (flight : InFlight) → let steps = (before ++ delivering number ∷ []) ++ later in IsRun setup steps →
-        let w = plain_world setup steps in HasNumbersLeft (own_in setup w) → IsCopy setup (plain_world setup before) AgentEnd text number →
+        (body : List ℕ) (line : ℕ) (endpoint : Endpoint) (flight : InFlight) →
+        let steps = (before ++ delivering number ∷ []) ++ later in IsRun setup steps →
+        let w = plain_world setup steps in HasNumbersLeft (own_in setup w) →
+        IsCopy setup (plain_world setup before) AgentEnd text number →
         read_text text ≡ message (messages.Response code id params body) →
         endpoint_at (gateway_in setup w).endpoints line ≡ Some endpoint → endpoint.post.pending ≡ Some flight → flight.id ≢ id }
 {}
