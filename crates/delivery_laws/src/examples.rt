@@ -317,8 +317,8 @@ pub fn what_confirms_itself_gets_silence()
         ≡ (1, 1) ∷ (10000000, 1) ∷ [] }
     ensures copy { IsCopy confirming (plain_world confirming (notified ++ delivering 2 ∷ [])) GatewayEnd
         (codes "RSIP 1 *@x MGCP 1.0\r\nK: 1\r\nZ: MGCP 1.0\r\nRM: restart\r\n") 0 }
-    ensures young { length (young_firsts 1 (agent_history confirming (plain_world confirming
-        (notified ++ delivering 2 ∷ delivering 0 ∷ [])))) ≡ 2 }
+    ensures young { length (young_firsts 1 (agent_history confirming
+        (plain_world confirming (notified ++ delivering 2 ∷ delivering 0 ∷ [])))) ≡ 2 }
     ensures silence { texts_with confirming (notified ++ delivering 2 ∷ delivering 0 ∷ [])
         ≡ texts_with confirming (notified ++ delivering 2 ∷ []) }
 {}
@@ -480,16 +480,16 @@ pub fn an_answer_lets_line_1_go_on()
 /// response where nothing is in flight, or a command: line 1 waits on. 521 to a notification is its answer. And an answer behind a request,
 /// in one packet with it, makes of the line what it does of a line that was asked.
 pub fn what_is_no_answer_lets_no_line_go_on()
-    ensures provisional { IsCopy two_lines (world (responded (codes "100 10000000"))) AgentEnd (as_response
-        (codes "100 10000000") []) 3 }
+    ensures provisional { IsCopy two_lines (world (responded (codes "100 10000000"))) AgentEnd
+        (as_response (codes "100 10000000") []) 3 }
     ensures alone { texts_of (as_response (codes "100 10000000") []) ≡ as_response (codes "100 10000000") [] ∷ [] }
     ensures reads { read_text (as_response (codes "100 10000000") []) ≡ message (messages.Response 100 10000000 [] []) }
     ensures refused { steps_are_taken two_lines world_opening (responded (codes "100 10000000")) ≡ false }
     ensures waits { line_after (responded (codes "100 10000000")) ≡ (Some Notification, Some 10000000) }
     ensures would_go_on { answered_state (responded (codes "100 10000000")) ≡ Some Lockstep }
     ensures waits_on { line_after (responded (codes "100 10000000") ++ delivering 3 ∷ []) ≡ (Some Notification, Some 10000000) }
-    ensures of_another { IsCopy two_lines (world (responded (codes "200 10000001"))) AgentEnd (as_response
-        (codes "200 10000001") []) 3 }
+    ensures of_another { IsCopy two_lines (world (responded (codes "200 10000001"))) AgentEnd
+        (as_response (codes "200 10000001") []) 3 }
     ensures alone_too { texts_of (as_response (codes "200 10000001") []) ≡ as_response (codes "200 10000001") [] ∷ [] }
     ensures reads_too { read_text (as_response (codes "200 10000001") []) ≡ message (messages.Response 200 10000001 [] []) }
     ensures waits_too { line_after (responded (codes "200 10000001")) ≡ (Some Notification, Some 10000000) }
@@ -514,28 +514,28 @@ pub fn what_is_no_answer_lets_no_line_go_on()
 /// Nor do such responses make the gateway serve, nor an answer behind 521, in one packet with it.
 pub fn what_is_no_answer_makes_no_gateway_serve()
     ensures provisional { IsCopy two_lines (world (own_responded (codes "100 1") [])) AgentEnd (as_response (codes "100 1") []) 1 }
-    ensures redirected { IsCopy two_lines (world (own_responded (codes "521 1") elsewhere)) AgentEnd (as_response
-        (codes "521 1") elsewhere) 1 }
+    ensures redirected { IsCopy two_lines (world (own_responded (codes "521 1") elsewhere)) AgentEnd
+        (as_response (codes "521 1") elsewhere) 1 }
     ensures of_another { IsCopy two_lines (world (own_responded (codes "200 2") [])) AgentEnd (as_response (codes "200 2") []) 1 }
-    ensures alone { map texts_of (as_response (codes "100 1") [] ∷ as_response (codes "521 1") elsewhere ∷ as_response
-        (codes "200 2") [] ∷ [])
-        ≡ (as_response (codes "100 1") [] ∷ []) ∷ (as_response (codes "521 1") elsewhere ∷ []) ∷ (as_response
-        (codes "200 2") [] ∷ []) ∷ [] }
-    ensures reads { map read_text (as_response (codes "100 1") [] ∷ as_response (codes "521 1") elsewhere ∷ as_response
-        (codes "200 2") [] ∷ [])
+    ensures alone { map texts_of (as_response (codes "100 1") [] ∷ as_response (codes "521 1") elsewhere
+        ∷ as_response (codes "200 2") [] ∷ [])
+        ≡ (as_response (codes "100 1") [] ∷ []) ∷ (as_response (codes "521 1") elsewhere ∷ []) ∷
+        (as_response (codes "200 2") [] ∷ []) ∷ [] }
+    ensures reads { map read_text (as_response (codes "100 1") [] ∷ as_response (codes "521 1") elsewhere
+        ∷ as_response (codes "200 2") [] ∷ [])
         ≡ message (messages.Response 100 1 [] [])
         ∷ message (messages.Response 521 1 ((record { code = codes "N"; value = codes "ca@[127.0.0.9]:2727" }) ∷ []) [])
         ∷ message (messages.Response 200 2 [] []) ∷ [] }
-    ensures waits { map own_flying (own_responded (codes "100 1") [] ∷ own_responded (codes "521 1") elsewhere ∷ own_responded
-        (codes "200 2") [] ∷ [])
+    ensures waits { map own_flying (own_responded (codes "100 1") [] ∷ own_responded (codes "521 1") elsewhere
+        ∷ own_responded (codes "200 2") [] ∷ [])
         ≡ Some 1 ∷ Some 1 ∷ Some 1 ∷ [] }
-    ensures after_provisional { serves (gateway_in two_lines (world (own_responded
-        (codes "100 1") [] ++ delivering 1 ∷ []))).endpoints ≡ false }
-    ensures after_redirection { serves (gateway_in two_lines (world (own_responded
-        (codes "521 1") elsewhere ++ delivering 1 ∷ []))).endpoints
+    ensures after_provisional { serves (gateway_in two_lines (world
+        (own_responded (codes "100 1") [] ++ delivering 1 ∷ []))).endpoints ≡ false }
+    ensures after_redirection { serves (gateway_in two_lines (world
+        (own_responded (codes "521 1") elsewhere ++ delivering 1 ∷ []))).endpoints
         ≡ false }
-    ensures after_another { serves (gateway_in two_lines (world (own_responded
-        (codes "200 2") [] ++ delivering 1 ∷ []))).endpoints ≡ false }
+    ensures after_another { serves (gateway_in two_lines (world
+        (own_responded (codes "200 2") [] ++ delivering 1 ∷ []))).endpoints ≡ false }
     ensures none_flies { own_flying (responds (codes "200 1") [] ∷ []) ≡ None }
     ensures after_none { serves (gateway_in two_lines (world (responds (codes "200 1") [] ∷ delivering 0 ∷ []))).endpoints ≡ false }
     ensures commanded { serves (gateway_in two_lines (world (ticking 1 ∷ audits ∷ delivering 1 ∷ []))).endpoints ≡ false }
