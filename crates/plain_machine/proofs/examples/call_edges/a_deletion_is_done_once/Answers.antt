@@ -1,0 +1,12 @@
+use Rattle.std.proofs.Common.{refl}
+use Rattle.plain_machine.proofs.Computing.{on_examples}
+use Rattle.plain_machine.proofs.examples.call_edges.a_deletion_is_done_once.Goals as goal
+
+-- all computed at once
+
+pub returns : goal.returns
+unfolding on_examples
+returns c = record {
+  answers = refl;
+  stands = refl;
+}
