@@ -1,7 +1,7 @@
 //! What is done at a text that came in a datagram.
-ghost use Rattle.std.specs.Prelude.{◌≡◌, ◌<◌, ◌^◌, nat_lt, length, None};
+ghost use Rattle.std.specs.Prelude.{◌≡◌, ◌<◌, ◌^◌, nat_lt, length, IfSome, None};
 ghost use Rattle.std.specs.Result.{result_err, result_ok};
-ghost use Rattle.mgcp_text.specs.Reading.{read_text};
+ghost use Rattle.mgcp_text.specs.Reading.{outcome_of, read_text};
 ghost use Rattle.transmission.specs.Texts.{largest_datagram, texts_of};
 ghost use Rattle.plain_machine.specs.Refusing.{ends};
 ghost use Rattle.call_agent.specs.Hearing.{handled, left_done, took_all};
@@ -44,8 +44,36 @@ fn handle(
     }
 }
 
-// A text.
+// A text, by what it was read as.
 #[tactic(auto, unfolding(crate::specs::Hearing::handled, crate::specs::Responding::responded))]
+fn take_read(
+    context: Context<'_>,
+    state: &mut State,
+    source: SocketAddrV4,
+    read: &Result<Message<'_>, TextFault>,
+    text: &[u8],
+    out: &mut Vec<OutDatagram>,
+) -> Result<(), OutOfMemory>
+    requires clock { state.old.clock < 2 ^ 62 }
+    requires read { IfSome (outcome_of read.now) (λ outcome. outcome ≡ read_text text.now) }
+    ensures { Does result (handled context.entry.setup.now (kept_in state.old) source text.now)
+        state.old state.new out.old.items out.new.items }
+{
+    if !hear(
+        context.alloc,
+        &mut state.history,
+        source,
+        state.clock,
+        read,
+        out,
+    )? {
+        return Ok(());
+    }
+    handle(context, state, source, read, text, out)?;
+    Ok(())
+}
+
+// A text. Nothing fails beside what it is read as: a check pays for a large value at each step.
 fn take(
     context: Context<'_>,
     state: &mut State,
@@ -58,18 +86,7 @@ fn take(
         state.old state.new out.old.items out.new.items }
 {
     let read = read_message(context.alloc, text);
-    if !hear(
-        context.alloc,
-        &mut state.history,
-        source,
-        state.clock,
-        &read,
-        out,
-    )? {
-        return Ok(());
-    }
-    handle(context, state, source, &read, text, out)?;
-    Ok(())
+    take_read(context, state, source, &read, text, out)
 }
 
 /// A datagram: what is sent. Its texts are taken in their order, each completely; one that is too long does nothing, and takes

@@ -1,6 +1,6 @@
 //! How a command is issued (RFC 3435, 3.2.1 and 3.5.3), and why it isn't.
 ghost use Rattle.std.specs.Prelude.{◌≡◌, ◌≤◌, ◌<◌, ◌^◌, IfOk};
-ghost use Rattle.mgcp_text.specs.Reading.{read_text};
+ghost use Rattle.mgcp_text.specs.Reading.{message, read_text};
 ghost use Rattle.machine_laws.specs.Saying.{is_command_as};
 ghost use Rattle.call_agent.specs.Issuing.{command_text, is_good};
 
@@ -75,6 +75,20 @@ pub(crate) fn command_text(
     Ok(Text::of(text))
 }
 
+// Whether a message is a command with this id and this name.
+fn is_command_with(id: TransactionId, name: &[u8], said: &Message<'_>) -> bool
+    ensures { result ≡ is_command_as id name.now (message said.now) }
+{
+    match said {
+        Message::Command {
+            id: other,
+            name: of,
+            ..
+        } => other.number() == id.number() && of.as_slice() == name,
+        Message::Response { .. } => false,
+    }
+}
+
 // Whether a text is read as a command with this id and this name.
 fn is_command_as(
     alloc: Global,
@@ -84,19 +98,12 @@ fn is_command_as(
 ) -> Result<bool, OutOfMemory>
     ensures { IfOk result (λ same. same ≡ is_command_as id name.now (read_text text.now)) }
 {
-    match &read_message(alloc, text) {
+    match read_message(alloc, text) {
         Err(TextFault::OutOfMemory) => Err(AllocError),
         Err(TextFault::NoHeader | TextFault::BadVersion { .. } | TextFault::BadBody { .. }) => Ok(
             false,
         ),
-        Ok(Message::Response { .. }) => Ok(false),
-        Ok(
-            Message::Command {
-                id: other,
-                name: of,
-                ..
-            },
-        ) => { Ok(other.number() == id.number() && of.as_slice() == name) }
+        Ok(said) => Ok(is_command_with(id, name, &said)),
     }
 }
 

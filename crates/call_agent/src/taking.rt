@@ -14,6 +14,7 @@ use crate::state::{Context, State};
 use crate::told::TakenEvents;
 use endpoint_names::{Pattern, read_name};
 use event_values::{Observed, read_observed};
+use history::IdSpan;
 use mg_bytes::{CodeFault, OutOfMemory, ReturnCode, Sequence};
 use mgcp_text::{AnswerContent, Message, Param, Verb, param_at, read_k};
 use plain_machine::OutDatagram;
@@ -113,6 +114,32 @@ fn tell(told: &mut TakenEvents, taken: Option<Taken>) -> Result<(), OutOfMemory>
     Ok(())
 }
 
+// What a command tells is told.
+fn take_told(
+    context: Context<'_>,
+    told: &mut TakenEvents,
+    verb: Verb,
+    name: &[u8],
+    params: &[Param<'_>],
+) -> Result<(), OutOfMemory>
+    ensures ok { OnOk result (told.new ≡ record told.old {
+      is = fold with_taken told.old.is
+          (taken_of context.entry.setup.now verb name.now params.now);
+    }) }
+    ensures err { OnErr result (told.new ≡ told.old) }
+{
+    let taken = taken_of(context, verb, name, params)?;
+    tell(told, taken)
+}
+
+// The transactions that a command confirms.
+fn confirmed_by(alloc: Global, said: &Message<'_>) -> Result<Sequence<IdSpan>, OutOfMemory>
+    ensures { IfOk result (λ spans. spans ≡ spans_of (k_of (params_in said.now))) }
+{
+    let confirms = read_k(alloc, said)?;
+    spans_of(alloc, &confirms)
+}
+
 /// A new command is taken and answered: what it tells is taken, what it confirms and its answer are kept, and its answer goes to
 /// where it came from.
 pub(crate) fn execute(
@@ -131,9 +158,8 @@ pub(crate) fn execute(
       taken = taken_of context.entry.setup.now verb name.now (params_in said.now);
     })) state.old state.new out.old.items out.new.items }
 {
-    let confirms = spans_of(context.alloc, &read_k(context.alloc, said)?)?;
-    let taken = taken_of(context, verb, name, said.params())?;
-    tell(&mut state.told, taken)?;
+    let confirms = confirmed_by(context.alloc, said)?;
+    take_told(context, &mut state.told, verb, name, said.params())?;
     let given = AnswerContent::plain(context.alloc, code_for(verb));
     answer(
         context.alloc,
