@@ -1,6 +1,6 @@
 //! What is done at a text that came in a datagram, and what the text was.
-ghost use Rattle.std.specs.Prelude.{◌≡◌, ◌∷◌, ◌++◌, nat_lt, [], length, Some, None, IfOk, OnOk};
-ghost use Rattle.mgcp_text.specs.Reading.{read_text};
+ghost use Rattle.std.specs.Prelude.{◌≡◌, ◌∷◌, ◌++◌, ℕ, List, nat_lt, [], length, Some, None, IfOk, IfSome, OnOk};
+ghost use Rattle.mgcp_text.specs.Reading.{outcome_of, read_text};
 ghost use Rattle.mgcp_text.specs.Message.{params_in};
 ghost use Rattle.mgcp_text.specs.Confirmation.{k_of};
 ghost use Rattle.transmission.specs.Texts.{largest_datagram, texts_of};
@@ -24,13 +24,57 @@ use crate::state::State;
 use crate::telling::passed_over;
 use endpoint_rules::Context;
 use mg_bytes::OutOfMemory;
-use mgcp_text::{Message, TextFault, read_k, read_message};
+use mgcp_text::{KValue, Message, TextFault, read_k, read_message};
 use plain_machine::{OutDatagram, Refusal};
 use std::net::SocketAddrV4;
 use transmission::{Origin, answer, hear, spans_of, texts};
 
-// A new command is executed, and its K is read once: its answer, which has this return code, goes out before what lines send
-// because of it.
+// A new command whose K was read is executed: its answer, which has this return code, goes out before what lines send because
+// of it.
+fn execute_with_k(
+    context: Context<'_>,
+    state: &mut State,
+    origin: Origin,
+    said: &Message<'_>,
+    confirms: &KValue,
+    out: &mut Vec<OutDatagram>,
+) -> Result<u16, OutOfMemory>
+    requires { MayTell context.setup.now state.old.clock }
+    ensures does { (line : _) → Does result (executed (machine_in state.old) origin.source
+        (transaction origin.id line (spans_of confirms.now)
+        (done_by (form_while_in (serves state.old.store.endpoints) said.now confirms.now
+        context.entry.setup.now.names) context.entry.setup.now
+        state.old.store.endpoints state.old.clock origin.id))) state.old state.new out.old.items out.new.items }
+    ensures code { IfOk result (λ code. code
+        ≡ (done_by (form_while_in (serves state.old.store.endpoints) said.now confirms.now
+        context.entry.setup.now.names) context.entry.setup.now
+        state.old.store.endpoints state.old.clock origin.id).answer.code) }
+{
+    let mut sent = Vec::new(context.alloc);
+    let spans = spans_of(context.alloc, confirms)?;
+    let given = commanded(
+        context,
+        &mut state.store,
+        state.clock,
+        origin.id,
+        said,
+        confirms,
+        &mut sent,
+    )?;
+    answer(
+        context.alloc,
+        &mut state.history,
+        origin,
+        state.clock,
+        spans,
+        &given,
+        out,
+    )?;
+    send_all(out, sent)?;
+    Ok(given.code())
+}
+
+// A new command is executed, and its K is read once: its answer has this return code.
 fn execute(
     context: Context<'_>,
     state: &mut State,
@@ -49,29 +93,8 @@ fn execute(
         context.entry.setup.now.names) context.entry.setup.now
         state.old.store.endpoints state.old.clock origin.id).answer.code) }
 {
-    let mut sent = Vec::new(context.alloc);
     let confirms = read_k(context.alloc, said)?;
-    let spans = spans_of(context.alloc, &confirms)?;
-    let given = commanded(
-        context,
-        &mut state.store,
-        state.clock,
-        origin.id,
-        said,
-        &confirms,
-        &mut sent,
-    )?;
-    answer(
-        context.alloc,
-        &mut state.history,
-        origin,
-        state.clock,
-        spans,
-        &given,
-        out,
-    )?;
-    send_all(out, sent)?;
-    Ok(given.code())
+    execute_with_k(context, state, origin, said, &confirms, out)
 }
 
 // What is left to the gateway at a text that it heard, and what the text was: where nothing is left, what it was passed over as.
@@ -117,7 +140,40 @@ fn handle(
     }
 }
 
-// A text: what it was.
+// A text, by what it was read as: what it was.
+fn take_read(
+    context: Context<'_>,
+    state: &mut State,
+    source: SocketAddrV4,
+    read: &Result<Message<'_>, TextFault>,
+    out: &mut Vec<OutDatagram>,
+) -> Result<TextOutcome, OutOfMemory>
+    requires { MayTell context.setup.now state.old.clock }
+    ensures does { (text : List ℕ) → IfSome (outcome_of read.now) (λ outcome. outcome ≡ read_text text) →
+        Does result (handled context.entry.setup.now (machine_in state.old) source (read_text text))
+        state.old state.new out.old.items out.new.items }
+    ensures outcome { (text : List ℕ) → IfSome (outcome_of read.now) (λ outcome. outcome ≡ read_text text) →
+        IfOk result (λ outcome. outcome ≡ text_outcome context.entry.setup.now (machine_in state.old) (read_text text)) }
+{
+    let passed = passed_over(&state.history, state.clock, read);
+    let before = out.len();
+    if !hear(
+        context.alloc,
+        &mut state.history,
+        source,
+        state.clock,
+        read,
+        out,
+    )? {
+        return Ok(passed);
+    }
+    // Only a response sent anything yet: where it asks for that, its acknowledgement.
+    let is_acknowledged = out.len() > before;
+    let outcome = handle(context, state, source, passed, is_acknowledged, read, out)?;
+    Ok(outcome)
+}
+
+// A text: what it was. Nothing fails beside what it is read as: a check pays for a large value at each step.
 fn take(
     context: Context<'_>,
     state: &mut State,
@@ -132,22 +188,7 @@ fn take(
         ≡ text_outcome context.entry.setup.now (machine_in state.old) (read_text text.now)) }
 {
     let read = read_message(context.alloc, text);
-    let passed = passed_over(&state.history, state.clock, &read);
-    let before = out.len();
-    if !hear(
-        context.alloc,
-        &mut state.history,
-        source,
-        state.clock,
-        &read,
-        out,
-    )? {
-        return Ok(passed);
-    }
-    // Only a response sent anything yet: where it asks for that, its acknowledgement.
-    let is_acknowledged = out.len() > before;
-    let outcome = handle(context, state, source, passed, is_acknowledged, &read, out)?;
-    Ok(outcome)
+    take_read(context, state, source, &read, out)
 }
 
 // The next text of a datagram, which is told of behind those before it.
