@@ -79,10 +79,15 @@ fn hook_in(states: &[u8]) -> Option<bool> {
     None
 }
 
+// What an answer to an audit tells of a hook.
+fn hook_told(params: &[Param<'_>]) -> Option<bool> {
+    hook_in(param_at(b"ES", params)?.value.as_slice())
+}
+
 // What an audit tells of a hook; nothing where memory is refused.
 fn audited_hook(alloc: Global, text: &[u8]) -> Option<bool> {
     match read_message(alloc, text) {
-        Ok(message) => hook_in(param_at(b"ES", message.params())?.value.as_slice()),
+        Ok(message) => hook_told(message.params()),
         Err(_) => None,
     }
 }

@@ -370,12 +370,15 @@ impl Switchboard {
         }
     }
 
-    /// A text came from the gateway at this place, of which its agent has heard.
-    pub fn hear(&mut self, journal: &mut Journal, place: usize, text: &[u8]) {
-        let Ok(message) = read_message(self.alloc, text) else {
-            return;
-        };
-        match &message {
+    // A message came from the gateway at this place, which this text is.
+    fn hear_message(
+        &mut self,
+        journal: &mut Journal,
+        place: usize,
+        message: &Message<'_>,
+        text: &[u8],
+    ) {
+        match message {
             Message::Response { code, id, .. } => {
                 self.hear_response(journal, place, *id, *code, text);
             }
@@ -387,6 +390,14 @@ impl Switchboard {
                 ..
             } => self.hear_announcement(journal, place, *id, name.as_slice(), params.as_slice()),
             Message::Command { .. } => {}
+        }
+    }
+
+    /// A text came from the gateway at this place, of which its agent has heard.
+    pub fn hear(&mut self, journal: &mut Journal, place: usize, text: &[u8]) {
+        match read_message(self.alloc, text) {
+            Ok(message) => self.hear_message(journal, place, &message, text),
+            Err(_) => {}
         }
     }
 
