@@ -3,7 +3,11 @@ pub mod FlightLemmas
 pub mod WellLemmas
 pub mod ToldLemmas
 pub mod MatchLemmas
+pub mod CountLemmas
 pub mod TakenLemmas
+pub mod NumberedLemmas
+pub mod PairLemmas
+pub mod NumberTurns
 pub mod MoveLemmas
 pub mod WorldLemmas
 pub mod EndLemmas
