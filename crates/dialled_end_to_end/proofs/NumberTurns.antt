@@ -1,6 +1,8 @@
 -- A line's commands are numbered in turn, and so does each turn of the line leave them.
 use Rattle.std.proofs.Common.{◌≡◌, ℕ, ◌+◌, ◌<◌, ◌≤◌, ◌==◌, Bool, true, false, if◌then◌else◌, List, [], ◌∷◌, ◌++◌, Option, Some, None, inl, inr, refl, sym, ap, ◌∙◌, subst, arith, append-nil}
-use Rattle.std.proofs.lemmas.Bool.{eqb-false, eqb-true}
+use Rattle.std.proofs.lemmas.Bool.{eqb-false, eqb-true, ltb-false, ltb-true}
+use Rattle.std.specs.Prelude.{nat_lt}
+use Rattle.std.proofs.lemmas.Nat.{div-mul-add}
 use Rattle.std.specs.Option.{unwrap_or}
 use Rattle.endpoint_names.specs.declared.entity.Entity.{Entity}
 use Rattle.mg_line.specs.Line.{LineDone, Notice}
@@ -32,7 +34,6 @@ use Rattle.plain_machine.specs.Posting.{first_number, id_on, line_of_id, number_
 use Rattle.plain_machine.specs.Requesting.{asked_if, deed_on, with_connections, with_entity}
 use Rattle.plain_machine.specs.Responding.{opened_on, redirected_on, responded_as, responded_on}
 use Rattle.machine_laws.specs.Saying.{Begun, begun_at, begun_in}
-use Rattle.machine_laws.proofs.PostLogs.{line_is}
 use Rattle.dialled_once.specs.Course.{CourseStep}
 use Rattle.dialled_once.proofs.CourseLemmas.{AnyResponse, EndpointTurns, Stands, events_stand, hear_all}
 use Rattle.plain_machine.specs.Arriving.{arrivals_of}
@@ -74,13 +75,16 @@ next_is line number low = by_test (number + 1 == numbers) refl where
   by_test true e = (let few = first_low line in omega (arith, few), inr (eqb-true (number + 1) numbers e, first_low line))
   by_test false e = (let other = eqb-false (number + 1) numbers e in below number low other, inl refl) where
     below : (n : ℕ) → n < numbers → (n + 1 ≡ numbers → ⊥) → n + 1 < numbers
-    below n less no = grind arith
+    below n less never = by_eq (nat_lt (n + 1) numbers) refl where
+      by_eq : (b : Bool) → nat_lt (n + 1) numbers ≡ b → n + 1 < numbers
+      by_eq true e = ltb-true (n + 1) numbers e
+      by_eq false e = absurd (never (let far = ltb-false (n + 1) numbers e in omega (arith, less, far)))
 
 -- one begins
 begins_counted : (sent : List Sent) (one : Sent) (b : Begun) (line number : ℕ) → begun_at one ≡ b ∷ [] → b.id ≡ id_on line number → CountedTo sent number → CountedTo (sent ++ one ∷ []) (number_after line number)
 begins_counted sent one b line number begins same c =
     let next = next_is line number c.0 in
-    let has : HasNumber number b = (c.0, same ∙ ap (λ (x : ℕ). id_on x number) (sym (ap line_of_id same ∙ line_is line number c.0))) in (
+    let has : HasNumber number b = (c.0, same ∙ ap (λ (x : ℕ). id_on x number) (sym (ap line_of_id same ∙ div-mul-add line numbers number c.0))) in (
       next.0,
       (
         c.1.0,
@@ -172,7 +176,7 @@ opening_stands setup line some = record {
   order = opening_waits setup;
   holds = λ s at.
       of_its_line (λ n endpoint. Counted [] endpoint) (opening setup).endpoints line s
-      (on_made (λ n endpoint. Counted [] endpoint) (opening_endpoint setup) 1 setup.names.lines (λ i low high. (let few = first_low i in omega (arith, few), (first_number i, refl)))) at;
+      (on_made (λ n endpoint. Counted [] endpoint) (opening_endpoint setup) 1 setup.names.lines (λ i low high. (omega arith, (0, refl)))) at;
 }
 
 pub line_counted : (setup : Setup) (line : ℕ) → 1 ≤ line → (events : List GatewayEvent) (s : Endpoint) → endpoint_at (plain setup events).endpoints line ≡ Some s
