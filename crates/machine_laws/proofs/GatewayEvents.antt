@@ -51,7 +51,8 @@ use Rattle.machine_laws.proofs.GatewayTurns.{OwnStands, LineStands, log_turns}
 use Rattle.machine_laws.proofs.LogTurns.{Goes, Stands, acted_goes, command_goes, log_both, on_later, pass_goes, responded_goes}
 use Rattle.machine_laws.proofs.PostLogs.{InLog, Logged, Own, Posted, WasBegun}
 use Rattle.machine_laws.proofs.TellsLemmas.{AreAnswers, tells_on}
-use Rattle.machine_laws.specs.Saying.{IsAnswerTo, Begun, OneOf, Tells, begun_in}
+use Rattle.machine_laws.specs.Saying.{Gives, IsAnswerTo, Begun, OneOf, Tells, begun_in}
+use Rattle.machine_laws.proofs.YoungLemmas.{repeat_gives}
 
 -- what is sent by this moment
 abbrev pub Said : List Begun → List KeptFirst → ℕ → Sent → Type 0
@@ -92,14 +93,6 @@ one_first m t =
     firsts_append (m.history ++ Confirmation t.confirms ∷ []) (First (record { id = t.id; moment = m.now; answer = answer_text t }) ∷ [])
     ∙ ap (λ (x : List KeptFirst). x ++ (record { id = t.id; moment = m.now; answer = answer_text t }) ∷ []) (firsts_append m.history (Confirmation t.confirms ∷ []) ∙ append-nil (firsts_in m.history))
 
-kept_one : (text : List ℕ) (firsts : List KeptFirst) → Any (λ (first : KeptFirst). first.answer ≡ text) firsts → OneOf (λ (first : KeptFirst). first.answer ≡ text) firsts
-kept_one text firsts any = from firsts any.0 any.1 any.2 any.3 any.4 where
-  from : (firsts : List KeptFirst) (place : ℕ) (first : KeptFirst) → place < length firsts → slice_index_or firsts place first ≡ first → first.answer ≡ text
-      → OneOf (λ (first : KeptFirst). first.answer ≡ text) firsts
-  from [] place first less at is = absurd (omega arith)
-  from (x ∷ firsts) zero first less at is = inl (ap (λ (f : KeptFirst). f.answer) at ∙ is)
-  from (x ∷ firsts) (suc place) first less at is = inr (from firsts place first (omega (arith, less)) at is)
-
 answer_is : (t : Transaction) → IsId t.id → IsAnswer t.done.answer → IsAnswerTo t.id (answer_text t)
 answer_is t has is =
     let given = t.done.answer in
@@ -131,7 +124,7 @@ transacted_goes log new m source t stands answered is goes at = record {
   grown = one_first m t;
   answers = subst AreAnswers (sym (one_first m t)) (each_both (λ (first : KeptFirst). IsAnswerTo first.id first.answer) (firsts_in m.history) (kept ∷ []) answered (is, tt));
   sent_says = (
-    (inr (inl (subst (OneOf (λ (first : KeptFirst). first.answer ≡ answer_text t)) (sym (one_first m t)) (one_behind (λ (first : KeptFirst). first.answer ≡ answer_text t) (firsts_in m.history) (kept ∷ []) (inl refl)))), omega arith),
+    (inr (inl (subst (OneOf (Gives (answer_text t) m.now)) (sym (one_first m t)) (one_behind (Gives (answer_text t) m.now) (firsts_in m.history) (kept ∷ []) (inl (refl, omega arith))))), omega arith),
     own_said m.now (log ++ begun_in t.done.told.sent) (firsts_in (history_with m t)) t.done.told.sent goes.sent_own,
   );
 } where
@@ -139,7 +132,7 @@ transacted_goes log new m source t stands answered is goes at = record {
   kept = record { id = t.id; moment = m.now; answer = answer_text t }
 transacted_goes log (repeat text) m source t stands answered is goes at =
     still_goes log m (reply m source t.line (again text) ∷ []) refl stands answered
-    ((inr (inl (kept_one text (firsts_in m.history) (repeat_kept most_firsts m.history t.id m.now text (sym at)))), omega arith), tt)
+    ((inr (inl (repeat_gives most_firsts m.history t.id m.now text (sym at))), omega arith), tt)
 transacted_goes log confirmed m source t stands answered is goes at = still_goes log m [] refl stands answered tt
 transacted_goes log full m source t stands answered is goes at = still_goes log m [] refl stands answered tt
 

@@ -35,6 +35,7 @@ pub mod KeepLemmas
 pub mod PostLogs
 pub mod LogTurns
 pub mod GatewayTurns
+pub mod YoungLemmas
 pub mod GatewayEvents
 pub mod GatewayLists
 pub mod Computing

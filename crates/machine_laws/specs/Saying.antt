@@ -7,6 +7,7 @@ use Rattle.mgcp_text.specs.Reading.{Outcome, message, no_header, bad_version, ba
 use Rattle.mgcp_text.specs.Writing.{written}
 use Rattle.outbound.specs.Sends.{sending_time}
 use Rattle.history.specs.declared.entry.KeptFirst.{KeptFirst}
+use Rattle.history.specs.Memory.{memory_time}
 use Rattle.plain_machine.specs.Message.{Said, answer, again, command, resent, acknowledgement, Sent}
 use Rattle.plain_machine.specs.Posting.{numbers, first_number, line_of_id}
 
@@ -72,6 +73,10 @@ pub record IsAcknowledgement (text : List ℕ) : Type 0 where
   pub id : ℕ
   pub reads : read_text text ≡ message (messages.Response 0 id [] [])
 
+-- the stored answer to a first that is remembered, less than 30,000 ms after it came
+abbrev pub Gives : List ℕ → ℕ → KeptFirst → Type 0
+Gives text moment first = (first.answer ≡ text) × (moment < first.moment + memory_time)
+
 abbrev pub Tells : List Begun → List KeptFirst → List ℕ → ℕ → Type 0
 Tells log firsts text moment =
-    OneOf (Carries text moment) log ⊎ (OneOf (λ (first : KeptFirst). first.answer ≡ text) firsts ⊎ IsAcknowledgement text)
+    OneOf (Carries text moment) log ⊎ (OneOf (Gives text moment) firsts ⊎ IsAcknowledgement text)
