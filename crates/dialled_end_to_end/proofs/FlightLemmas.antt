@@ -110,8 +110,8 @@ module _ (A : ℕ → Type 0) (B : Type 0) where
     pub answered : Each (λ (b : Begun). A b.id) settled
 
   pub record Flies (sent : List Sent) (endpoint : Endpoint) : Type 0 where
-    rests : Rests endpoint.post.restart endpoint.post.pending endpoint.line.state
-    either : Fine sent endpoint.post.restart endpoint.post.pending ⊎ Gone sent endpoint.post.restart
+    pub rests : Rests endpoint.post.restart endpoint.post.pending endpoint.line.state
+    pub either : Fine sent endpoint.post.restart endpoint.post.pending ⊎ Gone sent endpoint.post.restart
 
   -- after a turn
   abbrev FliesOn : List Sent → Effect Endpoint → Type 0

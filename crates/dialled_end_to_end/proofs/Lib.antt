@@ -10,6 +10,8 @@ pub mod PairLemmas
 pub mod NumberTurns
 pub mod MoveLemmas
 pub mod WorldLemmas
+pub mod PairedWorlds
+pub mod PairedSteps
 pub mod EndLemmas
 pub mod NumberLemmas
 pub mod Computing

@@ -71,7 +71,7 @@ sent_on setup m (event ∷ es) fs =
     ap (λ (x : List Sent). (effect setup m event).sent ++ x) (sent_on setup (effect setup m event).value es fs)
     ∙ sym (append_assoc (effect setup m event).sent (sent_from setup (effect setup m event).value es) _)
 
-sent_more : (setup : Setup) (line : ℕ) (took : List GatewayEvent) (event : GatewayEvent)
+pub sent_more : (setup : Setup) (line : ℕ) (took : List GatewayEvent) (event : GatewayEvent)
     → line_sent setup line (took ++ event ∷ []) ≡ line_sent setup line took ++ of_line line (sent_from setup (plain setup took) (event ∷ []))
 sent_more setup line took event =
     ap (of_line line) (sent_on setup (opening setup) took (event ∷ [])) ∙ of_both line (sent_of setup took) (sent_from setup (plain setup took) (event ∷ []))
@@ -87,7 +87,7 @@ pub record Known (setup : Setup) (line : ℕ) (w : World) : Type 0 where
 
 -- filtered by their ids
 
-mine_each : (line : ℕ) (begun : List Begun) → Each (λ (b : Begun). line_of_id b.id ≡ line) (filter (is_mine line) begun)
+pub mine_each : (line : ℕ) (begun : List Begun) → Each (λ (b : Begun). line_of_id b.id ≡ line) (filter (is_mine line) begun)
 mine_each line [] = tt
 mine_each line (b ∷ begun) = by_test (is_mine line b) refl (mine_each line begun) where
   by_test : (t : Bool) → is_mine line b ≡ t → Each (λ (b : Begun). line_of_id b.id ≡ line) (filter (is_mine line) begun)
@@ -136,10 +136,10 @@ taken_began begun [] each = tt
 taken_began begun (one ∷ taken) each =
     (in_mapped (λ (b : Begun). b.id) one.asked.id begun (one_weaker (IsAsSent one) (λ (b : Begun). b.id ≡ one.asked.id) (λ b is. is.0) begun each.0), taken_began begun taken each.1)
 
-abbrev IsFinal : (ℕ → Type 0) → Response → Type 0
+abbrev pub IsFinal : (ℕ → Type 0) → Response → Type 0
 IsFinal A response = 200 ≤ response.code → A response.id
 
-hear_finals : (setup : Setup) (A : ℕ → Type 0) (arrivals : List TextArrival)
+pub hear_finals : (setup : Setup) (A : ℕ → Type 0) (arrivals : List TextArrival)
     → Each (λ (a : TextArrival). (code id : ℕ) (params : List Param) (body : List ℕ) → a.outcome ≡ message (messages.Response code id params body) → 200 ≤ code → A id) arrivals
     → AllHear setup (IsFinal A) arrivals
 hear_finals setup A [] each = tt
@@ -160,23 +160,30 @@ opening_stands setup A line some = record {
       (on_made (λ n endpoint. Flies A (Unit {0}) [] endpoint) (opening_endpoint setup) 1 setup.names.lines (λ i low high. opening_flies A (Unit {0}) (opening_endpoint setup i) tt refl refl)) at;
 }
 
+pub line_flies : (setup : Setup) (line : ℕ) → 1 ≤ line → (steps : List WorldStep) → IsSetUp setup → steps_are_taken setup world_opening steps ≡ true → (s : Endpoint)
+    → endpoint_at (gateway_in setup (plain_world setup steps)).endpoints line ≡ Some s
+    → Flies (WasTaken (taken_in (plain_world setup steps))) (Unit {0}) (line_sent setup line (plain_world setup steps).gateway_took) s
+line_flies setup line some steps set_up taken =
+    let w = plain_world setup steps in
+    let A : ℕ → Type 0 = WasTaken (taken_in w) in
+    let P : TextArrival → Type 0 = λ a. (code id : ℕ) (params : List Param) (body : List ℕ) → a.outcome ≡ message (messages.Response code id params body) → 200 ≤ code → Any (λ (one : Reached). one.asked.id ≡ id) (taken_in w) in
+    let finals : AllHear setup (IsFinal A) (arrivals_of w.gateway_took) =
+    hear_finals setup A (arrivals_of w.gateway_took)
+    (each_weaker P (λ (a : TextArrival). (code id : ℕ) (params : List Param) (body : List ℕ) → a.outcome ≡ message (messages.Response code id params body) → 200 ≤ code → A id)
+    (λ a all. λ code id params body is high. one_from_any (λ (one : Reached). one.asked.id ≡ id) (taken_in w) (all code id params body is high)) (arrivals_of w.gateway_took)
+    (each_from_all P (arrivals_of w.gateway_took) (heard_was_taken setup steps set_up taken))) in
+    (events_stand setup (IsFinal A) (FliesBeside A (Unit {0})) (flight_turns A (Unit {0}) setup) line some (opening setup) [] [] 0 w.gateway_took finals (opening_stands setup A line some)).holds
+
 pub known : (setup : Setup) (line : ℕ) (some : 1 ≤ line) (steps : List WorldStep) → IsSetUp setup → steps_are_taken setup world_opening steps ≡ true
     → HasNumbersLeft (own_in setup (plain_world setup steps)) → Known setup line (plain_world setup steps)
 known setup line some steps set_up taken few =
     let w = plain_world setup steps in
     let well = each_from_all (IsWell setup) (sent_of setup w.gateway_took) (sent_well setup set_up w.gateway_took) in
     let mine : filter (is_mine line) (own_in setup w) ≡ line_begun setup line w.gateway_took = mine_is setup line (sent_of setup w.gateway_took) well in
-    let A : ℕ → Type 0 = WasTaken (taken_in w) in
     let Q : Reached → Type 0 = λ one. Any (λ (b : Begun). (b.id ≡ one.asked.id) × (one.outcome ≡ read_text b.text)) (own_in setup w) in
-    let P : TextArrival → Type 0 = λ a. (code id : ℕ) (params : List Param) (body : List ℕ) → a.outcome ≡ message (messages.Response code id params body) → 200 ≤ code → Any (λ (one : Reached). one.asked.id ≡ id) (taken_in w) in
     let sent : Each (λ (one : Reached). OneOf (IsAsSent one) (own_in setup w)) (taken_in w) =
     each_weaker Q (λ (one : Reached). OneOf (IsAsSent one) (own_in setup w)) (λ one any. one_from_any (IsAsSent one) (own_in setup w) any) (taken_in w)
     (each_from_all Q (taken_in w) (taken_as_sent setup steps set_up taken)) in
-    let finals : AllHear setup (IsFinal A) (arrivals_of w.gateway_took) =
-    hear_finals setup A (arrivals_of w.gateway_took)
-    (each_weaker P (λ (a : TextArrival). (code id : ℕ) (params : List Param) (body : List ℕ) → a.outcome ≡ message (messages.Response code id params body) → 200 ≤ code → A id)
-    (λ a all. λ code id params body is high. one_from_any (λ (one : Reached). one.asked.id ≡ id) (taken_in w) (all code id params body is high)) (arrivals_of w.gateway_took)
-    (each_from_all P (arrivals_of w.gateway_took) (heard_was_taken setup steps set_up taken))) in
     record {
       apart = subst (λ (x : List Begun). Apart (begun_ids x)) mine
           (apart_filtered (λ (b : Begun). b.id) (is_mine line) (own_in setup w)
@@ -185,8 +192,7 @@ known setup line some steps set_up taken few =
           (apart_from (λ (one : Reached). one.asked.id) (taken_in w) (taken_once setup steps set_up taken few));
       mine = subst (Each (λ (b : Begun). line_of_id b.id ≡ line)) mine (mine_each line (own_in setup w));
       as_sent = subst (λ (x : List Begun). Each (λ (one : Reached). OneOf (IsAsSent one) x) (line_taken line (taken_in w))) mine (taken_each line (own_in setup w) (taken_in w) sent);
-      flies = (events_stand setup (IsFinal A) (FliesBeside A (Unit {0})) (flight_turns A (Unit {0}) setup) line some (opening setup) [] [] 0 w.gateway_took finals
-          (opening_stands setup A line some)).holds;
+      flies = line_flies setup line some steps set_up taken;
     }
 
 -- What the line began beside what was taken
@@ -216,7 +222,7 @@ none_turns setup = record {
 }
 
 module _ (setup : Setup) (line : ℕ) (some : 1 ≤ line) where
-  none_comes : (took : List GatewayEvent) (event : GatewayEvent) (s : Endpoint) → endpoint_at (plain setup took).endpoints line ≡ None
+  pub none_comes : (took : List GatewayEvent) (event : GatewayEvent) (s : Endpoint) → endpoint_at (plain setup took).endpoints line ≡ None
       → endpoint_at (machine_after setup (plain setup took) (event ∷ [])).endpoints line ≡ Some s → ⊥
   none_comes took event s none at =
       (events_stand setup AnyResponse NoEndpoint (none_turns setup) line some (plain setup took) [] [] 0 (event ∷ [])
@@ -227,7 +233,7 @@ module _ (setup : Setup) (line : ℕ) (some : 1 ≤ line) where
   AnyId id = Unit {0}
 
   -- what gave something up has done so after one event more
-  stays_up : (took : List GatewayEvent) (event : GatewayEvent) (s s' : Endpoint) → endpoint_at (plain setup took).endpoints line ≡ Some s
+  pub stays_up : (took : List GatewayEvent) (event : GatewayEvent) (s s' : Endpoint) → endpoint_at (plain setup took).endpoints line ≡ Some s
       → endpoint_at (machine_after setup (plain setup took) (event ∷ [])).endpoints line ≡ Some s' → Flies AnyId ⊥ (line_sent setup line took) s
       → has_given_up (line_sent setup line took ++ of_line line (sent_from setup (plain setup took) (event ∷ []))) s'.post ≡ true
   stays_up took event s s' here there gone =
@@ -331,16 +337,16 @@ module _ (setup : Setup) (line : ℕ) (some : 1 ≤ line) where
 
 -- Whole lists of steps
 
-world_more : (setup : Setup) (w : World) (some more : List WorldStep) → world_after setup w (some ++ more) ≡ world_after setup (world_after setup w some) more
+pub world_more : (setup : Setup) (w : World) (some more : List WorldStep) → world_after setup w (some ++ more) ≡ world_after setup (world_after setup w some) more
 unfolding world_after
 world_more setup w [] more = refl
 world_more setup w (step ∷ some) more = world_more setup (went setup w step) some more
 
-world_one : (setup : Setup) (before : List WorldStep) (step : WorldStep) → plain_world setup (before ++ step ∷ []) ≡ went setup (plain_world setup before) step
+pub world_one : (setup : Setup) (before : List WorldStep) (step : WorldStep) → plain_world setup (before ++ step ∷ []) ≡ went setup (plain_world setup before) step
 unfolding world_after
 world_one setup before step = world_more setup world_opening before (step ∷ [])
 
-taken_front : (setup : Setup) (w : World) (some more : List WorldStep) → steps_are_taken setup w (some ++ more) ≡ true → steps_are_taken setup w some ≡ true
+pub taken_front : (setup : Setup) (w : World) (some more : List WorldStep) → steps_are_taken setup w (some ++ more) ≡ true → steps_are_taken setup w some ≡ true
 unfolding steps_are_taken
 taken_front setup w [] more taken = refl
 taken_front setup w (step ∷ some) more taken = by_first (is_none (step_refusal setup w step)) taken (taken_front setup (went setup w step) some more) where

@@ -27,7 +27,7 @@ use Rattle.history.specs.declared.entry.KeptFirst.{KeptFirst}
 use Rattle.history.specs.declared.entry.Entry.{Entry}
 use Rattle.history.specs.declared.entry.Entry.TheVariants.{First, Confirmation}
 use Rattle.history.specs.Kept.{first_entry, firsts_in}
-use Rattle.history.proofs.LookLaws.{repeat_kept}
+use Rattle.machine_laws.proofs.YoungLemmas.{repeat_gives}
 use Rattle.history.specs.Memory.{most_firsts}
 use Rattle.history.specs.Looking.{Looked, new, repeat, confirmed, full, look_of}
 use Rattle.endpoint_names.specs.declared.route.Route.TheVariants.{One}
@@ -45,7 +45,7 @@ use Rattle.plain_machine.specs.Event.{datagram, phone, tick}
 use Rattle.machine_laws.proofs.EachLemmas.{Each, all_from_each, each_both, each_push, each_weaker, one_before, one_behind, one_from_any, one_of_each, one_to, one_weaker}
 use Rattle.machine_laws.proofs.FlightLemmas.{IsSame}
 use Rattle.machine_laws.proofs.TellsLemmas.{tells_on}
-use Rattle.machine_laws.specs.Saying.{Carries, IsAnswerTo, Begun, OneOf, Tells, is_command_as}
+use Rattle.machine_laws.specs.Saying.{Gives, Carries, IsAnswerTo, Begun, OneOf, Tells, is_command_as}
 use Rattle.transmission.specs.Transacting.{message_to}
 use Rattle.call_agent.specs.declared.setup.AgentSetup.{AgentSetup}
 use Rattle.call_agent.specs.Agent.{AgentEffect, AgentMachine, agent_opening}
@@ -237,13 +237,10 @@ kept_more : (some more : List Entry) → AreKept some → AreKept more → AreKe
 kept_more some more all rest = rw (firsts_append some more) (each_both (λ (first : KeptFirst). Fine first.id first.answer) (firsts_in some) (firsts_in more) all rest)
 
 -- a text that is told again is the answer of one that is kept
-again_one : (text : List ℕ) (firsts : List KeptFirst) → Any (λ (first : KeptFirst). first.answer ≡ text) firsts → OneOf (λ (first : KeptFirst). first.answer ≡ text) firsts
-again_one text firsts any = one_from_any (λ (first : KeptFirst). first.answer ≡ text) firsts any
-
-again_goes : (text : List ℕ) (firsts : List KeptFirst) → Each (λ (first : KeptFirst). Fine first.id first.answer) firsts → OneOf (λ (first : KeptFirst). first.answer ≡ text) firsts → Goes text
-again_goes text firsts all one =
-    one_to (λ (first : KeptFirst). Fine first.id first.answer × (first.answer ≡ text)) (Goes text) (λ first both. ap (is_joinable largest_datagram) (sym both.1) ∙ both.0.goes) firsts
-    (one_of_each (λ (first : KeptFirst). Fine first.id first.answer) (λ (first : KeptFirst). first.answer ≡ text) firsts all one)
+again_goes : (now : ℕ) (text : List ℕ) (firsts : List KeptFirst) → Each (λ (first : KeptFirst). Fine first.id first.answer) firsts → OneOf (Gives text now) firsts → Goes text
+again_goes now text firsts all one =
+    one_to (λ (first : KeptFirst). Fine first.id first.answer × Gives text now first) (Goes text) (λ first both. ap (is_joinable largest_datagram) (sym both.1.0) ∙ both.0.goes) firsts
+    (one_of_each (λ (first : KeptFirst). Fine first.id first.answer) (Gives text now) firsts all one)
 
 -- What holds of an agent that issued these
 
@@ -268,7 +265,7 @@ pub record GoesOn (all : List Begun) (m : AgentMachine) (done : AgentEffect) : T
   pub grown : firsts_in done.machine.history ≡ firsts_in m.history ++ more
   pub sent : Each (Speaks all (firsts_in done.machine.history) m.now) done.sent
 
-one_fine : (all : List Begun) (firsts : List KeptFirst) (now : ℕ) (to : SocketAddrV4) (text : List ℕ) → OneOf (λ (first : KeptFirst). first.answer ≡ text) firsts → Goes text
+one_fine : (all : List Begun) (firsts : List KeptFirst) (now : ℕ) (to : SocketAddrV4) (text : List ℕ) → OneOf (Gives text now) firsts → Goes text
     → Each (Speaks all firsts now) (message_to to now text ∷ [])
 one_fine all firsts now to text one goes = (record { says = inr (inl one); early = omega arith; goes = goes }, tt)
 
@@ -295,17 +292,17 @@ transacted_on all new m source command h has small is =
       more = kept ∷ [];
       grown = one_first m command;
       sent = one_fine all _ m.now source (answer_to command)
-          (subst (OneOf (λ (first : KeptFirst). first.answer ≡ answer_to command)) (sym (one_first m command)) (one_behind (λ (first : KeptFirst). first.answer ≡ answer_to command) (firsts_in m.history) (kept ∷ []) (inl refl)))
+          (subst (OneOf (Gives (answer_to command) m.now)) (sym (one_first m command)) (one_behind (Gives (answer_to command) m.now) (firsts_in m.history) (kept ∷ []) (inl (refl, omega arith))))
           fine.goes;
     }
 transacted_on all (repeat text) m source command h has small is =
-    let one = again_one text (firsts_in m.history) (repeat_kept most_firsts m.history command.id m.now text (sym is)) in
+    let one = repeat_gives most_firsts m.history command.id m.now text (sym is) in
     record {
       holds = h;
       now = refl;
       more = [];
       grown = sym (append-nil (firsts_in m.history));
-      sent = one_fine all (firsts_in m.history) m.now source text one (again_goes text (firsts_in m.history) h.kept one);
+      sent = one_fine all (firsts_in m.history) m.now source text one (again_goes m.now text (firsts_in m.history) h.kept one);
     }
 transacted_on all confirmed m source command h has small is = record { holds = h; now = refl; more = []; grown = sym (append-nil (firsts_in m.history)); sent = tt }
 transacted_on all full m source command h has small is = record { holds = h; now = refl; more = []; grown = sym (append-nil (firsts_in m.history)); sent = tt }

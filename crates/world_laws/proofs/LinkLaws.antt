@@ -1,6 +1,6 @@
 -- What comes to the agent of a world: commands of the gateway's own, less than 30,000 ms after they began, and the answers
 -- that the gateway keeps; and what the gateway hears are the answers that the agent keeps.
-use Rattle.std.proofs.Common.{◌≡◌, ◌≢◌, ℕ, ◌-◌, ◌≤◌, Bool, true, false, ◌==◌, ◌&&◌, if◌then◌else◌, List, [], ◌∷◌, ◌++◌, map, Option, Some, None, refl, sym, ap, ◌∙◌, subst, arith, append-nil, append_assoc}
+use Rattle.std.proofs.Common.{◌≡◌, ◌≢◌, ℕ, ◌+◌, ◌-◌, ◌<◌, ◌≤◌, Bool, true, false, ◌==◌, ◌&&◌, if◌then◌else◌, List, [], ◌∷◌, ◌++◌, map, Option, Some, None, refl, sym, ap, ◌∙◌, subst, arith, append-nil, append_assoc}
 use Rattle.std.specs.Prelude.{All, AllPairs, Any, IfSome, nat_le, find, flat_map, slice_get, is_none}
 use Rattle.std.proofs.lemmas.Bool.{and_parts, leb-true, eqb-true}
 use Rattle.std.proofs.lemmas.Grind.{flat_map-append}
@@ -37,7 +37,7 @@ use Rattle.plain_machine.specs.declared.setup.Setup.{Setup}
 use Rattle.machine_laws.proofs.EachLemmas.{Each, all_from_each, any_from_one, each_at, each_both, each_from_all, each_mapped, each_weaker, is_none-None, one_before, one_weaker}
 use Rattle.machine_laws.proofs.GatewayEvents.{EventGoes, GatewayHolds, event_holds, opening_gateway, gateway_forward}
 use Rattle.machine_laws.proofs.PostLogs.{Logged, WasBegun}
-use Rattle.machine_laws.proofs.TellsLemmas.{AreAnswers, IsAnsweredBy, IsCommand, final_answers}
+use Rattle.machine_laws.proofs.TellsLemmas.{AreAnswers, IsAnsweredBy, IsCommand, IsGivenBy, final_answers, final_gives}
 use Rattle.machine_laws.specs.Saying.{HasNumbersLeft, Begun, OneOf, Tells, begun_at, begun_in}
 use Rattle.call_agent.specs.Hearing.{AgentEvent, agent_after, agent_effect, agent_refusal, handled, handled_as, heard_with, hears, issued_with, issues, took_all}
 use Rattle.call_agent.specs.declared.setup.AgentSetup.{AgentSetup}
@@ -51,7 +51,7 @@ use Rattle.call_agent.specs.Taking.{GatewayCommand, command_of, transacted_by, f
 use Rattle.world_laws.specs.Reached.{Reached, heard_in, issued_in, own_in, reached, taken_in}
 use Rattle.call_agent.specs.Responding.{replied, responded, responded_to}
 use Rattle.call_agent.specs.Flying.{has_id}
-use Rattle.call_agent.proofs.EventLemmas.{agent_clock, after_on}
+use Rattle.call_agent.proofs.EventLemmas.{agent_clock, after_on, forward}
 use Rattle.world_laws.proofs.AgentLaws.{Goes, Holds, AgentGoesOn, event_on, alone, never, tick_taken}
 use Rattle.world_laws.proofs.ReachedLaws.{executed_each, executed_apart}
 use Rattle.world_laws.proofs.WorldLaws.{Holding, hold_on, packed_hold, Came, Comes, Sound, Sends, Posts, texts_came, agent_commands, agent_answers, step_sound, opening_sound, same_issued, arrived_on, gateway_alone, not_late, gateway_taken, agent_taken, tick_is}
@@ -73,16 +73,20 @@ pub record HasAnswer (firsts : List KeptFirst) (one : FinalAnswer) : Type 0 wher
   pub reads : read_text one.text ≡ message (messages.Response one.code one.id params body)
   pub final : 200 ≤ one.code
 
--- a final response that arrives answers a first with its id
-abbrev pub ReturnsAs : List KeptFirst → Outcome → Type 0
-ReturnsAs firsts (message (messages.Response code id params body)) = 200 ≤ code → OneOf (λ (first : KeptFirst). first.id ≡ id) firsts
-ReturnsAs firsts (message (messages.Command verb id name params body)) = Unit {0}
-ReturnsAs firsts no_header = Unit {0}
-ReturnsAs firsts (bad_version id) = Unit {0}
-ReturnsAs firsts (bad_body id) = Unit {0}
+-- it has this id, and came less than 40,000 ms before
+abbrev pub IsLate : ℕ → ℕ → KeptFirst → Type 0
+IsLate id moment first = (first.id ≡ id) × (moment < first.moment + 40000)
+
+-- a final response that arrives answers a first with its id, which came less than 40,000 ms before
+abbrev pub ReturnsAs : List KeptFirst → ℕ → Outcome → Type 0
+ReturnsAs firsts moment (message (messages.Response code id params body)) = 200 ≤ code → OneOf (IsLate id moment) firsts
+ReturnsAs firsts moment (message (messages.Command verb id name params body)) = Unit {0}
+ReturnsAs firsts moment no_header = Unit {0}
+ReturnsAs firsts moment (bad_version id) = Unit {0}
+ReturnsAs firsts moment (bad_body id) = Unit {0}
 
 abbrev pub Returns : List KeptFirst → TextArrival → Type 0
-Returns firsts a = ReturnsAs firsts a.outcome
+Returns firsts a = ReturnsAs firsts a.moment a.outcome
 
 -- The clock of what an agent hears
 
@@ -122,6 +126,51 @@ agent_time w setup event now at = ap (clock_from 0) (heard_more w setup event) �
   by_event : (event : AgentEvent) → clock_from 0 (heard_in w ++ heard_with event) ≡ agent_clock now event
   by_event (issues verb name rest) = ap (clock_from 0) (append-nil (heard_in w)) ∙ at
   by_event (hears event) = clock_more 0 (heard_in w) event ∙ ap (λ (t : ℕ). clock_after t event) at
+
+-- what came rises in its moments, to this one at most
+abbrev pub Rises : ℕ → List Reached → Type 0
+Rises now [] = Unit {0}
+Rises now (one ∷ more) = (one.asked.moment ≤ now) × (Each (λ (later : Reached). one.asked.moment ≤ later.asked.moment) more × Rises now more)
+
+rises_now : (now later : ℕ) (ones : List Reached) → now ≤ later → Each (λ (one : Reached). one.asked.moment ≡ now) ones → Rises later ones
+rises_now now later [] past same = tt
+rises_now now later (one ∷ ones) past same = (
+  (let here : one.asked.moment ≡ now = same.0 in omega (arith, here, past)),
+  (
+    each_weaker (λ (x : Reached). x.asked.moment ≡ now) (λ (x : Reached). one.asked.moment ≤ x.asked.moment)
+        (λ x there. (let here : one.asked.moment ≡ now = same.0 in omega (arith, here, there))) ones same.1,
+    rises_now now later ones past same.1,
+  ),
+)
+
+rises_on : (now later : ℕ) (some ones : List Reached) → now ≤ later → Rises now some → Each (λ (one : Reached). one.asked.moment ≡ now) ones → Rises later (some ++ ones)
+rises_on now later [] ones past rises same = rises_now now later ones past same
+rises_on now later (first ∷ some) ones past rises same = (
+  (let low : first.asked.moment ≤ now = rises.0 in omega (arith, low, past)),
+  (
+    each_both (λ (x : Reached). first.asked.moment ≤ x.asked.moment) some ones rises.1.0
+        (each_weaker (λ (x : Reached). x.asked.moment ≡ now) (λ (x : Reached). first.asked.moment ≤ x.asked.moment)
+        (λ x there. (let low : first.asked.moment ≤ now = rises.0 in omega (arith, low, there))) ones same),
+    rises_on now later some ones past rises.1.1 same,
+  ),
+)
+
+text_now : (now : ℕ) (source : SocketAddrV4) (outcome : Outcome) → Each (λ (one : Reached). one.asked.moment ≡ now) (reached (record { moment = now; source = source; outcome = outcome }))
+text_now now source no_header = tt
+text_now now source (bad_version id) = (refl, tt)
+text_now now source (bad_body id) = (refl, tt)
+text_now now source (message (messages.Command verb id name params body)) = (refl, tt)
+text_now now source (message (messages.Response code id params body)) = tt
+
+texts_now : (now : ℕ) (source : SocketAddrV4) (texts : List (List ℕ)) → Each (λ (one : Reached). one.asked.moment ≡ now) (flat_map reached (map (arrival now source) texts))
+texts_now now source [] = tt
+texts_now now source (text ∷ texts) = each_both (λ (one : Reached). one.asked.moment ≡ now) (reached (arrival now source text)) _ (text_now now source (read_text text)) (texts_now now source texts)
+
+event_now : (now : ℕ) (event : AgentEvent) → Each (λ (one : Reached). one.asked.moment ≡ now) (flat_map reached (arrives_with now event))
+event_now now (issues verb name rest) = tt
+event_now now (hears (datagram source bytes)) = texts_now now source (texts_of bytes)
+event_now now (hears (phone line act)) = tt
+event_now now (hears (tick moment)) = tt
 
 -- The answers of an agent
 
@@ -191,27 +240,29 @@ module _ (log : List Begun) (firsts : List KeptFirst) (moment : ℕ) (commands :
   texts_answers setup m source (text ∷ texts) all each =
       texts_answers setup (handled setup m source text).machine source texts (handled_answers setup m source text (read_text text) refl all each.0) each.1
 
-  -- what arrives of it returns answers
-  text_returns : (now : ℕ) (source : SocketAddrV4) (text : List ℕ) (outcome : Outcome) → read_text text ≡ outcome → Tells log firsts text moment → ReturnsAs firsts outcome
-  text_returns now source text no_header reads tells = tt
-  text_returns now source text (bad_version id) reads tells = tt
-  text_returns now source text (bad_body id) reads tells = tt
-  text_returns now source text (message (messages.Command verb id name params body)) reads tells = tt
-  text_returns now source text (message (messages.Response code id params body)) reads tells = λ high.
-      one_weaker (IsAnsweredBy id text) (λ (first : KeptFirst). first.id ≡ id) (λ first is. is.0) firsts (final_answers log firsts text moment code id params body commands kept tells reads high)
+  -- what arrives of it in time returns answers
+  text_returns : (now : ℕ) (source : SocketAddrV4) (text : List ℕ) (outcome : Outcome) → read_text text ≡ outcome → now - moment ≤ oldest_packet → Tells log firsts text moment → ReturnsAs firsts now outcome
+  text_returns now source text no_header reads soon tells = tt
+  text_returns now source text (bad_version id) reads soon tells = tt
+  text_returns now source text (bad_body id) reads soon tells = tt
+  text_returns now source text (message (messages.Command verb id name params body)) reads soon tells = tt
+  text_returns now source text (message (messages.Response code id params body)) reads soon tells = λ high.
+      one_weaker (IsGivenBy id text moment) (IsLate id now) (λ first given. (given.0.0, (let young = given.1 in omega (arith, young, soon)))) firsts
+      (final_gives log firsts text moment code id params body commands kept tells reads high)
 
-  texts_return : (now : ℕ) (source : SocketAddrV4) (texts : List (List ℕ)) → Each (λ (text : List ℕ). Tells log firsts text moment) texts → Each (Returns firsts) (map (arrival now source) texts)
-  texts_return now source [] each = tt
-  texts_return now source (text ∷ texts) each = (text_returns now source text (read_text text) refl each.0, texts_return now source texts each.1)
+  texts_return : (now : ℕ) (source : SocketAddrV4) (texts : List (List ℕ)) → now - moment ≤ oldest_packet → Each (λ (text : List ℕ). Tells log firsts text moment) texts
+      → Each (Returns firsts) (map (arrival now source) texts)
+  texts_return now source [] soon each = tt
+  texts_return now source (text ∷ texts) soon each = (text_returns now source text (read_text text) refl soon each.0, texts_return now source texts soon each.1)
 
 returns_on : (firsts more : List KeptFirst) (a : TextArrival) → Returns firsts a → Returns (firsts ++ more) a
 returns_on firsts more a is = by_outcome a.outcome is where
-  by_outcome : (outcome : Outcome) → ReturnsAs firsts outcome → ReturnsAs (firsts ++ more) outcome
+  by_outcome : (outcome : Outcome) → ReturnsAs firsts a.moment outcome → ReturnsAs (firsts ++ more) a.moment outcome
   by_outcome no_header is = tt
   by_outcome (bad_version id) is = tt
   by_outcome (bad_body id) is = tt
   by_outcome (message (messages.Command verb id name params body)) is = tt
-  by_outcome (message (messages.Response code id params body)) is = λ high. one_before (λ (first : KeptFirst). first.id ≡ id) firsts more (is high)
+  by_outcome (message (messages.Response code id params body)) is = λ high. one_before (IsLate id a.moment) firsts more (is high)
 
 has_on : (firsts more : List KeptFirst) (one : FinalAnswer) → HasAnswer firsts one → HasAnswer (firsts ++ more) one
 has_on firsts more one has = record {
@@ -231,6 +282,7 @@ pub record Links (setup : Setup) (w : World) (log : List Begun) (g : Machine) (m
   pub answers : Each (HasAnswer (firsts_in g.history)) m.answers
   pub returned : Each (Returns (firsts_in m.history)) (arrivals_of w.gateway_took)
   pub time : clock_from 0 (heard_in w) ≡ m.now
+  pub rises : Rises m.now (flat_map reached (arrivals_of (heard_in w)))
 
 pub record Linked (setup : Setup) (w : World) : Type 0 where
   pub sound : Sound setup w
@@ -290,6 +342,7 @@ gateway_links setup w event log g m is l taken now returns = record {
       (each_both (Returns (firsts_in m.history)) (arrivals_of w.gateway_took) (arrivals_at (now_in setup w) event) l.returned
       (subst (λ (x : Machine). Each (Returns (firsts_in m.history)) (arrivals_at x.now event)) (sym is) returns));
   time = l.time;
+  rises = l.rises;
 } where
   goes : EventGoes setup log g (effect setup g event)
   goes = event_holds setup log g event l.gateway taken
@@ -318,6 +371,10 @@ agent_links setup w event log g m all l h taken came answers = record {
   returned = subst (λ (f : List KeptFirst). Each (Returns f) (arrivals_of w.gateway_took)) (sym goes.grown)
       (each_weaker (Returns (firsts_in m.history)) (Returns (firsts_in m.history ++ goes.more)) (returns_on (firsts_in m.history) goes.more) (arrivals_of w.gateway_took) l.returned);
   time = agent_time w setup event m.now l.time ∙ sym goes.now;
+  rises = subst (λ (x : List TextArrival). Rises (agent_effect (agent_of setup) m event).machine.now (flat_map reached x)) (sym (agent_arrivals w setup event m.now l.time))
+      (subst (Rises (agent_effect (agent_of setup) m event).machine.now) (sym (flat_map-append reached (arrivals_of (heard_in w)) (arrives_with m.now event)))
+      (rises_on m.now (agent_effect (agent_of setup) m event).machine.now (flat_map reached (arrivals_of (heard_in w))) (flat_map reached (arrives_with m.now event))
+      (let past = forward m event taken in let now : (agent_effect (agent_of setup) m event).machine.now ≡ agent_clock m.now event = goes.now in omega (arith, past, now)) l.rises (event_now m.now event)));
 } where
   goes : AgentGoesOn (all ++ issued_with m event) m (agent_clock m.now event) (agent_effect (agent_of setup) m event)
   goes = event_on (agent_of setup) all m event h taken
@@ -369,14 +426,14 @@ delivered_links setup w post l late from_agent from_gateway = by_end post.end po
   h : Holds (issued_in setup w) (agent_in setup w)
   h = l.sound.agrees.agent
 
-  by_gateway : (b : Bool) (packet : Packet) → Posts (issued_in setup w) (firsts_in (agent_in setup w).history) (agent_in setup w).now agent_end packet
+  by_gateway : (b : Bool) (packet : Packet) → now_in setup w - packet.moment ≤ oldest_packet → Posts (issued_in setup w) (firsts_in (agent_in setup w).history) (agent_in setup w).now agent_end packet
       → LinksIn setup (if b then to_gateway setup w (datagram packet.sender packet.bytes) else w)
-  by_gateway true packet sends =
+  by_gateway true packet late sends =
       gateway_linked setup w (datagram packet.sender packet.bytes) l.links (never_refused (gateway_in setup w) packet.sender packet.bytes)
       (texts_return (issued_in setup w) (firsts_in (agent_in setup w).history) packet.moment (agent_commands (issued_in setup w) (agent_in setup w) h) (agent_answers (issued_in setup w) (agent_in setup w) h)
-      (now_in setup w) packet.sender (texts_of packet.bytes)
+      (now_in setup w) packet.sender (texts_of packet.bytes) late
       (only_tells (λ (text : List ℕ). Tells (issued_in setup w) (firsts_in (agent_in setup w).history) text packet.moment) packet.moment (agent_in setup w).now (texts_of packet.bytes) sends))
-  by_gateway false packet sends = l.links
+  by_gateway false packet late sends = l.links
 
   commands : Each IsCommand (own_in setup w)
   commands = log_commands (now_in setup w) (own_in setup w) l.links.gateway.stands.logged
@@ -395,7 +452,7 @@ delivered_links setup w post l late from_agent from_gateway = by_end post.end po
 
   by_end : (end : End) (packet : Packet) → now_in setup w - packet.moment ≤ oldest_packet → Posts (issued_in setup w) (firsts_in (agent_in setup w).history) (agent_in setup w).now end packet
       → GatewayPosts (own_in setup w) (firsts_in (gateway_in setup w).history) (now_in setup w) end packet → LinksIn setup (delivered_from end setup w packet)
-  by_end agent_end packet late sends none = by_gateway (same_address packet.to (gateway_address setup)) packet sends
+  by_end agent_end packet late sends none = by_gateway (same_address packet.to (gateway_address setup)) packet late sends
   by_end gateway_end packet late none sends = by_agent (is_among setup.agent.route packet.to) packet late sends
 
 pub step_links : (setup : Setup) (w : World) (step : WorldStep) → Linked setup w → step_refusal setup w step ≡ None → LinksIn setup (went setup w step)
@@ -433,7 +490,7 @@ pub opening_linked : (setup : Setup) → IsSetUp setup → Linked setup world_op
 unfolding machine_after sent_from arrivals_from agent_after clock_from
 opening_linked setup set_up = record {
   sound = opening_sound setup;
-  links = record { gateway = opening_gateway setup set_up; posted = tt; came = tt; answers = tt; returned = tt; time = refl };
+  links = record { gateway = opening_gateway setup set_up; posted = tt; came = tt; answers = tt; returned = tt; time = refl; rises = tt };
 }
 
 pub world_linked : (setup : Setup) (steps : List WorldStep) → IsSetUp setup → steps_are_taken setup world_opening steps ≡ true → Linked setup (plain_world setup steps)
@@ -486,7 +543,21 @@ taken_as_sent setup steps set_up taken =
     (one_weaker (Comes one) (λ (b : Begun). (b.id ≡ one.asked.id) × (one.outcome ≡ read_text b.text)) (λ b c. (c.id, c.read)) log came))
     (taken_in w) (executed_each (Came log) (flat_map reached (arrivals_of (heard_in w))) l.links.came))
 
--- What the gateway hears as final is the answer to a first of the agent
+-- What the gateway hears as final is the answer to a first of the agent, which came less than 40,000 ms before
+
+pub answered_lately : (setup : Setup) (steps : List WorldStep) → IsSetUp setup → steps_are_taken setup world_opening steps ≡ true
+    → All (λ (a : TextArrival). (code id : ℕ) (params : List Param) (body : List ℕ) → a.outcome ≡ message (messages.Response code id params body) → 200 ≤ code
+    → Any (IsLate id a.moment) (firsts_in (agent_in setup (plain_world setup steps)).history)) (arrivals_of (plain_world setup steps).gateway_took)
+answered_lately setup steps set_up taken =
+    let w = plain_world setup steps in
+    let l = world_linked setup steps set_up taken in
+    let firsts = firsts_in (agent_in setup w).history in
+    let Q : TextArrival → Type 0 = λ a. (code id : ℕ) (params : List Param) (body : List ℕ) → a.outcome ≡ message (messages.Response code id params body) → 200 ≤ code → Any (IsLate id a.moment) firsts in
+    all_from_each Q (arrivals_of w.gateway_took)
+    (each_weaker (Returns firsts) Q
+    (λ a returns. λ code id params body is high. any_from_one (IsLate id a.moment) firsts
+    (let back : ReturnsAs firsts a.moment (message (messages.Response code id params body)) = subst (ReturnsAs firsts a.moment) is returns in back high))
+    (arrivals_of w.gateway_took) l.links.returned)
 
 pub answered_was_taken : (setup : Setup) (steps : List WorldStep) → IsSetUp setup → steps_are_taken setup world_opening steps ≡ true
     → All (λ (a : TextArrival). (code id : ℕ) (params : List Param) (body : List ℕ) → a.outcome ≡ message (messages.Response code id params body) → 200 ≤ code
@@ -499,5 +570,6 @@ answered_was_taken setup steps set_up taken =
     all_from_each Q (arrivals_of w.gateway_took)
     (each_weaker (Returns firsts) Q
     (λ a returns. λ code id params body is high. any_from_one (λ (first : KeptFirst). first.id ≡ id) firsts
-    (let back : ReturnsAs firsts (message (messages.Response code id params body)) = subst (ReturnsAs firsts) is returns in back high))
+    (one_weaker (IsLate id a.moment) (λ (first : KeptFirst). first.id ≡ id) (λ first late. late.0) firsts
+    (let back : ReturnsAs firsts a.moment (message (messages.Response code id params body)) = subst (ReturnsAs firsts a.moment) is returns in back high)))
     (arrivals_of w.gateway_took) l.links.returned)

@@ -1,5 +1,5 @@
 -- What the agent of a world has taken is what its firsts told; and the firsts of both ends are those that arrived.
-use Rattle.std.proofs.Common.{◌≡◌, ℕ, ◌≤◌, Bool, true, false, if◌then◌else◌, List, [], ◌∷◌, map, Option, Some, None, refl, sym, ap, ◌∙◌, subst}
+use Rattle.std.proofs.Common.{◌≡◌, ◌+◌, ◌<◌, ℕ, ◌≤◌, Bool, true, false, if◌then◌else◌, List, [], ◌∷◌, map, Option, Some, None, refl, sym, ap, ◌∙◌, subst}
 use Rattle.std.specs.Prelude.{All, Any, flat_map, slice_get, is_none, fold}
 use Rattle.std.proofs.lemmas.Bool.{and_parts}
 use Rattle.std.proofs.lemmas.Grind.{flat_map-append}
@@ -34,7 +34,7 @@ use Rattle.world_laws.proofs.ReachedLaws.{executed_is}
 use Rattle.world_laws.proofs.WorldLaws.{step_sound}
 use Rattle.history.proofs.BareLaws.{firsts_bare}
 use Rattle.world_laws.proofs.FirstLaws.{keys_from, kept_are_executed}
-use Rattle.world_laws.proofs.LinkLaws.{HasAnswer, world_linked, answered_was_taken, clock_from, Linked, step_links, opening_linked, agent_arrivals}
+use Rattle.world_laws.proofs.LinkLaws.{HasAnswer, world_linked, answered_lately, answered_was_taken, IsLate, clock_from, Linked, step_links, opening_linked, agent_arrivals}
 use Rattle.world_laws.proofs.AgentFirsts.{KeepsSo, keeps_on}
 
 abbrev KeepsIn : Setup → World → Type 0
@@ -134,4 +134,25 @@ heard_was_taken setup steps set_up taken =
     (λ (a : TextArrival). (code id : ℕ) (params : List Param) (body : List ℕ) → a.outcome ≡ message (messages.Response code id params body) → 200 ≤ code → Any (λ (one : Reached). one.asked.id ≡ id) (taken_in w))
     (λ a step. λ code id params body is high. any_from_one (λ (one : Reached). one.asked.id ≡ id) (taken_in w)
     (kept_reached id firsts (taken_in w) (agent_keys setup steps set_up taken) (one_from_any (λ (first : KeptFirst). first.id ≡ id) firsts (step code id params body is high))))
+    (arrivals_of w.gateway_took) was
+
+-- which came less than 40,000 ms before
+late_reached : (id moment : ℕ) (firsts : List KeptFirst) (ones : List Reached) → map key_kept firsts ≡ map key_reached ones → OneOf (IsLate id moment) firsts
+    → OneOf (λ (one : Reached). (one.asked.id ≡ id) × (moment < one.asked.moment + 40000)) ones
+late_reached id moment firsts ones same one =
+    let P : ℕ × ℕ → Type 0 = λ key. (key.0 ≡ id) × (moment < key.1 + 40000) in
+    one_unmapped P key_reached ones (subst (OneOf P) same (one_mapped P key_kept firsts one))
+
+pub heard_lately : (setup : Setup) (steps : List WorldStep) → IsSetUp setup → steps_are_taken setup world_opening steps ≡ true
+    → All (λ (a : TextArrival). (code id : ℕ) (params : List Param) (body : List ℕ) → a.outcome ≡ message (messages.Response code id params body) → 200 ≤ code
+    → Any (λ (one : Reached). (one.asked.id ≡ id) × (a.moment < one.asked.moment + 40000)) (taken_in (plain_world setup steps))) (arrivals_of (plain_world setup steps).gateway_took)
+heard_lately setup steps set_up taken =
+    let w = plain_world setup steps in
+    let firsts = firsts_in (agent_in setup w).history in
+    let was = answered_lately setup steps set_up taken in
+    All-weaker (λ (a : TextArrival). (code id : ℕ) (params : List Param) (body : List ℕ) → a.outcome ≡ message (messages.Response code id params body) → 200 ≤ code → Any (IsLate id a.moment) firsts)
+    (λ (a : TextArrival). (code id : ℕ) (params : List Param) (body : List ℕ) → a.outcome ≡ message (messages.Response code id params body) → 200 ≤ code
+    → Any (λ (one : Reached). (one.asked.id ≡ id) × (a.moment < one.asked.moment + 40000)) (taken_in w))
+    (λ a step. λ code id params body is high. any_from_one (λ (one : Reached). (one.asked.id ≡ id) × (a.moment < one.asked.moment + 40000)) (taken_in w)
+    (late_reached id a.moment firsts (taken_in w) (agent_keys setup steps set_up taken) (one_from_any (IsLate id a.moment) firsts (step code id params body is high))))
     (arrivals_of w.gateway_took) was

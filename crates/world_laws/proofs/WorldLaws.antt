@@ -30,7 +30,7 @@ use Rattle.plain_machine.proofs.EffectLaws.{effect_now}
 use Rattle.plain_machine.specs.declared.setup.Setup.{Setup}
 use Rattle.machine_laws.proofs.EachLemmas.{Each, all_from_each, any_from_one, each_at, each_both, each_mapped, each_unflat, each_unmapped, each_weaker, one_before, one_of_each, one_to, one_weaker, is_none-None}
 use Rattle.machine_laws.proofs.TellsLemmas.{AreAnswers, IsCommand, tells_on}
-use Rattle.machine_laws.specs.Saying.{Carries, IsAnswerTo, Begun, OneOf, Tells, is_command_as}
+use Rattle.machine_laws.specs.Saying.{Gives, Carries, IsAnswerTo, Begun, OneOf, Tells, is_command_as}
 use Rattle.call_agent.specs.Hearing.{AgentEvent, AgentRefusal, agent_after, agent_effect, agent_refusal, hears, issued_from, issued_with, issues}
 use Rattle.call_agent.specs.Agent.{AgentMachine, agent_opening}
 use Rattle.agent_core.specs.declared.packet.End.{End}
@@ -202,9 +202,9 @@ one_with P R (b ∷ all) (inr one) step = one_with P R all one (λ c p is. step 
 pub text_came : (all : List Begun) (firsts : List KeptFirst) (moment now : ℕ) (source : SocketAddrV4) (text : List ℕ) → Each IsCommand all → AreAnswers firsts → Tells all firsts text moment
     → moment ≤ now → now - moment ≤ oldest_packet → Each (Came all) (reached (arrival now source text))
 text_came all firsts moment now source text commands answers (inr (inl answered)) early late =
-    one_to (λ (first : KeptFirst). IsAnswerTo first.id first.answer × (first.answer ≡ text)) (Each (Came all) (reached (arrival now source text)))
-    (λ first both. let reads = sym (ap read_text both.1) ∙ both.0.reads in rw reads tt) firsts
-    (one_of_each (λ (first : KeptFirst). IsAnswerTo first.id first.answer) (λ (first : KeptFirst). first.answer ≡ text) firsts answers answered)
+    one_to (λ (first : KeptFirst). IsAnswerTo first.id first.answer × Gives text moment first) (Each (Came all) (reached (arrival now source text)))
+    (λ first both. let reads = sym (ap read_text both.1.0) ∙ both.0.reads in rw reads tt) firsts
+    (one_of_each (λ (first : KeptFirst). IsAnswerTo first.id first.answer) (Gives text moment) firsts answers answered)
 text_came all firsts moment now source text commands answers (inr (inr is)) early late = rw is.reads tt
 text_came all firsts moment now source text commands answers (inl carried) early late =
     one_with (λ (b : Begun). IsCommand b × Carries text moment b) (Each (Came all) (reached (arrival now source text))) all
