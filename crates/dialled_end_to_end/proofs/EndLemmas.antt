@@ -33,6 +33,8 @@ use Rattle.dialled_end_to_end.specs.Untaken.{has_taken, untaken}
 use Rattle.dialled_end_to_end.proofs.FlightLemmas.{flying, gave_nothing_up}
 use Rattle.dialled_end_to_end.proofs.WellLemmas.{IsWell, sent_well}
 use Rattle.dialled_end_to_end.proofs.ToldLemmas.{begun_tell, course_tells, told_by}
+use Rattle.dialled_end_to_end.proofs.PairLemmas.{Paired, pairs_tell}
+use Rattle.dialled_end_to_end.proofs.PairedSteps.{world_paired}
 use Rattle.dialled_end_to_end.proofs.MatchLemmas.{Apart, In, Last, Matches, TellsAs, apart_clash, apart_front, each_in, each_two, ends_same, in_of_each, last_in, last_of, one_with, tell_same}
 use Rattle.dialled_end_to_end.proofs.TakenLemmas.{IsAsSent, is_of_line, taken_tells, told_taken}
 use Rattle.dialled_end_to_end.proofs.WorldLemmas.{WasTaken, begun_ids, known, line_begun, line_sent, line_taken, settled_taken, taken_ids, taken_mine, world_matches}
@@ -148,8 +150,7 @@ module _ (line : ℕ) (begun settled : List Begun) (taken : List Reached) (apart
 
 -- The whole
 
-module _ (setup : Setup) (steps : List WorldStep) (line : ℕ) (set_up : IsSetUp setup) (taken : steps_are_taken setup world_opening steps ≡ true)
-    (few : HasNumbersLeft (own_in setup (plain_world setup steps))) where
+module _ (setup : Setup) (steps : List WorldStep) (line : ℕ) (set_up : IsSetUp setup) (taken : steps_are_taken setup world_opening steps ≡ true) where
   abbrev pub w : World
   w = plain_world setup steps
 
@@ -167,26 +168,74 @@ module _ (setup : Setup) (steps : List WorldStep) (line : ℕ) (set_up : IsSetUp
       course_tells setup line (place_of (gateway_in setup w).endpoints line endpoint at).0 w.gateway_took endpoint at
       ∙ begun_tell setup line (sent_of setup w.gateway_took) (each_from_all (IsWell setup) (sent_of setup w.gateway_took) (sent_well setup set_up w.gateway_took))
 
-  told_through : (endpoint : Endpoint) → endpoint_at (gateway_in setup w).endpoints line ≡ Some endpoint → has_given_up (line_sent setup line w.gateway_took) endpoint.post ≡ false
-      → told_along (course_of setup line w.gateway_took) ≡ observed_on line (agent_in setup w) ++ untaken (taken_in w) endpoint.post.pending
-  told_through endpoint at none =
-      let some = (place_of (gateway_in setup w).endpoints line endpoint at).0 in
-      let k = known setup line some steps set_up taken few in
-      let fine = gave_nothing_up (WasTaken (taken_in w)) (Unit {0}) (line_sent setup line w.gateway_took) endpoint (k.flies endpoint at) none in
-      course_is endpoint at
-      ∙ told_so line (line_begun setup line w.gateway_took) fine.settled (taken_in w) k.apart k.mine k.as_sent fine.answered endpoint.post.pending fine.split
-      (world_matches setup line some set_up steps taken few endpoint at none)
-      ∙ ap (λ (x : List Observed). x ++ untaken (taken_in w) endpoint.post.pending) (sym observed_is)
+module _ (setup : Setup) (steps : List WorldStep) (line : ℕ) (set_up : IsSetUp setup) (taken : steps_are_taken setup world_opening steps ≡ true)
+    (few : HasNumbersLeft (own_in setup (plain_world setup steps))) where
+  abbrev pub w' : World
+  w' = plain_world setup steps
 
-  pub dialled_through : (before after : List GatewayEvent) (endpoint : Endpoint) → w.gateway_took ≡ before ++ after → endpoint_at (gateway_in setup w).endpoints line ≡ Some endpoint
-      → IsAskedForAll (course_of setup line before) (course_from setup (plain setup before) line after) endpoint.line → has_given_up (line_sent setup line w.gateway_took) endpoint.post ≡ false
-      → done_in (course_of setup line w.gateway_took)
-      ≡ happened_in (observed_on line (agent_in setup w)) ++ (happened_in (untaken (taken_in w) endpoint.post.pending) ++ happened_in endpoint.line.quarantined.events)
+  told_through : (endpoint : Endpoint) → endpoint_at (gateway_in setup w').endpoints line ≡ Some endpoint → has_given_up (line_sent setup line w'.gateway_took) endpoint.post ≡ false
+      → told_along (course_of setup line w'.gateway_took) ≡ observed_on line (agent_in setup w') ++ untaken (taken_in w') endpoint.post.pending
+  told_through endpoint at none =
+      let some = (place_of (gateway_in setup w').endpoints line endpoint at).0 in
+      let k = known setup line some steps set_up taken few in
+      let fine = gave_nothing_up (WasTaken (taken_in w')) (Unit {0}) (line_sent setup line w'.gateway_took) endpoint (k.flies endpoint at) none in
+      course_is setup steps line set_up taken endpoint at
+      ∙ told_so line (line_begun setup line w'.gateway_took) fine.settled (taken_in w') k.apart k.mine k.as_sent fine.answered endpoint.post.pending fine.split
+      (world_matches setup line some set_up steps taken few endpoint at none)
+      ∙ ap (λ (x : List Observed). x ++ untaken (taken_in w') endpoint.post.pending) (sym (observed_is setup steps line set_up taken))
+
+  pub dialled_through : (before after : List GatewayEvent) (endpoint : Endpoint) → w'.gateway_took ≡ before ++ after → endpoint_at (gateway_in setup w').endpoints line ≡ Some endpoint
+      → IsAskedForAll (course_of setup line before) (course_from setup (plain setup before) line after) endpoint.line → has_given_up (line_sent setup line w'.gateway_took) endpoint.post ≡ false
+      → done_in (course_of setup line w'.gateway_took)
+      ≡ happened_in (observed_on line (agent_in setup w')) ++ (happened_in (untaken (taken_in w') endpoint.post.pending) ++ happened_in endpoint.line.quarantined.events)
   dialled_through before after endpoint took at asked none =
-      let once : IsToldOnce (course_of setup line w.gateway_took) endpoint.line =
+      let once : IsToldOnce (course_of setup line w'.gateway_took) endpoint.line =
       subst (λ (events : List GatewayEvent). IsToldOnce (course_of setup line events) endpoint.line) (sym took)
       (course_told setup line before after endpoint (subst (λ (events : List GatewayEvent). endpoint_at (plain setup events).endpoints line ≡ Some endpoint) took at) asked) in
       once
       ∙ ap (λ (x : List Observed). happened_in x ++ happened_in endpoint.line.quarantined.events) (told_through endpoint at none)
-      ∙ ap (λ (x : List Observed). x ++ happened_in endpoint.line.quarantined.events) (happened_both (observed_on line (agent_in setup w)) (untaken (taken_in w) endpoint.post.pending))
-      ∙ append_assoc (happened_in (observed_on line (agent_in setup w))) (happened_in (untaken (taken_in w) endpoint.post.pending)) (happened_in endpoint.line.quarantined.events)
+      ∙ ap (λ (x : List Observed). x ++ happened_in endpoint.line.quarantined.events) (happened_both (observed_on line (agent_in setup w')) (untaken (taken_in w') endpoint.post.pending))
+      ∙ append_assoc (happened_in (observed_on line (agent_in setup w'))) (happened_in (untaken (taken_in w') endpoint.post.pending)) (happened_in endpoint.line.quarantined.events)
+
+-- By pairs: what was told, whatever numbers are left
+
+module _ (setup : Setup) (steps : List WorldStep) (line : ℕ) (set_up : IsSetUp setup) (taken : steps_are_taken setup world_opening steps ≡ true) (endpoint : Endpoint)
+    (at : endpoint_at (gateway_in setup (plain_world setup steps)).endpoints line ≡ Some endpoint)
+    (none : has_given_up (line_sent setup line (plain_world setup steps).gateway_took) endpoint.post ≡ false) where
+  abbrev v : World
+  v = plain_world setup steps
+
+  pub paired : Paired (line_begun setup line v.gateway_took) (line_taken line (taken_in v)) endpoint.post.pending
+  paired = world_paired setup line (place_of (gateway_in setup v).endpoints line endpoint at).0 set_up steps taken endpoint at none
+
+  -- what the command in flight tells, if it wasn't taken
+  left_in : Paired (line_begun setup line v.gateway_took) (line_taken line (taken_in v)) endpoint.post.pending → List Observed
+  left_in (inl pairs) = []
+  left_in (inr last) = told_as (read_text last.flight.text)
+
+  told_parts : (is : Paired (line_begun setup line v.gateway_took) (line_taken line (taken_in v)) endpoint.post.pending)
+      → flat_map told_by (line_begun setup line v.gateway_took) ≡ flat_map told_taken (line_taken line (taken_in v)) ++ left_in is
+  unfolding left_in
+  told_parts (inl pairs) = pairs_tell (line_begun setup line v.gateway_took) (line_taken line (taken_in v)) pairs ∙ sym (append-nil (flat_map told_taken (line_taken line (taken_in v))))
+  told_parts (inr last) =
+      ap (flat_map told_by) last.is ∙ flat_map-append told_by last.front (flying (Some last.flight))
+      ∙ ap (λ (x : List Observed). x ++ flat_map told_by (flying (Some last.flight))) (pairs_tell last.front (line_taken line (taken_in v)) last.pairs)
+      ∙ ap (λ (x : List Observed). flat_map told_taken (line_taken line (taken_in v)) ++ x) (append-nil (told_as (read_text last.flight.text)))
+
+  pub told_on : told_along (course_of setup line v.gateway_took) ≡ observed_on line (agent_in setup v) ++ left_in paired
+  told_on =
+      course_is setup steps line set_up taken endpoint at ∙ told_parts paired
+      ∙ ap (λ (x : List Observed). x ++ left_in paired) (sym (observed_is setup steps line set_up taken))
+
+  -- so the agent was told a beginning
+  pub dialled_on : (before after : List GatewayEvent) → v.gateway_took ≡ before ++ after → IsAskedForAll (course_of setup line before) (course_from setup (plain setup before) line after) endpoint.line
+      → done_in (course_of setup line v.gateway_took)
+      ≡ happened_in (observed_on line (agent_in setup v)) ++ (happened_in (left_in paired) ++ happened_in endpoint.line.quarantined.events)
+  dialled_on before after took asked =
+      let once : IsToldOnce (course_of setup line v.gateway_took) endpoint.line =
+      subst (λ (events : List GatewayEvent). IsToldOnce (course_of setup line events) endpoint.line) (sym took)
+      (course_told setup line before after endpoint (subst (λ (events : List GatewayEvent). endpoint_at (plain setup events).endpoints line ≡ Some endpoint) took at) asked) in
+      once
+      ∙ ap (λ (x : List Observed). happened_in x ++ happened_in endpoint.line.quarantined.events) told_on
+      ∙ ap (λ (x : List Observed). x ++ happened_in endpoint.line.quarantined.events) (happened_both (observed_on line (agent_in setup v)) (left_in paired))
+      ∙ append_assoc (happened_in (observed_on line (agent_in setup v))) (happened_in (left_in paired)) (happened_in endpoint.line.quarantined.events)

@@ -1,6 +1,6 @@
 -- What an agent sends: its commands, each under an id of its own, and again for less than 20,000 ms; and responses.
 use Rattle.std.proofs.Common.{◌≡◌, ◌≢◌, ℕ, zero, suc, ◌+◌, ◌-◌, ◌*◌, ◌<◌, ◌≤◌, Bool, true, false, ◌||◌, ◌==◌, if◌then◌else◌, List, [], ◌∷◌, ◌++◌, length, codes, Option, Some, None, inl, inr, refl, sym, ap, ◌∙◌, subst, arith, lit<, append-nil, append_assoc}
-use Rattle.std.specs.Prelude.{Any, AllPairs, IfSome, nat_lt, nat_le, find}
+use Rattle.std.specs.Prelude.{AllPairs, IfSome, nat_lt, nat_le, find}
 use Rattle.std.specs.declared.net.socket_addr.SocketAddrV4.{SocketAddrV4}
 use Rattle.std.proofs.lemmas.Bool.{and_parts, leb-true}
 use Rattle.std.proofs.lemmas.Option.{none-some}
@@ -42,7 +42,7 @@ use Rattle.transmission.specs.Acknowledging.{asks_for_acknowledgement, acknowled
 use Rattle.plain_machine.specs.Refusing.{tick_refusal}
 use Rattle.transmission.specs.Texts.{largest_datagram, texts_of}
 use Rattle.plain_machine.specs.Event.{datagram, phone, tick}
-use Rattle.machine_laws.proofs.EachLemmas.{Each, all_from_each, each_both, each_push, each_weaker, one_before, one_behind, one_from_any, one_of_each, one_to, one_weaker}
+use Rattle.machine_laws.proofs.EachLemmas.{Each, all_from_each, each_both, each_push, each_weaker, one_before, one_behind, one_of_each, one_to, one_weaker}
 use Rattle.machine_laws.proofs.FlightLemmas.{IsSame}
 use Rattle.machine_laws.proofs.TellsLemmas.{tells_on}
 use Rattle.machine_laws.specs.Saying.{Gives, Carries, IsAnswerTo, Begun, OneOf, Tells, is_command_as}
