@@ -209,13 +209,12 @@ module _ (setup : Setup) (steps : List WorldStep) (line : ℕ) (set_up : IsSetUp
   paired = world_paired setup line (place_of (gateway_in setup v).endpoints line endpoint at).0 set_up steps taken endpoint at none
 
   -- what the command in flight tells, if it wasn't taken
-  left_in : Paired (line_begun setup line v.gateway_took) (line_taken line (taken_in v)) endpoint.post.pending → List Observed
+  abbrev pub left_in : Paired (line_begun setup line v.gateway_took) (line_taken line (taken_in v)) endpoint.post.pending → List Observed
   left_in (inl pairs) = []
   left_in (inr last) = told_as (read_text last.flight.text)
 
   told_parts : (is : Paired (line_begun setup line v.gateway_took) (line_taken line (taken_in v)) endpoint.post.pending)
       → flat_map told_by (line_begun setup line v.gateway_took) ≡ flat_map told_taken (line_taken line (taken_in v)) ++ left_in is
-  unfolding left_in
   told_parts (inl pairs) = pairs_tell (line_begun setup line v.gateway_took) (line_taken line (taken_in v)) pairs ∙ sym (append-nil (flat_map told_taken (line_taken line (taken_in v))))
   told_parts (inr last) =
       ap (flat_map told_by) last.is ∙ flat_map-append told_by last.front (flying (Some last.flight))

@@ -57,12 +57,12 @@ abbrev pub flying : Option InFlight → List Begun
 flying None = []
 flying (Some flight) = (record { id = flight.id; moment = flight.first; text = flight.text }) ∷ []
 
-abbrev is_waiting : Restart → Bool
+abbrev pub is_waiting : Restart → Bool
 is_waiting (Waiting until) = true
 is_waiting Announced = false
 is_waiting Serving = false
 
-abbrev has_announced : List Sent → Bool
+abbrev pub has_announced : List Sent → Bool
 has_announced sent = list_any (λ one. announces one.said) sent
 
 announced_before : (sent more : List Sent) → has_announced sent ≡ true → has_announced (sent ++ more) ≡ true
@@ -80,7 +80,7 @@ announced_last (other ∷ sent) one is = by_test (announces other.said) (announc
   by_test false rest = rest
 
 -- something was given up: the line announced itself, or an announcement waits
-abbrev Gone : List Sent → Restart → Type 0
+abbrev pub Gone : List Sent → Restart → Type 0
 Gone sent restart = (has_announced sent ≡ true) ⊎ (is_waiting restart ≡ true)
 
 gone_on : (sent more : List Sent) (restart : Restart) → Gone sent restart → Gone (sent ++ more) restart

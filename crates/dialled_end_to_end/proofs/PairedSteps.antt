@@ -1,5 +1,5 @@
 -- The steps of a world keep what a line began in pairs with what the agent took of it.
-use Rattle.std.proofs.Common.{◌≡◌, ℕ, ◌+◌, ◌<◌, ◌≤◌, true, false, List, [], ◌∷◌, ◌++◌, map, Option, Some, None, inl, inr, refl, sym, ap, ◌∙◌, subst, append-nil, append_assoc}
+use Rattle.std.proofs.Common.{◌≡◌, ℕ, ◌+◌, ◌<◌, ◌≤◌, Bool, true, false, List, [], ◌∷◌, ◌++◌, map, Option, Some, None, inl, inr, refl, sym, ap, ◌∙◌, subst, append-nil, append_assoc}
 use Rattle.std.specs.Prelude.{◌⊎◌, Any, filter, flat_map}
 use Rattle.std.proofs.lemmas.Grind.{flat_map-append}
 use Rattle.std.proofs.lemmas.List.Elements.{filter-append}
@@ -33,7 +33,7 @@ use Rattle.world_laws.proofs.TakenLaws.{heard_lately, heard_was_taken}
 use Rattle.world_laws.proofs.WorldLaws.{Came, Comes, gateway_alone}
 use Rattle.dialled_once.proofs.CourseLemmas.{AllHear, events_stand}
 use Rattle.dialled_end_to_end.specs.GivenUp.{has_given_up}
-use Rattle.dialled_end_to_end.proofs.FlightLemmas.{Fine, Flies, FliesBeside, flight_turns, flying, gave_nothing_up, starts_gone}
+use Rattle.dialled_end_to_end.proofs.FlightLemmas.{Fine, Flies, Gone, FliesBeside, flight_turns, flying, gave_nothing_up, starts_gone}
 use Rattle.dialled_end_to_end.proofs.MoveLemmas.{Move, agent_took, gateway_took, step_moves}
 use Rattle.dialled_end_to_end.proofs.NumberedLemmas.{Numbered}
 use Rattle.dialled_end_to_end.proofs.NumberTurns.{line_counted}
@@ -100,6 +100,7 @@ module _ (setup : Setup) (line : ℕ) (some : 1 ≤ line) where
       → (before : List Begun) → begun_in (line_sent setup line took) ≡ before ++ flying s.post.pending → Flies (λ (id : ℕ). Unit {0}) (Unit {0}) (line_sent setup line took) s → has_given_up (line_sent setup line took) s.post ≡ false
       → has_given_up (line_sent setup line took ++ of_line line (sent_from setup (plain setup took) (event ∷ []))) s'.post ≡ false
       → (settled : List Begun) × ((flying s.post.pending ++ begun_in (of_line line (sent_from setup (plain setup took) (event ∷ []))) ≡ settled ++ flying s'.post.pending) × Each (λ (b : Begun). A b.id) settled)
+  unfolding arrivals_from
   event_fine A took event now s s' hears here there before split flew was none = (fine.settled, (sym parts ∙ fine.split, fine.answered)) where
     c : Cut (line_sent setup line took) before (flying s.post.pending)
     c = cut (line_sent setup line took) before (flying s.post.pending) split
@@ -132,7 +133,8 @@ module _ (setup : Setup) (line : ℕ) (some : 1 ≤ line) where
 
   any_flies : (A : ℕ → Type 0) (sent : List Sent) (s : Endpoint) → Flies A (Unit {0}) sent s → Flies (λ (id : ℕ). Unit {0}) (Unit {0}) sent s
   any_flies A sent s flies = record { rests = flies.rests; either = by_either flies.either } where
-    by_either : Fine A (Unit {0}) sent s.post.restart s.post.pending ⊎ _ → Fine (λ (id : ℕ). Unit {0}) (Unit {0}) sent s.post.restart s.post.pending ⊎ _
+    by_either : Fine A (Unit {0}) sent s.post.restart s.post.pending ⊎ Gone sent s.post.restart
+        → Fine (λ (id : ℕ). Unit {0}) (Unit {0}) sent s.post.restart s.post.pending ⊎ Gone sent s.post.restart
     by_either (inl fine) = inl (record { still = tt; serving = fine.serving; settled = fine.settled; split = fine.split; answered = each_weaker (λ (b : Begun). A b.id) (λ (b : Begun). Unit {0}) (λ b is. tt) fine.settled fine.answered })
     by_either (inr gone) = inr gone
 

@@ -187,7 +187,7 @@ cut (one ∷ sent) (b ∷ some) more is = by_begun (one_begun one.moment one.sai
   by_begun (inr (x, begins)) same next =
       onto some (next (let whole : x ∷ begun_in sent ≡ b ∷ some ++ more = ap (λ (y : List Begun). y ++ begun_in sent) (sym begins) ∙ is in (let tail : begun_in sent ≡ some ++ more = cc in tail)))
 
-given_back : (front back : List Sent) (post : Post) → has_given_up (front ++ back) post ≡ false → has_given_up back post ≡ false
+pub given_back : (front back : List Sent) (post : Post) → has_given_up (front ++ back) post ≡ false → has_given_up back post ≡ false
 given_back [] back post none = none
 given_back (one ∷ front) back post none = given_back front back post (by_test (announces one.said) none) where
   by_test : (b : Bool) → ((b || list_any (λ (x : Sent). announces x.said) (front ++ back)) || not (is_serving post.restart)) ≡ false
