@@ -1,5 +1,5 @@
 -- A few commands use up no line's numbers.
-use Rattle.std.proofs.Common.{◌+◌, ◌<◌, ◌≤◌, ◌==◌, Bool, true, false, if◌then◌else◌, ℕ, List, length, filter, sym, subst, arith}
+use Rattle.std.proofs.Common.{◌+◌, ◌<◌, ◌≤◌, ◌==◌, Bool, true, false, if◌then◌else◌, ℕ, List, length, sym, subst, arith}
 use Rattle.std.proofs.lemmas.List.Sums.{length-filter, count_by-le-length}
 use Rattle.plain_machine.specs.Posting.{line_of_id}
 use Rattle.machine_laws.specs.Saying.{Begun, count_of, HasNumbersLeft}

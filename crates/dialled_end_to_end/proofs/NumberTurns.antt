@@ -12,8 +12,7 @@ use Rattle.mg_line.specs.Opening.{opened}
 use Rattle.mg_line.specs.Falling.{fired}
 use Rattle.outbound.specs.declared.repeat.Repeat.{Repeat}
 use Rattle.outbound.specs.declared.repeat.Repeat.TheVariants.{Sent as SentAgain, GivenUp}
-use Rattle.outbound.specs.Flight.{InFlight, heard, repeat_of}
-use Rattle.outbound.proofs.LifeLaws.{repeat_same, reply_same}
+use Rattle.outbound.specs.Flight.{InFlight, repeat_of}
 use Rattle.restart.specs.declared.restart.Restart.{Restart}
 use Rattle.restart.specs.declared.restart.Restart.TheVariants.{Waiting, Announced, Serving}
 use Rattle.restart.specs.declared.heard.Heard.{Heard}
@@ -28,7 +27,7 @@ use Rattle.plain_machine.specs.declared.endpoint.Endpoint.{Endpoint}
 use Rattle.plain_machine.specs.Effect.{Effect}
 use Rattle.plain_machine.specs.Announcing.{announcement, announced, announced_by, announced_on, heard_on, replied}
 use Rattle.plain_machine.specs.Falling.{happened_on}
-use Rattle.plain_machine.specs.Message.{Sent, is_answer}
+use Rattle.plain_machine.specs.Message.{Sent}
 use Rattle.plain_machine.specs.Notifying.{notification, noted, posted, with_notice}
 use Rattle.plain_machine.specs.Posting.{first_number, id_on, line_of_id, number_after, numbers, repeated_as, resent_by, resent_on}
 use Rattle.plain_machine.specs.Requesting.{asked_if, deed_on, with_connections, with_entity}

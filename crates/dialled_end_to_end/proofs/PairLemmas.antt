@@ -1,8 +1,7 @@
 -- What a line began beside what was taken of it: in pairs, each with the command that it is, but for the one in flight.
-use Rattle.std.proofs.Common.{◌≡◌, ℕ, ◌-◌, ◌+◌, ◌<◌, ◌≤◌, List, [], ◌∷◌, ◌++◌, length, Option, Some, None, inl, inr, refl, sym, ap, ◌∙◌, subst, arith, append-nil, append_assoc}
+use Rattle.std.proofs.Common.{◌≡◌, ℕ, ◌≤◌, List, [], ◌∷◌, ◌++◌, length, Option, Some, None, inl, inr, refl, sym, ap, ◌∙◌, subst, arith, append-nil, append_assoc}
 use Rattle.std.specs.Prelude.{◌⊎◌, flat_map}
 use Rattle.event_values.specs.declared.observed.Observed.{Observed}
-use Rattle.history.specs.Memory.{memory_time}
 use Rattle.outbound.specs.Flight.{InFlight}
 use Rattle.machine_laws.specs.Saying.{Begun, OneOf}
 use Rattle.machine_laws.proofs.EachLemmas.{Each}
@@ -11,7 +10,6 @@ use Rattle.world_laws.proofs.ReachedLaws.{Apart}
 use Rattle.world_laws.proofs.WorldLaws.{Comes}
 use Rattle.dialled_end_to_end.specs.Telling.{told_as}
 use Rattle.dialled_end_to_end.proofs.FlightLemmas.{flying}
-use Rattle.dialled_end_to_end.proofs.MatchLemmas.{ends_same}
 use Rattle.dialled_end_to_end.proofs.NumberedLemmas.{Numbered, far_apart, numbered_back, numbered_front}
 use Rattle.dialled_end_to_end.proofs.TakenLemmas.{told_taken}
 use Rattle.dialled_end_to_end.proofs.ToldLemmas.{told_by}

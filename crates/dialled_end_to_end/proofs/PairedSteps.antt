@@ -3,11 +3,9 @@ use Rattle.std.proofs.Common.{◌≡◌, ℕ, ◌+◌, ◌<◌, ◌≤◌, Bool,
 use Rattle.std.specs.Prelude.{◌⊎◌, Any, filter, flat_map}
 use Rattle.std.proofs.lemmas.Grind.{flat_map-append}
 use Rattle.std.proofs.lemmas.List.Elements.{filter-append}
-use Rattle.std.proofs.lemmas.Option.{none-some}
 use Rattle.mgcp_text.specs.declared.message.Message.TheVariants as messages
 use Rattle.mgcp_text.specs.declared.message.Param.{Param}
 use Rattle.mgcp_text.specs.Reading.{message}
-use Rattle.outbound.specs.Flight.{InFlight}
 use Rattle.plain_machine.specs.declared.endpoint.Endpoint.{Endpoint}
 use Rattle.plain_machine.specs.declared.setup.Setup.{Setup}
 use Rattle.std.specs.declared.net.socket_addr.SocketAddrV4.{SocketAddrV4}
@@ -25,24 +23,24 @@ use Rattle.machine_laws.specs.Belonging.{of_line}
 use Rattle.machine_laws.specs.Saying.{Begun, OneOf, begun_at, begun_in}
 use Rattle.machine_laws.proofs.EachLemmas.{Each, each_back, each_from_all, each_front, each_weaker, one_from_any}
 use Rattle.machine_laws.proofs.WaitLaws.{events_wait}
-use Rattle.agent_core.specs.World.{World, WorldStep, agent_in, gateway_in, now_in, plain_world, steps_are_taken, world_after, world_opening}
+use Rattle.agent_core.specs.World.{World, WorldStep, gateway_in, now_in, plain_world, steps_are_taken, world_after, world_opening}
 use Rattle.world_laws.specs.Reached.{Reached, heard_in, own_in, reached, taken_in}
 use Rattle.world_laws.proofs.LinkLaws.{Rises, world_linked}
 use Rattle.world_laws.proofs.ReachedLaws.{executed_apart, executed_each}
-use Rattle.world_laws.proofs.TakenLaws.{heard_lately, heard_was_taken}
-use Rattle.world_laws.proofs.WorldLaws.{Came, Comes, gateway_alone}
+use Rattle.world_laws.proofs.TakenLaws.{heard_lately}
+use Rattle.world_laws.proofs.WorldLaws.{Came, gateway_alone}
 use Rattle.dialled_once.proofs.CourseLemmas.{AllHear, events_stand}
 use Rattle.dialled_end_to_end.specs.GivenUp.{has_given_up}
 use Rattle.dialled_end_to_end.proofs.FlightLemmas.{Fine, Flies, Gone, FliesBeside, flight_turns, flying, gave_nothing_up, starts_gone}
 use Rattle.dialled_end_to_end.proofs.MoveLemmas.{Move, agent_took, gateway_took, step_moves}
 use Rattle.dialled_end_to_end.proofs.NumberedLemmas.{Numbered}
 use Rattle.dialled_end_to_end.proofs.NumberTurns.{line_counted}
-use Rattle.dialled_end_to_end.proofs.PairLemmas.{Paired, Pairs, Spaced, StandsLate, begun_pairs, taken_pairs}
+use Rattle.dialled_end_to_end.proofs.PairLemmas.{Paired, Spaced, StandsLate, begun_pairs, taken_pairs}
 use Rattle.dialled_end_to_end.proofs.PairedWorlds.{Cut, came_each, cut, given_back, line_spaced, stands_late}
 use Rattle.dialled_end_to_end.proofs.TakenLemmas.{is_of_line}
 use Rattle.dialled_end_to_end.proofs.ToldLemmas.{is_mine, mine_is}
 use Rattle.dialled_end_to_end.proofs.WellLemmas.{IsWell, sent_well}
-use Rattle.dialled_end_to_end.proofs.WorldLemmas.{IsFinal, WasTaken, hear_finals, line_begun, line_flies, line_sent, line_taken, mine_each, none_comes, sent_more, stays_up, taken_front, world_more, world_one}
+use Rattle.dialled_end_to_end.proofs.WorldLemmas.{IsFinal, WasTaken, hear_finals, line_begun, line_flies, line_sent, line_taken, mine_each, none_comes, sent_more, stays_up, taken_front, world_one}
 
 -- What is known of a line in each world
 

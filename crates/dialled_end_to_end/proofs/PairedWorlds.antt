@@ -1,27 +1,20 @@
 -- In each world what a line began that gave nothing up stands in pairs with what the agent took of it, but for the one in flight; and no
 -- numbers of its commands need be left for that.
-use Rattle.std.proofs.Common.{◌≡◌, ℕ, ◌+◌, ◌*◌, ◌<◌, ◌≤◌, Bool, true, false, ◌==◌, ◌||◌, if◌then◌else◌, zero, suc, List, [], ◌∷◌, ◌++◌, map, length, Option, Some, None, inl, inr, refl, sym, ap, ◌∙◌, subst, arith, append-nil, append_assoc}
-use Rattle.std.specs.Prelude.{◌⊎◌, AllPairs, Any, filter, flat_map, fold, not}
+use Rattle.std.proofs.Common.{◌≡◌, ℕ, ◌+◌, ◌*◌, ◌<◌, ◌≤◌, Bool, true, false, ◌==◌, ◌||◌, if◌then◌else◌, zero, suc, List, [], ◌∷◌, ◌++◌, map, length, inl, inr, refl, sym, ap, ◌∙◌, subst, arith, append-nil, append_assoc}
+use Rattle.std.specs.Prelude.{◌⊎◌, AllPairs, filter, fold, not}
 use Rattle.std.specs.List.{list_any, slice_index_or}
 use Rattle.std.proofs.lemmas.Bool.{eq-eqb, eqb-true}
-use Rattle.std.proofs.lemmas.Grind.{flat_map-append}
 use Rattle.std.proofs.lemmas.List.Elements.{filter-append}
 use Rattle.std.proofs.lemmas.List.Sums.{length-filter, count_by-le-length}
 use Rattle.mgcp_text.specs.declared.message.Message.TheVariants as messages
-use Rattle.mgcp_text.specs.declared.message.Param.{Param}
-use Rattle.mgcp_text.specs.Reading.{message}
 use Rattle.history.specs.Memory.{most_firsts}
 use Rattle.history.specs.Firsts.{Kind, a_first, a_repeat, lost, kind_of}
-use Rattle.outbound.specs.Flight.{InFlight}
 use Rattle.restart.specs.Restarting.{is_serving}
 use Rattle.plain_machine.specs.declared.post.Post.{Post}
-use Rattle.plain_machine.specs.declared.setup.Setup.{Setup}
-use Rattle.plain_machine.specs.declared.endpoint.Endpoint.{Endpoint}
-use Rattle.plain_machine.specs.Arriving.{TextArrival, arrivals_of}
 use Rattle.plain_machine.specs.Message.{Said, Sent, answer, again, command, resent, acknowledgement}
 use Rattle.plain_machine.specs.Posting.{line_of_id}
 use Rattle.machine_laws.specs.Saying.{Begun, OneOf, begun_at, begun_by, begun_in}
-use Rattle.machine_laws.proofs.EachLemmas.{Each, each_back, each_front, each_weaker}
+use Rattle.machine_laws.proofs.EachLemmas.{Each}
 use Rattle.world_laws.specs.Reached.{Reached, added_by, as_arrival, executed_with}
 use Rattle.world_laws.proofs.LinkLaws.{Rises}
 use Rattle.world_laws.proofs.ReachedLaws.{Apart}

@@ -22,7 +22,8 @@ ghost use Rattle.dialled_end_to_end.specs.Untaken.{untaken};
 /// in flight tells if the agent hasn't taken it yet, and then what is quarantined, but for the ends of signals: nothing is
 /// doubled, nothing is skipped, and the order stays. So what the agent was told is at each moment the beginning of what was
 /// dialled. It is so where the line was asked for all that its telephone does before that did anything, and so at each
-/// request since, no event was lost for want of room, the line gave no command up, and no line used up its numbers.
+/// request since, no event was lost for want of room, and the line gave no command up; and for the whole no line used up its
+/// numbers, since an id that comes again would tell that its command was taken.
 pub fn what_is_dialled_reaches_the_agent_once()
     ensures whole { (setup : Setup) (steps : List WorldStep) (line : ℕ) (before after : List GatewayEvent) (endpoint : Endpoint) →
         IsSetUp setup → steps_are_taken setup world_opening steps ≡ true → HasNumbersLeft (own_in setup (plain_world setup steps)) →
@@ -35,7 +36,7 @@ pub fn what_is_dialled_reaches_the_agent_once()
         ++ (happened_in (untaken (taken_in (plain_world setup steps)) endpoint.post.pending)
         ++ happened_in endpoint.line.quarantined.events) }
     ensures beginning { (setup : Setup) (steps : List WorldStep) (line : ℕ) (before after : List GatewayEvent) (endpoint : Endpoint) →
-        IsSetUp setup → steps_are_taken setup world_opening steps ≡ true → HasNumbersLeft (own_in setup (plain_world setup steps)) →
+        IsSetUp setup → steps_are_taken setup world_opening steps ≡ true →
         (plain_world setup steps).gateway_took ≡ before ++ after →
         endpoint_at (gateway_in setup (plain_world setup steps)).endpoints line ≡ Some endpoint →
         IsAskedForAll (course_of setup line before) (course_from setup (plain setup before) line after) endpoint.line →

@@ -1,4 +1,4 @@
-use Rattle.dialled_end_to_end.proofs.EndLemmas.{dialled_through}
+use Rattle.dialled_end_to_end.proofs.EndLemmas.{dialled_on, dialled_through}
 use Rattle.dialled_end_to_end.proofs.laws.what_is_dialled_reaches_the_agent_once.Goals as goal
 
 pub returns-clause-whole : goal.returns-clause-whole
@@ -7,4 +7,4 @@ returns-clause-whole c =
 
 pub returns-clause-beginning : goal.returns-clause-beginning
 returns-clause-beginning c =
-    λ setup steps line before after endpoint set_up taken few took at asked none. (_, dialled_through setup steps line set_up taken few before after endpoint took at asked none)
+    λ setup steps line before after endpoint set_up taken took at asked none. (_, dialled_on setup steps line set_up taken endpoint at none before after took asked)
