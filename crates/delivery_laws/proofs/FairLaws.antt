@@ -14,7 +14,7 @@ use Rattle.transmission.specs.Texts.{texts_of}
 use Rattle.plain_machine.specs.declared.setup.Setup.{Setup}
 use Rattle.plain_machine.specs.Arriving.{arrivals_of}
 use Rattle.plain_machine.specs.Setup.{IsSetUp}
-use Rattle.machine_laws.specs.Saying.{Begun, Carries, IsAnswerTo, OneOf, Tells, is_command_as}
+use Rattle.machine_laws.specs.Saying.{Gives, Begun, Carries, IsAnswerTo, OneOf, Tells, is_command_as}
 use Rattle.machine_laws.proofs.EachLemmas.{Each, any_from_one, each_at, each_from_all, is_none-None, one_from_any, one_mapped, one_of_each, one_to, one_unmapped, one_weaker}
 use Rattle.call_agent.specs.Agent.{AgentMachine, agent_opening}
 use Rattle.call_agent.specs.Hearing.{AgentEvent, issued_from}
@@ -119,10 +119,10 @@ told_issued all firsts now next b name moment issued answers reads (inl carried)
     (λ c both. one_id c.id b.id both.0.name name (read_text b.text) (ap (λ (t : List ℕ). is_command_as c.id both.0.name (read_text t)) both.1.text ∙ both.0.reads) reads) all
     (one_of_each (WasIssued now next) (Carries b.text moment) all issued carried)
 told_issued all firsts now next b name moment issued answers reads (inr (inl answered)) =
-    absurd (one_to (λ (first : KeptFirst). IsAnswerTo first.id first.answer × (first.answer ≡ b.text)) ⊥
+    absurd (one_to (λ (first : KeptFirst). IsAnswerTo first.id first.answer × Gives b.text moment first) ⊥
     (λ first both. let e : is_command_as b.id name (message (messages.Response both.0.code first.id both.0.params both.0.body)) ≡ true =
-    ap (is_command_as b.id name) (sym both.0.reads ∙ ap read_text both.1) ∙ reads in absurd cc) firsts
-    (one_of_each (λ (first : KeptFirst). IsAnswerTo first.id first.answer) (λ (first : KeptFirst). first.answer ≡ b.text) firsts answers answered))
+    ap (is_command_as b.id name) (sym both.0.reads ∙ ap read_text both.1.0) ∙ reads in absurd cc) firsts
+    (one_of_each (λ (first : KeptFirst). IsAnswerTo first.id first.answer) (Gives b.text moment) firsts answers answered))
 told_issued all firsts now next b name moment issued answers reads (inr (inr is)) =
     absurd (let e : is_command_as b.id name (message (messages.Response 0 is.id [] [])) ≡ true = ap (is_command_as b.id name) (sym is.reads) ∙ reads in cc)
 

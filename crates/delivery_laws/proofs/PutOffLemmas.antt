@@ -19,7 +19,7 @@ use Rattle.plain_machine.specs.Arriving.{TextArrival, arrival, arrivals_from, ar
 use Rattle.plain_machine.specs.Setup.{IsSetUp}
 use Rattle.plain_machine.specs.Event.{datagram, tick}
 use Rattle.machine_laws.proofs.TransactionLaws.{history_is}
-use Rattle.machine_laws.specs.Saying.{Begun, Carries, Tells, is_command_as}
+use Rattle.machine_laws.specs.Saying.{Gives, Begun, Carries, Tells, is_command_as}
 use Rattle.machine_laws.proofs.EachLemmas.{Each, each_at, each_both, each_weaker, is_none-None, one_of_each, one_to}
 use Rattle.machine_laws.proofs.PostLogs.{WasBegun}
 use Rattle.machine_laws.proofs.TellsLemmas.{IsCommand}
@@ -65,11 +65,11 @@ says_none log firsts text moment commands finals (inl carried) = λ id put.
     (λ b both. no_command b.id put.0 id both.0.name put.1 put.2 (read_text b.text) both.0.reads (sym (ap read_text both.1.text) ∙ put.3)) log
     (one_of_each IsCommand (Carries text moment) log commands carried)
 says_none log firsts text moment commands finals (inr (inl answered)) = λ id put.
-    one_to (λ (first : KeptFirst). IsFinal first.answer × (first.answer ≡ text)) ⊥
+    one_to (λ (first : KeptFirst). IsFinal first.answer × Gives text moment first) ⊥
     (λ first both.
-    let high : 200 ≤ put.0 = final_high put.0 (both.0 put.0 id put.1 put.2 (ap read_text both.1 ∙ put.3)) in
+    let high : 200 ≤ put.0 = final_high put.0 (both.0 put.0 id put.1 put.2 (ap read_text both.1.0 ∙ put.3)) in
     absurd (omega (arith, high, put.5))) firsts
-    (one_of_each (λ (first : KeptFirst). IsFinal first.answer) (λ (first : KeptFirst). first.answer ≡ text) firsts finals answered)
+    (one_of_each (λ (first : KeptFirst). IsFinal first.answer) (Gives text moment) firsts finals answered)
 says_none log firsts text moment commands finals (inr (inr is)) = λ id put.
     let same : 0 ≡ put.0 = ap response_code (sym is.reads ∙ put.3) in
     absurd (omega (arith, same, put.4))

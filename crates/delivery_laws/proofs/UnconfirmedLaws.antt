@@ -28,7 +28,7 @@ use Rattle.plain_machine.specs.Lists.{sent_of}
 use Rattle.plain_machine.specs.Message.{Owner, Said, Sent, answer, again, command as own_command, resent, acknowledgement}
 use Rattle.plain_machine.specs.Setup.{IsSetUp}
 use Rattle.plain_machine.specs.Transactions.{asked_as, asked_at}
-use Rattle.machine_laws.specs.Saying.{Begun, Carries, IsAnswerTo, Tells, begun_at, begun_by}
+use Rattle.machine_laws.specs.Saying.{Gives, Begun, Carries, IsAnswerTo, Tells, begun_at, begun_by}
 use Rattle.machine_laws.proofs.EachLemmas.{Each, each_at, each_back, each_flat, each_from_all, each_front, each_push, each_unflat, each_unmapped, each_weaker, one_from_any, one_of_each, one_to}
 use Rattle.machine_laws.proofs.TellsLemmas.{AreAnswers}
 use Rattle.call_agent.specs.declared.setup.AgentSetup.{AgentSetup}
@@ -84,9 +84,9 @@ text_bare : (log : List Begun) (firsts : List KeptFirst) (text : List ℕ) (mome
 text_bare log firsts text moment bare answers (inl carried) =
     one_to (λ (b : Begun). BareBegun b × Carries text moment b) (BareText text) (λ b both. subst BareText (sym both.1.text) both.0) log (one_of_each BareBegun (Carries text moment) log bare carried)
 text_bare log firsts text moment bare answers (inr (inl answered)) =
-    one_to (λ (first : KeptFirst). IsAnswerTo first.id first.answer × (first.answer ≡ text)) (BareText text)
-    (λ first both. subst BareText both.1 (subst IsBare (sym both.0.reads) tt)) firsts
-    (one_of_each (λ (first : KeptFirst). IsAnswerTo first.id first.answer) (λ (first : KeptFirst). first.answer ≡ text) firsts answers answered)
+    one_to (λ (first : KeptFirst). IsAnswerTo first.id first.answer × Gives text moment first) (BareText text)
+    (λ first both. subst BareText both.1.0 (subst IsBare (sym both.0.reads) tt)) firsts
+    (one_of_each (λ (first : KeptFirst). IsAnswerTo first.id first.answer) (Gives text moment) firsts answers answered)
 text_bare log firsts text moment bare answers (inr (inr is)) = subst IsBare (sym is.reads) tt
 
 -- no command that its end posts has a K

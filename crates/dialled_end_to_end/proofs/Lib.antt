@@ -10,6 +10,8 @@ pub mod PairLemmas
 pub mod NumberTurns
 pub mod MoveLemmas
 pub mod WorldLemmas
+pub mod BeganLemmas
+pub mod GivenLemmas
 pub mod PairedWorlds
 pub mod PairedSteps
 pub mod EndLemmas

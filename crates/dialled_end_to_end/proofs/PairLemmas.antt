@@ -125,7 +125,7 @@ record Behind (begun : List Begun) (id : ℕ) (count : ℕ) : Type 0 where
   id_is : b.id ≡ id
   many : length behind ≡ count
 
-pairs_many : (begun : List Begun) (taken : List Reached) → Pairs begun taken → length begun ≡ length taken
+pub pairs_many : (begun : List Begun) (taken : List Reached) → Pairs begun taken → length begun ≡ length taken
 pairs_many [] [] pairs = refl
 pairs_many [] (one ∷ taken) pairs = absurd pairs
 pairs_many (b ∷ begun) [] pairs = absurd pairs
@@ -140,7 +140,7 @@ stands_begun (b ∷ begun) (other ∷ before) one behind pairs =
     record { before = b ∷ rest.before; b = rest.b; behind = rest.behind; is = ap (λ (x : List Begun). b ∷ x) rest.is; id_is = rest.id_is; many = rest.many }
 
 -- so the next has another id
-another : (number : ℕ) (begun : List Begun) (next : Begun) (free : ℕ) (taken : List Reached) → Numbered number (begun ++ next ∷ []) free → Pairs begun taken → StandsLate taken next.id → ⊥
+pub another : (number : ℕ) (begun : List Begun) (next : Begun) (free : ℕ) (taken : List Reached) → Numbered number (begun ++ next ∷ []) free → Pairs begun taken → StandsLate taken next.id → ⊥
 another number begun next free taken numbered pairs late =
     let there = stands_begun begun late.before late.one late.behind (subst (Pairs begun) late.is pairs) in
     let order : begun ++ next ∷ [] ≡ there.before ++ (there.b ∷ there.behind ++ next ∷ []) = ap (λ (x : List Begun). x ++ next ∷ []) there.is ∙ append_assoc there.before (there.b ∷ there.behind) (next ∷ []) in

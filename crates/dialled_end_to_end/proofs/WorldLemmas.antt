@@ -64,7 +64,7 @@ taken_ids taken = map (λ (one : Reached). one.asked.id) taken
 abbrev pub WasTaken : List Reached → ℕ → Type 0
 WasTaken taken id = OneOf (λ (one : Reached). one.asked.id ≡ id) taken
 
-sent_on : (setup : Setup) (m : Machine) (es fs : List GatewayEvent) → sent_from setup m (es ++ fs) ≡ sent_from setup m es ++ sent_from setup (machine_after setup m es) fs
+pub sent_on : (setup : Setup) (m : Machine) (es fs : List GatewayEvent) → sent_from setup m (es ++ fs) ≡ sent_from setup m es ++ sent_from setup (machine_after setup m es) fs
 unfolding sent_from machine_after
 sent_on setup m [] fs = refl
 sent_on setup m (event ∷ es) fs =
