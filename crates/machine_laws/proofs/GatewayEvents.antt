@@ -1,14 +1,13 @@
 -- What a gateway sends at an event: commands of its own, answers to the firsts that it keeps, and acknowledgements.
-use Rattle.std.proofs.Common.{◌≡◌, ℕ, zero, suc, ◌+◌, ◌<◌, ◌≤◌, Bool, true, false, ◌||◌, if◌then◌else◌, List, [], ◌∷◌, ◌++◌, length, Option, Some, None, inl, inr, refl, sym, ap, ◌∙◌, subst, arith, append-nil, append_assoc}
-use Rattle.std.specs.Prelude.{Any, IfSome, nat_le, nat_lt, ◌^◌}
-use Rattle.std.specs.List.{slice_index_or}
+use Rattle.std.proofs.Common.{◌≡◌, ℕ, ◌+◌, ◌≤◌, Bool, true, false, ◌||◌, if◌then◌else◌, List, [], ◌∷◌, ◌++◌, Option, Some, None, inl, inr, refl, sym, ap, ◌∙◌, subst, arith, append-nil, append_assoc}
+use Rattle.std.specs.Prelude.{IfSome, nat_le, nat_lt, ◌^◌}
 use Rattle.std.proofs.lemmas.Bool.{ltb-false, ne_eqb}
 use Rattle.std.proofs.lemmas.Option.{none-some}
 use Rattle.std.specs.declared.net.socket_addr.SocketAddrV4.{SocketAddrV4}
 use Rattle.mgcp_text.specs.declared.message.Message.TheVariants as messages
 use Rattle.mgcp_text.specs.declared.message.Param.{Param}
 use Rattle.mgcp_text.specs.Reading.{Outcome, message, no_header, bad_version, bad_body, id_in, read_text}
-use Rattle.mgcp_text.specs.Answer.{AnswerContent, IsAnswer, plain_code, response_of}
+use Rattle.mgcp_text.specs.Answer.{IsAnswer, plain_code, response_of}
 use Rattle.mgcp_text.specs.Confirmation.{k_of}
 use Rattle.mgcp_text.proofs.AnswerLemmas.{answer_writable}
 use Rattle.mgcp_text.proofs.IdLemmas.{IsId, read_id}
@@ -20,10 +19,8 @@ use Rattle.history.specs.declared.entry.Entry.TheVariants.{First, Confirmation}
 use Rattle.history.specs.Memory.{most_firsts}
 use Rattle.history.specs.Kept.{firsts_in}
 use Rattle.history.specs.Looking.{Looked, new, repeat, confirmed, full, look_of}
-use Rattle.history.proofs.LookLaws.{repeat_kept}
 use Rattle.outbound.specs.Flight.{InFlight}
 use Rattle.plain_machine.specs.declared.setup.Setup.{Setup}
-use Rattle.plain_machine.specs.declared.endpoint.Endpoint.{Endpoint}
 use Rattle.plain_machine.specs.declared.refusal.Refusal.TheVariants.{ClockBack, TickTooFar}
 use Rattle.plain_machine.specs.Effect.{Effect, silently}
 use Rattle.plain_machine.specs.Setup.{IsSetUp, most_lines}
@@ -33,8 +30,6 @@ use Rattle.plain_machine.specs.Posting.{first_number}
 use Rattle.plain_machine.specs.Machine.{Endpoints, Machine, opening, opening_endpoint}
 use Rattle.transmission.specs.Texts.{texts_of}
 use Rattle.plain_machine.specs.Arriving.{clock_after}
-use Rattle.plain_machine.specs.Done.{Done, only_answer}
-use Rattle.plain_machine.specs.Commanding.{commanded}
 use Rattle.transmission.specs.Acknowledging.{asks_for_acknowledgement}
 use Rattle.plain_machine.specs.Responding.{acknowledged, response_with, responded}
 use Rattle.plain_machine.specs.Answering.{Transaction, response_to, answer_text, history_with, refusing, command_with, reply, executed, transacted_by, handled, took_all}
@@ -44,12 +39,12 @@ use Rattle.machine_laws.proofs.AllLemmas.{OnAll}
 use Rattle.machine_laws.proofs.TurnLemmas.{on_made}
 use Rattle.machine_laws.proofs.CommandLaws.{opening_is_sound}
 use Rattle.machine_laws.proofs.NoticeLemmas.{opening_is_fine}
-use Rattle.machine_laws.proofs.MessageLaws.{nothing_kept, opening_fits, Fits, code_is, code_fits, command_answered, handled_fits, event_fits, AreKept, event_goes}
+use Rattle.machine_laws.proofs.MessageLaws.{nothing_kept, opening_fits, Fits, code_is, command_answered, handled_fits, event_fits, AreKept, event_goes}
 use Rattle.plain_machine.proofs.EffectLaws.{handled_now, effect_now}
 use Rattle.machine_laws.proofs.EachLemmas.{Each, each_both, each_weaker, one_behind}
 use Rattle.machine_laws.proofs.GatewayTurns.{OwnStands, LineStands, log_turns}
 use Rattle.machine_laws.proofs.LogTurns.{Goes, Stands, acted_goes, command_goes, log_both, on_later, pass_goes, responded_goes}
-use Rattle.machine_laws.proofs.PostLogs.{InLog, Logged, Own, Posted, WasBegun}
+use Rattle.machine_laws.proofs.PostLogs.{InLog, Logged, Own, WasBegun}
 use Rattle.machine_laws.proofs.TellsLemmas.{AreAnswers, tells_on}
 use Rattle.machine_laws.specs.Saying.{Gives, IsAnswerTo, Begun, OneOf, Tells, begun_in}
 use Rattle.machine_laws.proofs.YoungLemmas.{repeat_gives}
