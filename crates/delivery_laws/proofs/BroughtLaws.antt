@@ -1,5 +1,5 @@
 -- A network that hands each packet over in time brings each command of the gateway's own to the agent in that time.
-use Rattle.std.proofs.Common.{◌≡◌, ℕ, ◌+◌, ◌≤◌, true, List, [], ◌∷◌, ◌++◌, Some, sym, ◌∙◌, subst}
+use Rattle.std.proofs.Common.{◌≡◌, ℕ, ◌+◌, ◌≤◌, true, List, [], ◌∷◌, ◌++◌, Some, refl, sym, ◌∙◌, subst}
 use Rattle.std.specs.Prelude.{Any, slice_get}
 use Rattle.transmission.specs.Texts.{texts_of}
 use Rattle.plain_machine.specs.declared.setup.Setup.{Setup}
@@ -57,15 +57,20 @@ module _ (setup : Setup) (steps : List WorldStep) (limit within : ℕ) (b : Begu
       said_posted setup steps set_up taken b.text b.moment
       (began_says b (sent_of setup w.gateway_took) (one_from_any (λ (one : Begun). one ≡ b) (own_in setup w) own))
 
-  brought_by : (number : ℕ) (post : Posted) → slice_get w.posted number ≡ Some post → HasText b.text b.moment post → IsBrought setup steps within b
-  brought_by number post found shows = record {
-    number = number;
-    post = post;
-    moment = shows.1;
-    there = there;
-    step = is;
-    took = agent_takes setup there.before number b was.name set_up front was.reads copy is (roomy first there.later there.order);
-  } where
+  -- by any packet that has its text and its moment
+  brought_by : (number : ℕ) (post : Posted) → slice_get w.posted number ≡ Some post → HasText b.text b.moment post
+      → (is : IsBrought setup steps within b) × (is.number ≡ number)
+  brought_by number post found shows = (
+    record {
+      number = number;
+      post = post;
+      moment = shows.1;
+      there = there;
+      step = is;
+      took = agent_takes setup there.before number b was.name set_up front was.reads copy is (roomy first there.later there.order);
+    },
+    refl,
+  ) where
     inside : Any (λ (one : List ℕ). one ≡ b.text) (texts_of post.packet.bytes)
     inside = any_from_one (λ (one : List ℕ). one ≡ b.text) (texts_of post.packet.bytes) shows.2
 
@@ -85,12 +90,20 @@ module _ (setup : Setup) (steps : List WorldStep) (limit within : ℕ) (b : Begu
     is = step_more setup there.before (delivering number) ∙ handed_to_agent setup (plain_world setup there.before) b.text number copy
 
   brought : IsBrought setup steps within b
-  brought = let at = one_at (HasText b.text b.moment) w.posted shown in brought_by at.0 at.1 at.2 at.3
+  brought = let at = one_at (HasText b.text b.moment) w.posted shown in (brought_by at.0 at.1 at.2 at.3).0
 
 pub is_brought : (setup : Setup) (steps : List WorldStep) (limit within : ℕ) (b : Begun) → IsSetUp setup → steps_are_taken setup world_opening steps ≡ true → HandsOver setup steps limit within
     → AgentAlwaysHasRoom setup steps → let w = plain_world setup steps in IsOwn setup w b → GoesToAgent setup w b.text
     → b.moment + limit ≤ now_in setup w → IsBrought setup steps within b
 is_brought setup steps limit within b set_up taken fair roomy own goes late = brought setup steps limit within b set_up taken fair roomy own goes late
+
+pub brought_with : (setup : Setup) (steps : List WorldStep) (limit within : ℕ) (b : Begun) → IsSetUp setup
+    → steps_are_taken setup world_opening steps ≡ true → HandsOver setup steps limit within → AgentAlwaysHasRoom setup steps
+    → let w = plain_world setup steps in IsOwn setup w b → GoesToAgent setup w b.text → b.moment + limit ≤ now_in setup w
+    → (number : ℕ) (post : Posted) → slice_get w.posted number ≡ Some post → HasText b.text b.moment post
+    → (is : IsBrought setup steps within b) × (is.number ≡ number)
+brought_with setup steps limit within b set_up taken fair roomy own goes late number post found shows =
+    brought_by setup steps limit within b set_up taken fair roomy own goes late number post found shows
 
 pub brought_in_time : (setup : Setup) (steps : List WorldStep) (within : ℕ) (b : Begun) → IsSetUp setup → steps_are_taken setup world_opening steps ≡ true → IsFair setup steps within
     → AgentAlwaysHasRoom setup steps → let w = plain_world setup steps in IsOwn setup w b → GoesToAgent setup w b.text

@@ -4,24 +4,20 @@ use Rattle.std.specs.Prelude.{◌||◌, not}
 use Rattle.std.proofs.lemmas.List.{length-append}
 use Rattle.event_values.specs.declared.observed.Observed.{Observed}
 use Rattle.event_values.specs.declared.observed.Observed.TheVariants.{Happened, Ended}
-use Rattle.restart.specs.declared.restart.Restart.TheVariants.{Serving}
 use Rattle.restart.specs.Restarting.{is_serving}
 use Rattle.mg_line.specs.Line.{opening_line}
 use Rattle.plain_machine.specs.declared.post.Post.{Post}
-use Rattle.plain_machine.specs.declared.response.Response.{Response}
 use Rattle.plain_machine.specs.declared.setup.Setup.{Setup}
 use Rattle.plain_machine.specs.declared.endpoint.Endpoint.{Endpoint}
-use Rattle.plain_machine.specs.Arriving.{arrivals_from, arrivals_of}
+use Rattle.plain_machine.specs.Arriving.{arrivals_from}
 use Rattle.plain_machine.specs.Event.{GatewayEvent}
 use Rattle.plain_machine.specs.Lists.{machine_after, plain, sent_from, sent_of}
-use Rattle.plain_machine.specs.Machine.{Machine, endpoint_at, opening, opening_endpoint, serves}
+use Rattle.plain_machine.specs.Machine.{Machine, endpoint_at, opening, serves}
 use Rattle.plain_machine.specs.Message.{Sent}
 use Rattle.plain_machine.specs.Setup.{IsSetUp}
 use Rattle.plain_machine.proofs.ListLaws.{machine_on}
-use Rattle.machine_laws.proofs.TurnLemmas.{on_made, of_line as of_its_line}
 use Rattle.machine_laws.specs.Saying.{HasNumbersLeft}
 use Rattle.machine_laws.proofs.LineLemmas.{place_of}
-use Rattle.machine_laws.proofs.WaitLaws.{events_wait, opening_waits}
 use Rattle.machine_laws.specs.Belonging.{of_line}
 use Rattle.machine_laws.proofs.OwningLemmas.{of_both}
 use Rattle.dialled_once.specs.Course.{course_from, course_of}
@@ -35,7 +31,6 @@ use Rattle.call_agent.specs.Agent.{observed_on}
 use Rattle.agent_core.specs.World.{World, WorldStep, agent_in, gateway_in, now_in, plain_world, steps_are_taken, world_opening}
 use Rattle.world_laws.specs.Reached.{own_in}
 use Rattle.dialled_end_to_end.specs.GivenUp.{has_given_up}
-use Rattle.dialled_end_to_end.proofs.FlightLemmas.{Flies, FliesBeside, flight_turns, gave_nothing_up, opening_flies, starts_gone, stays_gone}
 use Rattle.delivery_laws.specs.Fairness.{AgentAlwaysHasRoom, HadItsTime, IsFair}
 use Rattle.delivery_laws.specs.Rounds.{IsAnsweredWithin, IsAskedWithin, of_telephone, rounds_take}
 use Rattle.delivery_laws.proofs.DialledLaws.{taken_in_time}
@@ -118,47 +113,6 @@ none_since setup line some later post none = by_test (has_announced since) refl 
       absurd (let clash : true ≡ false =
       sym (ap (λ (b : Bool). b || not (is_serving post.restart)) (announced_behind (of_line line (sent_of setup some)) since is)) ∙ whole in cc)
   by_test false is = by_all (has_announced (of_line line (sent_of setup some) ++ since)) whole
-
--- What gave nothing up has nothing to announce
-
-abbrev AnyId : ℕ → Type 0
-AnyId id = Unit {0}
-
-abbrev IsFinal : Response → Type 0
-IsFinal response = 200 ≤ response.code → AnyId response.id
-
-module _ (setup : Setup) (line : ℕ) (one : 1 ≤ line) where
-  flew : (events : List GatewayEvent) (s : Endpoint) → endpoint_at (plain setup events).endpoints line ≡ Some s → Flies AnyId (Unit {0}) (of_line line (sent_of setup events)) s
-  flew events =
-      (events_stand setup IsFinal (FliesBeside AnyId (Unit {0})) (flight_turns AnyId (Unit {0}) setup) line one (opening setup) [] [] 0 events
-      (hear_all setup IsFinal (λ response high. tt) (arrivals_of events)) (record {
-        order = opening_waits setup;
-        holds = λ s at.
-            of_its_line (λ n endpoint. Flies AnyId (Unit {0}) [] endpoint) (opening setup).endpoints line s
-            (on_made (λ n endpoint. Flies AnyId (Unit {0}) [] endpoint) (opening_endpoint setup) 1 setup.names.lines
-            (λ i low high. opening_flies AnyId (Unit {0}) (opening_endpoint setup i) tt refl refl)) at;
-      })).holds
-
-  stays_up : (some later : List GatewayEvent) (was endpoint : Endpoint) → endpoint_at (plain setup some).endpoints line ≡ Some was → endpoint_at (plain setup (some ++ later)).endpoints line ≡ Some endpoint
-      → Flies AnyId ⊥ (of_line line (sent_of setup some)) was → has_given_up (of_line line (sent_of setup (some ++ later))) endpoint.post ≡ true
-  stays_up some later was endpoint here there gone =
-      ap (λ (x : List Sent). has_given_up x endpoint.post) (ap (of_line line) (sent_on setup (opening setup) some later) ∙ of_both line (sent_of setup some) (sent_from setup (plain setup some) later))
-      ∙ stays_gone (of_line line (sent_of setup some) ++ of_line line (sent_from setup (plain setup some) later)) endpoint
-      ((events_stand setup IsFinal (FliesBeside AnyId ⊥) (flight_turns AnyId ⊥ setup) line one (plain setup some) [] (of_line line (sent_of setup some)) 0 later
-      (hear_all setup IsFinal (λ response high. tt) (arrivals_from 0 later))
-      (record {
-        order = events_wait setup some;
-        holds = λ x at. subst (Flies AnyId ⊥ (of_line line (sent_of setup some))) (let both : Some was ≡ Some x = sym here ∙ at in (let same : was ≡ x = cc in same)) gone;
-      })).holds endpoint (ap (λ (m : Machine). endpoint_at m.endpoints line) (sym (machine_on setup (opening setup) some later)) ∙ there))
-
-  pub serving_then : (some later : List GatewayEvent) (was endpoint : Endpoint) → endpoint_at (plain setup some).endpoints line ≡ Some was
-      → endpoint_at (plain setup (some ++ later)).endpoints line ≡ Some endpoint → has_given_up (of_line line (sent_of setup (some ++ later))) endpoint.post ≡ false → was.post.restart ≡ Serving
-  serving_then some later was endpoint here there none = by_test (has_given_up (of_line line (sent_of setup some)) was.post) refl where
-    by_test : (b : Bool) → has_given_up (of_line line (sent_of setup some)) was.post ≡ b → was.post.restart ≡ Serving
-    by_test true is =
-        absurd (let up = stays_up some later was endpoint here there (starts_gone AnyId (Unit {0}) (of_line line (sent_of setup some)) was (flew some was here) is) in
-        let clash : true ≡ false = sym up ∙ none in cc)
-    by_test false is = (gave_nothing_up AnyId (Unit {0}) (of_line line (sent_of setup some)) was (flew some was here) is).serving
 
 -- What holds where the law of both ends does, and from a moment on the line waits for no answer and no request for longer than so long
 module _ (setup : Setup) (steps : List WorldStep) (within line : ℕ) (before after some later : List GatewayEvent) (answering asking : ℕ) (was endpoint : Endpoint) (set_up : IsSetUp setup)

@@ -43,10 +43,10 @@ use Rattle.delivery_laws.proofs.FirstAnswerLaws.{HasFirstIn, WasAnswered, was_an
 abbrev pub IsBefore : List WorldStep → List WorldStep → Type 0
 IsBefore a b = (more : List WorldStep) × (b ≡ a ++ more)
 
-head_same : (s t : WorldStep) (a b : List WorldStep) → s ∷ a ≡ t ∷ b → s ≡ t
+pub head_same : (s t : WorldStep) (a b : List WorldStep) → s ∷ a ≡ t ∷ b → s ≡ t
 head_same s t a b same = cc
 
-tail_same : (s t : WorldStep) (a b : List WorldStep) → s ∷ a ≡ t ∷ b → a ≡ b
+pub tail_same : (s t : WorldStep) (a b : List WorldStep) → s ∷ a ≡ t ∷ b → a ≡ b
 tail_same s t a b same = cc
 
 pub one_first : (a b x y : List WorldStep) → a ++ x ≡ b ++ y → IsBefore a b ⊎ IsBefore b a
@@ -66,7 +66,7 @@ length_more : (xs ys : List Posted) → length xs ≤ length (xs ++ ys)
 length_more [] ys = omega arith
 length_more (x ∷ xs) ys = let less = length_more xs ys in omega (arith, less)
 
-found_within : (xs : List Posted) (place : ℕ) (post : Posted) → slice_get xs place ≡ Some post → place < length xs
+pub found_within : (xs : List Posted) (place : ℕ) (post : Posted) → slice_get xs place ≡ Some post → place < length xs
 found_within [] place post at = absurd (none-some post at)
 found_within (x ∷ xs) zero post at = omega arith
 found_within (x ∷ xs) (suc place) post at = let less = found_within xs place post at in omega (arith, less)
@@ -208,7 +208,7 @@ first_issued setup steps more b taken issued has = named_issued setup steps more
 -- An answer in twice the time
 
 -- a packet that is sent later is handed over later
-later_before : (setup : Setup) (id : ℕ) (a b x y : List WorldStep) (number : ℕ) (post : Posted) → a ++ x ≡ b ++ y → length (plain_world setup a).posted ≤ number
+pub later_before : (setup : Setup) (id : ℕ) (a b x y : List WorldStep) (number : ℕ) (post : Posted) → a ++ x ≡ b ++ y → length (plain_world setup a).posted ≤ number
     → slice_get (plain_world setup b).posted number ≡ Some post → IsBefore a b
 later_before setup id a b x y number post same since sent = by_first (one_first a b x y same) where
   by_first : IsBefore a b ⊎ IsBefore b a → IsBefore a b

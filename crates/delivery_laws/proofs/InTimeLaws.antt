@@ -36,11 +36,12 @@ use Rattle.delivery_laws.specs.Fairness.{AgentAlwaysHasRoom, GoesToAgent, HadIts
 use Rattle.delivery_laws.specs.Rounds.{IsAnsweredWithin, IsAskedWithin, IsAwaited, rounds_take}
 use Rattle.delivery_laws.specs.Taking.{IsOwn}
 use Rattle.delivery_laws.proofs.AnsweredLaws.{over_once_answered}
-use Rattle.delivery_laws.proofs.ByThenLaws.{all_by_then, serving_then, told_by_then}
+use Rattle.delivery_laws.proofs.ByThenLaws.{all_by_then, told_by_then}
 use Rattle.delivery_laws.proofs.DialledLaws.{taken_in_time}
 use Rattle.delivery_laws.proofs.FairFronts.{fair_front}
 use Rattle.delivery_laws.proofs.FairLaws.{stays_found}
 use Rattle.delivery_laws.proofs.FrontSteps.{TookThem, few_front, own_stays, took_them}
+use Rattle.delivery_laws.proofs.GivenUpFronts.{serving_then}
 use Rattle.delivery_laws.proofs.LineLaws.{of_its_line as its_line}
 use Rattle.delivery_laws.proofs.PostedLemmas.{one_member}
 use Rattle.delivery_laws.proofs.ReturnedLaws.{IsReturned, is_returned}

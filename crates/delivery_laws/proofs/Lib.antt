@@ -28,8 +28,10 @@ pub mod UnconfirmedLaws
 pub mod PostedFinal
 pub mod TakeLaws
 pub mod PostedLemmas
+pub mod FirstSendLemmas
 pub mod TakenLemmas
 pub mod BroughtLaws
+pub mod FirstBroughtLaws
 pub mod ReturnedLaws
 pub mod DialledLaws
 pub mod OnTurns
@@ -37,6 +39,7 @@ pub mod LaterTurns
 pub mod AtOnceLemmas
 pub mod OwnChanceLaws
 pub mod FrontSteps
+pub mod GivenUpFronts
 pub mod FairFronts
 pub mod AnewTurns
 pub mod AnsweredLaws

@@ -49,7 +49,7 @@ one_member P [] one = absurd one
 one_member P (x ∷ xs) (inl is) = (x, is, inl refl)
 one_member P (x ∷ xs) (inr one) = let on = one_member P xs one in (on.0, on.1, inr on.2)
 
-says_out : (setup : Setup) (sent : List Sent) → All IsOut sent → (text : List ℕ) (moment : ℕ) → OneOf (SaysAt text moment) sent
+pub says_out : (setup : Setup) (sent : List Sent) → All IsOut sent → (text : List ℕ) (moment : ℕ) → OneOf (SaysAt text moment) sent
     → OneOf (HasText text moment) (map (posted_as gateway_end (gateway_address setup)) (put_out sent))
 says_out setup sent goes text moment said =
     let on = one_member (SaysAt text moment) sent said in

@@ -1,5 +1,5 @@
 -- A network that hands each packet over in time brings a response to each command of the gateway's own in twice the time.
-use Rattle.std.proofs.Common.{◌≡◌, ℕ, ◌+◌, ◌*◌, ◌≤◌, Bool, true, false, if◌then◌else◌, List, [], ◌∷◌, ◌++◌, Option, Some, None, sym, ap, ◌∙◌, subst, arith}
+use Rattle.std.proofs.Common.{◌≡◌, ℕ, ◌+◌, ◌*◌, ◌≤◌, Bool, true, false, if◌then◌else◌, List, [], ◌∷◌, ◌++◌, Option, Some, None, sym, ap, ◌∙◌, subst, arith, append_assoc}
 use Rattle.std.specs.Prelude.{slice_get}
 use Rattle.history.specs.declared.entry.KeptFirst.{KeptFirst}
 use Rattle.history.specs.Kept.{firsts_in}
@@ -28,7 +28,7 @@ use Rattle.delivery_laws.specs.Fairness.{AgentAlwaysHasRoom, GoesToAgent, IsFair
 use Rattle.delivery_laws.specs.GoingOn.{IsPlainAnswer}
 use Rattle.delivery_laws.specs.OwnChances.{HasCome, IsResponse}
 use Rattle.delivery_laws.proofs.StepLemmas.{handed_to_gateway, step_more, steps_more, taken_front}
-use Rattle.delivery_laws.proofs.FairLaws.{stays_found}
+use Rattle.delivery_laws.proofs.FairLaws.{IsBefore, later_before, stays_found}
 use Rattle.delivery_laws.proofs.AgentFinalLemmas.{HasPlain, agent_plain}
 use Rattle.delivery_laws.proofs.BroughtLaws.{HandsOver, IsBrought, is_brought}
 
@@ -91,7 +91,7 @@ twice_late : (issued within now : ℕ) → issued + 2 * within ≤ now → issue
 twice_late issued within now late = omega (arith, late)
 
 -- the stored answer is a response to it
-reads_so : (setup : Setup) (first : List WorldStep) (id : ℕ) (text : List ℕ) → steps_are_taken setup world_opening first ≡ true
+pub reads_so : (setup : Setup) (first : List WorldStep) (id : ℕ) (text : List ℕ) → steps_are_taken setup world_opening first ≡ true
     → OneOf (λ (one : KeptFirst). (one.id ≡ id) × (one.answer ≡ text)) (firsts_in (agent_history setup (plain_world setup first))) → IsAnswerTo id text
 reads_so setup first id text taken stored =
     let after = plain_world setup first in
@@ -100,6 +100,17 @@ reads_so setup first id text taken stored =
     (λ one both. subst (λ (i : ℕ). IsAnswerTo i text) both.1.0 (subst (IsAnswerTo one.id) both.1.1 both.0)) firsts
     (one_of_each (λ (one : KeptFirst). IsAnswerTo one.id one.answer) (λ (one : KeptFirst). (one.id ≡ id) × (one.answer ≡ text)) firsts
     (agent_answers (issued_in setup after) (agent_in setup after) (world_sound setup first taken).agrees.agent) stored)
+
+-- and a final one, and not 521
+pub plain_so : (setup : Setup) (first : List WorldStep) (id : ℕ) (text : List ℕ)
+    → OneOf (λ (one : KeptFirst). (one.id ≡ id) × (one.answer ≡ text)) (firsts_in (agent_history setup (plain_world setup first)))
+    → IsPlainAnswer id text
+plain_so setup first id text stored =
+    let firsts = firsts_in (agent_history setup (plain_world setup first)) in
+    one_to (λ (one : KeptFirst). HasPlain one × ((one.id ≡ id) × (one.answer ≡ text))) (IsPlainAnswer id text)
+    (λ one both. subst (IsPlainAnswer id) both.1.1 (both.0.0 id)) firsts
+    (one_of_each HasPlain (λ (one : KeptFirst). (one.id ≡ id) × (one.answer ≡ text)) firsts
+    (agent_plain (agent_of setup) (plain_world setup first).agent_took) stored)
 
 -- a response to it, final and not 521, was handed over
 pub record IsReturned (setup : Setup) (steps : List WorldStep) (b : Begun) : Type 0 where
@@ -147,33 +158,47 @@ module _ (setup : Setup) (steps : List WorldStep) (limit within : ℕ) (b : Begu
 
   plain : IsPlainAnswer b.id took.text
   plain =
-      let firsts = firsts_in (agent_history setup (plain_world setup first)) in
-      one_to (λ (one : KeptFirst). HasPlain one × ((one.id ≡ b.id) × (one.answer ≡ took.text))) (IsPlainAnswer b.id took.text)
-      (λ one both. subst (IsPlainAnswer b.id) both.1.1 (both.0.0 b.id)) firsts
-      (one_of_each HasPlain (λ (one : KeptFirst). (one.id ≡ b.id) × (one.answer ≡ took.text)) firsts (agent_plain (agent_of setup) (plain_world setup first).agent_took)
-      (one_from_any (λ (one : KeptFirst). (one.id ≡ b.id) × (one.answer ≡ took.text)) firsts took.stored))
+      plain_so setup first b.id took.text
+      (one_from_any (λ (one : KeptFirst). (one.id ≡ b.id) × (one.answer ≡ took.text))
+      (firsts_in (agent_history setup (plain_world setup first))) took.stored)
 
-  returns : IsHandedOver setup steps within took.number post → IsReturned setup steps b
-  returns back = record {
-    before = back.before;
-    number = took.number;
-    later = back.later;
-    order = back.order;
-    text = took.text;
-    copy = record { post = post; found = back.sent; sender = took.copy.sender; goes = took.copy.goes; inside = took.copy.inside };
-    reads = reads;
-    plain = plain;
-  }
+  -- behind the packet that brought the command
+  returns : IsHandedOver setup steps within took.number post → (returned : IsReturned setup steps b) × IsBefore before returned.before
+  returns back = (
+    record {
+      before = back.before;
+      number = took.number;
+      later = back.later;
+      order = back.order;
+      text = took.text;
+      copy = record { post = post; found = back.sent; sender = took.copy.sender; goes = took.copy.goes; inside = took.copy.inside };
+      reads = reads;
+      plain = plain;
+    },
+    later_before setup b.id before back.before (delivering is.number ∷ is.there.later) (delivering took.number ∷ back.later)
+        took.number post
+        (sym (append_assoc before (delivering is.number ∷ []) is.there.later) ∙ sym is.there.order ∙ back.order
+        ∙ append_assoc back.before (delivering took.number ∷ []) back.later)
+        took.since back.sent,
+  )
 
-  comes_back : now_in setup (plain_world setup first) ≡ now_in setup (plain_world setup before) → IsReturned setup steps b
+  comes_back : now_in setup (plain_world setup first) ≡ now_in setup (plain_world setup before)
+      → (returned : IsReturned setup steps b) × IsBefore before returned.before
   comes_back same = returns (fair took.number post found (back_late b.moment within limit post.packet.moment (now_in setup (plain_world setup steps)) (soon same) late))
+
+pub returned_behind : (setup : Setup) (steps : List WorldStep) (limit within : ℕ) (b : Begun)
+    → steps_are_taken setup world_opening steps ≡ true → HandsOver setup steps limit within
+    → b.moment + within + limit ≤ now_in setup (plain_world setup steps) → (is : IsBrought setup steps within b)
+    → (returned : IsReturned setup steps b) × IsBefore is.there.before returned.before
+returned_behind setup steps limit within b taken fair late is =
+    comes_back setup steps limit within b taken fair late is (ap (now_in setup) is.step)
 
 pub is_returned : (setup : Setup) (steps : List WorldStep) (limit within : ℕ) (b : Begun) → IsSetUp setup → steps_are_taken setup world_opening steps ≡ true → HandsOver setup steps limit within
     → AgentAlwaysHasRoom setup steps → let w = plain_world setup steps in IsOwn setup w b → GoesToAgent setup w b.text
     → b.moment + within + limit ≤ now_in setup w → IsReturned setup steps b
 is_returned setup steps limit within b set_up taken fair roomy own goes late =
     let is = is_brought setup steps limit within b set_up taken fair roomy own goes (there_late b.moment within limit (now_in setup (plain_world setup steps)) late) in
-    comes_back setup steps limit within b taken fair late is (ap (now_in setup) is.step)
+    (returned_behind setup steps limit within b taken fair late is).0
 
 -- where it is handed over it comes
 has_come : (setup : Setup) (steps : List WorldStep) (b : Begun) → IsReturned setup steps b → HasCome (plain_world setup steps) b.id
