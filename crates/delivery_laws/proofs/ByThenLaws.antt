@@ -16,7 +16,6 @@ use Rattle.plain_machine.specs.Machine.{Machine, endpoint_at, opening, serves}
 use Rattle.plain_machine.specs.Message.{Sent}
 use Rattle.plain_machine.specs.Setup.{IsSetUp}
 use Rattle.plain_machine.proofs.ListLaws.{machine_on}
-use Rattle.machine_laws.specs.Saying.{HasNumbersLeft}
 use Rattle.machine_laws.proofs.LineLemmas.{place_of}
 use Rattle.machine_laws.specs.Belonging.{of_line}
 use Rattle.machine_laws.proofs.OwningLemmas.{of_both}
@@ -29,7 +28,6 @@ use Rattle.dialled_once.proofs.DialledLemmas.{BeginsUntouched, Told, calls_begin
 use Rattle.dialled_once.proofs.OverLists.{always}
 use Rattle.call_agent.specs.Agent.{observed_on}
 use Rattle.agent_core.specs.World.{World, WorldStep, agent_in, gateway_in, now_in, plain_world, steps_are_taken, world_opening}
-use Rattle.world_laws.specs.Reached.{own_in}
 use Rattle.dialled_end_to_end.specs.GivenUp.{has_given_up}
 use Rattle.delivery_laws.specs.Fairness.{AgentAlwaysHasRoom, HadItsTime, IsFair}
 use Rattle.delivery_laws.specs.Rounds.{IsAnsweredWithin, IsAskedWithin, of_telephone, rounds_take}
@@ -116,7 +114,7 @@ none_since setup line some later post none = by_test (has_announced since) refl 
 
 -- What holds where the law of both ends does, and from a moment on the line waits for no answer and no request for longer than so long
 module _ (setup : Setup) (steps : List WorldStep) (within line : ℕ) (before after some later : List GatewayEvent) (answering asking : ℕ) (was endpoint : Endpoint) (set_up : IsSetUp setup)
-    (taken : steps_are_taken setup world_opening steps ≡ true) (few : HasNumbersLeft (own_in setup (plain_world setup steps))) (took : (plain_world setup steps).gateway_took ≡ before ++ after)
+    (taken : steps_are_taken setup world_opening steps ≡ true) (took : (plain_world setup steps).gateway_took ≡ before ++ after)
     (at : endpoint_at (gateway_in setup (plain_world setup steps)).endpoints line ≡ Some endpoint)
     (asked : IsAskedForAll (course_of setup line before) (course_from setup (plain setup before) line after) endpoint.line)
     (none : has_given_up (of_line line (sent_of setup (plain_world setup steps).gateway_took)) endpoint.post ≡ false) (fair : IsFair setup steps within) (roomy : AgentAlwaysHasRoom setup steps)
@@ -137,7 +135,7 @@ module _ (setup : Setup) (steps : List WorldStep) (within line : ℕ) (before af
   since = done_in (course_from setup (plain setup some) line later)
 
   whole : done_in (course_of setup line w.gateway_took) ≡ told ++ left
-  whole = taken_in_time setup steps within line before after endpoint set_up taken few took at asked none fair roomy had
+  whole = taken_in_time setup steps within line before after endpoint set_up taken took at asked none fair roomy had
 
   parts : done_in (course_of setup line w.gateway_took) ≡ done_in (course_of setup line some) ++ since
   parts = ap (λ (x : List GatewayEvent). done_in (course_of setup line x)) split ∙ done_on setup line some later

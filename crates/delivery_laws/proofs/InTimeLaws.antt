@@ -178,7 +178,7 @@ module _ (setup : Setup) (steps : List WorldStep) (within line : ℕ) (before af
   fair_told_by_then = by_serving (serves (plain setup some).endpoints) refl where
     by_serving : (b : Bool) → serves (plain setup some).endpoints ≡ b → (rest : List Observed) × (told ≡ done_then ++ rest)
     by_serving true serving =
-        told_by_then setup steps within line before after some later (2 * within) asking was endpoint set_up taken few took at asked none fair roomy had split there (is_answered serving)
+        told_by_then setup steps within line before after some later (2 * within) asking was endpoint set_up taken took at asked none fair roomy had split there (is_answered serving)
         is_asked late
     by_serving false closed = (told, ap (λ (x : List Observed). x ++ told) (sym (undone closed)))
 
@@ -192,9 +192,9 @@ module _ (setup : Setup) (steps : List WorldStep) (within line : ℕ) (before af
   fair_all_by_then rests = by_serving (serves (plain setup some).endpoints) refl where
     by_serving : (b : Bool) → serves (plain setup some).endpoints ≡ b → done_all ≡ told
     by_serving true serving =
-        all_by_then setup steps within line before after some later (2 * within) asking was endpoint set_up taken few took at asked none fair roomy had split there (is_answered serving)
+        all_by_then setup steps within line before after some later (2 * within) asking was endpoint set_up taken took at asked none fair roomy had split there (is_answered serving)
         is_asked late rests
     by_serving false closed =
         let nothing : done_all ≡ [] = all_undone rests closed in
-        let whole = taken_in_time setup steps within line before after endpoint set_up taken few took at asked none fair roomy had in
+        let whole = taken_in_time setup steps within line before after endpoint set_up taken took at asked none fair roomy had in
         nothing ∙ sym (none_before told (happened_in endpoint.line.quarantined.events) (sym whole ∙ nothing))

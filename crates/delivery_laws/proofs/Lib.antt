@@ -33,6 +33,8 @@ pub mod TakenLemmas
 pub mod BroughtLaws
 pub mod FirstBroughtLaws
 pub mod ReturnedLaws
+pub mod StandsTakenLemmas
+pub mod NoneLeftLaws
 pub mod DialledLaws
 pub mod OnTurns
 pub mod LaterTurns

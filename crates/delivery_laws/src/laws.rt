@@ -160,14 +160,14 @@ pub fn a_fair_network_brings_each_notification()
 
 /// So over such a network what a telephone did is what the agent was told of its line, joined, and then what is quarantined, once what
 /// the line has in flight is so old; and where nothing is quarantined it is all that the agent was told. It is so where the law of both
-/// ends, `what_is_dialled_reaches_the_agent_once`, says that it reaches the agent once. Where from a moment on the line waits for no
-/// answer and no request for longer than so many ms each, that is, so many rounds later, what the telephone had done by then the agent
-/// was told; and all of it, where the telephone rests since. Where all that the line sends reaches the agent, an answer takes twice the
-/// time of the network at most (RFC 3435, 4.4.1).
+/// ends, `what_is_dialled_reaches_the_agent_once`, says that it reaches the agent once, even if numbers were used up. Where from a moment
+/// on the line waits for no answer and no request for longer than so many ms each, that is, so many rounds later, what the telephone had
+/// done by then the agent was told; and all of it, where the telephone rests since. Where all that the line sends reaches the agent, and
+/// no numbers were used up, an answer takes twice the time of the network at most (RFC 3435, 4.4.1).
 pub fn what_is_dialled_is_taken_in_time()
     ensures taken { (setup : Setup) (steps : List WorldStep) (within line : ℕ) (before after : List GatewayEvent)
         (endpoint : Endpoint) → IsRun setup steps → let w = plain_world setup steps in
-        HasNumbersLeft (own_in setup w) → w.gateway_took ≡ before ++ after →
+        w.gateway_took ≡ before ++ after →
         endpoint_at (gateway_in setup w).endpoints line ≡ Some endpoint →
         IsAskedForAll (course_of setup line before) (course_from setup (plain setup before) line after) endpoint.line →
         has_given_up (of_line line (sent_of setup w.gateway_took)) endpoint.post ≡ false → IsFair setup steps within →
@@ -176,7 +176,7 @@ pub fn what_is_dialled_is_taken_in_time()
         ≡ happened_in (observed_on line (agent_in setup w)) ++ happened_in endpoint.line.quarantined.events }
     ensures whole { (setup : Setup) (steps : List WorldStep) (within line : ℕ) (before after : List GatewayEvent)
         (endpoint : Endpoint) → IsRun setup steps → let w = plain_world setup steps in
-        HasNumbersLeft (own_in setup w) → w.gateway_took ≡ before ++ after →
+        w.gateway_took ≡ before ++ after →
         endpoint_at (gateway_in setup w).endpoints line ≡ Some endpoint →
         IsAskedForAll (course_of setup line before) (course_from setup (plain setup before) line after) endpoint.line →
         has_given_up (of_line line (sent_of setup w.gateway_took)) endpoint.post ≡ false → IsFair setup steps within →
@@ -185,7 +185,7 @@ pub fn what_is_dialled_is_taken_in_time()
         done_in (course_of setup line w.gateway_took) ≡ happened_in (observed_on line (agent_in setup w)) }
     ensures by_then { (setup : Setup) (steps : List WorldStep) (within line : ℕ) (before after some later : List GatewayEvent)
         (answering asking : ℕ) (was endpoint : Endpoint) → IsRun setup steps →
-        let w = plain_world setup steps in HasNumbersLeft (own_in setup w) → w.gateway_took ≡ before ++ after →
+        let w = plain_world setup steps in w.gateway_took ≡ before ++ after →
         endpoint_at (gateway_in setup w).endpoints line ≡ Some endpoint →
         IsAskedForAll (course_of setup line before) (course_from setup (plain setup before) line after) endpoint.line →
         has_given_up (of_line line (sent_of setup w.gateway_took)) endpoint.post ≡ false → IsFair setup steps within →
@@ -196,7 +196,7 @@ pub fn what_is_dialled_is_taken_in_time()
         (rest : List Observed) × (happened_in (observed_on line (agent_in setup w)) ≡ done_in (course_of setup line some) ++ rest) }
     ensures rests { (setup : Setup) (steps : List WorldStep) (within line : ℕ) (before after some later : List GatewayEvent)
         (answering asking : ℕ) (was endpoint : Endpoint) → IsRun setup steps →
-        let w = plain_world setup steps in HasNumbersLeft (own_in setup w) → w.gateway_took ≡ before ++ after →
+        let w = plain_world setup steps in w.gateway_took ≡ before ++ after →
         endpoint_at (gateway_in setup w).endpoints line ≡ Some endpoint →
         IsAskedForAll (course_of setup line before) (course_from setup (plain setup before) line after) endpoint.line →
         has_given_up (of_line line (sent_of setup w.gateway_took)) endpoint.post ≡ false → IsFair setup steps within →
