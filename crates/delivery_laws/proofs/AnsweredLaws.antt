@@ -43,6 +43,7 @@ use Rattle.delivery_laws.proofs.RoundLaws.{sent_on}
 use Rattle.machine_laws.proofs.OwningLemmas.{LineTurns, of_both, on_one_line, responded_owned, sent_by, turn_if}
 use Rattle.dialled_once.proofs.CourseLemmas.{AnyResponse, events_stand, hear_all}
 use Rattle.dialled_end_to_end.proofs.RestLemmas.{begun_both}
+use Rattle.dialled_end_to_end.proofs.WorldLemmas.{line_begun, line_sent}
 use Rattle.agent_core.specs.declared.packet.End.TheVariants.{AgentEnd as agent_end}
 use Rattle.agent_core.specs.World.{World, WorldStep, delivering, gateway_in, plain_world, steps_are_taken, to_gateway, world_opening}
 use Rattle.world_laws.specs.Landing.{is_final}
@@ -215,6 +216,11 @@ module _ (id : ℕ) where
   began_behind : (some more : List Sent) → Began id (begun_in more) → Began id (begun_in (some ++ more))
   began_behind some more began = subst (Began id) (sym (begun_both some more)) (one_behind (λ (b : Begun). b.id ≡ id) (begun_in some) (begun_in more) began)
 
+none_more : (some more : List Begun) → length (some ++ more) ≤ length some → more ≡ []
+none_more [] [] few = refl
+none_more [] (b ∷ more) few = absurd (omega (arith, few))
+none_more (x ∷ some) more few = none_more some more (omega (arith, few))
+
 module _ (setup : Setup) (first rest : List GatewayEvent) (source : SocketAddrV4) (bytes text : List ℕ) (code id line : ℕ) (params : List Param) (body : List ℕ)
     (inside : OneOf (λ (one : List ℕ). one ≡ text) (texts_of bytes)) (reads : read_text text ≡ message (messages.Response code id params body)) (final : is_final code ≡ true) (other : code ≢ 521)
     (mine : line_of_id id ≡ line) (some : 1 ≤ line) where
@@ -267,35 +273,51 @@ module _ (setup : Setup) (first rest : List GatewayEvent) (source : SocketAddrV4
         all : (machine_after setup here.value (map (datagram source) p.later) ≡ last.value) × (sent_from setup here.value (map (datagram source) p.later) ≡ last.sent)
         all = as_events setup here.value source p.later later_parts
 
-  began_since : (s : Endpoint) → endpoint_at (plain setup (first ++ datagram source bytes ∷ rest)).endpoints line ≡ Some s → Anew id since s.post.pending
+  began_since : (s : Endpoint) → endpoint_at (plain setup (first ++ datagram source bytes ∷ rest)).endpoints line ≡ Some s
+      → Anew id (of_line line since) s.post.pending
   unfolding since
   began_since s at =
-      by_pending s.post.pending
+      subst (λ (x : List Sent). Anew id x s.post.pending) (sym (of_both line here.sent (sent_from setup here.value behind)))
       ((events_stand setup AnyResponse (AnewBeside id) (anew_turns id setup) line some here.value [] (of_line line here.sent) 0 behind
       (hear_all setup AnyResponse (λ response. tt) (arrivals_from 0 behind)) (record {
         order = text_waits setup front.value source (read_text text) (texts_wait setup m source p.before (events_wait setup first));
         holds = λ x there. handled_anew setup front.value source (read_text text) code id line params body reads final other mine some x there;
-      })).holds s (ap (λ (x : Machine). endpoint_at x.endpoints line) (sym machine_is) ∙ at)) where
-        by_pending : (pending : Option InFlight) → Anew id (of_line line here.sent ++ of_line line (sent_from setup here.value behind)) pending → Anew id (here.sent ++ sent_from setup here.value behind) pending
-        by_pending None anew = tt
-        by_pending (Some flight) anew = λ same.
-            unfiltered id line (here.sent ++ sent_from setup here.value behind)
-            (subst (λ (x : List Sent). Began id (begun_in x)) (sym (of_both line here.sent (sent_from setup here.value behind))) (anew same))
+      })).holds s (ap (λ (x : Machine). endpoint_at x.endpoints line) (sym machine_is) ∙ at))
 
   pub not_again : Began id (begun_in (sent_of setup first)) → AreApart (begun_in (sent_of setup (first ++ datagram source bytes ∷ rest))) → (s : Endpoint) (flight : InFlight)
       → endpoint_at (plain setup (first ++ datagram source bytes ∷ rest)).endpoints line ≡ Some s → s.post.pending ≡ Some flight → flight.id ≢ id
   not_again began apart s flight at flies same =
       twice id (begun_in (sent_of setup first)) (begun_in (front.sent ++ since))
       (subst AreApart (ap begun_in sent_is ∙ begun_both (sent_of setup first) (front.sent ++ since)) apart) began
-      (began_behind id front.sent since (subst (Anew id since) flies (began_since s at) same))
+      (began_behind id front.sent since (unfiltered id line since (subst (Anew id (of_line line since)) flies (began_since s at) same)))
+
+  begun_is : line_begun setup line (first ++ datagram source bytes ∷ rest)
+      ≡ line_begun setup line first ++ begun_in (of_line line (front.sent ++ since))
+  begun_is =
+      ap (λ (x : List Sent). begun_in (of_line line x)) sent_is
+      ∙ ap begun_in (of_both line (sent_of setup first) (front.sent ++ since))
+      ∙ begun_both (line_sent setup line first) (of_line line (front.sent ++ since))
+
+  -- nor where the line began no more
+  pub not_among_none : length (line_begun setup line (first ++ datagram source bytes ∷ rest)) ≤ length (line_begun setup line first)
+      → (s : Endpoint) (flight : InFlight) → endpoint_at (plain setup (first ++ datagram source bytes ∷ rest)).endpoints line ≡ Some s
+      → s.post.pending ≡ Some flight → flight.id ≢ id
+  not_among_none fewer s flight at flies same =
+      subst (Began id)
+      (none_more (line_begun setup line first) (begun_in (of_line line (front.sent ++ since)))
+      (subst (λ (x : List Begun). length x ≤ length (line_begun setup line first)) begun_is fewer))
+      (subst (λ (x : List Sent). Began id (begun_in x)) (sym (of_both line front.sent since))
+      (began_behind id (of_line line front.sent) (of_line line since)
+      (subst (Anew id (of_line line since)) flies (began_since s at) same)))
 
 -- In a world
 
 module _ (setup : Setup) (before later : List WorldStep) (number : ℕ) (text : List ℕ) (code id : ℕ) (params : List Param) (body : List ℕ) (line : ℕ) (endpoint : Endpoint) (flight : InFlight)
     (set_up : IsSetUp setup) (taken : steps_are_taken setup world_opening ((before ++ delivering number ∷ []) ++ later) ≡ true)
-    (few : HasNumbersLeft (own_in setup (plain_world setup ((before ++ delivering number ∷ []) ++ later)))) (copy : IsCopy setup (plain_world setup before) agent_end text number)
+    (copy : IsCopy setup (plain_world setup before) agent_end text number)
     (reads : read_text text ≡ message (messages.Response code id params body)) (final : is_final code ≡ true) (other : code ≢ 521)
-    (at : endpoint_at (gateway_in setup (plain_world setup ((before ++ delivering number ∷ []) ++ later))).endpoints line ≡ Some endpoint) (flies : endpoint.post.pending ≡ Some flight) where
+    (at : endpoint_at (gateway_in setup (plain_world setup ((before ++ delivering number ∷ []) ++ later))).endpoints line ≡ Some endpoint)
+    (flies : endpoint.post.pending ≡ Some flight) where
   abbrev w : World
   w = plain_world setup before
 
@@ -359,20 +381,34 @@ module _ (setup : Setup) (before later : List WorldStep) (number : ℕ) (text : 
       ap (λ (x : World). x.gateway_took) (steps_more setup world_opening (before ++ delivering number ∷ []) later) ∙ (took_more setup next later).1
       ∙ ap (λ (x : World). x.gateway_took ++ more) next_is ∙ append_assoc w.gateway_took (event ∷ []) more
 
-  apart : AreApart (begun_in (sent_of setup (w.gateway_took ++ event ∷ more)))
-  apart =
+  apart : HasNumbersLeft (own_in setup whole) → AreApart (begun_in (sent_of setup (w.gateway_took ++ event ∷ more)))
+  apart few =
       subst (λ (x : List GatewayEvent). AreApart (begun_in (sent_of setup x))) took
       (apart_from (own_in setup whole) ((world_linked setup ((before ++ delivering number ∷ []) ++ later) set_up taken).links.gateway.stands.logged.apart few))
 
-  pub over : flight.id ≢ id
-  over same =
-      not_again setup w.gateway_took more copy.post.packet.sender copy.post.packet.bytes text code id line params body inside reads final other
-      (ap line_of_id (sym same) ∙ of_its_line setup whole line endpoint flight at flies) (place_of (gateway_in setup whole).endpoints line endpoint at).0 had_begun apart endpoint flight
-      (ap (λ (x : List GatewayEvent). endpoint_at (plain setup x).endpoints line) (sym took) ∙ at) flies same
+  mine : flight.id ≡ id → line_of_id id ≡ line
+  mine same = ap line_of_id (sym same) ∙ of_its_line setup whole line endpoint flight at flies
+
+  there : endpoint_at (plain setup (w.gateway_took ++ event ∷ more)).endpoints line ≡ Some endpoint
+  there = ap (λ (x : List GatewayEvent). endpoint_at (plain setup x).endpoints line) (sym took) ∙ at
+
+  pub over : HasNumbersLeft (own_in setup whole) → flight.id ≢ id
+  over few same =
+      not_again setup w.gateway_took more copy.post.packet.sender copy.post.packet.bytes text code id line params body inside reads final
+      other (mine same) (place_of (gateway_in setup whole).endpoints line endpoint at).0 had_begun (apart few) endpoint flight there
+      flies same
+
+  -- whatever numbers are left, where the line began no more since
+  pub over_since : length (line_begun setup line whole.gateway_took) ≤ length (line_begun setup line w.gateway_took) → flight.id ≢ id
+  over_since fewer same =
+      not_among_none setup w.gateway_took more copy.post.packet.sender copy.post.packet.bytes text code id line params body inside reads
+      final other (mine same) (place_of (gateway_in setup whole).endpoints line endpoint at).0
+      (subst (λ (x : List GatewayEvent). length (line_begun setup line x) ≤ length (line_begun setup line w.gateway_took)) took fewer)
+      endpoint flight there flies same
 
 pub over_once_answered : (setup : Setup) (before later : List WorldStep) (number : ℕ) (text : List ℕ) (code id : ℕ) (params : List Param) (body : List ℕ) (line : ℕ) (endpoint : Endpoint) (flight : InFlight)
     → IsSetUp setup → steps_are_taken setup world_opening ((before ++ delivering number ∷ []) ++ later) ≡ true → let w = plain_world setup ((before ++ delivering number ∷ []) ++ later) in
     HasNumbersLeft (own_in setup w) → IsCopy setup (plain_world setup before) agent_end text number → read_text text ≡ message (messages.Response code id params body) → is_final code ≡ true → code ≢ 521
     → endpoint_at (gateway_in setup w).endpoints line ≡ Some endpoint → endpoint.post.pending ≡ Some flight → flight.id ≢ id
 over_once_answered setup before later number text code id params body line endpoint flight set_up taken few copy reads final other at flies =
-    over setup before later number text code id params body line endpoint flight set_up taken few copy reads final other at flies
+    over setup before later number text code id params body line endpoint flight set_up taken copy reads final other at flies few

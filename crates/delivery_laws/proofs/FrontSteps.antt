@@ -7,9 +7,8 @@ use Rattle.plain_machine.specs.Event.{GatewayEvent, datagram, phone, tick}
 use Rattle.plain_machine.specs.Lists.{plain, sent_from, sent_of}
 use Rattle.plain_machine.specs.Machine.{opening}
 use Rattle.plain_machine.specs.Message.{Sent}
-use Rattle.machine_laws.specs.Saying.{Begun, HasNumbersLeft, OneOf, begun_in}
+use Rattle.machine_laws.specs.Saying.{Begun, OneOf, begun_in}
 use Rattle.machine_laws.proofs.EachLemmas.{any_from_one, one_before, one_from_any}
-use Rattle.machine_laws.proofs.PostLogs.{few_before}
 use Rattle.delivery_laws.proofs.RoundLaws.{sent_on}
 use Rattle.dialled_end_to_end.proofs.RestLemmas.{begun_both}
 use Rattle.call_agent.specs.Hearing.{hears}
@@ -137,9 +136,3 @@ own_stays setup some more b own =
     any_from_one (λ (one : Begun). one ≡ b) (own_in setup (plain_world setup (some ++ more)))
     (subst (OneOf (λ (one : Begun). one ≡ b)) (sym is.1)
     (one_before (λ (one : Begun). one ≡ b) (own_in setup (plain_world setup some)) is.0 (one_from_any (λ (one : Begun). one ≡ b) (own_in setup (plain_world setup some)) own)))
-
--- numbers were left before
-pub few_front : (setup : Setup) (some more : List WorldStep) → HasNumbersLeft (own_in setup (plain_world setup (some ++ more))) → HasNumbersLeft (own_in setup (plain_world setup some))
-few_front setup some more few =
-    let is = own_is setup some more in
-    λ line. few_before line (own_in setup (plain_world setup some)) is.0 (subst HasNumbersLeft is.1 few line)

@@ -162,8 +162,8 @@ pub fn a_fair_network_brings_each_notification()
 /// the line has in flight is so old; and where nothing is quarantined it is all that the agent was told. It is so where the law of both
 /// ends, `what_is_dialled_reaches_the_agent_once`, says that it reaches the agent once, even if numbers were used up. Where from a moment
 /// on the line waits for no answer and no request for longer than so many ms each, that is, so many rounds later, what the telephone had
-/// done by then the agent was told; and all of it, where the telephone rests since. Where all that the line sends reaches the agent, and
-/// no numbers were used up, an answer takes twice the time of the network at most (RFC 3435, 4.4.1).
+/// done by then the agent was told; and all of it, where the telephone rests since. Where all that the line sends reaches the agent, an
+/// answer takes twice the time of the network at most (RFC 3435, 4.4.1).
 pub fn what_is_dialled_is_taken_in_time()
     ensures taken { (setup : Setup) (steps : List WorldStep) (within line : ℕ) (before after : List GatewayEvent)
         (endpoint : Endpoint) → IsRun setup steps → let w = plain_world setup steps in
@@ -208,7 +208,7 @@ pub fn what_is_dialled_is_taken_in_time()
         done_in (course_of setup line w.gateway_took) ≡ happened_in (observed_on line (agent_in setup w)) }
     ensures fair_by_then { (setup : Setup) (steps : List WorldStep) (within line : ℕ) (before after some later : List GatewayEvent)
         (asking : ℕ) (was endpoint : Endpoint) → IsRun setup steps →
-        let w = plain_world setup steps in HasNumbersLeft (own_in setup w) → w.gateway_took ≡ before ++ after →
+        let w = plain_world setup steps in w.gateway_took ≡ before ++ after →
         endpoint_at (gateway_in setup w).endpoints line ≡ Some endpoint →
         IsAskedForAll (course_of setup line before) (course_from setup (plain setup before) line after) endpoint.line →
         has_given_up (of_line line (sent_of setup w.gateway_took)) endpoint.post ≡ false → IsFair setup steps within →
@@ -219,7 +219,7 @@ pub fn what_is_dialled_is_taken_in_time()
         (rest : List Observed) × (happened_in (observed_on line (agent_in setup w)) ≡ done_in (course_of setup line some) ++ rest) }
     ensures fair_rests { (setup : Setup) (steps : List WorldStep) (within line : ℕ) (before after some later : List GatewayEvent)
         (asking : ℕ) (was endpoint : Endpoint) → IsRun setup steps →
-        let w = plain_world setup steps in HasNumbersLeft (own_in setup w) → w.gateway_took ≡ before ++ after →
+        let w = plain_world setup steps in w.gateway_took ≡ before ++ after →
         endpoint_at (gateway_in setup w).endpoints line ≡ Some endpoint →
         IsAskedForAll (course_of setup line before) (course_from setup (plain setup before) line after) endpoint.line →
         has_given_up (of_line line (sent_of setup w.gateway_took)) endpoint.post ≡ false → IsFair setup steps within →
@@ -266,8 +266,7 @@ pub fn what_is_quarantined_goes_out_in_time()
 pub fn a_fair_network_answers_each_notification_in_time()
     ensures { (setup : Setup) (steps : List WorldStep) (within line : ℕ) (some later : List GatewayEvent) (endpoint : Endpoint) →
         IsRun setup steps → let w = plain_world setup steps in
-        HasNumbersLeft (own_in setup w) → IsFair setup steps within → AgentAlwaysHasRoom setup steps →
-        ReachTheAgent setup steps line →
+        IsFair setup steps within → AgentAlwaysHasRoom setup steps → ReachTheAgent setup steps line →
         w.gateway_took ≡ some ++ later → serves (plain setup some).endpoints ≡ true →
         endpoint_at (gateway_in setup w).endpoints line ≡ Some endpoint →
         has_given_up (of_line line (sent_of setup w.gateway_took)) endpoint.post ≡ false →
