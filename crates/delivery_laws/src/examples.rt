@@ -145,7 +145,6 @@ pub fn a_notification_is_brought()
 /// ms passes.
 pub fn what_rests_is_taken()
     ensures run { IsRun two_lines rested }
-    ensures numbers { HasNumbersLeft (own_in two_lines (world rested)) }
     ensures events { (world rested).gateway_took ≡ took_first asked_for_all ++ took_since asked_for_all }
     ensures asked { IsAskedForAll (course_of two_lines 1 (took_first asked_for_all))
         (course_from two_lines (plain two_lines (took_first asked_for_all)) 1 (took_since asked_for_all)) (endpoint_then rested).line }
@@ -175,7 +174,6 @@ pub fn what_rests_is_taken()
 /// Where the telephone doesn't rest, or something is quarantined, the agent wasn't told all, though all else that the law asks for holds.
 pub fn what_is_pressed_since_is_told_later()
     ensures steps { steps_are_taken two_lines world_opening pressed_since ≡ true }
-    ensures numbers { HasNumbersLeft (own_in two_lines (world pressed_since)) }
     ensures events { took_first pressed_since ≡ took_first asked_for_all ++ took_between asked_for_all pressed_since }
     ensures asked { IsAskedForAll (course_of two_lines 1 (took_first asked_for_all))
         (course_from two_lines (plain two_lines (took_first asked_for_all)) 1 (took_between asked_for_all pressed_since))
@@ -230,7 +228,6 @@ pub fn what_is_pressed_at_once_takes_its_rounds()
 pub fn what_is_given_up_is_never_told()
     ensures set_up { IsSetUp hasty }
     ensures steps { steps_are_taken hasty world_opening announced_anew ≡ true }
-    ensures numbers { HasNumbersLeft (own_in hasty (hasty_world announced_anew)) }
     ensures events { hasty_took announced_anew ≡ hasty_took asked_for_all ++ hasty_took_between asked_for_all announced_anew }
     ensures asked { IsAskedForAll (course_of hasty 1 (hasty_took asked_for_all))
         (course_from hasty (plain hasty (hasty_took asked_for_all)) 1 (hasty_took_between asked_for_all announced_anew))
@@ -376,7 +373,6 @@ pub fn what_is_answered_early_is_never_told()
     ensures refused { steps_are_taken two_lines world_opening answered_early ≡ false }
     ensures early { IsCopy two_lines (world answered_early) AgentEnd (codes "200 10000000 OK\r\n") 4 }
     ensures flies { flying_after lifted_since ≡ Some 10000000 }
-    ensures numbers { HasNumbersLeft (own_in two_lines (world answered_unheard)) }
     ensures events { took_first answered_unheard ≡ took_first asked_for_all ++ took_between asked_for_all answered_unheard }
     ensures asked { IsAskedForAll (course_of two_lines 1 (took_first asked_for_all))
         (course_from two_lines (plain two_lines (took_first asked_for_all)) 1 (took_between asked_for_all answered_unheard))
@@ -407,7 +403,6 @@ pub fn what_is_answered_early_is_never_told()
 /// gateway waits 2 ms before it announces itself.
 pub fn who_puts_the_clock_back_waits_on()
     ensures refused { steps_are_taken two_lines world_opening put_back ≡ false }
-    ensures numbers { HasNumbersLeft (own_in two_lines (world put_back)) }
     ensures fair { IsFair two_lines put_back 0 }
     ensures room { AgentAlwaysHasRoom two_lines put_back }
     ensures reaches { ReachTheAgent two_lines put_back 1 }
@@ -427,7 +422,6 @@ pub fn who_puts_the_clock_back_waits_on()
 pub fn what_goes_elsewhere_first_is_told_later()
     ensures set_up { IsSetUp roaming }
     ensures steps { steps_are_taken roaming world_opening found_at_last ≡ true }
-    ensures numbers { HasNumbersLeft (own_in roaming (plain_world roaming found_at_last)) }
     ensures events { took_with roaming found_at_last
         ≡ took_with roaming asked_to_roam ++ took_between_with roaming asked_to_roam found_at_last }
     ensures asked { IsAskedForAll (course_of roaming 1 (took_with roaming asked_to_roam))

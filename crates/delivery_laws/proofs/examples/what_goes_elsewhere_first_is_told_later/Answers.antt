@@ -1,4 +1,4 @@
-use Rattle.std.proofs.Common.{◌≡◌, ℕ, ◌<◌, true, false, List, [], ◌∷◌, codes, length, inl, inr, refl, sym, subst, arith}
+use Rattle.std.proofs.Common.{◌≡◌, ℕ, true, false, List, [], ◌∷◌, codes, inl, inr, refl}
 use Rattle.std.specs.Prelude.{Any}
 use Rattle.transmission.specs.Texts.{texts_of}
 use Rattle.plain_machine.specs.Example.{second_agent}
@@ -9,19 +9,11 @@ use Rattle.agent_core.specs.declared.packet.End.TheVariants.{GatewayEnd}
 use Rattle.agent_core.specs.declared.packet.Posted.{Posted}
 use Rattle.agent_core.specs.World.{gateway_address, plain_world}
 use Rattle.world_laws.specs.Reached.{own_in}
-use Rattle.dialled_end_to_end.proofs.NumberLemmas.{few_are_begun}
 use Rattle.delivery_laws.specs.Example.{found_at_last, roaming, sent_astray, took_between_with, took_with}
 use Rattle.delivery_laws.proofs.Computing.{on_examples}
 use Rattle.delivery_laws.proofs.FairExamples.{fair_is}
 use Rattle.delivery_laws.proofs.FrontLemmas.{agent_has_room, asked_within}
 use Rattle.delivery_laws.proofs.examples.what_goes_elsewhere_first_is_told_later.Goals as goal
-
-two : length (own_in roaming (plain_world roaming found_at_last)) ≡ 2
-unfolding on_examples
-two = refl
-
-pub returns-clause-numbers : goal.returns-clause-numbers
-returns-clause-numbers c = few_are_begun (own_in roaming (plain_world roaming found_at_last)) (subst (λ (n : ℕ). n < 9999999) (sym two) (omega arith))
 
 pub returns-clause-asked : goal.returns-clause-asked
 unfolding on_examples

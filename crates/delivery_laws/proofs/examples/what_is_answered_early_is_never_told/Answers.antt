@@ -1,4 +1,4 @@
-use Rattle.std.proofs.Common.{◌≡◌, ℕ, ◌<◌, true, List, codes, length, inl, inr, refl, sym, subst, arith}
+use Rattle.std.proofs.Common.{◌≡◌, ℕ, true, List, codes, inl, inr, refl}
 use Rattle.transmission.specs.Texts.{texts_of}
 use Rattle.plain_machine.specs.Example.{two_lines, agent}
 use Rattle.machine_laws.proofs.EachLemmas.{any_from_one}
@@ -6,9 +6,6 @@ use Rattle.dialled_once.proofs.AskingLemmas.{notifies_each}
 use Rattle.agent_core.specs.declared.packet.End.TheVariants.{AgentEnd}
 use Rattle.agent_core.specs.declared.packet.Posted.{Posted}
 use Rattle.agent_core.specs.World.{gateway_address, plain_world}
-use Rattle.world_laws.specs.Reached.{own_in}
-use Rattle.world_laws.specs.Example.{world}
-use Rattle.dialled_end_to_end.proofs.NumberLemmas.{few_are_begun}
 use Rattle.delivery_laws.specs.Example.{answered_unheard, lifted_since, took_between, took_first}
 use Rattle.delivery_laws.proofs.Computing.{on_examples}
 use Rattle.delivery_laws.proofs.ExampleLemmas.{all_go, it_goes}
@@ -31,13 +28,6 @@ returns-clause-early c = record {
   goes = refl;
   inside = any_from_one (λ (one : List ℕ). one ≡ codes "200 10000000 OK\r\n") (texts_of both) (inr (inl refl));
 }
-
-two : length (own_in two_lines (world answered_unheard)) ≡ 2
-unfolding on_examples
-two = refl
-
-pub returns-clause-numbers : goal.returns-clause-numbers
-returns-clause-numbers c = few_are_begun (own_in two_lines (world answered_unheard)) (subst (λ (n : ℕ). n < 9999999) (sym two) (omega arith))
 
 pub returns-clause-asked : goal.returns-clause-asked
 unfolding on_examples

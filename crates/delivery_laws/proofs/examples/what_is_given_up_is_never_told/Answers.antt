@@ -1,22 +1,12 @@
-use Rattle.std.proofs.Common.{◌≡◌, ℕ, ◌<◌, true, length, refl, sym, subst, arith}
+use Rattle.std.proofs.Common.{◌≡◌, true, refl}
 use Rattle.dialled_once.proofs.AskingLemmas.{notifies_each}
 use Rattle.agent_core.specs.World.{plain_world}
-use Rattle.world_laws.specs.Reached.{own_in}
-use Rattle.dialled_end_to_end.proofs.NumberLemmas.{few_are_begun}
-use Rattle.delivery_laws.specs.Example.{announced_anew, hasty, hasty_took, hasty_took_between, hasty_world, kept_back}
+use Rattle.delivery_laws.specs.Example.{announced_anew, hasty, hasty_took, hasty_took_between, kept_back}
 use Rattle.delivery_laws.proofs.Computing.{on_examples}
 use Rattle.delivery_laws.proofs.ExampleLemmas.{all_go, it_goes}
 use Rattle.delivery_laws.proofs.FairExamples.{fair_is}
 use Rattle.delivery_laws.proofs.FrontLemmas.{agent_has_room, answered_within, never_locked}
 use Rattle.delivery_laws.proofs.examples.what_is_given_up_is_never_told.Goals as goal
-
--- the gateway announced itself, and line 1 notified one event and announced itself
-three : length (own_in hasty (hasty_world announced_anew)) ≡ 3
-unfolding on_examples
-three = refl
-
-pub returns-clause-numbers : goal.returns-clause-numbers
-returns-clause-numbers c = few_are_begun (own_in hasty (hasty_world announced_anew)) (subst (λ (n : ℕ). n < 9999999) (sym three) (omega arith))
 
 pub returns-clause-asked : goal.returns-clause-asked
 unfolding on_examples

@@ -1,23 +1,13 @@
-use Rattle.std.proofs.Common.{◌≡◌, ℕ, ◌<◌, true, length, refl, sym, subst, arith}
+use Rattle.std.proofs.Common.{◌≡◌, true, refl, arith}
 use Rattle.plain_machine.specs.Example.{two_lines}
 use Rattle.dialled_once.proofs.AskingLemmas.{notifies_each}
 use Rattle.agent_core.specs.World.{plain_world}
-use Rattle.world_laws.specs.Reached.{own_in}
-use Rattle.world_laws.specs.Example.{world}
-use Rattle.dialled_end_to_end.proofs.NumberLemmas.{few_are_begun}
 use Rattle.delivery_laws.specs.Example.{kept_back, pressed_since, took_between, took_first}
 use Rattle.delivery_laws.proofs.Computing.{on_examples}
 use Rattle.delivery_laws.proofs.ExampleLemmas.{all_go, it_goes}
 use Rattle.delivery_laws.proofs.FairExamples.{fair_is}
 use Rattle.delivery_laws.proofs.FrontLemmas.{agent_has_room, answered_within, never_locked}
 use Rattle.delivery_laws.proofs.examples.what_is_pressed_since_is_told_later.Goals as goal
-
-two : length (own_in two_lines (world pressed_since)) ≡ 2
-unfolding on_examples
-two = refl
-
-pub returns-clause-numbers : goal.returns-clause-numbers
-returns-clause-numbers c = few_are_begun (own_in two_lines (world pressed_since)) (subst (λ (n : ℕ). n < 9999999) (sym two) (omega arith))
 
 pub returns-clause-asked : goal.returns-clause-asked
 unfolding on_examples

@@ -1,4 +1,4 @@
-use Rattle.std.proofs.Common.{◌≡◌, ℕ, ◌+◌, ◌<◌, ◌≤◌, true, [], ◌∷◌, ◌++◌, length, Option, Some, None, codes, refl, sym, ap, subst, arith}
+use Rattle.std.proofs.Common.{◌≡◌, ℕ, ◌+◌, ◌≤◌, true, [], ◌∷◌, ◌++◌, Option, Some, None, codes, refl, ap, arith}
 use Rattle.outbound.specs.Flight.{InFlight}
 use Rattle.plain_machine.specs.Event.{tick}
 use Rattle.plain_machine.specs.Example.{two_lines, agent}
@@ -6,24 +6,13 @@ use Rattle.dialled_once.proofs.AskingLemmas.{notifies_each}
 use Rattle.agent_core.specs.declared.packet.End.TheVariants.{GatewayEnd}
 use Rattle.agent_core.specs.declared.packet.Posted.{Posted}
 use Rattle.agent_core.specs.World.{gateway_address, plain_world}
-use Rattle.world_laws.specs.Reached.{own_in}
-use Rattle.world_laws.specs.Example.{world}
 use Rattle.dialled_end_to_end.specs.Example.{endpoint_in}
-use Rattle.dialled_end_to_end.proofs.NumberLemmas.{few_are_begun}
 use Rattle.delivery_laws.specs.Example.{kept_back, rested, took_first, took_since}
 use Rattle.delivery_laws.proofs.Computing.{on_examples}
 use Rattle.delivery_laws.proofs.ExampleLemmas.{all_go, hand_over, it_goes, none_handed}
 use Rattle.delivery_laws.proofs.FairExamples.{fair_is}
 use Rattle.delivery_laws.proofs.FrontLemmas.{agent_has_room, answered_within, asked_within}
 use Rattle.delivery_laws.proofs.examples.what_rests_is_taken.Goals as goal
-
--- the gateway announced itself, and one event was notified
-two : length (own_in two_lines (world rested)) ≡ 2
-unfolding on_examples
-two = refl
-
-pub returns-clause-numbers : goal.returns-clause-numbers
-returns-clause-numbers c = few_are_begun (own_in two_lines (world rested)) (subst (λ (n : ℕ). n < 9999999) (sym two) (omega arith))
 
 pub returns-clause-asked : goal.returns-clause-asked
 unfolding on_examples

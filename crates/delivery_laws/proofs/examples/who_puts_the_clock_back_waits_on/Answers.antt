@@ -1,25 +1,15 @@
-use Rattle.std.proofs.Common.{◌≡◌, ℕ, ◌<◌, ◌≤◌, true, [], ◌∷◌, ◌++◌, length, Option, Some, None, refl, sym, ap, subst, arith}
+use Rattle.std.proofs.Common.{◌≡◌, ℕ, ◌≤◌, true, [], ◌∷◌, ◌++◌, Option, Some, None, refl, ap, arith}
 use Rattle.outbound.specs.Flight.{InFlight}
 use Rattle.plain_machine.specs.Event.{tick}
 use Rattle.plain_machine.specs.Example.{two_lines}
 use Rattle.agent_core.specs.World.{plain_world}
-use Rattle.world_laws.specs.Reached.{own_in}
-use Rattle.world_laws.specs.Example.{world}
 use Rattle.dialled_end_to_end.specs.Example.{endpoint_in}
-use Rattle.dialled_end_to_end.proofs.NumberLemmas.{few_are_begun}
 use Rattle.delivery_laws.specs.Example.{notified, put_back, took_first}
 use Rattle.delivery_laws.proofs.Computing.{on_examples}
 use Rattle.delivery_laws.proofs.ExampleLemmas.{all_go, it_goes}
 use Rattle.delivery_laws.proofs.FairExamples.{fair_is}
 use Rattle.delivery_laws.proofs.FrontLemmas.{agent_has_room}
 use Rattle.delivery_laws.proofs.examples.who_puts_the_clock_back_waits_on.Goals as goal
-
-two : length (own_in two_lines (world put_back)) ≡ 2
-unfolding on_examples
-two = refl
-
-pub returns-clause-numbers : goal.returns-clause-numbers
-returns-clause-numbers c = few_are_begun (own_in two_lines (world put_back)) (subst (λ (n : ℕ). n < 9999999) (sym two) (omega arith))
 
 pub returns-clause-fair : goal.returns-clause-fair
 unfolding on_examples
