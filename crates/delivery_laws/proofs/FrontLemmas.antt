@@ -1,8 +1,8 @@
 -- What holds of each beginning of a list; for worked examples, in which it computes.
-use Rattle.std.proofs.Common.{◌≡◌, ℕ, ◌+◌, Bool, true, false, ◌||◌, ◌&&◌, List, [], ◌∷◌, ◌++◌, length, Option, Some, None, refl, sym, ap, ◌∙◌, subst, append_assoc}
+use Rattle.std.proofs.Common.{◌≡◌, ℕ, ◌+◌, ◌≤◌, Bool, true, false, ◌||◌, ◌&&◌, List, [], ◌∷◌, ◌++◌, length, Option, Some, None, refl, sym, ap, ◌∙◌, subst, append_assoc, arith}
 use Rattle.std.specs.Prelude.{nat_le, nat_lt, not}
 use Rattle.std.proofs.lemmas.Bool.{and_parts, leb-true, ltb-true}
-use Rattle.std.proofs.lemmas.Bool.Decides.{Decides-ltb}
+use Rattle.std.proofs.lemmas.Bool.Decides.{Decides-ltb, nat_tests}
 use Rattle.history.specs.Kept.{young_firsts}
 use Rattle.history.specs.Memory.{most_firsts}
 use Rattle.event_requests.specs.declared.request.Request.{Request}
@@ -126,6 +126,37 @@ asked_within setup line before events wait all = λ some between later endpoint 
     (both_are (locked_by (endpoint_at m.endpoints line)) (nat_lt (m.now + wait) next) locked long)
     (stretch_holds (is_asked setup line before wait) events some between later all order) in
     let clash : true ≡ false = sym some_asked ∙ ap has_some none in cc
+
+-- where the test fails at a beginning, the line isn't answered in that time
+
+tests : (a b : ℕ) → a ≤ b → nat_le a b ≡ true
+tests a b low = grind (arith, nat_tests)
+
+awaits : (now wait : ℕ) (pending : Option InFlight) → IsAwaited now wait pending → is_awaited now wait pending ≡ true
+awaits now wait pending is =
+    ap (is_awaited now wait) is.flies ∙ both_are (nat_le is.flight.first now) (nat_le now (is.flight.first + wait)) (tests is.flight.first now is.sent) (tests now (is.flight.first + wait) is.lately)
+
+notified_so : (state : State) → is_notified state ≡ true → state ≡ Notification
+notified_so Normal is = absurd cc
+notified_so Notification is = refl
+notified_so Lockstep is = absurd cc
+
+neither : (a b : Bool) → (not a || b) ≡ false → (a ≡ true) × (b ≡ false)
+neither true b is = (refl, is)
+neither false b is = absurd cc
+
+unmet : (now wait : ℕ) (found : Option Endpoint) → answered_by now wait found ≡ false
+    → ((endpoint : Endpoint) → found ≡ Some endpoint → endpoint.line.state ≡ Notification → IsAwaited now wait endpoint.post.pending) → ⊥
+unmet now wait None fails each = cc
+unmet now wait (Some endpoint) fails each =
+    let parts = neither (is_notified endpoint.line.state) (is_awaited now wait endpoint.post.pending) fails in
+    let clash : false ≡ true = sym parts.1 ∙ awaits now wait endpoint.post.pending (each endpoint refl (notified_so endpoint.line.state parts.0)) in cc
+
+pub not_answered : (setup : Setup) (line : ℕ) (before events some later : List GatewayEvent) (wait : ℕ) → events ≡ some ++ later → is_answered setup line before wait some ≡ false
+    → IsAnsweredWithin setup line before events wait → ⊥
+not_answered setup line before events some later wait order fails answered =
+    let m : Machine = plain setup (before ++ some) in
+    unmet m.now wait (endpoint_at m.endpoints line) fails (λ endpoint at state. answered some later endpoint order at state)
 
 -- a line that never waits for a request is asked in any time
 

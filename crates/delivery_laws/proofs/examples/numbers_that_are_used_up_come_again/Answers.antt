@@ -6,19 +6,18 @@ use Rattle.mgcp_text.specs.declared.message.Message.TheVariants as messages
 use Rattle.mgcp_text.specs.Reading.{message, read_text}
 use Rattle.outbound.specs.Flight.{InFlight}
 use Rattle.plain_machine.specs.declared.endpoint.Endpoint.{Endpoint}
-use Rattle.plain_machine.specs.Example.{agent, two_lines}
-use Rattle.plain_machine.specs.Setup.{IsSetUp}
+use Rattle.plain_machine.specs.Example.{two_lines}
 use Rattle.machine_laws.specs.Saying.{HasNumbersLeft}
 use Rattle.plain_machine.specs.Machine.{Machine, endpoint_at}
 use Rattle.agent_core.specs.declared.packet.End.TheVariants.{AgentEnd}
-use Rattle.agent_core.specs.World.{World, WorldStep, delivering, gateway_address, gateway_in, steps_are_taken, world_after, world_opening}
+use Rattle.agent_core.specs.World.{World, WorldStep, delivering, gateway_in, steps_are_taken, world_after, world_opening}
 use Rattle.world_laws.specs.Reached.{own_in}
 use Rattle.world_laws.specs.Example.{world}
 use Rattle.delivery_laws.specs.Copies.{IsCopy}
 use Rattle.delivery_laws.specs.Example.{brought, flying_after, hung_up, notified}
 use Rattle.delivery_laws.proofs.AnsweredLaws.{over_once_answered}
 use Rattle.delivery_laws.proofs.Computing.{on_examples}
-use Rattle.delivery_laws.proofs.ExampleLemmas.{copy_here}
+use Rattle.delivery_laws.proofs.ExampleLemmas.{copy_at, two_lines_set_up}
 use Rattle.delivery_laws.proofs.NumberLemmas.{HasJustSent, first_id_comes, flying_in}
 use Rattle.delivery_laws.proofs.StepLemmas.{steps_more, taken_both}
 use Rattle.delivery_laws.proofs.examples.numbers_that_are_used_up_come_again.Goals as goal
@@ -60,15 +59,9 @@ comes_again = first_id_comes two_lines gateway_then 1 2 9999997 refl just_sent r
 
 -- The law would say otherwise, of which all other premises hold
 
-set_up : IsSetUp two_lines
-unfolding on_examples
-set_up = record { domain = refl; agent = refl; lines = omega arith; address = refl; ports = omega arith }
-
 answered : IsCopy two_lines (world (notified ++ delivering 2 ∷ [])) AgentEnd (codes "200 10000000 OK\r\n") 3
 unfolding on_examples
-answered =
-    copy_here two_lines (world (notified ++ delivering 2 ∷ []))
-    (record { end = AgentEnd; packet = record { moment = 1; sender = agent; to = gateway_address two_lines; bytes = codes "200 10000000 OK\r\n" } }) 3 (codes "200 10000000 OK\r\n") refl refl refl
+answered = copy_at two_lines (world (notified ++ delivering 2 ∷ [])) AgentEnd (codes "200 10000000 OK\r\n") 3 0 refl
 
 answer_reads : read_text (codes "200 10000000 OK\r\n") ≡ message (messages.Response 200 10000000 [] [])
 unfolding on_examples
@@ -84,7 +77,7 @@ none_left : (later : List WorldStep) → steps_are_taken two_lines world_opening
 none_left later taken None at flies few = absurd (none-some 10000000 flies)
 none_left later taken (Some endpoint) at flies few =
     let is = flight_of endpoint.post.pending flies in
-    over_once_answered two_lines (notified ++ delivering 2 ∷ []) later 3 (codes "200 10000000 OK\r\n") 200 10000000 [] [] 1 endpoint is.0 set_up taken few answered answer_reads refl
+    over_once_answered two_lines (notified ++ delivering 2 ∷ []) later 3 (codes "200 10000000 OK\r\n") 200 10000000 [] [] 1 endpoint is.0 two_lines_set_up taken few answered answer_reads refl
     (λ same. absurd (omega (arith, same))) at is.1 is.2
 
 pub returns : goal.returns

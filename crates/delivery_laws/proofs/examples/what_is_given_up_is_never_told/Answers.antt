@@ -1,47 +1,34 @@
-use Rattle.std.proofs.Common.{◌≡◌, true, refl}
+use Rattle.std.proofs.Common.{refl, arith}
+use Rattle.std.proofs.lemmas.Bool.{ltb-true}
 use Rattle.dialled_once.proofs.AskingLemmas.{notifies_each}
-use Rattle.agent_core.specs.World.{plain_world}
+use Rattle.dialled_end_to_end.specs.Example.{asked as asked_for_all}
 use Rattle.delivery_laws.specs.Example.{announced_anew, hasty, hasty_took, hasty_took_between, kept_back}
 use Rattle.delivery_laws.proofs.Computing.{on_examples}
-use Rattle.delivery_laws.proofs.ExampleLemmas.{all_go, it_goes}
+use Rattle.delivery_laws.proofs.ExampleLemmas.{all_reach, took_split}
 use Rattle.delivery_laws.proofs.FairExamples.{fair_is}
 use Rattle.delivery_laws.proofs.FrontLemmas.{agent_has_room, answered_within, never_locked}
 use Rattle.delivery_laws.proofs.examples.what_is_given_up_is_never_told.Goals as goal
 
-pub returns-clause-asked : goal.returns-clause-asked
+pub returns : goal.returns
 unfolding on_examples
-returns-clause-asked c =
-    record { undone = refl; asked = record { requested = notifies_each _ refl refl; quarantined = refl }; since = tt; none_lost = refl }
-
-pub returns-clause-fair : goal.returns-clause-fair
-unfolding on_examples
-returns-clause-fair c = fair_is hasty announced_anew 25000 refl
-
-pub returns-clause-room : goal.returns-clause-room
-unfolding on_examples
-returns-clause-room c = agent_has_room hasty announced_anew refl
-
-all_gone : all_go hasty (plain_world hasty announced_anew).posted ≡ true
-unfolding on_examples
-all_gone = refl
-
-pub returns-clause-reaches : goal.returns-clause-reaches
-returns-clause-reaches c = λ b own of number post found from inside. it_goes hasty (plain_world hasty announced_anew).posted number post all_gone found from
-
-pub returns-clause-answered : goal.returns-clause-answered
-unfolding on_examples
-returns-clause-answered c = answered_within hasty 1 (hasty_took kept_back) (hasty_took_between kept_back announced_anew) 23500 refl
-
-pub returns-clause-asked_again : goal.returns-clause-asked_again
-unfolding on_examples
-returns-clause-asked_again c = never_locked hasty 1 (hasty_took kept_back) (hasty_took_between kept_back announced_anew) 0 refl
-
--- computed at once, which the search would do slowly
-
-pub returns-clause-events : goal.returns-clause-events
-unfolding on_examples
-returns-clause-events c = refl
-
-pub returns-clause-split : goal.returns-clause-split
-unfolding on_examples
-returns-clause-split c = refl
+returns c = record {
+  set_up = record { domain = refl; agent = refl; lines = omega arith; address = refl; ports = omega arith };
+  steps = refl;
+  events = took_split hasty asked_for_all announced_anew refl;
+  asked = record { undone = refl; asked = record { requested = notifies_each _ refl refl; quarantined = refl }; since = tt; none_lost = refl };
+  given_up = refl;
+  fair = fair_is hasty announced_anew 25000 refl;
+  room = agent_has_room hasty announced_anew refl;
+  reaches = all_reach hasty announced_anew 1 refl;
+  its_time = tt;
+  split = took_split hasty kept_back announced_anew refl;
+  answered = answered_within hasty 1 (hasty_took kept_back) (hasty_took_between kept_back announced_anew) 23500 refl;
+  asked_again = never_locked hasty 1 (hasty_took kept_back) (hasty_took_between kept_back announced_anew) 0 refl;
+  none_held = refl;
+  late = ltb-true _ _ refl;
+  rests = refl;
+  none_left = refl;
+  done_by_then = refl;
+  done = refl;
+  none_told = refl;
+}

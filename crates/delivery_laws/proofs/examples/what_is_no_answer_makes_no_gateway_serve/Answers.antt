@@ -1,53 +1,28 @@
-use Rattle.std.proofs.Common.{◌≡◌, ◌++◌, ℕ, List, [], codes, inl, inr, refl}
-use Rattle.transmission.specs.Texts.{texts_of}
-use Rattle.plain_machine.specs.Example.{two_lines, agent}
-use Rattle.machine_laws.proofs.EachLemmas.{any_from_one}
+use Rattle.std.proofs.Common.{[], codes, refl}
+use Rattle.plain_machine.specs.Example.{two_lines}
 use Rattle.agent_core.specs.declared.packet.End.TheVariants.{AgentEnd}
-use Rattle.agent_core.specs.declared.packet.Posted.{Posted}
-use Rattle.agent_core.specs.World.{gateway_address}
-use Rattle.delivery_laws.specs.Example.{as_response, elsewhere}
+use Rattle.world_laws.specs.Example.{world}
+use Rattle.delivery_laws.specs.Example.{as_response, elsewhere, own_responded, redirected_and_answered}
 use Rattle.delivery_laws.proofs.Computing.{on_examples}
+use Rattle.delivery_laws.proofs.ExampleLemmas.{copy_at}
 use Rattle.delivery_laws.proofs.examples.what_is_no_answer_makes_no_gateway_serve.Goals as goal
 
-post : ℕ → List ℕ → Posted
-post moment bytes = record { end = AgentEnd; packet = record { moment = moment; sender = agent; to = gateway_address two_lines; bytes = bytes } }
-
-pub returns-clause-provisional : goal.returns-clause-provisional
-unfolding on_examples post
-returns-clause-provisional c = record {
-  post = post 1 (as_response (codes "100 1") []);
-  found = refl;
-  sender = refl;
-  goes = refl;
-  inside = any_from_one (λ (one : List ℕ). one ≡ as_response (codes "100 1") []) (texts_of (as_response (codes "100 1") [])) (inl refl);
-}
-
-pub returns-clause-of_another : goal.returns-clause-of_another
-unfolding on_examples post
-returns-clause-of_another c = record {
-  post = post 1 (as_response (codes "200 2") []);
-  found = refl;
-  sender = refl;
-  goes = refl;
-  inside = any_from_one (λ (one : List ℕ). one ≡ as_response (codes "200 2") []) (texts_of (as_response (codes "200 2") [])) (inl refl);
-}
-
-pub returns-clause-redirected : goal.returns-clause-redirected
-unfolding on_examples post
-returns-clause-redirected c = record {
-  post = post 1 (as_response (codes "521 1") elsewhere);
-  found = refl;
-  sender = refl;
-  goes = refl;
-  inside = any_from_one (λ (one : List ℕ). one ≡ as_response (codes "521 1") elsewhere) (texts_of (as_response (codes "521 1") elsewhere)) (inl refl);
-}
-
-pub returns-clause-not_alone : goal.returns-clause-not_alone
-unfolding on_examples post
-returns-clause-not_alone c = record {
-  post = post 1 (codes "521 1 1 aaln/1@rgw.example.net MGCP 1.0\r\n" ++ elsewhere ++ codes ".\r\n200 1 OK\r\n");
-  found = refl;
-  sender = refl;
-  goes = refl;
-  inside = any_from_one (λ (one : List ℕ). one ≡ codes "200 1 OK\r\n") (texts_of (codes "521 1 1 aaln/1@rgw.example.net MGCP 1.0\r\n" ++ elsewhere ++ codes ".\r\n200 1 OK\r\n")) (inr (inl refl));
+pub returns : goal.returns
+unfolding on_examples
+returns c = record {
+  provisional = copy_at two_lines (world (own_responded (codes "100 1") [])) AgentEnd (as_response (codes "100 1") []) 1 0 refl;
+  redirected = copy_at two_lines (world (own_responded (codes "521 1") elsewhere)) AgentEnd (as_response (codes "521 1") elsewhere) 1 0 refl;
+  of_another = copy_at two_lines (world (own_responded (codes "200 2") [])) AgentEnd (as_response (codes "200 2") []) 1 0 refl;
+  alone = refl;
+  reads = refl;
+  waits = refl;
+  after_provisional = refl;
+  after_redirection = refl;
+  after_another = refl;
+  none_flies = refl;
+  after_none = refl;
+  commanded = refl;
+  not_alone = copy_at two_lines (world redirected_and_answered) AgentEnd (codes "200 1 OK\r\n") 1 1 refl;
+  waits_there = refl;
+  behind_redirection = refl;
 }

@@ -1,19 +1,17 @@
 use Rattle.std.proofs.Common.{[], ◌∷◌, ◌++◌, refl}
-use Rattle.plain_machine.specs.Example.{two_lines, agent}
+use Rattle.plain_machine.specs.Example.{two_lines}
+use Rattle.agent_core.specs.World.{delivering}
+use Rattle.delivery_laws.specs.Example.{garbled_issued, garbled}
 use Rattle.agent_core.specs.declared.packet.End.TheVariants.{AgentEnd}
-use Rattle.agent_core.specs.World.{delivering, gateway_address}
 use Rattle.world_laws.specs.Example.{world}
-use Rattle.delivery_laws.specs.Example.{garbled, garbled_issued}
 use Rattle.delivery_laws.proofs.Computing.{on_examples}
-use Rattle.delivery_laws.proofs.ExampleLemmas.{copy_here}
+use Rattle.delivery_laws.proofs.ExampleLemmas.{copy_at}
 use Rattle.delivery_laws.proofs.FairExamples.{fair_is}
 use Rattle.delivery_laws.proofs.examples.what_may_not_be_issued_has_no_answer.Goals as goal
 
 pub returns-clause-copy : goal.returns-clause-copy
 unfolding on_examples
-returns-clause-copy c =
-    copy_here two_lines (world garbled_issued)
-    (record { end = AgentEnd; packet = record { moment = 1; sender = agent; to = gateway_address two_lines; bytes = garbled.text } }) 2 garbled.text refl refl refl
+returns-clause-copy c = copy_at two_lines (world garbled_issued) AgentEnd garbled.text 2 0 refl
 
 pub returns-clause-fair : goal.returns-clause-fair
 unfolding on_examples
