@@ -7,4 +7,5 @@ pub mod CountLemmas
 pub mod DialledLemmas
 pub mod OverLists
 pub mod AskingLemmas
+pub mod ExampleLemmas
 pub mod Computing
