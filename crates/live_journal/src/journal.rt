@@ -27,7 +27,7 @@ impl Journal {
     fn show(&mut self, moment: u64, kind: Kind, peer: Option<SocketAddrV4>, text: &[u8]) {
         if let Some(board) = &mut self.board {
             let peer = peer.unwrap_or(SocketAddrV4::new(Ipv4Addr::UNSPECIFIED, 0));
-            board.note(moment, kind, peer, text);
+            let _ = board.note(moment, kind, peer, text);
         }
     }
 

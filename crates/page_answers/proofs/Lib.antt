@@ -1,2 +1,4 @@
 pub mod Computing
-pub mod MemberLaws
+pub mod KeepingLemmas
+pub mod ShowingLemmas
+pub mod TellingLemmas

@@ -2,6 +2,7 @@
 use Rattle.std.specs.Prelude.{ℕ, Bool, ◌&&◌, ◌||◌, ◌==◌, nat_le, codes, decimal, if◌then◌else◌, List, [], ◌∷◌, ◌++◌, bytes_eq, Option, Some, None, option_and_then}
 use Rattle.serde_json.specs.Data.{Data}
 use Rattle.serde_json.specs.Find.{get, as_number, as_u64, as_str}
+use Rattle.serde_json.specs.Read.{read}
 use Rattle.mg_bytes.specs.Option.{◌>>=◌}
 use Rattle.page_answers.specs.declared.act.PhoneAct.{PhoneAct}
 use Rattle.page_answers.specs.declared.act.PhoneAct.TheVariants.{Off, On, Flash, Key}
@@ -50,3 +51,7 @@ queued_in d = do
   line ← line_in d
   act ← act_in d
   Some (record { line = line; act = act })
+
+-- what a body asks for: it is JSON
+abbrev pub asked_by : List ℕ → Option QueuedAct
+asked_by body = read body >>= queued_in

@@ -1,8 +1,11 @@
--- Bodies of the worked examples, and what they ask for.
-use Rattle.std.specs.Prelude.{ℕ, codes, List}
+-- What the worked examples speak of: bodies and what they ask for, and what happened.
+use Rattle.std.specs.Prelude.{ℕ, codes, List, [], ◌∷◌}
+use Rattle.std.specs.declared.net.socket_addr.SocketAddrV4.{SocketAddrV4}
 use Rattle.serde_json.specs.Data.{Data, number, unsigned, string, object, member, no_members}
 use Rattle.page_answers.specs.declared.act.QueuedAct.{QueuedAct}
 use Rattle.page_answers.specs.declared.act.PhoneAct.{PhoneAct}
+use Rattle.page_answers.specs.declared.ring.Kind.TheVariants.{Act, Told}
+use Rattle.page_answers.specs.Keeping.{Event, RingState, event_at}
 
 -- `{"act": word, "line": line}`
 abbrev pub asks : List ℕ → ℕ → Data
@@ -10,3 +13,16 @@ asks word line = object (member (codes "act") (string word) (member (codes "line
 
 abbrev pub queued : ℕ → PhoneAct → QueuedAct
 queued line act = record { line = line; act = act }
+
+-- 192.168.1.5:2727
+abbrev pub agent : SocketAddrV4
+agent = record { ip = record { octets = 192 ∷ 168 ∷ 1 ∷ 5 ∷ [] }; port = 2727 }
+
+abbrev pub ring_at : ℕ → List Event → RingState
+ring_at last events = record { last = last; events = events }
+
+abbrev pub lifted : Event
+lifted = event_at 7 5000 Act agent (codes "phone 1 off")
+
+abbrev pub answered : Event
+answered = event_at 8 5020 Told agent (codes "ok")

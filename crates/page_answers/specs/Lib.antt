@@ -1,5 +1,11 @@
 pub mod Keeping
 pub mod Verbs
+pub mod Totals
 pub mod Metrics
+pub mod Samples
 pub mod Acting
+pub mod Showing
+pub mod Outcomes
+pub mod Texts
+pub mod Telling
 pub mod Example

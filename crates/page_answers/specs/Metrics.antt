@@ -1,8 +1,12 @@
 -- Prometheus' text format, version 0.0.4: what is told of a metric, and each of its samples.
-use Rattle.std.specs.Prelude.{ℕ, ◌==◌, nat_lt, codes, decimal, if◌then◌else◌, List, [], ◌∷◌, ◌++◌}
+use Rattle.std.specs.Prelude.{ℕ, ◌==◌, nat_lt, codes, decimal, if◌then◌else◌, List, [], ◌∷◌, ◌++◌, length}
 use Rattle.std.specs.List.{flat_map}
 use Rattle.page_answers.specs.declared.counts.VerbCount.{VerbCount}
 use Rattle.page_answers.specs.declared.counts.CodeCount.{CodeCount}
+use Rattle.page_answers.specs.declared.counts.Counts.{Counts}
+use Rattle.page_answers.specs.declared.picture.Picture.{Picture}
+use Rattle.page_answers.specs.declared.picture.Totals.{Totals}
+use Rattle.page_answers.specs.Totals.{totals_of}
 use Rattle.page_answers.specs.Verbs.{verb_word}
 
 -- in a label's value a backslash, a quote and a line feed are written behind a backslash
@@ -60,3 +64,80 @@ code_samples counts = flat_map code_sample counts
 -- a metric of one sample
 abbrev pub single : List ℕ → List ℕ → List ℕ → ℕ → List ℕ
 single name kind help number = family_head name kind help ++ plain_sample name number
+
+-- a metric of several samples, which a label tells apart
+abbrev pub family : List ℕ → List ℕ → List ℕ → List ℕ → List (List ℕ × ℕ) → List ℕ
+family name kind help label samples = family_head name kind help ++ flat_map (λ s. labelled_sample name label s.0 s.1) samples
+
+-- a metric of one sample: its name, its kind, what it counts, and its number
+abbrev pub single_text : List ℕ × List ℕ × List ℕ × ℕ → List ℕ
+single_text metric = single metric.0 metric.1 metric.2 metric.3
+
+abbrev pub singles : List (List ℕ × List ℕ × List ℕ × ℕ) → List ℕ
+singles metrics = flat_map single_text metrics
+
+abbrev pub counter : List ℕ → List ℕ → ℕ → List ℕ × List ℕ × List ℕ × ℕ
+counter name help number = (name, codes "counter", help, number)
+
+abbrev pub gauge : List ℕ → List ℕ → ℕ → List ℕ × List ℕ × List ℕ × ℕ
+gauge name help number = (name, codes "gauge", help, number)
+
+unfoldable pub datagrams_text : Counts → List ℕ
+datagrams_text counts =
+    family (codes "rgw_datagrams_total") (codes "counter") (codes "Datagrams that came and went.") (codes "direction")
+    ((codes "in", counts.datagrams_in) ∷ (codes "out", counts.datagrams_out) ∷ [])
+
+unfoldable pub commands_head : List ℕ
+commands_head = family_head (codes "rgw_commands_total") (codes "counter") (codes "Commands that came, by verb.")
+
+unfoldable pub answers_head : List ℕ
+answers_head = family_head (codes "rgw_answers_total") (codes "counter") (codes "Responses that were sent, by code.")
+
+-- what came and went
+abbrev pub traffic_text : Counts → List ℕ
+traffic_text counts =
+    datagrams_text counts ++ commands_head ++ verb_samples counts.commands.items ++ answers_head ++ code_samples counts.answers.items
+
+-- what the gateway sent of its own
+unfoldable pub own_counters : Counts → List ℕ
+own_counters counts =
+    singles
+    (counter (codes "rgw_notifications_total") (codes "Notifications that were sent.") counts.notifications
+    ∷ counter (codes "rgw_announcements_total") (codes "Announcements that were sent.") counts.announcements
+    ∷ counter (codes "rgw_given_up_total") (codes "Announcements of lines that nobody had answered.") counts.given_up ∷ [])
+
+unfoldable pub repeats_text : Counts → List ℕ
+repeats_text counts =
+    family (codes "rgw_repeats_total") (codes "counter") (codes "Messages that were sent before, by what they are.") (codes "of")
+    ((codes "answer", counts.answers_again) ∷ (codes "notification", counts.notifications_again)
+    ∷ (codes "announcement", counts.announcements_again) ∷ [])
+
+-- what came and led to nothing
+unfoldable pub useless_counters : Counts → List ℕ
+useless_counters counts =
+    singles
+    (counter (codes "rgw_responses_total") (codes "Responses that came.") counts.responses
+    ∷ counter (codes "rgw_unreadable_total") (codes "Texts that came and are no message.") counts.unreadable
+    ∷ counter (codes "rgw_refused_total") (codes "Inputs that the gateway refused.") counts.refused ∷ [])
+
+unfoldable pub faults_text : Counts → List ℕ
+faults_text counts =
+    family (codes "rgw_faults_total") (codes "counter") (codes "How often a socket failed.") (codes "of")
+    ((codes "receive", counts.receive_faults) ∷ (codes "send", counts.send_faults) ∷ [])
+
+-- what there is now: so many lines, what these have together, and so many transactions
+unfoldable pub gauges_text : ℕ → Totals → ℕ → List ℕ
+gauges_text lines totals transactions =
+    singles
+    (counter (codes "rgw_lost_events_total") (codes "Events that found no room on their line.") totals.lost
+    ∷ gauge (codes "rgw_lines") (codes "Lines of the gateway.") lines
+    ∷ gauge (codes "rgw_lines_off_hook") (codes "Lines that are off hook.") totals.off_hook
+    ∷ gauge (codes "rgw_connections") (codes "Connections of all lines.") totals.connections
+    ∷ gauge (codes "rgw_transactions") (codes "Transactions that are held.") transactions ∷ [])
+
+-- all metrics
+abbrev pub metrics_of : Picture → List ℕ
+metrics_of picture =
+    traffic_text picture.counts ++ own_counters picture.counts ++ repeats_text picture.counts
+    ++ useless_counters picture.counts ++ faults_text picture.counts
+    ++ gauges_text (length picture.lines.items) (totals_of picture.lines.items) picture.counts.transactions

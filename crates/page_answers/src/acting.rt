@@ -1,9 +1,7 @@
 //! Reads what the page asks to be done.
-ghost use Rattle.std.specs.Prelude.{◌≡◌, IfOk, IfSome, Some};
-ghost use Rattle.serde_json.specs.Data.{Data};
-ghost use Rattle.serde_json.specs.Read.{read};
+ghost use Rattle.std.specs.Prelude.{◌≡◌, IfOk, IfSome, IsUtf8, Some, None};
 ghost use Rattle.serde_json.specs.View.{view};
-ghost use Rattle.page_answers.specs.Acting.{line_in as line_of, act_in as act_of, queued_in as queued_of};
+ghost use Rattle.page_answers.specs.Acting.{line_in as line_of, act_in as act_of, queued_in as queued_of, asked_by};
 
 use crate::act::{PhoneAct, QueuedAct, act_named};
 use mg_bytes::OutOfMemory;
@@ -38,8 +36,8 @@ fn queued_in(value: &Value) -> Option<QueuedAct>
 
 /// What a body asks to be done: an object of JSON with a number `line` and a text `act`; `None` for any other.
 pub fn read_act(alloc: Global, body: &[u8]) -> Result<Option<QueuedAct>, OutOfMemory>
-    ensures { IfOk result (λ found. IfSome found (λ queued.
-        (d : Data) × (read body.now ≡ Some d) × (queued_of d ≡ Some queued))) }
+    ensures some { IfOk result (λ found. IfSome found (λ queued. asked_by body.now ≡ Some queued)) }
+    ensures none { IfOk result (λ found. found ≡ None → IsUtf8 body.now → asked_by body.now ≡ None) }
 {
     match Value::from_slice(alloc, body) {
         Ok(value) => Ok(queued_in(&value)),

@@ -1,10 +1,12 @@
 //! The board: what the page is shown, and what it asks to be done.
-ghost use Rattle.std.specs.Prelude.{◌≡◌, ◌≢◌, ◌≤◌, ◌++◌, [], ◌∷◌, length, IfOk, OnErr, Some, option_to_list};
-ghost use Rattle.serde_json.specs.Data.{Data};
-ghost use Rattle.serde_json.specs.Read.{read};
-ghost use Rattle.page_answers.specs.Acting.{queued_in};
-ghost use Rattle.page_answers.specs.declared.act.QueuedAct.{QueuedAct};
-ghost use Rattle.page_answers.specs.declared.board.ActOutcome.TheVariants.{Queued};
+ghost use Rattle.std.specs.Prelude.{◌≡◌, ◌≢◌, ◌≤◌, [], length, drop, IfOk, OnOk, OnErr, slice_get, string_bytes};
+ghost use Rattle.page_answers.specs.Texts.{TellsState};
+ghost use Rattle.page_answers.specs.Telling.{events_text as text_of_events};
+ghost use Rattle.page_answers.specs.Keeping.{next_number, nothing_yet, noted, counted};
+ghost use Rattle.page_answers.specs.Showing.{lines_of};
+ghost use Rattle.page_answers.specs.Metrics.{metrics_of};
+ghost use Rattle.page_answers.specs.Outcomes.{Becomes, queued_behind};
+ghost use Rattle.page_answers.specs.declared.board.ActOutcome.TheVariants.{Queued, Unreadable};
 
 use crate::act::QueuedAct;
 use crate::acting::read_act;
@@ -15,6 +17,7 @@ use crate::state::state_text;
 use crate::telling::events_text;
 use std::alloc::{AllocError, Global};
 use std::collections::VecDeque;
+use std::marker::Model;
 use std::net::SocketAddrV4;
 
 /// So many acts wait at most.
@@ -31,7 +34,7 @@ pub enum ActOutcome {
     Unreadable,
 }
 
-/// What the page is shown, and the acts that it asks for.
+/// What the page is shown, and the acts that it asks for. A contract sees what is shown, and the acts that wait.
 #[derive(Drop)]
 pub struct Board {
     alloc: Global,
@@ -42,10 +45,38 @@ pub struct Board {
     acts: VecDeque<QueuedAct>,
 }
 
+impl Model for Board {
+    ghost use Rattle.std.specs.Prelude.{◌≤◌, length};
+    ghost use Rattle.page_answers.specs.Showing.{BoardState};
+    ghost use Rattle.page_answers.specs.declared.board.TheConstants.{MOST_ACTS};
+
+    ghost Value = { BoardState };
+
+    ghost view = { λ b. record { picture = b.picture; version = b.version; ring = b.ring; acts = b.acts.items } };
+
+    ghost invariant = { λ b. length b.acts.items ≤ MOST_ACTS };
+}
+
+// The number of the lines that are shown next, where these are shown under this number.
+#[tactic(auto, using(crate::proofs::ShowingLemmas::lines_Decide))]
+fn version_behind(version: u64, shown: &Picture, next: &Picture) -> u64
+    ensures same { lines_of shown.now ≡ lines_of next.now → result ≡ version }
+    ensures changed { lines_of shown.now ≢ lines_of next.now → result ≡ next_number version }
+{
+    if shown.lines == next.lines {
+        version
+    } else {
+        version.saturating_add(1)
+    }
+}
+
 impl Board {
     /// A board that shows no lines yet.
     pub fn new(alloc: Global) -> Board
-        ensures { result.acts.items ≡ [] }
+        ensures lines { lines_of result.picture ≡ [] }
+        ensures version { result.version ≡ 0 }
+        ensures ring { result.ring ≡ nothing_yet }
+        ensures acts { result.acts ≡ [] }
     {
         Board {
             alloc,
@@ -56,52 +87,72 @@ impl Board {
         }
     }
 
-    /// Shows the gateway as it is now. To be called before what came is answered.
+    /// Shows the gateway as it is now: under another number, where its lines changed. To be called before what came is answered.
     pub fn show(&mut self, picture: Picture)
-        ensures { self.new.acts ≡ self.old.acts }
+        ensures picture { self.new.picture ≡ picture }
+        ensures same { lines_of self.old.picture ≡ lines_of picture
+            → self.new.version ≡ self.old.version }
+        ensures changed { lines_of self.old.picture ≢ lines_of picture
+            → self.new.version ≡ next_number self.old.version }
+        ensures ring { self.new.ring ≡ self.old.ring }
+        ensures acts { self.new.acts ≡ self.old.acts }
     {
-        if self.picture.lines != picture.lines {
-            self.version = self.version.saturating_add(1);
-        }
+        self.version = version_behind(self.version, &self.picture, &picture);
         self.picture = picture;
     }
 
-    /// Something happened at this moment, in ms; `peer` is where a datagram came from or went.
-    pub fn note(&mut self, moment: u64, kind: Kind, peer: SocketAddrV4, text: &[u8])
-        ensures { self.new.acts ≡ self.old.acts }
+    /// Something happened at this moment, in ms; `peer` is where a datagram came from or went. After an error, which is for
+    /// want of memory, its number alone is taken.
+    pub fn note(
+        &mut self,
+        moment: u64,
+        kind: Kind,
+        peer: SocketAddrV4,
+        text: &[u8],
+    ) -> Result<(), AllocError>
+        ensures ok { OnOk result (self.new ≡ record self.old { ring = noted self.old.ring moment kind peer text.now }) }
+        ensures err { OnErr result (self.new ≡ record self.old { ring = counted self.old.ring }) }
     {
-        self.ring.note(moment, kind, peer, text);
+        self.ring.note(moment, kind, peer, text)
     }
 
     /// Takes the act that has waited longest.
     pub fn next_act(&mut self) -> Option<QueuedAct>
-        ensures { self.old.acts.items ≡ option_to_list result ++ self.new.acts.items }
+        ensures first { result ≡ slice_get self.old.acts 0 }
+        ensures left { self.new ≡ record self.old { acts = drop 1 self.old.acts } }
     {
         self.acts.pop_front()
     }
 
     /// What the gateway is, as JSON.
-    pub fn state(&self) -> Result<String, AllocError> {
+    pub fn state(&self) -> Result<String, AllocError>
+        ensures { IfOk result (λ text. TellsState self.now.picture self.now.version (string_bytes text)) }
+    {
         state_text(self.alloc, &self.picture, self.version)
     }
 
     /// What happened after this number, as JSON.
-    pub fn events(&self, after: u64) -> Result<String, AllocError> {
+    pub fn events(&self, after: u64) -> Result<String, AllocError>
+        ensures { IfOk result (λ text. string_bytes text
+            ≡ text_of_events self.now.ring after self.now.version self.now.picture.clock) }
+    {
         let clock = self.picture.clock;
         events_text(self.alloc, &self.ring, after, self.version, clock)
     }
 
     /// What was counted, as Prometheus reads it.
-    pub fn metrics(&self) -> Result<Vec<u8>, AllocError> {
+    pub fn metrics(&self) -> Result<Vec<u8>, AllocError>
+        ensures { IfOk result (λ text. text.items ≡ metrics_of self.now.picture) }
+    {
         metrics_text(self.alloc, &self.picture)
     }
 
     // Puts an act behind the others, where there is room.
     fn queue(&mut self, queued: QueuedAct) -> ActOutcome
-        ensures taken { result ≡ Queued → self.new.acts.items ≡ self.old.acts.items ++ queued ∷ [] }
-        ensures refused { result ≢ Queued → self.new.acts.items ≡ self.old.acts.items }
-        ensures few { length self.old.acts.items ≤ MOST_ACTS → length self.new.acts.items ≤ MOST_ACTS }
-        ensures ring { self.new.ring ≡ self.old.ring }
+        ensures taken { result ≡ Queued → self.new ≡ queued_behind self.old queued }
+        ensures refused { result ≢ Queued → self.new ≡ self.old }
+        ensures readable { result ≢ Unreadable }
+        ensures few { length self.new.acts ≤ MOST_ACTS }
     {
         if self.acts.len() >= MOST_ACTS {
             return ActOutcome::NoRoom;
@@ -114,12 +165,9 @@ impl Board {
 
     /// Takes what a body asks for. After an error the board is as it was.
     pub fn act(&mut self, body: &[u8]) -> Result<ActOutcome, AllocError>
-        ensures taken { IfOk result (λ outcome. outcome ≡ Queued → (d : Data) × (queued : QueuedAct)
-            × (read body.now ≡ Some d) × (queued_in d ≡ Some queued) × (self.new.acts.items ≡ self.old.acts.items ++ queued ∷ [])) }
-        ensures refused { IfOk result (λ outcome. outcome ≢ Queued → self.new.acts.items ≡ self.old.acts.items) }
-        ensures few { length self.old.acts.items ≤ MOST_ACTS → length self.new.acts.items ≤ MOST_ACTS }
+        ensures outcome { IfOk result (λ outcome. Becomes self.old body.now outcome self.new) }
+        ensures few { length self.new.acts ≤ MOST_ACTS }
         ensures err { OnErr result (self.new ≡ self.old) }
-        ensures ring { self.new.ring ≡ self.old.ring }
     {
         match read_act(self.alloc, body)? {
             Some(queued) => Ok(self.queue(queued)),

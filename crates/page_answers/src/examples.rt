@@ -1,11 +1,15 @@
 //! Worked examples of the definitions, as theorems: each sentence of a definition has one that a slip in it breaks.
 #![tactic(auto, unfolding(crate::proofs::Computing::on_examples))]
 
-ghost use Rattle.std.specs.Prelude.{◌≡◌, codes, [], Some, None};
-ghost use Rattle.serde_json.specs.Data.{object, no_members, null};
-ghost use Rattle.page_answers.specs.Acting.{act_named, act_line, queued_in};
-ghost use Rattle.page_answers.specs.Example.{asks, queued};
-ghost use Rattle.page_answers.specs.Keeping.{kept_with};
+ghost use Rattle.std.specs.Prelude.{◌≡◌, codes, true, false, map, length, replicate, [], ◌∷◌, Some, None};
+ghost use Rattle.serde_json.specs.Data.{number, unsigned, boolean, object, member, no_members, null};
+ghost use Rattle.serde_json.specs.Written.{compact_text};
+ghost use Rattle.page_answers.specs.Acting.{act_named, act_line, queued_in, asked_by};
+ghost use Rattle.page_answers.specs.Example.{asks, queued, agent, ring_at, lifted, answered};
+ghost use Rattle.page_answers.specs.Keeping.{sum_within, next_number, kept_with, event_at, nothing_yet, counted, noted};
+ghost use Rattle.page_answers.specs.Texts.{put_shown, state_data};
+ghost use Rattle.page_answers.specs.Telling.{kind_word, event_data, told_after, next_after, has_more, first_number, events_text};
+ghost use Rattle.page_answers.specs.declared.ring.Kind.TheVariants.{Received, Sent, Act, Told};
 ghost use Rattle.page_answers.specs.Verbs.{verb_word};
 ghost use Rattle.page_answers.specs.Metrics.{escaped, labelled_sample, code_text, single};
 ghost use Rattle.page_answers.specs.declared.act.PhoneAct.TheVariants.{Off, On, Flash, Key};
@@ -15,6 +19,46 @@ pub fn the_oldest_gives_way()
     ensures room { kept_with 3 (codes "ab") 99 ≡ codes "abc" }
     ensures full { kept_with 2 (codes "ab") 99 ≡ codes "bc" }
     ensures first { kept_with 2 [] 99 ≡ codes "c" }
+{}
+
+/// What happens has the next number, and is kept behind the others as far as its text is; else its number alone is taken.
+pub fn what_happens_is_numbered()
+    ensures first { noted nothing_yet 5020 Told agent (codes "ok") ≡ ring_at 1 (event_at 1 5020 Told agent (codes "ok") ∷ []) }
+    ensures second { noted (ring_at 7 (lifted ∷ [])) 5020 Told agent (codes "ok") ≡ ring_at 8 (lifted ∷ answered ∷ []) }
+    ensures cut { map (λ e. length e.text) (noted nothing_yet 0 Sent agent (replicate 4097 65)).events ≡ 4096 ∷ [] }
+    ensures counted { counted (ring_at 7 (lifted ∷ [])) ≡ ring_at 8 (lifted ∷ []) }
+    ensures last { next_number 18446744073709551615 ≡ 18446744073709551615 }
+    ensures last_but_one { next_number 18446744073709551614 ≡ 18446744073709551615 }
+    ensures sum { sum_within 2 3 ≡ 5 }
+{}
+
+/// What happened behind a number is told from the oldest, at most so much at once, and then the number behind which to go on.
+pub fn what_happened_is_told_behind_a_number()
+    ensures all { told_after 128 0 (lifted ∷ answered ∷ []) ≡ lifted ∷ answered ∷ [] }
+    ensures behind { told_after 128 7 (lifted ∷ answered ∷ []) ≡ answered ∷ [] }
+    ensures oldest { told_after 1 0 (lifted ∷ answered ∷ []) ≡ lifted ∷ [] }
+    ensures next { next_after 0 (ring_at 9 (lifted ∷ answered ∷ [])) ≡ 8 }
+    ensures more { has_more 0 (ring_at 9 (lifted ∷ answered ∷ [])) ≡ true }
+    ensures no_more { has_more 0 (ring_at 8 (lifted ∷ answered ∷ [])) ≡ false }
+    ensures nothing { next_after 8 (ring_at 9 (lifted ∷ answered ∷ [])) ≡ 8 }
+    ensures nothing_more { has_more 8 (ring_at 9 (lifted ∷ answered ∷ [])) ≡ false }
+    ensures ahead { next_after 12 (ring_at 9 (lifted ∷ answered ∷ [])) ≡ 9 }
+    ensures first { first_number 8 (lifted ∷ answered ∷ []) ≡ 7 }
+    ensures first_to_come { first_number 8 [] ≡ 9 }
+{}
+
+/// What is told is JSON: what happened, under which number the lines are shown, and the clock.
+pub fn what_is_told_is_json()
+    ensures shown { put_shown 3 2000 no_members
+        ≡ member (codes "clock") (number (unsigned 2000)) (member (codes "version") (number (unsigned 3)) no_members) }
+    ensures state { state_data 3 2000 1 (boolean true) null ≡ object (member (codes "clock") (number (unsigned 2000))
+        (member (codes "counts") null (member (codes "lines") (boolean true) (member (codes "lost") (number (unsigned 1))
+        (member (codes "version") (number (unsigned 3)) no_members))))) }
+    ensures act { compact_text (event_data lifted)
+        ≡ codes "{\"at\":5000,\"hex\":\"70686f6e652031206f6666\",\"kind\":\"act\",\"n\":7,\"peer\":\"192.168.1.5:2727\"}" }
+    ensures kinds { map kind_word (Received ∷ Sent ∷ Act ∷ Told ∷ []) ≡ codes "in" ∷ codes "out" ∷ codes "act" ∷ codes "told" ∷ [] }
+    ensures none { events_text nothing_yet 0 3 2000
+        ≡ codes "{\"clock\":2000,\"events\":[],\"first\":1,\"more\":false,\"next\":0,\"version\":3}" }
 {}
 
 /// Samples are lines, and a label's value hides its backslashes, quotes and line ends.
@@ -89,4 +133,6 @@ pub fn a_body_asks_by_line_and_word()
     ensures no_word { queued_in (asks (codes "ring") 1) ≡ None }
     ensures empty { queued_in (object no_members) ≡ None }
     ensures no_object { queued_in null ≡ None }
+    ensures json { asked_by (codes "{\"line\":10,\"act\":\"#\"}") ≡ Some (queued 10 (Key 35)) }
+    ensures no_json { asked_by (codes "off") ≡ None }
 {}

@@ -10,6 +10,7 @@ mod board;
 mod counts;
 pub mod examples;
 mod families;
+mod laws;
 mod members;
 mod metrics;
 mod picture;

@@ -1,4 +1,9 @@
 //! The members of objects.
+ghost use Rattle.std.specs.Prelude.{◌≡◌, OnOk};
+ghost use Rattle.serde_json.specs.Data.{string, put as with_member};
+ghost use Rattle.serde_json.specs.View.{members_view};
+ghost use Rattle.page_answers.specs.Texts.{put_shown as with_shown};
+
 use serde_json::{Map, Value, put};
 use std::alloc::{AllocError, Global};
 
@@ -8,9 +13,11 @@ pub(crate) fn put_text(
     map: &mut Map<String, Value>,
     name: &str,
     text: &str,
-) -> Result<(), AllocError> {
+) -> Result<(), AllocError>
+    ensures { OnOk result (members_view map.new.entries ≡ with_member name.now (string text.now) (members_view map.old.entries)) }
+{
     let text = String::from_str(alloc, text)?;
-    put(map, alloc, name, Value::String(text))
+    put(map, alloc, name, Value::from(text))
 }
 
 /// Puts members that are numbers.
@@ -23,4 +30,17 @@ pub(crate) fn put_numbers(
         put(map, alloc, *name, Value::from(*number))?;
     }
     Ok(())
+}
+
+/// Puts under which number the lines are shown, and the gateway's clock, in ms.
+pub(crate) fn put_shown(
+    alloc: Global,
+    map: &mut Map<String, Value>,
+    version: u64,
+    clock: u64,
+) -> Result<(), AllocError>
+    ensures { OnOk result (members_view map.new.entries ≡ with_shown version clock (members_view map.old.entries)) }
+{
+    put(map, alloc, "version", Value::from(version))?;
+    put(map, alloc, "clock", Value::from(clock))
 }

@@ -1,6 +1,8 @@
 //! What was counted, in Prometheus' text format.
 ghost use Rattle.std.specs.Prelude.{◌≡◌, ◌++◌, OnOk, IfOk};
-ghost use Rattle.page_answers.specs.Metrics.{escaped_byte, escaped, help_line, type_line, family_head, plain_sample, label_begun, label_ended, labelled_sample, code_text, verb_sample, verb_samples, code_sample, code_samples, single};
+ghost use Rattle.std.specs.List.{flat_map};
+ghost use Rattle.page_answers.specs.Metrics.{escaped_byte, escaped, help_line, type_line, family_head, plain_sample, label_begun, label_ended, labelled_sample, code_text, verb_sample, verb_samples, code_sample, code_samples, single, datagrams_text, commands_head, answers_head, traffic_text, own_counters, repeats_text, useless_counters, faults_text, gauges_text, metrics_of};
+ghost use Rattle.page_answers.specs.Samples.{single_of, family_of};
 
 use crate::counts::{CodeCount, Counts, VerbCount, verb_word};
 use crate::families::{
@@ -8,7 +10,7 @@ use crate::families::{
     LINES_OFF_HOOK, LOST_EVENTS, Metric, NOTIFICATIONS, REFUSED, REPEATS, RESPONSES, TRANSACTIONS,
     UNREADABLE,
 };
-use crate::picture::Picture;
+use crate::picture::{Picture, Totals};
 use mg_bytes::{OutOfMemory, put_decimal};
 use std::alloc::Global;
 
@@ -174,7 +176,9 @@ fn put_singles(
     alloc: Global,
     out: &mut Vec<u8>,
     singles: &[(Metric, u64)],
-) -> Result<(), OutOfMemory> {
+) -> Result<(), OutOfMemory>
+    ensures { OnOk result (out.new.items ≡ out.old.items ++ flat_map single_of singles.now) }
+{
     for (metric, number) in singles {
         put_single(alloc, out, *metric, *number)?;
     }
@@ -187,7 +191,9 @@ fn put_family(
     out: &mut Vec<u8>,
     metric: Metric,
     samples: &[(&[u8], u64)],
-) -> Result<(), OutOfMemory> {
+) -> Result<(), OutOfMemory>
+    ensures { OnOk result (out.new.items ≡ out.old.items ++ family_of metric samples.now) }
+{
     put_head(out, metric)?;
     for (value, number) in samples {
         put_labelled(alloc, out, metric, *value, *number)?;
@@ -195,65 +201,129 @@ fn put_family(
     Ok(())
 }
 
-fn put_traffic(alloc: Global, out: &mut Vec<u8>, counts: &Counts) -> Result<(), OutOfMemory> {
+#[tactic(auto, unfolding(crate::specs::Metrics::datagrams_text))]
+fn put_datagrams(alloc: Global, out: &mut Vec<u8>, counts: &Counts) -> Result<(), OutOfMemory>
+    ensures { OnOk result (out.new.items ≡ out.old.items ++ datagrams_text counts.now) }
+{
     let datagrams: [(&[u8], u64); 2] = [
         (b"in", counts.datagrams_in),
         (b"out", counts.datagrams_out),
     ];
-    put_family(alloc, out, DATAGRAMS, &datagrams)?;
-    put_head(out, COMMANDS)?;
+    put_family(alloc, out, DATAGRAMS, &datagrams)
+}
+
+#[tactic(auto, unfolding(crate::specs::Metrics::commands_head))]
+fn put_commands_head(out: &mut Vec<u8>) -> Result<(), OutOfMemory>
+    ensures { OnOk result (out.new.items ≡ out.old.items ++ commands_head) }
+{
+    put_head(out, COMMANDS)
+}
+
+#[tactic(auto, unfolding(crate::specs::Metrics::answers_head))]
+fn put_answers_head(out: &mut Vec<u8>) -> Result<(), OutOfMemory>
+    ensures { OnOk result (out.new.items ≡ out.old.items ++ answers_head) }
+{
+    put_head(out, ANSWERS)
+}
+
+fn put_traffic(alloc: Global, out: &mut Vec<u8>, counts: &Counts) -> Result<(), OutOfMemory>
+    ensures { OnOk result (out.new.items ≡ out.old.items ++ traffic_text counts.now) }
+{
+    put_datagrams(alloc, out, counts)?;
+    put_commands_head(out)?;
     put_verbs(alloc, out, counts.commands.as_slice())?;
-    put_head(out, ANSWERS)?;
+    put_answers_head(out)?;
     put_codes(alloc, out, counts.answers.as_slice())
 }
 
-fn put_own(alloc: Global, out: &mut Vec<u8>, counts: &Counts) -> Result<(), OutOfMemory> {
+#[tactic(auto, unfolding(crate::specs::Metrics::own_counters))]
+fn put_own_counters(alloc: Global, out: &mut Vec<u8>, counts: &Counts) -> Result<(), OutOfMemory>
+    ensures { OnOk result (out.new.items ≡ out.old.items ++ own_counters counts.now) }
+{
     let singles = [
         (NOTIFICATIONS, counts.notifications),
         (ANNOUNCEMENTS, counts.announcements),
         (GIVEN_UP, counts.given_up),
     ];
+    put_singles(alloc, out, &singles)
+}
+
+#[tactic(auto, unfolding(crate::specs::Metrics::repeats_text))]
+fn put_repeats(alloc: Global, out: &mut Vec<u8>, counts: &Counts) -> Result<(), OutOfMemory>
+    ensures { OnOk result (out.new.items ≡ out.old.items ++ repeats_text counts.now) }
+{
     let repeats: [(&[u8], u64); 3] = [
         (b"answer", counts.answers_again),
         (b"notification", counts.notifications_again),
         (b"announcement", counts.announcements_again),
     ];
-    put_singles(alloc, out, &singles)?;
     put_family(alloc, out, REPEATS, &repeats)
 }
 
-fn put_faults(alloc: Global, out: &mut Vec<u8>, counts: &Counts) -> Result<(), OutOfMemory> {
+#[tactic(auto, unfolding(crate::specs::Metrics::useless_counters))]
+fn put_useless_counters(
+    alloc: Global,
+    out: &mut Vec<u8>,
+    counts: &Counts,
+) -> Result<(), OutOfMemory>
+    ensures { OnOk result (out.new.items ≡ out.old.items ++ useless_counters counts.now) }
+{
     let singles = [
         (RESPONSES, counts.responses),
         (UNREADABLE, counts.unreadable),
         (REFUSED, counts.refused),
     ];
+    put_singles(alloc, out, &singles)
+}
+
+#[tactic(auto, unfolding(crate::specs::Metrics::faults_text))]
+fn put_faults(alloc: Global, out: &mut Vec<u8>, counts: &Counts) -> Result<(), OutOfMemory>
+    ensures { OnOk result (out.new.items ≡ out.old.items ++ faults_text counts.now) }
+{
     let faults: [(&[u8], u64); 2] = [
         (b"receive", counts.receive_faults),
         (b"send", counts.send_faults),
     ];
-    put_singles(alloc, out, &singles)?;
     put_family(alloc, out, FAULTS, &faults)
 }
 
-fn put_gauges(alloc: Global, out: &mut Vec<u8>, picture: &Picture) -> Result<(), OutOfMemory> {
-    let totals = picture.totals();
+#[tactic(auto, unfolding(crate::specs::Metrics::gauges_text))]
+fn put_gauges(
+    alloc: Global,
+    out: &mut Vec<u8>,
+    lines: u64,
+    totals: Totals,
+    transactions: u64,
+) -> Result<(), OutOfMemory>
+    ensures { OnOk result (out.new.items ≡ out.old.items ++ gauges_text lines totals transactions) }
+{
     let singles = [
         (LOST_EVENTS, totals.lost),
-        (LINES, picture.lines.len() as u64),
+        (LINES, lines),
         (LINES_OFF_HOOK, totals.off_hook),
         (CONNECTIONS, totals.connections),
-        (TRANSACTIONS, picture.counts.transactions),
+        (TRANSACTIONS, transactions),
     ];
     put_singles(alloc, out, &singles)
 }
 
 /// What was counted and what is held, in Prometheus' text format.
-pub fn metrics_text(alloc: Global, picture: &Picture) -> Result<Vec<u8>, OutOfMemory> {
+pub fn metrics_text(alloc: Global, picture: &Picture) -> Result<Vec<u8>, OutOfMemory>
+    ensures { IfOk result (λ text. text.items ≡ metrics_of picture.now) }
+{
     let mut out = Vec::new(alloc);
     put_traffic(alloc, &mut out, &picture.counts)?;
-    put_own(alloc, &mut out, &picture.counts)?;
+    put_own_counters(alloc, &mut out, &picture.counts)?;
+    put_repeats(alloc, &mut out, &picture.counts)?;
+    put_useless_counters(alloc, &mut out, &picture.counts)?;
     put_faults(alloc, &mut out, &picture.counts)?;
-    put_gauges(alloc, &mut out, picture)?;
+    let lines = picture.lines.len() as u64;
+    put_gauges(
+        alloc,
+        &mut out,
+        lines,
+        picture.totals(),
+        picture.counts.transactions,
+    )?;
     Ok(out)
 }

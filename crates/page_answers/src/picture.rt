@@ -1,4 +1,7 @@
 //! What the gateway is now, as it is shown.
+ghost use Rattle.std.specs.Prelude.{◌≡◌, []};
+ghost use Rattle.page_answers.specs.Totals.{with_line, totals_of};
+
 use crate::counts::Counts;
 use std::alloc::Global;
 
@@ -49,7 +52,9 @@ pub(crate) struct Totals {
 
 impl Totals {
     // Counts a line too.
-    fn add(&mut self, line: &LineView) {
+    fn add(&mut self, line: &LineView)
+        ensures { self.new ≡ with_line self.old line.now }
+    {
         if line.is_off_hook {
             self.off_hook = self.off_hook.saturating_add(1);
         }
@@ -62,7 +67,9 @@ impl Totals {
 
 impl Picture {
     /// A gateway without lines, of which nothing was counted.
-    pub fn new(alloc: Global) -> Picture {
+    pub fn new(alloc: Global) -> Picture
+        ensures { result.lines.items ≡ [] }
+    {
         Picture {
             clock: 0,
             lines: Vec::new(alloc),
@@ -88,7 +95,9 @@ impl Picture {
     }
 
     /// What its lines have together.
-    pub(crate) fn totals(&self) -> Totals {
+    pub(crate) fn totals(&self) -> Totals
+        ensures { result ≡ totals_of self.now.lines.items }
+    {
         let mut totals = Totals {
             off_hook: 0,
             connections: 0,

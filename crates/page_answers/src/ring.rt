@@ -1,9 +1,10 @@
 //! What happened lately, numbered from 1.
-ghost use Rattle.std.specs.Prelude.{◌≡◌, ◌≤◌, ◌+◌, length, OnOk, OnErr};
-ghost use Rattle.page_answers.specs.Keeping.{kept_with};
+ghost use Rattle.std.specs.Prelude.{◌≡◌, map, take, OnOk, OnErr};
+ghost use Rattle.page_answers.specs.Keeping.{kept_with, event_of, nothing_yet, counted, noted};
 
 use std::alloc::{AllocError, Global};
 use std::collections::VecDeque;
+use std::marker::Model;
 use std::net::SocketAddrV4;
 
 /// So many are kept.
@@ -38,7 +39,7 @@ pub struct Happening {
     pub text: Vec<u8>,
 }
 
-/// What happened lately. The oldest gives way.
+/// What happened lately. The oldest gives way. A contract sees the number of the latest, and what is kept.
 #[derive(Drop)]
 pub struct Ring {
     alloc: Global,
@@ -47,9 +48,21 @@ pub struct Ring {
     last: u64,
 }
 
+impl Model for Ring {
+    ghost use Rattle.std.specs.Prelude.{◌≤◌, length, map};
+    ghost use Rattle.page_answers.specs.Keeping.{RingState, event_of};
+    ghost use Rattle.page_answers.specs.declared.ring.TheConstants.{MOST_KEPT};
+
+    ghost Value = { RingState };
+
+    ghost view = { λ r. record { last = r.last; events = map event_of r.kept.items } };
+
+    ghost invariant = { λ r. length r.kept.items ≤ MOST_KEPT };
+}
+
 // The beginning of a text, as much as is kept of it.
 fn beginning(text: &[u8]) -> &[u8]
-    ensures { length result.now ≤ MOST_TEXT }
+    ensures { result.now ≡ take MOST_TEXT text.now }
 {
     match text.get(..MOST_TEXT) {
         Some(beginning) => beginning,
@@ -57,9 +70,25 @@ fn beginning(text: &[u8]) -> &[u8]
     }
 }
 
+// Puts one behind the others. After an error they are as they were.
+fn keep(kept: &mut VecDeque<Happening>, happening: Happening) -> Result<(), AllocError>
+    ensures kept { OnOk result (kept.new.items ≡ kept_with MOST_KEPT kept.old.items happening) }
+    ensures err { OnErr result (kept.new.items ≡ kept.old.items) }
+{
+    if kept.len() < MOST_KEPT {
+        kept.push_back(happening)?;
+        return Ok(());
+    }
+    let _ = kept.pop_front();
+    kept.push_back_reserved(happening);
+    Ok(())
+}
+
 impl Ring {
     /// Nothing has happened yet.
-    pub fn new(alloc: Global) -> Ring {
+    pub fn new(alloc: Global) -> Ring
+        ensures { result ≡ nothing_yet }
+    {
         Ring {
             alloc,
             kept: VecDeque::new(alloc),
@@ -76,36 +105,34 @@ impl Ring {
 
     /// What is kept, from the oldest.
     pub fn kept(&self) -> &VecDeque<Happening>
-        ensures { result.now ≡ self.now.kept }
+        ensures { map event_of result.now.items ≡ self.now.events }
     {
         &self.kept
     }
 
-    // Puts one behind the others.
-    fn keep(&mut self, happening: Happening) -> Result<(), AllocError>
-        ensures kept { OnOk result (self.new.kept.items ≡ kept_with MOST_KEPT self.old.kept.items happening) }
-        ensures last { self.new.last ≡ self.old.last }
+    /// Something happened at this moment, in ms. After an error, which is for want of memory, its number alone is taken.
+    pub fn note(
+        &mut self,
+        moment: u64,
+        kind: Kind,
+        peer: SocketAddrV4,
+        text: &[u8],
+    ) -> Result<(), AllocError>
+        ensures ok { OnOk result (self.new ≡ noted self.old moment kind peer text.now) }
+        ensures err { OnErr result (self.new ≡ counted self.old) }
     {
-        if self.kept.len() >= MOST_KEPT {
-            let _ = self.kept.pop_front();
-        }
-        self.kept.push_back(happening)?;
-        Ok(())
-    }
-
-    /// Something happened at this moment, in ms. Where memory is refused its number alone is taken.
-    pub fn note(&mut self, moment: u64, kind: Kind, peer: SocketAddrV4, text: &[u8])
-        ensures { self.old.last ≤ self.new.last }
-    {
-        self.last = self.last.saturating_add(1);
-        if let Ok(text) = Vec::from_slice(self.alloc, beginning(text)) {
-            let _ = self.keep(Happening {
-                number: self.last,
+        let number = self.last.saturating_add(1);
+        self.last = number;
+        let text = Vec::from_slice(self.alloc, beginning(text))?;
+        keep(
+            &mut self.kept,
+            Happening {
+                number,
                 moment,
                 kind,
                 peer,
                 text,
-            });
-        }
+            },
+        )
     }
 }

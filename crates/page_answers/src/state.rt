@@ -1,6 +1,12 @@
 //! What the gateway is, as JSON.
+ghost use Rattle.std.specs.Prelude.{◌≡◌, IfOk, string_bytes};
+ghost use Rattle.serde_json.specs.Data.{Data};
+ghost use Rattle.serde_json.specs.View.{view};
+ghost use Rattle.page_answers.specs.Texts.{state_data, TellsState};
+ghost use Rattle.page_answers.specs.Totals.{totals_of};
+
 use crate::counts::{CodeCount, Counts, VerbCount, verb_word};
-use crate::members::{put_numbers, put_text};
+use crate::members::{put_numbers, put_shown, put_text};
 use crate::picture::{ConnectionView, LineView, Picture, SignalView};
 use serde_json::{Map, Value, put};
 use std::alloc::{AllocError, Global};
@@ -123,20 +129,24 @@ fn counts_value(alloc: Global, counts: &Counts) -> Result<Value, AllocError> {
     Ok(Value::Object(map))
 }
 
-fn state_value(alloc: Global, picture: &Picture, version: u64) -> Result<Value, AllocError> {
+fn state_value(alloc: Global, picture: &Picture, version: u64) -> Result<Value, AllocError>
+    ensures { IfOk result (λ value. (lines : Data) × (counts : Data)
+        × (view value ≡ state_data version picture.now.clock (totals_of picture.now.lines.items).lost lines counts)) }
+{
     let mut map = Map::new(alloc);
-    put(&mut map, alloc, "version", Value::from(version))?;
-    put(&mut map, alloc, "clock", Value::from(picture.clock))?;
+    put_shown(alloc, &mut map, version, picture.clock)?;
     put(&mut map, alloc, "lost", Value::from(picture.totals().lost))?;
     let lines = lines_value(alloc, picture.lines.as_slice())?;
     put(&mut map, alloc, "lines", lines)?;
     let counts = counts_value(alloc, &picture.counts)?;
     put(&mut map, alloc, "counts", counts)?;
-    Ok(Value::Object(map))
+    Ok(Value::from(map))
 }
 
 /// What the gateway is: its clock in ms, its lines from the first, and what was counted. `version` says which state is shown.
-pub fn state_text(alloc: Global, picture: &Picture, version: u64) -> Result<String, AllocError> {
+pub fn state_text(alloc: Global, picture: &Picture, version: u64) -> Result<String, AllocError>
+    ensures { IfOk result (λ text. TellsState picture.now version (string_bytes text)) }
+{
     let value = state_value(alloc, picture, version)?;
     value.to_string(alloc)
 }

@@ -1,0 +1,68 @@
+-- What is told of what happened, as it is gone through from the oldest.
+use Rattle.std.proofs.Common.{◌≡◌, ℕ, suc, ◌+◌, ◌-◌, ◌<◌, ◌≤◌, refl, List, [], ◌∷◌, ◌++◌, length, map, nat_lt, true, false, append_assoc, length-append, arith}
+use Rattle.std.proofs.lemmas.List.{map-append}
+use Rattle.std.proofs.lemmas.Bool.Decides.{nat_tests}
+use Rattle.serde_json.specs.declared.value.Value.{Value}
+use Rattle.serde_json.specs.Data.{Data}
+use Rattle.serde_json.specs.View.{view, items_of}
+use Rattle.serde_json.specs.Written.{has_float, items_have_float, compact_text}
+use Rattle.page_answers.specs.Keeping.{Event, RingState}
+use Rattle.page_answers.specs.Telling.{event_data, told_after, last_number, events_data}
+
+is_newer : (after n : ℕ) → after < n → nat_lt after n ≡ true
+is_newer after n h = grind (arith, nat_tests)
+
+is_older : (after n : ℕ) → n ≤ after → nat_lt after n ≡ false
+is_older after n h = grind (arith, nat_tests)
+
+-- one that is told leaves room for one less
+told_next : (most n after : ℕ) (e : Event) (es : List Event) → after < e.number → n < most
+    → told_after (most - n) after (e ∷ es) ≡ e ∷ told_after (most - (n + 1)) after es
+told_next most n after e es newer room =
+    let more : most - n ≡ suc (most - (n + 1)) = omega arith in
+    rw (is_newer after e.number newer, more) refl
+
+-- one that the reader has is passed over
+pub told_older : (most after : ℕ) (e : Event) (es : List Event) → e.number ≤ after
+    → told_after most after (e ∷ es) ≡ told_after most after es
+told_older most after e es older = rw (is_older after e.number older) refl
+
+-- where as many are told as may be, no more is
+pub told_full : (most n after : ℕ) (es : List Event) → most ≤ n → told_after (most - n) after es ≡ []
+told_full most n after es full = let none : most - n ≡ 0 = omega arith in rw none refl
+
+-- one more is told
+pub goes_on : (most after : ℕ) (list : List Value) (v : Value) (e : Event) (es : List Event) (whole : List Data)
+    → after < e.number → length list < most → view v ≡ event_data e
+    → map view list ++ map event_data (told_after (most - length list) after (e ∷ es)) ≡ whole
+    → map view (list ++ v ∷ []) ++ map event_data (told_after (most - length (list ++ v ∷ [])) after es) ≡ whole
+goes_on most after list v e es whole newer room same told =
+    rw (
+      length-append list (v ∷ []),
+      map-append view list (v ∷ []),
+      append_assoc (map view list) (view v ∷ [])
+          (map event_data (told_after (most - (length list + 1)) after es)),
+      same,
+    )
+    (rw (told_next most (length list) after e es newer room) at told)
+
+-- and its number is the last
+pub goes_on_from : (most after : ℕ) (list : List Value) (v : Value) (last next : ℕ) (e : Event) (es : List Event)
+    → after < e.number → length list < most
+    → last_number last (told_after (most - length list) after (e ∷ es)) ≡ next
+    → last_number e.number (told_after (most - length (list ++ v ∷ [])) after es) ≡ next
+goes_on_from most after list v last next e es newer room told =
+    rw (length-append list (v ∷ [])) (rw (told_next most (length list) after e es newer room) at told)
+
+-- nothing that is told is a number with a fraction
+items_whole : (es : List Event) → items_have_float (items_of (map event_data es)) ≡ false
+items_whole [] = refl
+items_whole (e ∷ es) = rw (items_whole es) refl
+
+pub events_whole : (ring : RingState) (after version clock : ℕ) → has_float (events_data ring after version clock) ≡ false
+events_whole ring after version clock = rw (items_whole _) refl
+
+-- a text is that of what was to be told
+pub told_whole : (value told : Data) (text : List ℕ) → value ≡ told → has_float told ≡ false
+    → (has_float value ≡ false → text ≡ compact_text value) → text ≡ compact_text told
+told_whole value told text e whole says = rw (← e) (says (rw e whole))

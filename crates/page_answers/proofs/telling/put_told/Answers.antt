@@ -1,0 +1,18 @@
+use Rattle.std.proofs.Common.{◌<◌, ap, map, length, arith}
+use Rattle.page_answers.specs.declared.telling.TheConstants.{MOST_TOLD}
+use Rattle.page_answers.specs.Keeping.{event_of}
+use Rattle.page_answers.proofs.TellingLemmas.{goes_on, goes_on_from}
+use Rattle.page_answers.proofs.telling.put_told.Goals as goal
+
+pub loop-happening-preserved-then-len-lt-MOST_TOLD : goal.loop-happening-preserved-then-len-lt-MOST_TOLD
+loop-happening-preserved-then-len-lt-MOST_TOLD c =
+    let rest = ap (map event_of) c.in-Some.ensures.steps in
+    let newer = c.if-happening-after.true in
+    let room : length c.loop-happening.list.items < MOST_TOLD =
+    omega (arith, c.if-len-lt-MOST_TOLD.true, c.len.ensures, c.loop-happening.list.ok) in
+    record {
+      told = rw c.in_ok-push.ensures.items (goes_on MOST_TOLD c.args.after c.loop-happening.list.items _ _ _ _ newer room
+          c.in_ok-happening_value.ensures (rw rest at c.loop-happening.invariant.told));
+      next = rw c.in_ok-push.ensures.items (goes_on_from MOST_TOLD c.args.after c.loop-happening.list.items _ _ _ _ _ newer room
+          (rw rest at c.loop-happening.invariant.next));
+    }

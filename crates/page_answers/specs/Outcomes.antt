@@ -1,0 +1,21 @@
+-- What becomes of what a body asks for.
+use Rattle.std.specs.Prelude.{◌≡◌, ◌≢◌, ℕ, List, [], ◌∷◌, ◌++◌, IsSome, IsUtf8, Some, None}
+use Rattle.page_answers.specs.declared.act.QueuedAct.{QueuedAct}
+use Rattle.page_answers.specs.declared.board.ActOutcome.{ActOutcome}
+use Rattle.page_answers.specs.declared.board.ActOutcome.TheVariants.{Queued, NoRoom, Unreadable}
+use Rattle.page_answers.specs.Acting.{asked_by}
+use Rattle.page_answers.specs.Showing.{BoardState}
+
+-- one act more waits, behind the others
+abbrev pub queued_behind : BoardState → QueuedAct → BoardState
+queued_behind board queued = record board { acts = board.acts ++ queued ∷ [] }
+
+pub record Becomes (old : BoardState) (body : List ℕ) (outcome : ActOutcome) (new : BoardState) : Type 0 where
+  -- the very act that the body asks for waits
+  pub taken : outcome ≡ Queued → (queued : QueuedAct) × (asked_by body ≡ Some queued) × (new ≡ queued_behind old queued)
+  -- what is refused changes nothing
+  pub refused : outcome ≢ Queued → new ≡ old
+  -- what finds no room is an act
+  pub no_room : outcome ≡ NoRoom → IsSome (asked_by body)
+  -- what is unreadable is none
+  pub unreadable : outcome ≡ Unreadable → IsUtf8 body → asked_by body ≡ None

@@ -1,0 +1,50 @@
+-- What the page is shown, and the acts that wait for the telephones.
+use Rattle.std.specs.Prelude.{ℕ, Bool, List, map, Option}
+use Rattle.page_answers.specs.declared.act.QueuedAct.{QueuedAct}
+use Rattle.page_answers.specs.declared.picture.SignalView.{SignalView}
+use Rattle.page_answers.specs.declared.picture.ConnectionView.{ConnectionView}
+use Rattle.page_answers.specs.declared.picture.LineView.{LineView}
+use Rattle.page_answers.specs.declared.picture.Picture.{Picture}
+use Rattle.page_answers.specs.Keeping.{RingState}
+
+-- a signal by its name, and the moment of its end, where time ends it
+pub record SignalShown : Type 0 where
+  pub name : List ℕ
+  pub over : Option ℕ
+
+-- a connection by its number and its mode
+pub record ConnectionShown : Type 0 where
+  pub number : ℕ
+  pub mode : List ℕ
+
+-- a line by its hook, what is heard, its connections, and how many of its events were lost
+pub record LineShown : Type 0 where
+  pub is_off_hook : Bool
+  pub signals : List SignalShown
+  pub connections : List ConnectionShown
+  pub lost : ℕ
+
+abbrev pub signal_shown : SignalView → SignalShown
+signal_shown s = record { name = s.name.now; over = s.end }
+
+abbrev pub connection_shown : ConnectionView → ConnectionShown
+connection_shown c = record { number = c.number; mode = c.mode.now }
+
+abbrev pub line_shown : LineView → LineShown
+line_shown l = record {
+  is_off_hook = l.is_off_hook;
+  signals = map signal_shown l.signals.items;
+  connections = map connection_shown l.connections.items;
+  lost = l.lost;
+}
+
+-- the lines of a picture
+abbrev pub lines_of : Picture → List LineShown
+lines_of picture = map line_shown picture.lines.items
+
+-- the picture that is shown, the number that its lines have, what happened lately, and the acts that wait, from the oldest
+pub record BoardState : Type 0 where
+  pub picture : Picture
+  pub version : ℕ
+  pub ring : RingState
+  pub acts : List QueuedAct
