@@ -1,10 +1,11 @@
 -- What a request asks for, and whether it gets it.
-use Rattle.std.specs.Prelude.{ℕ, Bool, true, false, not, ◌&&◌, codes, if◌then◌else◌, List, map, take, drop, nat_eq, bytes_eq, is_some, Option, Some, None}
+use Rattle.std.specs.Prelude.{ℕ, Bool, true, false, not, ◌&&◌, codes, if◌then◌else◌, List, [], ◌∷◌, map, take, drop, nat_eq, bytes_eq, is_some, Option, Some, None}
 use Rattle.std.specs.Cmp.Lexicographic.{pointwise}
 use Rattle.std.specs.declared.net.socket_addr.SocketAddrV4.{SocketAddrV4}
 use Rattle.http.specs.HeaderMap.{get_all}
 use Rattle.http.specs.Uri.{uri_path, uri_query, uri_authority}
 use Rattle.http.specs.declared.request.Parts.{Parts}
+use Rattle.http1.specs.Fields.{Header}
 use Rattle.mg_bytes.specs.Numbers.{decimal_of}
 use Rattle.page_answers.specs.declared.board.ActOutcome.{ActOutcome}
 use Rattle.page_answers.specs.declared.board.ActOutcome.TheVariants.{Queued, NoRoom, Unreadable}
@@ -83,6 +84,39 @@ refusal_status (Unsuited acts) = 405
 refusal_status Missing = 404
 refusal_status (Reading route) = 404
 refusal_status Acting = 404
+
+-- what gets nothing
+abbrev pub is_refused : Asked → Bool
+is_refused Strange = true
+is_refused Forbidden = true
+is_refused (Unsuited acts) = true
+is_refused Missing = true
+is_refused (Reading route) = false
+is_refused Acting = false
+
+-- the method that suits a path, at which something is done, or read
+abbrev pub method_for : Bool → List ℕ
+method_for acts = if acts then codes "POST" else codes "GET"
+
+-- what gets nothing for its method is told which would suit (RFC 9110, 15.5.6)
+abbrev pub refusal_fields : Asked → List Header
+refusal_fields (Unsuited acts) = (codes "allow", method_for acts) ∷ []
+refusal_fields Strange = []
+refusal_fields Forbidden = []
+refusal_fields Missing = []
+refusal_fields (Reading route) = []
+refusal_fields Acting = []
+
+-- the status of what stands there, and of what doesn't (RFC 9110, 15.3.1 and 15.5.5)
+abbrev pub reading_status : Route → ℕ
+reading_status Phone = 404
+reading_status Nothing = 404
+reading_status Page = 200
+reading_status Style = 200
+reading_status Script = 200
+reading_status State = 200
+reading_status Metrics = 200
+reading_status (Events after) = 200
 
 -- the status of an act that a page of this site asked for (RFC 9110, 15.3.3, 15.6.4 and 15.5.1)
 abbrev pub outcome_status : ActOutcome → ℕ

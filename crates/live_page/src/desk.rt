@@ -1,8 +1,9 @@
 //! The desk: a request is answered by what the board has.
-ghost use Rattle.std.specs.Prelude.{◌≡◌, ◌++◌, OnOk};
-ghost use Rattle.http_server.specs.Response.{fields_of};
-ghost use Rattle.live_page.specs.Asking.{outcome_status, refusal_status};
-ghost use Rattle.live_page.specs.declared.asked.Asked.TheVariants.{Strange};
+ghost use Rattle.std.specs.Prelude.{◌≡◌, ◌++◌, OnOk, OnErr, string_bytes};
+ghost use Rattle.http_server.specs.Response.{IsBlank, fields_of};
+ghost use Rattle.page_answers.specs.declared.board.ActOutcome.{ActOutcome as Outcome};
+ghost use Rattle.live_page.specs.Asking.{outcome_status, method_for, refusal_status, refusal_fields};
+ghost use Rattle.live_page.specs.Serving.{Reads, Acts};
 
 use crate::asked::Asked;
 use crate::asking::asked_of;
@@ -28,18 +29,25 @@ fn put_static(
     content: Content,
     text: &'static str,
 ) -> Result<(), AllocError>
-    ensures { OnOk result (response.new.body.items ≡ response.old.body.items ++ text.now) }
+    ensures status { response.new.status ≡ response.old.status }
+    ensures body { OnOk result (response.new.body.items ≡ response.old.body.items ++ text.now) }
 {
     put_kind(response, content)?;
     put_body(response, Bytes::from_static(text.as_bytes()))
 }
 
-fn put_json(response: &mut Response, text: String) -> Result<(), AllocError> {
+fn put_json(response: &mut Response, text: String) -> Result<(), AllocError>
+    ensures status { response.new.status ≡ response.old.status }
+    ensures body { OnOk result (response.new.body.items ≡ response.old.body.items ++ string_bytes text) }
+{
     put_kind(response, Content::Json)?;
     put_body(response, Bytes::from_string(text)?)
 }
 
-fn put_metrics(response: &mut Response, text: Vec<u8>) -> Result<(), AllocError> {
+fn put_metrics(response: &mut Response, text: Vec<u8>) -> Result<(), AllocError>
+    ensures status { response.new.status ≡ response.old.status }
+    ensures body { OnOk result (response.new.body.items ≡ response.old.body.items ++ text.items) }
+{
     put_kind(response, Content::Metrics)?;
     match Bytes::from_vec(text) {
         Ok(body) => put_body(response, body),
@@ -59,7 +67,10 @@ fn act_status(outcome: ActOutcome) -> StatusCode
 }
 
 // Puts what stands there.
-fn read(board: &Board, route: Route, response: &mut Response) -> Result<(), AllocError> {
+fn read(board: &Board, route: Route, response: &mut Response) -> Result<(), AllocError>
+    requires { IsBlank response.old }
+    ensures { OnOk result (Reads board.now route response.new) }
+{
     match route {
         Route::Page => put_static(response, Content::Page, PAGE),
         Route::Style => put_static(response, Content::Style, STYLE),
@@ -72,6 +83,16 @@ fn read(board: &Board, route: Route, response: &mut Response) -> Result<(), Allo
             Ok(())
         }
     }
+}
+
+// Does what a body asks for, as far as the board does. After an error the board is as it was.
+fn act(board: &mut Board, body: &[u8], response: &mut Response) -> Result<(), AllocError>
+    requires { IsBlank response.old }
+    ensures ok { OnOk result ((outcome : Outcome) × Acts board.old body.now response.new board.new outcome) }
+    ensures err { OnErr result (board.new ≡ board.old) }
+{
+    response.status = act_status(board.act(body)?);
+    Ok(())
 }
 
 // How a request that gets nothing is answered.
@@ -87,7 +108,9 @@ fn refusal(asked: Asked) -> StatusCode
 }
 
 // The method that suits a path, at which something is done, or read.
-fn allowed(acts: bool) -> HeaderValue {
+fn allowed(acts: bool) -> HeaderValue
+    ensures { result.bytes ≡ method_for acts }
+{
     if acts {
         HeaderValue::from_static("POST")
     } else {
@@ -95,11 +118,11 @@ fn allowed(acts: bool) -> HeaderValue {
     }
 }
 
-// Says that a request gets nothing. The fields of a response that is to tell nothing stay as they were.
+// Says that a request gets nothing.
 fn put_refusal(response: &mut Response, asked: Asked) -> Result<(), AllocError>
     ensures status { response.new.status ≡ refusal_status asked }
     ensures body { response.new.body ≡ response.old.body }
-    ensures fields { asked ≡ Strange → fields_of response.new ≡ fields_of response.old }
+    ensures fields { OnOk result (fields_of response.new ≡ fields_of response.old ++ refusal_fields asked) }
 {
     response.status = refusal(asked);
     match asked {
@@ -135,10 +158,7 @@ impl Service for Desk<'_> {
     ) -> Result<(), AllocError> {
         match asked_of(self.site, request) {
             Asked::Reading { route } => read(self.board, route, response),
-            Asked::Acting => {
-                response.status = act_status(self.board.act(request.body().as_slice())?);
-                Ok(())
-            }
+            Asked::Acting => act(self.board, request.body().as_slice(), response),
             refused => put_refusal(response, refused),
         }
     }

@@ -1,0 +1,37 @@
+-- What is asked for is answered by what a board has, and done to it.
+use Rattle.std.specs.Prelude.{◌≡◌, ◌≢◌, ℕ, List, [], IsTrue}
+use Rattle.http_server.specs.declared.response.Response.{Response}
+use Rattle.http_server.specs.Response.{IsResponse}
+use Rattle.page_answers.specs.declared.board.ActOutcome.{ActOutcome}
+use Rattle.page_answers.specs.Outcomes.{Becomes}
+use Rattle.page_answers.specs.Showing.{BoardState}
+use Rattle.page_answers.specs.Metrics.{metrics_of}
+use Rattle.page_answers.specs.Texts.{TellsState}
+use Rattle.page_answers.specs.Telling.{events_text}
+use Rattle.live_page.specs.declared.route.Route.{Route}
+use Rattle.live_page.specs.declared.route.Route.TheVariants.{State, Metrics, Events}
+use Rattle.live_page.specs.declared.asked.Asked.{Asked}
+use Rattle.live_page.specs.declared.asked.Asked.TheVariants.{Reading, Acting}
+use Rattle.live_page.specs.Asking.{is_refused, reading_status, refusal_status, refusal_fields, outcome_status}
+
+-- what stands at a route is told as the board has it
+pub record Reads (board : BoardState) (route : Route) (response : Response) : Type 0 where
+  pub status : response.status ≡ reading_status route
+  pub state : route ≡ State → TellsState board.picture board.version response.body.items
+  pub events : (after : ℕ) → route ≡ Events after
+      → response.body.items ≡ events_text board.ring after board.version board.picture.clock
+  pub metrics : route ≡ Metrics → response.body.items ≡ metrics_of board.picture
+
+-- an act becomes what its body asks for, and the status alone says what became of it
+pub record Acts (old : BoardState) (body : List ℕ) (response : Response) (new : BoardState) (outcome : ActOutcome) : Type 0 where
+  pub becomes : Becomes old body outcome new
+  pub status : IsResponse (outcome_status outcome) [] [] response
+
+-- what is asked for is answered by what the board has, and done to it
+pub record Answered (asked : Asked) (old : BoardState) (body : List ℕ) (response : Response) (new : BoardState) : Type 0 where
+  -- what isn't an act of a page of this site changes nothing
+  pub quiet : asked ≢ Acting → new ≡ old
+  pub acting : asked ≡ Acting → (outcome : ActOutcome) × Acts old body response new outcome
+  pub reading : (route : Route) → asked ≡ Reading route → Reads old route response
+  -- what gets nothing is told why, and nothing more: one for another host that it is
+  pub refused : IsTrue (is_refused asked) → IsResponse (refusal_status asked) (refusal_fields asked) [] response
