@@ -5,3 +5,4 @@ pub mod FlightLaws
 pub mod RestLaws
 pub mod DescriptionLaws
 pub mod Computing
+pub mod ExampleLemmas
