@@ -3,6 +3,7 @@ use Rattle.std.proofs.Common.{◌≡◌, ℕ, ◌+◌, ◌≤◌, Bool, true, fa
 use Rattle.std.specs.Prelude.{nat_le, nat_lt, not}
 use Rattle.std.proofs.lemmas.Bool.{and_parts, leb-true, ltb-true}
 use Rattle.std.proofs.lemmas.Bool.Decides.{Decides-ltb, nat_tests}
+use Rattle.history.specs.Firsts.{young_of}
 use Rattle.history.specs.Kept.{young_firsts}
 use Rattle.history.specs.Memory.{most_firsts}
 use Rattle.event_requests.specs.declared.request.Request.{Request}
@@ -16,7 +17,8 @@ use Rattle.plain_machine.specs.Lists.{plain}
 use Rattle.plain_machine.specs.Machine.{Machine, endpoint_at}
 use Rattle.dialled_once.specs.Course.{course_from, requests_in}
 use Rattle.agent_core.specs.World.{WorldStep, now_in, plain_world}
-use Rattle.delivery_laws.specs.Fairness.{AgentAlwaysHasRoom}
+use Rattle.delivery_laws.specs.Copies.{gateway_firsts}
+use Rattle.delivery_laws.specs.Fairness.{AgentAlwaysHasRoom, AlwaysHasRoom}
 use Rattle.delivery_laws.specs.Rounds.{IsAnsweredWithin, IsAskedWithin, IsAwaited}
 use Rattle.delivery_laws.specs.Taking.{agent_history}
 
@@ -180,3 +182,13 @@ pub agent_has_room : (setup : Setup) (steps : List WorldStep) → on_fronts (has
 agent_has_room setup steps all = λ before later order.
     let w = plain_world setup before in
     ltb-true (length (young_firsts (now_in setup w) (agent_history setup w))) most_firsts (front_holds (has_room setup) steps before later all order)
+
+-- and whether the gateway has
+
+abbrev pub gateway_room : Setup → List WorldStep → Bool
+gateway_room setup before = let w = plain_world setup before in nat_lt (length (young_of (now_in setup w) (gateway_firsts setup w))) most_firsts
+
+pub gateway_has_room : (setup : Setup) (steps : List WorldStep) → on_fronts (gateway_room setup) steps ≡ true → AlwaysHasRoom setup steps
+gateway_has_room setup steps all = λ before later order.
+    let w = plain_world setup before in
+    ltb-true (length (young_of (now_in setup w) (gateway_firsts setup w))) most_firsts (front_holds (gateway_room setup) steps before later all order)

@@ -140,6 +140,35 @@ took_between first steps = drop (length (took_first first)) (took_first steps)
 
 -- Where one premise alone is missing
 
+-- a ms passes while the notification is kept back
+abbrev pub waited : List WorldStep
+waited = kept_back ++ ticking 2 ∷ []
+
+-- line 1 is asked to accumulate that it is lifted, and is so; then a ms passes
+abbrev pub asked_to_accumulate : List WorldStep
+asked_to_accumulate =
+    announced ++ issuing (codes "RQNT") (codes "aaln/1@rgw.example.net") (codes "X: C2\r\nR: L/hd(A)\r\n")
+    ∷ delivering 2 ∷ delivering 3 ∷ []
+
+abbrev pub accumulated : List WorldStep
+accumulated = asked_to_accumulate ++ dialling 1 OffHook ∷ []
+
+abbrev pub put_by : List WorldStep
+put_by = accumulated ++ ticking 2 ∷ []
+
+-- line 1 is asked in step for all that its telephone does, is lifted, and dials 5; its notification, packet 4, is handed over, and so is
+-- the answer, and then a ms passes
+abbrev pub asked_in_step : List WorldStep
+asked_in_step =
+    announced ++ issuing (codes "RQNT") (codes "aaln/1@rgw.example.net")
+    (codes "X: C2\r\nR: L/hd(N),L/hu(N),L/hf(N),D/[0-9*#ABCD](N)\r\n") ∷ delivering 2 ∷ delivering 3 ∷ []
+
+abbrev pub dialled_in_step : List WorldStep
+dialled_in_step = asked_in_step ++ dialling 1 OffHook ∷ dialling 1 (Key Five) ∷ []
+
+abbrev pub unasked : List WorldStep
+unasked = dialled_in_step ++ delivering 4 ∷ delivering 5 ∷ ticking 2 ∷ []
+
 -- 1 ms later the notification is handed over; meanwhile 5 was dialled
 abbrev pub pressed_since : List WorldStep
 pressed_since = kept_back ++ ticking 2 ∷ dialling 1 (Key Five) ∷ delivering 4 ∷ []

@@ -37,7 +37,7 @@ ghost use Rattle.dialled_end_to_end.specs.Example.{asked as asked_for_all, done_
 ghost use Rattle.delivery_laws.specs.Copies.{IsRun, arrives, IsCopy, IsConfirmedAmong, gateway_firsts};
 ghost use Rattle.delivery_laws.specs.Chances.{IsSentAfter, IsCarried};
 ghost use Rattle.delivery_laws.specs.OwnChances.{HasCome, IsOfLine, IsToldAfter};
-ghost use Rattle.delivery_laws.specs.Fairness.{AgentAlwaysHasRoom, GoesToAgent, HadItsTime, IsFair, ReachTheAgent};
+ghost use Rattle.delivery_laws.specs.Fairness.{AgentAlwaysHasRoom, AlwaysHasRoom, GoesToAgent, HadItsTime, IsFair, ReachTheAgent};
 ghost use Rattle.delivery_laws.specs.Rounds.{IsAnsweredWithin, IsAskedWithin, of_telephone, rounds_take};
 ghost use Rattle.delivery_laws.specs.GoingOn.{IsPlainAnswer};
 ghost use Rattle.delivery_laws.specs.Taking.{IsConfirmedIn, agent_history};
@@ -51,6 +51,7 @@ ghost use Rattle.delivery_laws.specs.Example.{answered_state, as_response, asked
 ghost use Rattle.delivery_laws.specs.Example.{own_flying, own_responded, redirected_and_answered, redirected_anew, responded, responds};
 ghost use Rattle.delivery_laws.specs.Example.{line_with, took_between_with, took_with};
 ghost use Rattle.delivery_laws.specs.Example.{took_between, took_first, took_since};
+ghost use Rattle.delivery_laws.specs.Example.{accumulated, asked_in_step, asked_to_accumulate, dialled_in_step, put_by, unasked, waited};
 ghost use Rattle.delivery_laws.specs.Example.{both_lifted, brought, kept_back, key_begun, lifted, rested, notified, notification, redirected, flying_after, state_after, state_on};
 
 /// An audit is handed over once, and so is its answer: it has its answer. Without the one or the other it has none.
@@ -65,7 +66,8 @@ pub fn an_audit_is_served()
     ensures had { code_in 1 (asked ++ delivering 2 ∷ delivering 3 ∷ []) ≡ Some 200 }
     ensures sent { IsSentAfter two_lines (world asked) audit 0 }
     ensures carried { IsCarried two_lines (asked ++ delivering 2 ∷ delivering 3 ∷ []) audit 2 }
-    ensures no_copy { code_in 1 (asked ++ delivering 1 ∷ []) ≡ None }
+    ensures no_copy { stored_in (asked ++ delivering 1 ∷ []) ≡ [] }
+    ensures taken { steps_are_taken two_lines world_opening (asked ++ delivering 1 ∷ []) ≡ true }
     ensures nothing_back { code_in 1 (asked ++ delivering 2 ∷ []) ≡ None }
     ensures no_response { code_in 1 (asked ++ delivering 0 ∷ []) ≡ None }
 {}
@@ -86,6 +88,7 @@ pub fn what_a_copy_is()
 /// is fair within 1 ms as long as that isn't over, and then what was issued needn't be answered.
 pub fn what_a_fair_network_is()
     ensures fair { IsFair two_lines answered 0 }
+    ensures room { AlwaysHasRoom two_lines answered }
     ensures lost { ¬ IsFair two_lines (asked ++ delivering 2 ∷ []) 0 }
     ensures fair_yet { IsFair two_lines asked 1 }
     ensures not_yet { code_in 1 asked ≡ None }
@@ -140,9 +143,8 @@ pub fn a_notification_is_brought()
     ensures not_answered { ¬ IsAnsweredWithin two_lines 1 (took_first redirected) (tick 2 ∷ []) 0 }
 {}
 
-/// Where the network is fair and the telephone rests the agent was told all that it did; while a notification is kept back it wasn't, and
-/// its line wasn't answered, nor had it its time. All that the law asks for holds at once, where the line is asked and lifted, and then a
-/// ms passes.
+/// Where the network is fair and the telephone rests the agent was told all that it did. All that the law asks for holds at once, where
+/// the line is asked and lifted, and then a ms passes.
 pub fn what_rests_is_taken()
     ensures run { IsRun two_lines rested }
     ensures events { (world rested).gateway_took ≡ took_first asked_for_all ++ took_since asked_for_all }
@@ -162,13 +164,85 @@ pub fn what_rests_is_taken()
     ensures left { left_then rested ≡ [] }
     ensures told { told_then rested ≡ done_then rested }
     ensures done { done_then rested ≡ off_hook ∷ [] }
-    ensures not_fair { ¬ IsFair two_lines kept_back 0 }
+{}
+
+/// While a notification is kept back the agent wasn't told, and its line wasn't answered, though all else that the laws ask for holds:
+/// where the network isn't fair within 0 ms; and within 2 ms, where what is in flight hadn't its time.
+pub fn what_is_kept_back_is_told_later()
+    ensures steps { steps_are_taken two_lines world_opening waited ≡ true }
+    ensures events { took_first waited ≡ took_first asked_for_all ++ took_between asked_for_all waited }
+    ensures asked { IsAskedForAll (course_of two_lines 1 (took_first asked_for_all))
+        (course_from two_lines (plain two_lines (took_first asked_for_all)) 1 (took_between asked_for_all waited))
+        (endpoint_then waited).line }
+    ensures nothing_given_up { has_given_up (of_line 1 (sent_of two_lines (took_first waited))) (endpoint_then waited).post ≡ false }
+    ensures not_fair { ¬ IsFair two_lines waited 0 }
+    ensures fair_yet { IsFair two_lines waited 2 }
+    ensures room { AgentAlwaysHasRoom two_lines waited }
+    ensures reaches { ReachTheAgent two_lines waited 1 }
+    ensures its_time { HadItsTime two_lines waited 0 (endpoint_then waited).post.pending }
+    ensures not_its_time { ¬ HadItsTime two_lines waited 2 (endpoint_then waited).post.pending }
+    ensures split { took_first waited ≡ took_first kept_back ++ tick 2 ∷ [] }
+    ensures answered { IsAnsweredWithin two_lines 1 (took_first kept_back) (tick 2 ∷ []) 1 }
     ensures not_answered { ¬ IsAnsweredWithin two_lines 1 (took_first kept_back) (tick 2 ∷ []) 0 }
-    ensures none_left { left_then kept_back ≡ [] }
-    ensures none_told { told_then kept_back ≡ [] }
-    ensures done_too { done_then kept_back ≡ off_hook ∷ [] }
-    ensures fair_yet { IsFair two_lines kept_back 1 }
-    ensures not_its_time { ¬ HadItsTime two_lines kept_back 1 (endpoint_then kept_back).post.pending }
+    ensures asked_again { IsAskedWithin two_lines 1 (took_first kept_back) (tick 2 ∷ []) 0 }
+    ensures late { (plain two_lines (took_first kept_back)).now + rounds_take 0 1 0 < now_in two_lines (world waited) }
+    ensures rests { done_in (course_from two_lines (plain two_lines (took_first kept_back)) 1 (tick 2 ∷ [])) ≡ [] }
+    ensures none_left { left_then waited ≡ [] }
+    ensures done_by_then { done_then kept_back ≡ off_hook ∷ [] }
+    ensures done { done_then waited ≡ off_hook ∷ [] }
+    ensures none_told { told_then waited ≡ [] }
+    ensures none_taken { map key_reached (taken_in (world waited)) ≡ (1, 1) ∷ [] }
+    ensures one_came { ids_come two_lines waited ≡ Some 1 ∷ Some 1 ∷ [] }
+{}
+
+/// What is accumulated the agent isn't told, and it isn't quarantined, though all else that the law asks for holds, where the line wasn't
+/// asked for all that its telephone does.
+pub fn what_is_accumulated_is_not_told()
+    ensures steps { steps_are_taken two_lines world_opening put_by ≡ true }
+    ensures events { took_first put_by ≡ took_first asked_to_accumulate ++ took_between asked_to_accumulate put_by }
+    ensures not_asked { ¬ IsAskedForAll (course_of two_lines 1 (took_first asked_to_accumulate))
+        (course_from two_lines (plain two_lines (took_first asked_to_accumulate)) 1 (took_between asked_to_accumulate put_by))
+        (endpoint_then put_by).line }
+    ensures nothing_given_up { has_given_up (of_line 1 (sent_of two_lines (took_first put_by))) (endpoint_then put_by).post ≡ false }
+    ensures fair { IsFair two_lines put_by 0 }
+    ensures room { AgentAlwaysHasRoom two_lines put_by }
+    ensures reaches { ReachTheAgent two_lines put_by 1 }
+    ensures its_time { HadItsTime two_lines put_by 0 (endpoint_then put_by).post.pending }
+    ensures split { took_first put_by ≡ took_first accumulated ++ tick 2 ∷ [] }
+    ensures answered { IsAnsweredWithin two_lines 1 (took_first accumulated) (tick 2 ∷ []) 0 }
+    ensures asked_again { IsAskedWithin two_lines 1 (took_first accumulated) (tick 2 ∷ []) 0 }
+    ensures none_held { length (endpoint_then accumulated).line.quarantined.events ≡ 0 }
+    ensures late { (plain two_lines (took_first accumulated)).now + rounds_take 0 0 0 < now_in two_lines (world put_by) }
+    ensures rests { done_in (course_from two_lines (plain two_lines (took_first accumulated)) 1 (tick 2 ∷ [])) ≡ [] }
+    ensures none_left { left_then put_by ≡ [] }
+    ensures done_by_then { done_then accumulated ≡ off_hook ∷ [] }
+    ensures done { done_then put_by ≡ off_hook ∷ [] }
+    ensures none_told { told_then put_by ≡ [] }
+{}
+
+/// Where a line in step isn't asked again, what is quarantined stays so, and the agent isn't told, though all else that the law asks for
+/// holds.
+pub fn what_nobody_asks_for_is_not_told()
+    ensures steps { steps_are_taken two_lines world_opening unasked ≡ true }
+    ensures events { took_first unasked ≡ took_first asked_in_step ++ took_between asked_in_step unasked }
+    ensures asked { IsAskedForAll (course_of two_lines 1 (took_first asked_in_step))
+        (course_from two_lines (plain two_lines (took_first asked_in_step)) 1 (took_between asked_in_step unasked))
+        (endpoint_then unasked).line }
+    ensures nothing_given_up { has_given_up (of_line 1 (sent_of two_lines (took_first unasked))) (endpoint_then unasked).post ≡ false }
+    ensures fair { IsFair two_lines unasked 0 }
+    ensures room { AgentAlwaysHasRoom two_lines unasked }
+    ensures reaches { ReachTheAgent two_lines unasked 1 }
+    ensures its_time { HadItsTime two_lines unasked 0 (endpoint_then unasked).post.pending }
+    ensures split { took_first unasked ≡ took_first dialled_in_step ++ took_between dialled_in_step unasked }
+    ensures answered { IsAnsweredWithin two_lines 1 (took_first dialled_in_step) (took_between dialled_in_step unasked) 0 }
+    ensures not_asked { ¬ IsAskedWithin two_lines 1 (took_first dialled_in_step) (took_between dialled_in_step unasked) 0 }
+    ensures held { (endpoint_then dialled_in_step).line.quarantined.events ≡ five ∷ [] }
+    ensures late { (plain two_lines (took_first dialled_in_step)).now + rounds_take 1 0 0 < now_in two_lines (world unasked) }
+    ensures rests { done_in (course_from two_lines (plain two_lines (took_first dialled_in_step)) 1
+        (took_between dialled_in_step unasked)) ≡ [] }
+    ensures done_by_then { done_then dialled_in_step ≡ off_hook ∷ five ∷ [] }
+    ensures done { done_then unasked ≡ off_hook ∷ five ∷ [] }
+    ensures told { told_then unasked ≡ off_hook ∷ [] }
 {}
 
 /// Where the telephone doesn't rest, or something is quarantined, the agent wasn't told all, though all else that the law asks for holds.
@@ -281,6 +355,7 @@ pub fn what_is_given_up_lets_none_go()
 pub fn who_is_not_set_up_says_otherwise()
     ensures parting { ¬ IsSetUp parting }
     ensures no_run { ¬ IsRun parting [] }
+    ensures steps { steps_are_taken parting world_opening asked_for_its_agent ≡ true }
     ensures issued { map key_begun (issued_in parting (plain_world parting asked_for_its_agent)) ≡ (1, 0) ∷ [] }
     ensures stored { map (λ first. first.answer) (gateway_firsts parting (plain_world parting asked_for_its_agent))
         ≡ codes "200 1 OK\r\nN: a\r\n.\r\n200 9 OK\r\n" ∷ [] }
@@ -373,6 +448,7 @@ pub fn what_is_answered_early_is_never_told()
     ensures refused { steps_are_taken two_lines world_opening answered_early ≡ false }
     ensures early { IsCopy two_lines (world answered_early) AgentEnd (codes "200 10000000 OK\r\n") 4 }
     ensures flies { flying_after lifted_since ≡ Some 10000000 }
+    ensures numbers { HasNumbersLeft (own_in two_lines (world lifted_since)) }
     ensures events { took_first answered_unheard ≡ took_first asked_for_all ++ took_between asked_for_all answered_unheard }
     ensures asked { IsAskedForAll (course_of two_lines 1 (took_first asked_for_all))
         (course_from two_lines (plain two_lines (took_first asked_for_all)) 1 (took_between asked_for_all answered_unheard))

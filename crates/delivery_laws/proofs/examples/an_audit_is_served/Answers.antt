@@ -42,6 +42,7 @@ returns c = record {
     soon = omega arith;
   };
   no_copy = refl;
+  taken = refl;
   nothing_back = refl;
   no_response = refl;
 }

@@ -5,12 +5,14 @@ use Rattle.delivery_laws.specs.Example.{answered, asked}
 use Rattle.delivery_laws.proofs.Computing.{on_examples}
 use Rattle.delivery_laws.proofs.ExampleLemmas.{not_fair}
 use Rattle.delivery_laws.proofs.FairExamples.{fair_is}
+use Rattle.delivery_laws.proofs.FrontLemmas.{gateway_has_room}
 use Rattle.delivery_laws.proofs.examples.what_a_fair_network_is.Goals as goal
 
 pub returns : goal.returns
 unfolding on_examples
 returns c = record {
   fair = fair_is two_lines answered 0 refl;
+  room = gateway_has_room two_lines answered refl;
   lost = not_fair two_lines (asked ++ delivering 2 ∷ []) 0 3 _ refl refl refl;
   fair_yet = fair_is two_lines asked 1 refl;
   not_yet = refl;

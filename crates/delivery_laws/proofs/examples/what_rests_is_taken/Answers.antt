@@ -1,15 +1,14 @@
-use Rattle.std.proofs.Common.{◌≡◌, ◌≤◌, [], ◌∷◌, refl, sym, ◌∙◌, arith}
+use Rattle.std.proofs.Common.{◌≡◌, [], ◌∷◌, refl, sym, ◌∙◌}
 use Rattle.std.proofs.lemmas.Bool.{ltb-true}
-use Rattle.plain_machine.specs.Event.{tick}
 use Rattle.plain_machine.specs.Example.{two_lines}
 use Rattle.dialled_once.specs.Example.{lifted as off_hook}
 use Rattle.dialled_once.proofs.AskingLemmas.{notifies_each}
 use Rattle.dialled_end_to_end.specs.Example.{asked as asked_for_all, done_then, told_then}
 use Rattle.delivery_laws.specs.Example.{kept_back, rested, took_first, took_since}
 use Rattle.delivery_laws.proofs.Computing.{on_examples}
-use Rattle.delivery_laws.proofs.ExampleLemmas.{all_reach, not_fair, took_split, two_lines_set_up}
+use Rattle.delivery_laws.proofs.ExampleLemmas.{all_reach, took_split, two_lines_set_up}
 use Rattle.delivery_laws.proofs.FairExamples.{fair_is}
-use Rattle.delivery_laws.proofs.FrontLemmas.{agent_has_room, answered_within, asked_within, not_answered}
+use Rattle.delivery_laws.proofs.FrontLemmas.{agent_has_room, answered_within, asked_within}
 use Rattle.delivery_laws.proofs.examples.what_rests_is_taken.Goals as goal
 
 pub returns : goal.returns
@@ -31,11 +30,4 @@ returns c = record {
   left = refl;
   told = (let happened : done_then rested ≡ off_hook ∷ [] = refl in let heard : told_then rested ≡ off_hook ∷ [] = refl in heard ∙ sym happened);
   done = refl;
-  not_fair = not_fair two_lines kept_back 0 4 _ refl refl refl;
-  not_answered = not_answered two_lines 1 (took_first kept_back) (tick 2 ∷ []) (tick 2 ∷ []) [] 0 refl refl;
-  none_left = refl;
-  none_told = refl;
-  done_too = refl;
-  fair_yet = fair_is two_lines kept_back 1 refl;
-  not_its_time = λ had. absurd (let late : 2 ≤ 1 = had.0 in omega (arith, late));
 }

@@ -11,6 +11,7 @@ unfolding on_examples
 returns c = record {
   parting = no_agent parting refl;
   no_run = λ run. no_agent parting refl run.0;
+  steps = refl;
   issued = refl;
   stored = refl;
   cut = refl;
