@@ -1,10 +1,12 @@
 //! Worked examples of the definitions, as theorems: each sentence of a definition has one that a slip in it breaks.
 #![tactic(auto, unfolding(crate::proofs::Computing::on_examples))]
 
-ghost use Rattle.std.specs.Prelude.{◌≡◌, codes, true, false, [], Some, None};
+ghost use Rattle.std.specs.Prelude.{◌≡◌, codes, map, true, false, [], ◌∷◌, Some, None};
 ghost use Rattle.live_page.specs.Access.{only, is_known_host, is_same_origin, is_json};
-ghost use Rattle.live_page.specs.Asking.{route_of};
+ghost use Rattle.page_answers.specs.declared.board.ActOutcome.TheVariants.{Queued, NoRoom, Unreadable};
+ghost use Rattle.live_page.specs.Asking.{route_of, is_refused, reading_status, refusal_status, refusal_fields, outcome_status};
 ghost use Rattle.live_page.specs.Example.{here, at_port, elsewhere, once};
+ghost use Rattle.live_page.specs.declared.asked.Asked.TheVariants.{Strange, Reading, Acting, Forbidden, Unsuited, Missing};
 ghost use Rattle.live_page.specs.declared.route.Route.TheVariants.{Page, Style, Script, State, Metrics, Events, Phone, Nothing};
 
 /// A host is known by the address and the port that the page listens at, and on the loopback by the name localhost.
@@ -79,4 +81,17 @@ pub fn paths_lead_somewhere()
     ensures other { route_of (codes "/events") (Some (codes "before=1")) ≡ Nothing }
     ensures below { route_of (codes "/page.js/") None ≡ Nothing }
     ensures nothing { route_of [] None ≡ Nothing }
+{}
+
+/// What is read, refused and done has its status, and who asks by the wrong method is told the right one.
+pub fn answers_have_their_status()
+    ensures read { map reading_status (Page ∷ Style ∷ Script ∷ State ∷ Metrics ∷ Events 5 ∷ []) ≡ 200 ∷ 200 ∷ 200 ∷ 200 ∷ 200 ∷ 200 ∷ [] }
+    ensures not_there { map reading_status (Phone ∷ Nothing ∷ []) ≡ 404 ∷ 404 ∷ [] }
+    ensures refused { map refusal_status (Strange ∷ Forbidden ∷ Unsuited true ∷ Missing ∷ []) ≡ 421 ∷ 403 ∷ 405 ∷ 404 ∷ [] }
+    ensures refusals { map is_refused (Strange ∷ Forbidden ∷ Unsuited true ∷ Missing ∷ []) ≡ true ∷ true ∷ true ∷ true ∷ [] }
+    ensures others { map is_refused (Reading Page ∷ Acting ∷ []) ≡ false ∷ false ∷ [] }
+    ensures posts { refusal_fields (Unsuited true) ≡ (codes "allow", codes "POST") ∷ [] }
+    ensures gets { refusal_fields (Unsuited false) ≡ (codes "allow", codes "GET") ∷ [] }
+    ensures bare { map refusal_fields (Strange ∷ Forbidden ∷ Missing ∷ []) ≡ [] ∷ [] ∷ [] ∷ [] }
+    ensures done { map outcome_status (Queued ∷ NoRoom ∷ Unreadable ∷ []) ≡ 202 ∷ 503 ∷ 400 ∷ [] }
 {}
