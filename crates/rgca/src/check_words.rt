@@ -6,6 +6,9 @@ use live_agent::CheckSettings;
 use std::alloc::{AllocError, Global};
 use std::net::SocketAddrV4;
 
+// So many characters the local name of an endpoint has at most (RFC 3435, 2.1.2).
+const LONGEST_NAME: usize = 64;
+
 fn command<'a>(alloc: Global) -> Result<Command<'a>, AllocError> {
     let own = Arg::new(alloc, "own")
         .long("own")
@@ -36,15 +39,48 @@ fn address_in(
     }
 }
 
+// Whether a character may stand in the local name of one endpoint (RFC 3435, appendix A): `*` and `$` stand for many.
+fn is_of_name(byte: u8) -> bool {
+    byte.is_ascii_graphic() && byte != b'*' && byte != b'$' && byte != b'@'
+}
+
+// Whether a text is the local name of one endpoint.
+fn is_name(text: &str) -> bool {
+    let bytes = text.as_bytes();
+    !bytes.is_empty() && bytes.len() <= LONGEST_NAME && bytes.iter().all(|byte| is_of_name(*byte))
+}
+
+// The name of a line that stands behind a word.
+fn name_behind<'a>(text: &'a str, word: &'static str) -> Result<&'a str, WordFault> {
+    if is_name(text) {
+        Ok(text)
+    } else {
+        Err(WordFault::BadLine { word })
+    }
+}
+
+// The name of another line than this, if that stands there. Case makes no difference between names.
+fn other_in<'a>(matches: &ArgMatches<'a>, line: &str) -> Result<Option<&'a str>, WordFault> {
+    let Some(text) = matches.get_str("more-lines") else {
+        return Ok(None);
+    };
+    let other = name_behind(text, "--more-lines")?;
+    if other.eq_ignore_ascii_case(line) {
+        return Err(WordFault::SameLine);
+    }
+    Ok(Some(other))
+}
+
 fn settings_in<'a>(matches: &ArgMatches<'a>) -> Result<CheckSettings<'a>, WordFault> {
     let (Some(domain), Some(line)) = (matches.get_str("domain"), matches.get_str("line")) else {
         return Err(WordFault::Usage);
     };
+    let line = name_behind(line, "--line")?;
     Ok(CheckSettings {
         gateway: address_in(matches, "address", "ADDRESS")?,
         domain,
         line,
-        other: matches.get_str("more-lines"),
+        other: other_in(matches, line)?,
         is_slow: matches.get_flag("slow"),
         is_json: matches.get_flag("json"),
         own: address_in(matches, "own", "--own")?,

@@ -7,6 +7,10 @@ use live_agent::CheckFault;
 use std::fmt;
 use std::net::SocketAddrV4;
 
+// What a text is that doesn't name one line.
+const NO_LINE: &str =
+    ": not the name of one line, as aaln/1: 1 to 64 characters, no blank, *, $ or @\n";
+
 /// How the program ends.
 #[derive(Drop)]
 pub enum Ending<'a> {
@@ -36,6 +40,12 @@ pub enum Ending<'a> {
     BadNetwork {
         fault: SpoilingFault,
     },
+    /// What stands behind this word isn't the name of one line.
+    BadLine {
+        word: &'static str,
+    },
+    /// The other line to be checked is the line itself.
+    SameLine,
     /// The configuration in this file is refused.
     Config {
         file: &'a str,
@@ -92,6 +102,8 @@ impl<'a> Ending<'a> {
             | Ending::Told
             | Ending::BadAddress { .. }
             | Ending::BadNetwork { .. }
+            | Ending::BadLine { .. }
+            | Ending::SameLine
             | Ending::Config { .. } => 2,
             Ending::Unreadable { .. }
             | Ending::Unwritable { .. }
@@ -118,6 +130,8 @@ impl<'a> From<WordFault> for Ending<'a> {
             WordFault::Version => Ending::Version,
             WordFault::BadAddress { word } => Ending::BadAddress { word },
             WordFault::BadNetwork { fault } => Ending::BadNetwork { fault },
+            WordFault::BadLine { word } => Ending::BadLine { word },
+            WordFault::SameLine => Ending::SameLine,
         }
     }
 }
@@ -194,6 +208,8 @@ impl<'a> fmt::Display for Ending<'a> {
             Ending::CheckUsage => put_pieces(f, &["usage: ", CHECK_USAGE, "\n"]),
             Ending::BadAddress { word } => put_pieces(f, &[*word, ": no address a.b.c.d:port\n"]),
             Ending::BadNetwork { fault } => put_pieces(f, &["--network: ", fault.text(), "\n"]),
+            Ending::BadLine { word } => put_pieces(f, &[*word, NO_LINE]),
+            Ending::SameLine => f.write_str("--more-lines: the same line as --line\n"),
             Ending::Config { file, refusal } => put_config(f, *file, refusal),
             Ending::Unreadable { file } => put_pieces(f, &[*file, ": read fault\n"]),
             Ending::Unwritable { file } => put_pieces(f, &[*file, ": write fault\n"]),

@@ -44,6 +44,10 @@ pub enum WordFault {
     BadAddress { word: &'static str },
     /// What stands behind `--network` says no network.
     BadNetwork { fault: SpoilingFault },
+    /// What stands behind this word isn't the name of one line.
+    BadLine { word: &'static str },
+    /// The other line to be checked is the line itself.
+    SameLine,
 }
 
 impl From<AllocError> for WordFault {
