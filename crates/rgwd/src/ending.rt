@@ -7,6 +7,10 @@ use rgw_play::name_of_config_fault;
 use std::fmt;
 use std::net::SocketAddrV4;
 
+// Why there is no page at any address.
+const ANY_ADDRESS: &str =
+    "--http: the page answers those who name its address, and nobody names 0.0.0.0: write one of this machine's, as 127.0.0.1:8080";
+
 /// How the program ends.
 #[derive(Clone, Copy)]
 pub enum Ending<'a> {
@@ -24,6 +28,8 @@ pub enum Ending<'a> {
     BadAddress {
         word: &'static str,
     },
+    /// The page would be at any address of the machine, and so at none that it can tell.
+    AnyAddress,
     /// This part of what stands behind `--network` says nothing of a network.
     BadNetwork {
         fault: SpoilingFault,
@@ -64,6 +70,7 @@ impl<'a> Ending<'a> {
             Ending::Usage
             | Ending::Told
             | Ending::BadAddress { .. }
+            | Ending::AnyAddress
             | Ending::BadNetwork { .. }
             | Ending::Config { .. } => 2,
             Ending::Unreadable { .. }
@@ -85,6 +92,7 @@ impl<'a> From<WordFault> for Ending<'a> {
             WordFault::Help => Ending::Help,
             WordFault::Version => Ending::Version,
             WordFault::BadAddress { word } => Ending::BadAddress { word },
+            WordFault::AnyAddress => Ending::AnyAddress,
             WordFault::BadNetwork { fault } => Ending::BadNetwork { fault },
         }
     }
@@ -119,6 +127,7 @@ fn subject_of(ending: Ending<'_>) -> &str {
 fn fault_of(ending: Ending<'_>) -> &'static str {
     match ending {
         Ending::BadAddress { .. } => ": no address a.b.c.d:port",
+        Ending::AnyAddress => ANY_ADDRESS,
         Ending::BadNetwork { fault } => fault.text(),
         Ending::Unreadable { .. } => ": read fault",
         Ending::Unwritable { .. } => ": write fault",

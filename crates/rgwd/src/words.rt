@@ -44,6 +44,8 @@ pub enum WordFault {
     Version,
     /// What stands behind this word isn't an address.
     BadAddress { word: &'static str },
+    /// The page would be at any address of the machine, and so at none that it can tell.
+    AnyAddress,
     /// This part of what stands behind `--network` says nothing of a network.
     BadNetwork { fault: SpoilingFault },
 }
@@ -103,12 +105,13 @@ fn address_of(text: &str) -> Option<SocketAddrV4> {
     }
 }
 
-// The address of the site, if that stands there.
+// The address of the site, if that stands there: one of the machine's, since the page answers only those who name its address.
 fn site_in(matches: &ArgMatches<'_>) -> Result<Option<SocketAddrV4>, WordFault> {
     let Some(text) = matches.get_str("http") else {
         return Ok(None);
     };
     match address_of(text) {
+        Some(address) if address.ip().is_unspecified() => Err(WordFault::AnyAddress),
         Some(address) => Ok(Some(address)),
         None => Err(WordFault::BadAddress { word: "--http" }),
     }
