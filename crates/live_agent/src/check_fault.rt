@@ -2,19 +2,30 @@
 use mg_bytes::OutOfMemory;
 use std::net::SocketAddrV4;
 
-/// Why a gateway can't be checked.
+/// Why a gateway can't be checked. A reason is what `system_reasons::reason_of` makes of the system's error.
 #[derive(Clone, Copy)]
 pub enum CheckFault {
     /// No socket can be had there.
-    Unbound { address: SocketAddrV4 },
+    Unbound {
+        address: SocketAddrV4,
+        reason: &'static str,
+    },
     /// Nothing can be sent to the gateway, or it doesn't answer.
-    NoAnswer { address: SocketAddrV4 },
+    NoAnswer {
+        address: SocketAddrV4,
+    },
     /// It refuses with 405: no call agent has answered its announcement yet.
-    NotServing { address: SocketAddrV4 },
+    NotServing {
+        address: SocketAddrV4,
+    },
     /// It knows no such line, or no such other one.
-    NoSuchLine { is_other: bool },
+    NoSuchLine {
+        is_other: bool,
+    },
     /// The line, or the other one, has a connection, or its telephone is off the hook.
-    InUse { is_other: bool },
+    InUse {
+        is_other: bool,
+    },
     /// The clock, or what tells of sockets, failed.
     System,
     /// The report can't be written.

@@ -8,6 +8,7 @@ use std::io;
 use std::net::{Ipv4Addr, Net, SocketAddr, SocketAddrV4};
 use std::rt::Clock;
 use std::time::{Duration, Instant};
+use system_reasons::reason_of;
 
 // The room for a datagram; what is longer is cut off.
 const ROOM: usize = 4096;
@@ -52,6 +53,17 @@ fn opened<R: Net>(
     Ok((first, second, poll, events))
 }
 
+// Why there is no socket at this address.
+fn unbound(address: SocketAddrV4, kind: io::ErrorKind) -> CheckFault {
+    if kind == io::ErrorKind::OutOfMemory {
+        return CheckFault::OutOfMemory;
+    }
+    CheckFault::Unbound {
+        address,
+        reason: reason_of(kind),
+    }
+}
+
 impl<'a, R: Net + Clock> Ends<'a, R> {
     /// Opens the sockets: the first at this address. Moments count from now.
     pub fn open(
@@ -60,8 +72,9 @@ impl<'a, R: Net + Clock> Ends<'a, R> {
         gateway: SocketAddrV4,
         own: SocketAddrV4,
     ) -> Result<Ends<'a, R>, CheckFault> {
-        let Ok((first, second, poll, events)) = opened(rt, alloc, own) else {
-            return Err(CheckFault::Unbound { address: own });
+        let (first, second, poll, events) = match opened(rt, alloc, own) {
+            Ok(sockets) => sockets,
+            Err(e) => return Err(unbound(own, e.kind())),
         };
         let Ok(start) = Instant::now(rt) else {
             return Err(CheckFault::System);

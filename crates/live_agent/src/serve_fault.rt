@@ -1,18 +1,18 @@
 //! Why a call agent doesn't serve to its end.
 
-/// Why a call agent doesn't serve to its end.
+/// Why a call agent doesn't serve to its end. A reason is what `system_reasons::reason_of` makes of the system's error.
 #[derive(Clone, Copy)]
 pub enum ServeFault {
     /// Memory was refused.
     OutOfMemory,
     /// No socket for gateways can be had at its address.
-    Listen,
+    Listen { reason: &'static str },
     /// No socket for commands can be had at its address.
-    Control,
+    Control { reason: &'static str },
     /// The clock can't be read.
     Clock,
     /// Standard output or standard error can't be written.
     Write,
-    /// The capture can't be written.
-    Capture,
+    /// The capture can't be made or written.
+    Capture { reason: &'static str },
 }

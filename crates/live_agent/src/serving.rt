@@ -10,6 +10,7 @@ use std::fs::File;
 use std::io::{self, ErrorKind};
 use std::net::Net;
 use std::rt::{Clock, Files};
+use system_reasons::reason_of;
 
 // Microseconds in a millisecond.
 const MICROSECONDS: u64 = 1000;
@@ -34,7 +35,7 @@ fn record_result(record: &Record, unwritten: ServeFault) -> Result<(), ServeFaul
 fn records_result(journal: &Journal) -> Result<(), ServeFault> {
     record_result(&journal.told, ServeFault::Write)?;
     record_result(&journal.log, ServeFault::Write)?;
-    record_result(&journal.capture, ServeFault::Capture)
+    record_result(&journal.capture, ServeFault::Capture { reason: "" })
 }
 
 // Serves until the end, and says on standard error what was counted.
@@ -87,7 +88,9 @@ fn open_capture<R: Files>(rt: &R, capture: Option<&str>) -> Result<Option<R::Fil
     match File::create(rt, file) {
         Ok(made) => Ok(Some(made)),
         Err(e) if e.kind() == ErrorKind::OutOfMemory => Err(ServeFault::OutOfMemory),
-        Err(_) => Err(ServeFault::Capture),
+        Err(e) => Err(ServeFault::Capture {
+            reason: reason_of(e.kind()),
+        }),
     }
 }
 

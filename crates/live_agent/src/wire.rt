@@ -11,6 +11,7 @@ use std::io;
 use std::io::ErrorKind;
 use std::net::{Net, SocketAddr, SocketAddrV4};
 use std::rt::Clock;
+use system_reasons::reason_of;
 
 // Where nothing falls due it wakes so often, in ms, and what failed is tried again no sooner than that.
 const LONGEST_WAIT: u64 = 1000;
@@ -59,12 +60,24 @@ fn note_fate(journal: &mut Journal, stamp: Stamp, fate: Fate) {
     journal.note(stamp, note);
 }
 
-// What went wrong with a socket.
-fn socket_fault(fault: &io::Error, otherwise: ServeFault) -> ServeFault {
-    if fault.kind() == ErrorKind::OutOfMemory {
+// What went wrong with the socket for gateways.
+fn listen_fault(kind: ErrorKind) -> ServeFault {
+    if kind == ErrorKind::OutOfMemory {
         return ServeFault::OutOfMemory;
     }
-    otherwise
+    ServeFault::Listen {
+        reason: reason_of(kind),
+    }
+}
+
+// What went wrong with the socket for commands.
+fn control_fault(kind: ErrorKind) -> ServeFault {
+    if kind == ErrorKind::OutOfMemory {
+        return ServeFault::OutOfMemory;
+    }
+    ServeFault::Control {
+        reason: reason_of(kind),
+    }
 }
 
 // The address of the socket for gateways.
@@ -95,11 +108,11 @@ impl<'a, R: Net + Clock> Wire<'a, R> {
         };
         let mut socket = match UdpSocket::bind(rt, SocketAddr::V4(settings.listen)) {
             Ok(socket) => socket,
-            Err(e) => return Err(socket_fault(&e, ServeFault::Listen)),
+            Err(e) => return Err(listen_fault(e.kind())),
         };
         let mut control = match CommandSocket::open(rt, alloc, settings.control) {
             Ok(control) => control,
-            Err(e) => return Err(socket_fault(&e, ServeFault::Control)),
+            Err(e) => return Err(control_fault(e.kind())),
         };
         match Readiness::watch(rt, alloc, &mut socket, &mut control) {
             Ok(ready) => {
@@ -114,7 +127,7 @@ impl<'a, R: Net + Clock> Wire<'a, R> {
                     end: settings.end,
                 })
             }
-            Err(e) => Err(socket_fault(&e, ServeFault::Listen)),
+            Err(e) => Err(listen_fault(e.kind())),
         }
     }
 

@@ -11,6 +11,7 @@ use std::fs::File;
 use std::io::ErrorKind;
 use std::net::Net;
 use std::rt::{Clock, Env, Files};
+use system_reasons::{reason_of, reason_of_reader};
 
 // The program's words, of which the first is its name.
 fn words_of<R: AllocGlobal + Env>(rt: &R) -> Result<Vec<String>, WordFault> {
@@ -29,12 +30,20 @@ fn config_text<'w, R: Files>(rt: &R, alloc: Global, file: &'w str) -> Result<Vec
     let mut reader = match File::open(rt, file) {
         Ok(reader) => reader,
         Err(e) if e.kind() == ErrorKind::OutOfMemory => return Err(Ending::OutOfMemory),
-        Err(_) => return Err(Ending::Unreadable { file }),
+        Err(e) => {
+            return Err(Ending::Unreadable {
+                file,
+                reason: reason_of(e.kind()),
+            });
+        }
     };
     match read_limited(alloc, &mut reader) {
         Ok(text) => Ok(text),
         Err(PlayFault::OutOfMemory) => Err(Ending::OutOfMemory),
-        Err(_) => Err(Ending::Unreadable { file }),
+        Err(_) => Err(Ending::Unreadable {
+            file,
+            reason: reason_of_reader(&mut reader),
+        }),
     }
 }
 
@@ -67,22 +76,33 @@ fn wire_settings(settings: &Settings<'_>, config: &AgentConfig) -> WireSettings 
     }
 }
 
+// Who asks for the address of the socket for gateways: a word, or the configuration's key.
+fn listen_word(settings: &Settings<'_>) -> &'static str {
+    match settings.listen {
+        Some(_) => "--listen",
+        None => "own",
+    }
+}
+
 // How the program ends where it doesn't serve to its end.
 fn served_ending<'w>(fault: ServeFault, wire: WireSettings, settings: &Settings<'w>) -> Ending<'w> {
     match fault {
         ServeFault::OutOfMemory => Ending::OutOfMemory,
-        ServeFault::Listen => Ending::Unbound {
-            word: "--listen",
+        ServeFault::Listen { reason } => Ending::Unbound {
+            word: listen_word(settings),
             address: wire.listen,
+            reason,
         },
-        ServeFault::Control => Ending::Unbound {
+        ServeFault::Control { reason } => Ending::Unbound {
             word: "--control",
             address: wire.control,
+            reason,
         },
         ServeFault::Clock => Ending::Clock,
         ServeFault::Write => Ending::Write,
-        ServeFault::Capture => Ending::Unwritable {
+        ServeFault::Capture { reason } => Ending::Unwritable {
             file: settings.capture.unwrap_or(""),
+            reason,
         },
     }
 }

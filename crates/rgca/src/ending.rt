@@ -11,7 +11,7 @@ use std::net::SocketAddrV4;
 const NO_LINE: &str =
     ": not the name of one line, as aaln/1: 1 to 64 characters, no blank, *, $ or @\n";
 
-/// How the program ends.
+/// How the program ends. A reason is what `system_reasons::reason_of` makes of the system's error.
 #[derive(Drop)]
 pub enum Ending<'a> {
     /// The call agent served up to the moment that was asked for.
@@ -54,15 +54,18 @@ pub enum Ending<'a> {
     /// This file can't be read.
     Unreadable {
         file: &'a str,
+        reason: &'static str,
     },
     /// This file can't be written.
     Unwritable {
         file: &'a str,
+        reason: &'static str,
     },
-    /// No socket can be had at the address that this word asks for.
+    /// No socket can be had at the address that this word asks for, or this key of the configuration.
     Unbound {
         word: &'static str,
         address: SocketAddrV4,
+        reason: &'static str,
     },
     /// The gateway at this address can't be checked: it doesn't answer.
     NoAnswer {
@@ -153,9 +156,10 @@ fn line_word(is_other: bool) -> &'static str {
 impl<'a> From<CheckFault> for Ending<'a> {
     fn from(fault: CheckFault) -> Ending<'a> {
         match fault {
-            CheckFault::Unbound { address } => Ending::Unbound {
+            CheckFault::Unbound { address, reason } => Ending::Unbound {
                 word: "--own",
                 address,
+                reason,
             },
             CheckFault::NoSuchLine { is_other } => Ending::NoSuchLine {
                 word: line_word(is_other),
@@ -211,9 +215,17 @@ impl<'a> fmt::Display for Ending<'a> {
             Ending::BadLine { word } => put_pieces(f, &[*word, NO_LINE]),
             Ending::SameLine => f.write_str("--more-lines: the same line as --line\n"),
             Ending::Config { file, refusal } => put_config(f, *file, refusal),
-            Ending::Unreadable { file } => put_pieces(f, &[*file, ": read fault\n"]),
-            Ending::Unwritable { file } => put_pieces(f, &[*file, ": write fault\n"]),
-            Ending::Unbound { word, address } => writeln!(f, "{word} {address}: no socket"),
+            Ending::Unreadable { file, reason } => {
+                put_pieces(f, &[*file, ": read fault", *reason, "\n"])
+            }
+            Ending::Unwritable { file, reason } => {
+                put_pieces(f, &[*file, ": write fault", *reason, "\n"])
+            }
+            Ending::Unbound {
+                word,
+                address,
+                reason,
+            } => writeln!(f, "{word} {address}: no socket{reason}"),
             Ending::NoAnswer { address } => writeln!(f, "{address}: no answer"),
             Ending::NotServing { address } => {
                 writeln!(

@@ -16,6 +16,7 @@ use std::io::ErrorKind;
 use std::net::Net;
 use std::random::RandomSource;
 use std::rt::{Clock, Env, Files};
+use system_reasons::{reason_of, reason_of_reader};
 
 // The number of the fault that a configuration can't be read.
 const BAD_TOML: u8 = 7;
@@ -46,7 +47,7 @@ fn file_ending(file: &str, fault: PlayFault, key: Option<ConfigKey>) -> Ending<'
         PlayFault::OutOfMemory => Ending::OutOfMemory,
         PlayFault::Config { number } => Ending::Config { file, number, key },
         PlayFault::Read | PlayFault::Write | PlayFault::Script { .. } => {
-            Ending::Unreadable { file }
+            Ending::Unreadable { file, reason: "" }
         }
     }
 }
@@ -59,26 +60,43 @@ fn key_of(alloc: Global, text: &[u8]) -> Option<ConfigKey> {
     }
 }
 
-// Why the file of the configuration can't be read, as the system says.
-fn unread_file(kind: ErrorKind) -> PlayFault {
+// How the program ends where the file of the configuration can't be read, as the system says.
+fn unread_file(file: &str, kind: ErrorKind) -> Ending<'_> {
     if kind == ErrorKind::OutOfMemory {
-        PlayFault::OutOfMemory
-    } else {
-        PlayFault::Read
+        return Ending::OutOfMemory;
+    }
+    Ending::Unreadable {
+        file,
+        reason: reason_of(kind),
     }
 }
 
-// The text of the configuration.
-fn config_text<R: Files>(rt: &R, alloc: Global, file: &str) -> Result<Vec<u8>, PlayFault> {
-    let mut reader = match File::open(rt, file) {
-        Ok(reader) => reader,
-        Err(fault) => return Err(unread_file(fault.kind())),
-    };
-    let text = read_limited(alloc, &mut reader)?;
+// The text of a configuration, if it isn't too long.
+fn within_limit(file: &str, text: Vec<u8>) -> Result<Vec<u8>, Ending<'_>> {
     if text.len() > LIMIT {
-        return Err(PlayFault::Config { number: BAD_TOML });
+        return Err(Ending::Config {
+            file,
+            number: BAD_TOML,
+            key: None,
+        });
     }
     Ok(text)
+}
+
+// The text of the configuration.
+fn config_text<'w, R: Files>(rt: &R, alloc: Global, file: &'w str) -> Result<Vec<u8>, Ending<'w>> {
+    let mut reader = match File::open(rt, file) {
+        Ok(reader) => reader,
+        Err(fault) => return Err(unread_file(file, fault.kind())),
+    };
+    match read_limited(alloc, &mut reader) {
+        Ok(text) => within_limit(file, text),
+        Err(PlayFault::OutOfMemory) => Err(Ending::OutOfMemory),
+        Err(_) => Err(Ending::Unreadable {
+            file,
+            reason: reason_of_reader(&mut reader),
+        }),
+    }
 }
 
 // Says on standard error where the sockets are.
@@ -119,7 +137,8 @@ fn record_ending<'a>(
 fn served_ending<'a>(journal: &Journal, capture: Option<&'a str>) -> Ending<'a> {
     let file = capture.unwrap_or("");
     let captured = journal.capture.record.state();
-    let ending = record_ending(captured, Ending::Unwritable { file }, Ending::Served);
+    let unwritten = Ending::Unwritable { file, reason: "" };
+    let ending = record_ending(captured, unwritten, Ending::Served);
     let ending = record_ending(journal.log.record.state(), Ending::Write, ending);
     record_ending(journal.trace.record.state(), Ending::Write, ending)
 }
@@ -188,7 +207,7 @@ fn perform<'w, R: Files + Net + Clock + RandomSource + Print + Eprint>(
 ) -> Ending<'w> {
     match config_text(rt, alloc, settings.config) {
         Ok(text) => serve_config(rt, alloc, settings, text.as_slice()),
-        Err(fault) => file_ending(settings.config, fault, None),
+        Err(ending) => ending,
     }
 }
 

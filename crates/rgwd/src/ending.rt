@@ -11,7 +11,7 @@ use std::net::SocketAddrV4;
 const ANY_ADDRESS: &str =
     "--http: the page answers those who name its address, and nobody names 0.0.0.0: write one of this machine's, as 127.0.0.1:8080";
 
-/// How the program ends.
+/// How the program ends. A reason is what `system_reasons::reason_of` makes of the system's error.
 #[derive(Clone, Copy)]
 pub enum Ending<'a> {
     /// The gateway served up to the moment that was asked for.
@@ -43,15 +43,18 @@ pub enum Ending<'a> {
     /// This file can't be read.
     Unreadable {
         file: &'a str,
+        reason: &'static str,
     },
     /// This file can't be written.
     Unwritable {
         file: &'a str,
+        reason: &'static str,
     },
     /// No socket can be had at the address that this word asks for.
     Unbound {
         word: &'static str,
         address: SocketAddrV4,
+        reason: &'static str,
     },
     /// The clock can't be read.
     Clock,
@@ -118,7 +121,7 @@ fn subject_of(ending: Ending<'_>) -> &str {
     match ending {
         Ending::BadAddress { word } => word,
         Ending::BadNetwork { .. } => "--network: ",
-        Ending::Unreadable { file } | Ending::Unwritable { file } => file,
+        Ending::Unreadable { file, .. } | Ending::Unwritable { file, .. } => file,
         _ => "",
     }
 }
@@ -138,8 +141,22 @@ fn fault_of(ending: Ending<'_>) -> &'static str {
     }
 }
 
-fn put_line<W: fmt::Write>(f: &mut fmt::Formatter<W>, subject: &str, fault: &str) -> fmt::Result {
-    put_pieces(f, &[subject, fault, "\n"])
+// What the line says more, of a file: why.
+fn reason_in(ending: Ending<'_>) -> &'static str {
+    match ending {
+        Ending::Unreadable { reason, .. } | Ending::Unwritable { reason, .. } => reason,
+        _ => "",
+    }
+}
+
+fn put_line<W: fmt::Write>(f: &mut fmt::Formatter<W>, ending: Ending<'_>) -> fmt::Result {
+    let pieces = [
+        subject_of(ending),
+        fault_of(ending),
+        reason_in(ending),
+        "\n",
+    ];
+    put_pieces(f, &pieces)
 }
 
 // What is written: on standard output what the words ask, else a line on standard error, or nothing
@@ -152,8 +169,12 @@ impl<'a> fmt::Display for Ending<'a> {
             Ending::Help => put_pieces(f, &HELP),
             Ending::Version => put_pieces(f, &VERSIONS),
             Ending::Config { file, number, key } => put_config(f, file, number, key),
-            Ending::Unbound { word, address } => writeln!(f, "{word} {address}: no socket"),
-            ending => put_line(f, subject_of(ending), fault_of(ending)),
+            Ending::Unbound {
+                word,
+                address,
+                reason,
+            } => writeln!(f, "{word} {address}: no socket{reason}"),
+            ending => put_line(f, ending),
         }
     }
 }

@@ -16,22 +16,33 @@ use std::io;
 use std::io::ErrorKind;
 use std::net::{Net, SocketAddr, SocketAddrV4};
 use std::rt::{Clock, Files};
+use system_reasons::reason_of;
 
-/// What couldn't be opened.
+/// What is opened.
 #[derive(Clone, Copy)]
-pub enum Unopened {
-    /// Memory was refused.
-    OutOfMemory,
+pub enum Opening {
     /// The gateway's socket.
     Listen,
     /// The telephones' socket.
     Phones,
     /// The socket of the page.
     Http,
-    /// The clock.
-    Clock,
     /// The file for a capture.
     Capture,
+}
+
+/// Why not all could be opened.
+#[derive(Clone, Copy)]
+pub enum Unopened {
+    /// Memory was refused.
+    OutOfMemory,
+    /// The clock can't be read.
+    Clock,
+    /// The system refused this one, for this reason.
+    Refused {
+        opening: Opening,
+        reason: &'static str,
+    },
 }
 
 /// What serves: a wire, and the outlets.
@@ -47,36 +58,48 @@ impl From<AllocError> for Unopened {
     }
 }
 
-impl Unopened {
-    // This couldn't be opened, as the system says.
-    fn by(self, kind: ErrorKind) -> Unopened {
-        if kind == ErrorKind::OutOfMemory {
-            Unopened::OutOfMemory
-        } else {
-            self
-        }
+// Why this couldn't be opened, as the system says.
+fn refused(opening: Opening, kind: ErrorKind) -> Unopened {
+    if kind == ErrorKind::OutOfMemory {
+        return Unopened::OutOfMemory;
     }
+    Unopened::Refused {
+        opening,
+        reason: reason_of(kind),
+    }
+}
 
+// How the program ends where the system refuses this, for this reason.
+fn refused_ending<'w>(
+    opening: Opening,
+    reason: &'static str,
+    settings: &Settings<'w>,
+) -> Ending<'w> {
+    let (word, address) = match opening {
+        Opening::Listen => ("--listen", settings.listen),
+        Opening::Phones => ("--phones", settings.phones),
+        Opening::Http => ("--http", settings.http.unwrap_or(settings.listen)),
+        Opening::Capture => {
+            return Ending::Unwritable {
+                file: settings.capture.unwrap_or(""),
+                reason,
+            };
+        }
+    };
+    Ending::Unbound {
+        word,
+        address,
+        reason,
+    }
+}
+
+impl Unopened {
     /// How the program ends then.
     pub fn ending<'w>(self, settings: &Settings<'w>) -> Ending<'w> {
         match self {
             Unopened::OutOfMemory => Ending::OutOfMemory,
-            Unopened::Listen => Ending::Unbound {
-                word: "--listen",
-                address: settings.listen,
-            },
-            Unopened::Phones => Ending::Unbound {
-                word: "--phones",
-                address: settings.phones,
-            },
-            Unopened::Http => Ending::Unbound {
-                word: "--http",
-                address: settings.http.unwrap_or(settings.listen),
-            },
             Unopened::Clock => Ending::Clock,
-            Unopened::Capture => Ending::Unwritable {
-                file: settings.capture.unwrap_or(""),
-            },
+            Unopened::Refused { opening, reason } => refused_ending(opening, reason, settings),
         }
     }
 }
@@ -84,7 +107,7 @@ impl Unopened {
 fn open_socket<R: Net>(rt: &R, address: SocketAddrV4) -> Result<UdpSocket, Unopened> {
     match UdpSocket::bind(rt, SocketAddr::V4(address)) {
         Ok(socket) => Ok(socket),
-        Err(fault) => Err(Unopened::Listen.by(fault.kind())),
+        Err(fault) => Err(refused(Opening::Listen, fault.kind())),
     }
 }
 
@@ -95,7 +118,7 @@ fn open_telephones<R: Net>(
 ) -> Result<Box<CommandSocket>, Unopened> {
     match CommandSocket::open(rt, alloc, address) {
         Ok(telephones) => Ok(boxed(alloc, telephones)?),
-        Err(fault) => Err(Unopened::Phones.by(fault.kind())),
+        Err(fault) => Err(refused(Opening::Phones, fault.kind())),
     }
 }
 
@@ -108,7 +131,7 @@ fn watch<R: Net>(
 ) -> Result<Box<Readiness>, Unopened> {
     match Readiness::watch(rt, alloc, socket, telephones) {
         Ok(ready) => Ok(boxed(alloc, ready)?),
-        Err(fault) => Err(Unopened::Listen.by(fault.kind())),
+        Err(fault) => Err(refused(Opening::Listen, fault.kind())),
     }
 }
 
@@ -139,7 +162,7 @@ fn open_capture<R: Files>(rt: &R, settings: &Settings<'_>) -> Result<Option<R::F
     };
     match File::create(rt, file) {
         Ok(made) => Ok(Some(made)),
-        Err(fault) => Err(Unopened::Capture.by(fault.kind())),
+        Err(fault) => Err(refused(Opening::Capture, fault.kind())),
     }
 }
 
@@ -155,7 +178,7 @@ fn open_site<R: Net>(
     };
     match Site::open(rt, alloc, address, ready) {
         Ok(site) => Ok(Some(boxed(alloc, PageReception { site })?)),
-        Err(fault) => Err(Unopened::Http.by(fault.kind())),
+        Err(fault) => Err(refused(Opening::Http, fault.kind())),
     }
 }
 

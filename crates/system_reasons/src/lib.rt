@@ -1,0 +1,36 @@
+//! Why the system refused a socket or a file, in words.
+//!
+//! A program ends the line that tells of it with what stands here.
+#![tactic(auto)]
+
+use std::io::{ErrorKind, Read};
+
+/// What a line that tells of a refused socket or file ends with, by the kind of the system's error: as `: address in use`, and
+/// nothing where the kind says no more than that.
+pub fn reason_of(kind: ErrorKind) -> &'static str {
+    if kind == ErrorKind::AddrInUse {
+        return ": address in use";
+    }
+    if kind == ErrorKind::AddrNotAvailable {
+        return ": not an address of this machine";
+    }
+    if kind == ErrorKind::PermissionDenied {
+        return ": permission denied";
+    }
+    if kind == ErrorKind::NotFound {
+        return ": no such file or directory";
+    }
+    if kind == ErrorKind::IsADirectory {
+        return ": is a directory";
+    }
+    ""
+}
+
+/// The same for a reader that has failed: it is asked again, and what comes isn't used.
+pub fn reason_of_reader<F: Read>(reader: &mut F) -> &'static str {
+    let mut byte = [0u8; 1];
+    match reader.read(&mut byte) {
+        Ok(_) => "",
+        Err(fault) => reason_of(fault.kind()),
+    }
+}
