@@ -14,7 +14,7 @@ use Rattle.exchange_log.specs.declared.stamp.Stamp.{Stamp}
 use Rattle.exchange_log.specs.declared.stamp.Way.{Way}
 use Rattle.exchange_log.specs.declared.stamp.Way.TheVariants.{Came, Sent}
 use Rattle.exchange_log.specs.declared.note.Note.{Note}
-use Rattle.exchange_log.specs.declared.note.Note.TheVariants.{AnsweredAgain, Unanswered, SentAgain, Refused, Unreadable, TooLong, OutOfMemory, Lost, Late, Copied}
+use Rattle.exchange_log.specs.declared.note.Note.TheVariants.{AnsweredAgain, Unanswered, SentAgain, Refused, Unreadable, TooLong, Unsent, OutOfMemory, Lost, Late, Copied}
 use Rattle.exchange_log.specs.Escaping.{shown, escaped, is_text, IsLine}
 use Rattle.exchange_log.specs.TimeOfDay.{two_digits, three_digits, time_of_day}
 use Rattle.exchange_log.specs.Messages.{set_off, name_shown, header_shown, headed, line_shown, message_of, message_shown, header_of}
@@ -136,6 +136,7 @@ noted_text (Refused id code) =
     (decimal_text code) (from_text (code_with code))
 noted_text Unreadable = refl
 noted_text (TooLong length) = around (codes "too long: ") (decimal length) (codes " bytes or more") refl (decimal_text length) refl
+noted_text Unsent = refl
 noted_text OutOfMemory = refl
 noted_text Lost = refl
 noted_text (Late ms) = around (codes "late by ") (decimal ms) (codes " ms") refl (decimal_text ms) refl

@@ -3,7 +3,7 @@ use Rattle.std.specs.Prelude.{ℕ, codes, decimal, List, [], ◌++◌, Option, S
 use Rattle.mg_bytes.specs.declared.return_code.ReturnCode.{ReturnCode}
 use Rattle.mg_bytes.specs.ReturnCode.{words_of, code_with}
 use Rattle.exchange_log.specs.declared.note.Note.{Note}
-use Rattle.exchange_log.specs.declared.note.Note.TheVariants.{AnsweredAgain, Unanswered, SentAgain, Refused, Unreadable, TooLong, OutOfMemory, Lost, Late, Copied}
+use Rattle.exchange_log.specs.declared.note.Note.TheVariants.{AnsweredAgain, Unanswered, SentAgain, Refused, Unreadable, TooLong, Unsent, OutOfMemory, Lost, Late, Copied}
 
 -- what the standard says of a return code, if it is one of this gateway's
 abbrev pub words_from : Option ReturnCode → List ℕ
@@ -19,6 +19,7 @@ note_text (Refused id code) =
     codes "refused " ++ decimal id ++ codes ": " ++ decimal code ++ words_from (code_with code)
 note_text Unreadable = codes "no message"
 note_text (TooLong length) = codes "too long: " ++ decimal length ++ codes " bytes or more"
+note_text Unsent = codes "not sent"
 note_text OutOfMemory = codes "out of memory, nothing was done"
 note_text Lost = codes "lost on its way"
 note_text (Late ms) = codes "late by " ++ decimal ms ++ codes " ms"

@@ -97,6 +97,7 @@ pub fn notes_say_what_happened()
     ensures other_code { note_text (notes.Refused 1207 599) ≡ codes "refused 1207: 599" }
     ensures unreadable { note_text notes.Unreadable ≡ codes "no message" }
     ensures too_long { note_text (notes.TooLong 4001) ≡ codes "too long: 4001 bytes or more" }
+    ensures unsent { note_text notes.Unsent ≡ codes "not sent" }
     ensures memory { note_text notes.OutOfMemory ≡ codes "out of memory, nothing was done" }
     ensures lost { note_text notes.Lost ≡ codes "lost on its way" }
     ensures late { note_text (notes.Late 1200) ≡ codes "late by 1200 ms" }

@@ -22,6 +22,8 @@ pub enum Note {
     Unreadable,
     /// What came is longer than any datagram that is taken: so many bytes of it were seen (RFC 3435, 3.5.4).
     TooLong { length: usize },
+    /// What was to be sent couldn't be, and didn't leave.
+    Unsent,
     /// What came or was sent is lost on a network that spoils what goes over it.
     Lost,
     /// It comes later by so many ms.
@@ -132,6 +134,7 @@ pub(crate) fn put_note_text(alloc: Global, out: &mut Vec<u8>, note: Note) -> Res
         Note::TooLong { length } => {
             put_around(alloc, out, b"too long: ", length as u64, b" bytes or more")
         }
+        Note::Unsent => out.extend_from_slice(b"not sent"),
         Note::Lost => out.extend_from_slice(b"lost on its way"),
         Note::Late { ms } => put_around(alloc, out, b"late by ", ms, b" ms"),
         Note::Copied { first, second } => {

@@ -193,8 +193,18 @@ impl<'a, R: Net + Clock> Wire<'a, R> {
     pub fn transmit(&mut self, to: SocketAddrV4, bytes: &[u8]) {
         match self.socket.send_to(bytes, SocketAddr::V4(to)) {
             Ok(len) if len == bytes.len() => {}
-            Ok(_) | Err(_) => count(&mut self.journal.tally.send_faults),
+            Ok(_) | Err(_) => self.fail_to_send(to),
         }
+    }
+
+    // A datagram didn't leave, which is counted and noted in the log.
+    fn fail_to_send(&mut self, to: SocketAddrV4) {
+        count(&mut self.journal.tally.send_faults);
+        let stamp = Stamp {
+            moment: self.clock.now().time,
+            peer: to,
+        };
+        self.journal.note(stamp, Note::Unsent);
     }
 
     /// Sends a datagram, for the first time or again.

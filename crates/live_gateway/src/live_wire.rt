@@ -114,6 +114,7 @@ impl<'a, R: Net + Clock> Wire for LiveWire<'a, R> {
             }
             Err(fault) => {
                 self.send_faults = self.send_faults.saturating_add(1);
+                self.journal.log.fail_to_send(now, to);
                 Err(fault)
             }
         }

@@ -1,4 +1,4 @@
-//! What the log says of a network that spoils what goes over it.
+//! What the log says of a network that spoils what goes over it, or takes nothing.
 use crate::log::Log;
 use bad_network::Fate;
 use exchange_log::{Note, Stamp, Way, put_message, put_note};
@@ -41,11 +41,7 @@ impl Log {
         }
     }
 
-    /// The datagram that came or was sent last has this fate.
-    pub fn spoil(&mut self, now: Now, peer: SocketAddrV4, fate: Fate) {
-        let Some(note) = note_of(fate) else {
-            return;
-        };
+    fn note(&mut self, now: Now, peer: SocketAddrV4, note: Note) {
         let stamp = Stamp {
             moment: now.time,
             peer,
@@ -53,5 +49,17 @@ impl Log {
         if self.record.is_on() && put_note(self.alloc, &mut self.record.out, stamp, note).is_err() {
             self.record.refuse();
         }
+    }
+
+    /// The datagram that came or was sent last has this fate.
+    pub fn spoil(&mut self, now: Now, peer: SocketAddrV4, fate: Fate) {
+        if let Some(note) = note_of(fate) {
+            self.note(now, peer, note);
+        }
+    }
+
+    /// The datagram that was sent last didn't leave.
+    pub fn fail_to_send(&mut self, now: Now, to: SocketAddrV4) {
+        self.note(now, to, Note::Unsent);
     }
 }

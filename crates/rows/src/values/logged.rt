@@ -58,6 +58,7 @@ fn note_of(row: &mut Row<'_>, call: &str, value: &[u8]) -> Note {
             length: number_of(row, value) as usize,
         },
         "log unreadable" => Note::Unreadable,
+        "log not sent" => Note::Unsent,
         "log out of memory" => Note::OutOfMemory,
         _ => {
             row.unread();
