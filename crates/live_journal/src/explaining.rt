@@ -2,7 +2,7 @@
 use crate::log::{Log, Refusal};
 use command_forms::{explain, explained};
 use endpoint_names::Names;
-use exchange_log::{Note, put_note, put_refused};
+use exchange_log::{Note, Stamp, put_note, put_refused};
 use mg_bytes::OutOfMemory;
 use mgcp_text::{Message, TextFault, TransactionId, read_k, read_message};
 use piggyback::parts;
@@ -18,15 +18,24 @@ impl Log {
         None
     }
 
+    // A refusal is noted behind what was sent, and so at no moment before that.
+    fn noted(&self) -> Stamp {
+        Stamp {
+            moment: self.sent,
+            peer: self.came.peer,
+        }
+    }
+
     // By the code alone.
     fn note_refused(&mut self, id: TransactionId) -> Result<(), OutOfMemory> {
         let Some(Refusal { id, code }) = self.refusal_of(id) else {
             return Ok(());
         };
+        let stamp = self.noted();
         put_note(
             self.alloc,
             &mut self.record.out,
-            self.came,
+            stamp,
             Note::Refused { id, code },
         )
     }
@@ -43,13 +52,8 @@ impl Log {
         match explained(self.alloc, said, &confirms, names)? {
             Some(refused) if refused.code == refusal.code => {
                 let why = explain(self.alloc, &refused)?;
-                put_refused(
-                    self.alloc,
-                    &mut self.record.out,
-                    self.came,
-                    *id,
-                    why.as_bytes(),
-                )
+                let stamp = self.noted();
+                put_refused(self.alloc, &mut self.record.out, stamp, *id, why.as_bytes())
             }
             _ => self.note_refused(*id),
         }

@@ -53,6 +53,8 @@ pub struct Log {
     pub came: Stamp,
     pub bytes: Vec<u8>,
     pub refused: Vec<Refusal>,
+    /// When a datagram was sent last, in microseconds since 1970.
+    pub sent: u64,
 }
 
 impl Log {
@@ -71,6 +73,7 @@ impl Log {
             },
             bytes: Vec::new(alloc),
             refused: Vec::new(alloc),
+            sent: 0,
         })
     }
 
@@ -267,6 +270,7 @@ impl Log {
             moment: now.time,
             peer: to,
         };
+        self.sent = now.time;
         if self.datagram_sent(now, to, bytes).is_err() {
             self.record.refuse();
         }
