@@ -226,8 +226,8 @@ fn answer_requests<R: Net + Clock>(alloc: Global, board: &mut Switchboard, wire:
 
 // What is given up by now of the commands to a gateway.
 fn give_up<R: Net + Clock>(board: &mut Switchboard, wire: &mut Wire<'_, R>, place: usize) {
-    let time = wire.clock.now().time;
     for _ in 0..u16::MAX {
+        let time = wire.clock.now().time;
         if !board.give_up(&mut wire.journal, place, time) {
             return;
         }
