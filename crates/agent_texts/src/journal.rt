@@ -141,6 +141,17 @@ impl Journal {
         self.tell(&[b"announce ".as_slice(), name, b" ".as_slice(), method]);
     }
 
+    /// A command came under a name that its gateway doesn't have.
+    pub fn tell_strange(&mut self, command: &[u8]) {
+        count(&mut self.tally.strange_names);
+        self.tell(&[
+            b"strange ".as_slice(),
+            header_word(command, 2),
+            b" ".as_slice(),
+            header_word(command, 0),
+        ]);
+    }
+
     /// A command was given up, which went to this address.
     pub fn tell_given_up(&mut self, time: u64, to: SocketAddrV4, command: &[u8]) {
         count(&mut self.tally.given_up);

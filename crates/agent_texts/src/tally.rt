@@ -29,6 +29,8 @@ pub struct Tally {
     /// Notifications that were taken, each once, and announcements that came.
     pub notifications: u64,
     pub announcements: u64,
+    /// Commands that came under a name that their gateway doesn't have.
+    pub strange_names: u64,
     /// What the bad network lost, copied, and kept back.
     pub lost: u64,
     pub copied: u64,
@@ -62,6 +64,7 @@ impl Tally {
         given_up: 0,
         notifications: 0,
         announcements: 0,
+        strange_names: 0,
         lost: 0,
         copied: 0,
         late: 0,
@@ -88,6 +91,7 @@ impl Tally {
             (" given up ", self.given_up),
             ("\nnotifications ", self.notifications),
             (" announcements ", self.announcements),
+            (" strange ", self.strange_names),
             ("\nnetwork lost ", self.lost),
             (" copied ", self.copied),
             (" late ", self.late),

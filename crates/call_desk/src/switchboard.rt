@@ -393,10 +393,32 @@ impl Switchboard {
         }
     }
 
+    // Tells of a command whose name isn't of the gateway at this place.
+    fn tell_strange(
+        &self,
+        journal: &mut Journal,
+        place: usize,
+        message: &Message<'_>,
+        text: &[u8],
+    ) {
+        let Message::Command { name, .. } = message else {
+            return;
+        };
+        let Some(gateway) = self.gateways.get(place) else {
+            return;
+        };
+        if read_name(name.as_slice(), gateway.domain.as_bytes(), gateway.lines).is_err() {
+            journal.tell_strange(text);
+        }
+    }
+
     /// A text came from the gateway at this place, of which its agent has heard.
     pub fn hear(&mut self, journal: &mut Journal, place: usize, text: &[u8]) {
         match read_message(self.alloc, text) {
-            Ok(message) => self.hear_message(journal, place, &message, text),
+            Ok(message) => {
+                self.tell_strange(journal, place, &message, text);
+                self.hear_message(journal, place, &message, text);
+            }
             Err(_) => {}
         }
     }
