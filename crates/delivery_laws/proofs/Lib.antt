@@ -61,5 +61,6 @@ pub mod AskingLaws
 pub mod NumberLemmas
 pub mod Computing
 pub mod ExampleLemmas
+pub mod PacketExamples
 pub mod FrontLemmas
 pub mod FairExamples

@@ -25,7 +25,7 @@ IsResponse id outcome = (code : ℕ) × (params : List Param) × (body : List �
 abbrev pub HasCome : World → ℕ → Type 0
 HasCome w id = Any (λ (a : TextArrival). IsResponse id a.outcome) (arrivals_of w.gateway_took)
 
--- so many ms after its first send it went out, in a packet to whom its line notifies
+-- so many ms after its first send it went out, wherever that packet goes
 pub record IsToldAfter (setup : Setup) (w : World) (b : Begun) (wait : ℕ) : Type 0 where
   pub number : ℕ
   pub post : Posted

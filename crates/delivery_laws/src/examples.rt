@@ -8,6 +8,7 @@ ghost use Rattle.history.specs.declared.entry.Entry.TheVariants.{Confirmation};
 ghost use Rattle.history.specs.Firsts.{young_of};
 ghost use Rattle.history.specs.Kept.{first_entry, young_firsts};
 ghost use Rattle.restart.specs.declared.restart.Restart.TheVariants.{Waiting, Announced, Serving};
+ghost use Rattle.outbound.specs.Flight.{InFlight};
 ghost use Rattle.mg_line.specs.declared.state.State.TheVariants.{Normal, Notification, Lockstep};
 ghost use Rattle.plain_machine.specs.Machine.{serves};
 ghost use Rattle.plain_machine.specs.Example.{agent, other_agent, ready, response, two_lines};
@@ -34,13 +35,13 @@ ghost use Rattle.machine_laws.specs.Belonging.{of_line};
 ghost use Rattle.machine_laws.specs.Saying.{HasNumbersLeft};
 ghost use Rattle.dialled_end_to_end.specs.GivenUp.{has_given_up};
 ghost use Rattle.dialled_end_to_end.specs.Example.{asked as asked_for_all, done_then, endpoint_then, left_then, told_then};
-ghost use Rattle.delivery_laws.specs.Copies.{IsRun, arrives, IsCopy, IsConfirmedAmong, gateway_firsts};
+ghost use Rattle.delivery_laws.specs.Copies.{IsRun, arrives, IsCopy, IsConfirmedAmong, IsFinal, HasAnswer, gateway_firsts};
 ghost use Rattle.delivery_laws.specs.Chances.{IsSentAfter, IsCarried};
 ghost use Rattle.delivery_laws.specs.OwnChances.{HasCome, IsOfLine, IsToldAfter};
 ghost use Rattle.delivery_laws.specs.Fairness.{AgentAlwaysHasRoom, AlwaysHasRoom, GoesToAgent, HadItsTime, IsFair, ReachTheAgent};
 ghost use Rattle.delivery_laws.specs.Rounds.{IsAnsweredWithin, IsAskedWithin, of_telephone, rounds_take};
 ghost use Rattle.delivery_laws.specs.GoingOn.{IsPlainAnswer};
-ghost use Rattle.delivery_laws.specs.Taking.{IsConfirmedIn, agent_history};
+ghost use Rattle.delivery_laws.specs.Taking.{IsConfirmedIn, IsTaken, agent_history};
 ghost use Rattle.delivery_laws.specs.Asking.{AsksBy};
 ghost use Rattle.delivery_laws.specs.Example.{audit, asked, audits_with, stored_in, answered, confirmed, up_to, last_copy};
 ghost use Rattle.delivery_laws.specs.Example.{announced_anew, hasty, hasty_line, hasty_took, hasty_took_between, hasty_world, held_on, lost, nothing_comes};
@@ -65,6 +66,8 @@ pub fn an_audit_is_served()
     ensures answered { IsCopy two_lines (world (asked ++ delivering 2 ∷ [])) GatewayEnd (codes "200 1 OK\r\n") 3 }
     ensures had { code_in 1 (asked ++ delivering 2 ∷ delivering 3 ∷ []) ≡ Some 200 }
     ensures sent { IsSentAfter two_lines (world asked) audit 0 }
+    ensures not_sent { ¬ IsSentAfter two_lines (world asked) audit 500 }
+    ensures none_had { ¬ HasAnswer 1 (agent_in two_lines (world asked)) }
     ensures carried { IsCarried two_lines (asked ++ delivering 2 ∷ delivering 3 ∷ []) audit 2 }
     ensures no_copy { stored_in (asked ++ delivering 1 ∷ []) ≡ [] }
     ensures taken { steps_are_taken two_lines world_opening (asked ++ delivering 1 ∷ []) ≡ true }
@@ -109,6 +112,7 @@ pub fn the_last_copy_is_enough()
     ensures moments { moments_in (asked ++ up_to 20) ≡ 1 ∷ 1 ∷ 1 ∷ 501 ∷ 1501 ∷ 3501 ∷ 7501 ∷ 11501 ∷ 15501 ∷ 19501 ∷ [] }
     ensures taken { steps_are_taken two_lines world_opening (last_copy ++ ticking 23500 ∷ delivering 10 ∷ []) ≡ true }
     ensures soon { code_in 1 (last_copy ++ ticking 23500 ∷ delivering 10 ∷ []) ≡ Some 200 }
+    ensures carried { IsCarried two_lines (last_copy ++ ticking 23500 ∷ delivering 10 ∷ []) audit 9 }
     ensures too_late { code_in 1 (last_copy ++ ticking 23501 ∷ delivering 10 ∷ []) ≡ None }
     ensures all_lost { code_in 1 (last_copy ++ ticking 23500 ∷ []) ≡ None }
     ensures seven_lost { code_in 1 (asked ++ up_to 19) ≡ None }
@@ -138,6 +142,7 @@ pub fn a_notification_is_brought()
     ensures goes_not { ¬ GoesToAgent two_lines (world redirected)
         (codes "NTFY 10000000 aaln/1@rgw.example.net MGCP 1.0\r\nX: A0\r\nO: L/hd\r\n") }
     ensures reaches_not { ¬ ReachTheAgent two_lines redirected 1 }
+    ensures of_another { ReachTheAgent two_lines redirected 2 }
     ensures fair_too { IsFair two_lines (redirected ++ delivering 4 ∷ ticking 2 ∷ []) 0 }
     ensures took_too { took_first (redirected ++ delivering 4 ∷ ticking 2 ∷ []) ≡ took_first redirected ++ tick 2 ∷ [] }
     ensures not_answered { ¬ IsAnsweredWithin two_lines 1 (took_first redirected) (tick 2 ∷ []) 0 }
@@ -295,6 +300,8 @@ pub fn what_is_pressed_at_once_takes_its_rounds()
         (took_between pressed_at_once slowly)) ≡ [] }
     ensures done { done_then pressed_at_once ≡ off_hook ∷ five ∷ six ∷ [] }
     ensures told { told_then slowly ≡ off_hook ∷ five ∷ [] }
+    ensures numbers { HasNumbersLeft (own_in two_lines (world slowly)) }
+    ensures flies { flying_after slowly ≡ Some 10000001 }
 {}
 
 /// What a line gave up the agent is never told, though it serves again: all else that the law asks for holds, where the network brings
@@ -393,6 +400,8 @@ pub fn what_confirms_itself_gets_silence()
         (plain_world confirming (notified ++ delivering 2 ∷ delivering 0 ∷ [])))) ≡ 2 }
     ensures silence { texts_with confirming (notified ++ delivering 2 ∷ delivering 0 ∷ [])
         ≡ texts_with confirming (notified ++ delivering 2 ∷ []) }
+    ensures not_taken { ¬ IsTaken confirming (plain_world confirming (notified ++ delivering 2 ∷ []))
+        (plain_world confirming (notified ++ delivering 2 ∷ delivering 0 ∷ [])) 1 }
 {}
 
 /// What a dot in the domain parts is told in no packet: neither the announcement of the gateway, nor the notification of a line.
@@ -440,6 +449,7 @@ pub fn what_may_not_be_issued_has_no_answer()
     ensures acknowledged { texts_in asked_to_acknowledge
         ≡ codes "200 5 1 aaln/1@rgw.example.net MGCP 1.0\r\nK:\r\n" ∷ codes "000 5\r\n" ∷ [] }
     ensures reads { read_text (codes "000 5\r\n") ≡ message (messages.Response 0 5 [] []) }
+    ensures not_final { ¬ IsFinal (codes "000 5\r\n") }
 {}
 
 /// The agent may not answer, behind a command, what wasn't sent yet. Where it does, a notification flies that was answered before; and
@@ -529,6 +539,8 @@ pub fn what_goes_elsewhere_first_is_told_later()
 pub fn a_notification_goes_out_again()
     ensures of_line { IsOfLine two_lines (world notified) 1 lifted }
     ensures told { IsToldAfter two_lines (world notified) lifted 0 }
+    ensures not_told { ¬ IsToldAfter two_lines (world notified) lifted 500 }
+    ensures none_told { ¬ IsToldAfter two_lines (world announced) lifted 0 }
     ensures again { moments_in (notified ++ up_to 2) ≡ 1 ∷ 1 ∷ 1 ∷ 501 ∷ 1501 ∷ [] }
     ensures not_yet { ¬ HasCome (world notified) 10000000 }
     ensures came { HasCome (world brought) 10000000 }
@@ -643,6 +655,7 @@ pub fn who_is_unanswered_asks_again()
         ≡ 1 ∷ 1 ∷ 1 ∷ 501 ∷ 1501 ∷ 3501 ∷ 7501 ∷ 11501 ∷ 15501 ∷ 19501 ∷ 28501 ∷ 29001 ∷ [] }
     ensures waits { AsksBy (Waiting 12) 10 2 None }
     ensures too_long { ¬ AsksBy (Waiting 13) 10 2 None }
+    ensures waits_alone { (flight : InFlight) → ¬ AsksBy (Waiting 12) 10 2 (Some flight) }
     ensures nothing_flies { ¬ AsksBy Announced 10 2 None }
     ensures serves { AsksBy Serving 10 2 None }
     ensures not_taken { steps_are_taken two_lines world_opening (notified ++ up_to 24 ++ ticking 23500 ∷ []) ≡ false }

@@ -1,4 +1,5 @@
-use Rattle.std.proofs.Common.{◌≡◌, true, false, [], ◌∷◌, ◌++◌, codes, inl, refl, arith}
+use Rattle.std.proofs.Common.{◌≡◌, true, false, [], ◌∷◌, ◌++◌, ◌∙◌, codes, inl, refl, sym, arith}
+use Rattle.std.proofs.lemmas.Option.{none-some}
 use Rattle.plain_machine.specs.Example.{two_lines}
 use Rattle.machine_laws.specs.Saying.{Begun}
 use Rattle.machine_laws.proofs.EachLemmas.{any_from_one}
@@ -11,6 +12,7 @@ use Rattle.agent_core.specs.declared.packet.End.TheVariants.{GatewayEnd, AgentEn
 use Rattle.delivery_laws.proofs.Computing.{on_examples}
 use Rattle.delivery_laws.proofs.ExampleLemmas.{copy_at, two_lines_set_up}
 use Rattle.delivery_laws.proofs.StoredLemmas.{IsStoredAs}
+use Rattle.delivery_laws.proofs.PacketExamples.{sent_at}
 use Rattle.delivery_laws.proofs.examples.an_audit_is_served.Goals as goal
 
 pub returns : goal.returns
@@ -25,6 +27,11 @@ returns c = record {
   answered = copy_at two_lines (world (asked ++ delivering 2 ∷ [])) GatewayEnd (codes "200 1 OK\r\n") 3 0 refl;
   had = refl;
   sent = record { number = 2; copy = copy_at two_lines (world asked) AgentEnd audit.text 2 0 refl; moment = refl };
+  not_sent = λ sent.
+      (let at = sent_at 1 (world asked).posted sent.number sent.copy.post refl sent.copy.found in
+      let late : 1 ≡ 501 = sym at ∙ sent.moment in
+      absurd (omega (arith, late)));
+  none_had = λ had. absurd (none-some had.0 had.1);
   carried = record {
     before = asked;
     between = [];

@@ -1,14 +1,21 @@
-use Rattle.std.proofs.Common.{[], ◌∷◌, drop, refl}
+use Rattle.std.proofs.Common.{◌≡◌, ℕ, ◌<◌, [], ◌∷◌, drop, length, refl, sym, subst, arith}
 use Rattle.plain_machine.specs.Event.{tick}
 use Rattle.plain_machine.specs.Example.{two_lines}
 use Rattle.dialled_once.proofs.AskingLemmas.{notifies_each}
+use Rattle.world_laws.specs.Reached.{own_in}
+use Rattle.world_laws.specs.Example.{world}
 use Rattle.dialled_end_to_end.specs.Example.{endpoint_then}
+use Rattle.dialled_end_to_end.proofs.NumberLemmas.{few_are_begun}
 use Rattle.delivery_laws.specs.Example.{pressed_at_once, slowly, took_between, took_first}
 use Rattle.delivery_laws.proofs.Computing.{on_examples}
 use Rattle.delivery_laws.proofs.ExampleLemmas.{all_reach, had_its_time, took_split}
 use Rattle.delivery_laws.proofs.FairExamples.{fair_is}
 use Rattle.delivery_laws.proofs.FrontLemmas.{agent_has_room, answered_within, never_locked, not_answered}
 use Rattle.delivery_laws.proofs.examples.what_is_pressed_at_once_takes_its_rounds.Goals as goal
+
+three : length (own_in two_lines (world slowly)) ≡ 3
+unfolding on_examples
+three = refl
 
 pub returns : goal.returns
 unfolding on_examples
@@ -32,4 +39,6 @@ returns c = record {
   rests = refl;
   done = refl;
   told = refl;
+  numbers = few_are_begun (own_in two_lines (world slowly)) (subst (λ (n : ℕ). n < 9999999) (sym three) (omega arith));
+  flies = refl;
 }

@@ -1,4 +1,4 @@
-use Rattle.std.proofs.Common.{[], ◌∷◌, ◌++◌, refl}
+use Rattle.std.proofs.Common.{◌≡◌, true, false, [], ◌∷◌, ◌++◌, refl}
 use Rattle.plain_machine.specs.Example.{two_lines}
 use Rattle.agent_core.specs.World.{delivering}
 use Rattle.delivery_laws.specs.Example.{garbled_issued, garbled}
@@ -16,3 +16,7 @@ returns-clause-copy c = copy_at two_lines (world garbled_issued) AgentEnd garble
 pub returns-clause-fair : goal.returns-clause-fair
 unfolding on_examples
 returns-clause-fair c = fair_is two_lines (garbled_issued ++ delivering 2 ∷ []) 0 refl
+
+pub returns-clause-not_final : goal.returns-clause-not_final
+unfolding on_examples
+returns-clause-not_final c = λ final. absurd (let e : false ≡ true = final 0 5 [] [] refl in cc)
