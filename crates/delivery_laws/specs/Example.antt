@@ -2,6 +2,8 @@
 use Rattle.std.specs.Prelude.{ℕ, ◌+◌, ◌*◌, codes, List, [], ◌∷◌, ◌++◌, drop, length, map, Option, option_and_then, option_map}
 use Rattle.std.specs.List.{range_with_len}
 use Rattle.std.specs.Option.{unwrap_or}
+use Rattle.history.specs.declared.span.IdSpan.{IdSpan}
+use Rattle.history.specs.Arrival.{Arrival}
 use Rattle.mg_line.specs.declared.state.State.{State}
 use Rattle.mg_line.specs.Answering.{answered as line_answered}
 use Rattle.restart.specs.declared.restart.Restart.{Restart}
@@ -38,6 +40,13 @@ audits_with rest = issuing (codes "AUEP") (codes "aaln/1@rgw.example.net") rest
 -- the ids of the firsts at the gateway, each with its answer
 abbrev pub stored_in : List WorldStep → List (ℕ × List ℕ)
 stored_in steps = map (λ first. (first.id, first.answer)) (gateway_firsts two_lines (world steps))
+
+-- a first with this id and this K, and a K that names one id
+abbrev pub arrived : ℕ → List IdSpan → Arrival
+arrived id confirms = record { id = id; moment = 1; confirms = confirms; answer = [] }
+
+abbrev pub naming : ℕ → List IdSpan
+naming id = (record { first = id; last = id }) ∷ []
 
 -- the audit and its answer are handed over at once
 abbrev pub answered : List WorldStep

@@ -34,16 +34,17 @@ ghost use Rattle.dialled_once.specs.Dialled.{IsAskedForAll, done_in};
 ghost use Rattle.machine_laws.specs.Belonging.{of_line};
 ghost use Rattle.machine_laws.specs.Saying.{HasNumbersLeft};
 ghost use Rattle.dialled_end_to_end.specs.GivenUp.{has_given_up};
-ghost use Rattle.dialled_end_to_end.specs.Example.{asked as asked_for_all, done_then, endpoint_then, left_then, told_then};
-ghost use Rattle.delivery_laws.specs.Copies.{IsRun, arrives, IsCopy, IsConfirmedAmong, IsFinal, HasAnswer, gateway_firsts};
+ghost use Rattle.dialled_end_to_end.specs.Example.{answered as told_anew, asked as asked_for_all, taken};
+ghost use Rattle.dialled_end_to_end.specs.Example.{done_then, endpoint_then, left_then, told_then};
+ghost use Rattle.delivery_laws.specs.Copies.{IsRun, arrives, IsAnswered, IsCopy, IsConfirmedAmong, IsFinal, HasAnswer, gateway_firsts};
 ghost use Rattle.delivery_laws.specs.Chances.{IsSentAfter, IsCarried};
 ghost use Rattle.delivery_laws.specs.OwnChances.{HasCome, IsOfLine, IsToldAfter};
 ghost use Rattle.delivery_laws.specs.Fairness.{AgentAlwaysHasRoom, AlwaysHasRoom, GoesToAgent, HadItsTime, IsFair, ReachTheAgent};
 ghost use Rattle.delivery_laws.specs.Rounds.{IsAnsweredWithin, IsAskedWithin, of_telephone, rounds_take};
-ghost use Rattle.delivery_laws.specs.GoingOn.{IsPlainAnswer};
+ghost use Rattle.delivery_laws.specs.GoingOn.{GoesOn, IsPlainAnswer};
 ghost use Rattle.delivery_laws.specs.Taking.{IsConfirmedIn, IsTaken, agent_history};
 ghost use Rattle.delivery_laws.specs.Asking.{AsksBy};
-ghost use Rattle.delivery_laws.specs.Example.{audit, asked, audits_with, stored_in, answered, confirmed, up_to, last_copy};
+ghost use Rattle.delivery_laws.specs.Example.{arrived, audit, asked, audits_with, naming, stored_in, answered, confirmed, up_to, last_copy};
 ghost use Rattle.delivery_laws.specs.Example.{announced_anew, hasty, hasty_line, hasty_took, hasty_took_between, hasty_world, held_on, lost, nothing_comes};
 ghost use Rattle.delivery_laws.specs.Example.{freed, held, in_step, asked_for_its_agent, asked_to_acknowledge, asked_twice, asking, confirming, parting, pressed_at_once, pressed_since, putting_off, slowly};
 ghost use Rattle.delivery_laws.specs.Example.{answered_early, answered_unheard, garbled, garbled_issued, lifted_since, parted, parted_issued, put_back, put_back_late};
@@ -101,6 +102,9 @@ pub fn what_a_fair_network_is()
 pub fn what_is_confirmed_gets_silence()
     ensures confirmed { IsConfirmedAmong 1 (gateway_firsts two_lines (world confirmed)) }
     ensures silence { texts_in (confirmed ++ delivering 2 ∷ []) ≡ texts_in confirmed }
+    ensures unanswered { ¬ IsAnswered two_lines (world confirmed) (world (confirmed ++ delivering 2 ∷ [])) 1 }
+    ensures named_before { ¬ IsConfirmedAmong 2 (arrived 1 (naming 2) ∷ arrived 2 [] ∷ []) }
+    ensures of_no_first { ¬ IsConfirmedAmong 7 (arrived 1 [] ∷ arrived 2 (naming 7) ∷ []) }
     ensures earlier { texts_in (announced ++ audits_with (codes "K: 2\r\n") ∷ delivering 2 ∷ audits ∷ delivering 4 ∷ delivering 4 ∷ [])
         ≡ texts_in (announced ++ audits_with (codes "K: 2\r\n") ∷ delivering 2 ∷ audits ∷ delivering 4 ∷ []) ++ codes "200 2 OK\r\n" ∷ [] }
 {}
@@ -547,13 +551,20 @@ pub fn a_notification_goes_out_again()
     ensures no_more { moments_in (brought ++ up_to 2) ≡ 1 ∷ 1 ∷ 1 ∷ 1 ∷ [] }
 {}
 
-/// Its answer lets the line go on: it waits for a request, and nothing of it is in flight any more. The gateway serves once its
-/// announcement is answered.
+/// Its answer lets the line go on: it waits for a request, and nothing of it is in flight any more; or it notifies what was quarantined, at
+/// once and under its next id. The gateway serves once its announcement is answered.
 pub fn an_answer_lets_line_1_go_on()
     ensures flies { flying_after (notified ++ delivering 2 ∷ []) ≡ Some 10000000 }
     ensures waits { state_after (notified ++ delivering 2 ∷ []) ≡ Some Notification }
     ensures none_flies { flying_after (notified ++ delivering 2 ∷ delivering 3 ∷ []) ≡ None }
     ensures goes_on { state_after (notified ++ delivering 2 ∷ delivering 3 ∷ []) ≡ Some Lockstep }
+    ensures anew { GoesOn 1 1 (endpoint_then taken) (endpoint_then told_anew) }
+    ensures as_it_was { ¬ GoesOn 1 1 (endpoint_then taken)
+        (record (endpoint_then told_anew) { line = (endpoint_then taken).line }) }
+    ensures announces { ¬ GoesOn 1 1 (endpoint_then taken)
+        (record (endpoint_then told_anew) { post = record (endpoint_then told_anew).post { restart = Announced } }) }
+    ensures of_another { ¬ GoesOn 2 1 (endpoint_then taken) (endpoint_then told_anew) }
+    ensures sent_before { ¬ GoesOn 1 2 (endpoint_then taken) (endpoint_then told_anew) }
     ensures serves { serves (gateway_in two_lines (world announced)).endpoints ≡ true }
     ensures serves_not { serves (gateway_in two_lines (world (ticking 1 ∷ delivering 0 ∷ []))).endpoints ≡ false }
 {}
