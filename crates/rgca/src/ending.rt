@@ -199,6 +199,16 @@ fn put_config<W: fmt::Write>(
     }
 }
 
+// What is written of a file that can't be read or written.
+fn put_file<W: fmt::Write>(
+    f: &mut fmt::Formatter<W>,
+    file: &str,
+    fault: &str,
+    reason: &str,
+) -> fmt::Result {
+    put_pieces(f, &[file, fault, reason, "\n"])
+}
+
 // What is written: on standard output what the words ask, else a line on standard error, or nothing
 // where it served or checked, or where all was said.
 impl<'a> fmt::Display for Ending<'a> {
@@ -215,12 +225,8 @@ impl<'a> fmt::Display for Ending<'a> {
             Ending::BadLine { word } => put_pieces(f, &[*word, NO_LINE]),
             Ending::SameLine => f.write_str("--more-lines: the same line as --line\n"),
             Ending::Config { file, refusal } => put_config(f, *file, refusal),
-            Ending::Unreadable { file, reason } => {
-                put_pieces(f, &[*file, ": read fault", *reason, "\n"])
-            }
-            Ending::Unwritable { file, reason } => {
-                put_pieces(f, &[*file, ": write fault", *reason, "\n"])
-            }
+            Ending::Unreadable { file, reason } => put_file(f, *file, ": read fault", *reason),
+            Ending::Unwritable { file, reason } => put_file(f, *file, ": write fault", *reason),
             Ending::Unbound {
                 word,
                 address,

@@ -149,14 +149,13 @@ fn reason_in(ending: Ending<'_>) -> &'static str {
     }
 }
 
-fn put_line<W: fmt::Write>(f: &mut fmt::Formatter<W>, ending: Ending<'_>) -> fmt::Result {
-    let pieces = [
-        subject_of(ending),
-        fault_of(ending),
-        reason_in(ending),
-        "\n",
-    ];
-    put_pieces(f, &pieces)
+fn put_line<W: fmt::Write>(
+    f: &mut fmt::Formatter<W>,
+    subject: &str,
+    fault: &str,
+    reason: &str,
+) -> fmt::Result {
+    put_pieces(f, &[subject, fault, reason, "\n"])
 }
 
 // What is written: on standard output what the words ask, else a line on standard error, or nothing
@@ -174,7 +173,7 @@ impl<'a> fmt::Display for Ending<'a> {
                 address,
                 reason,
             } => writeln!(f, "{word} {address}: no socket{reason}"),
-            ending => put_line(f, ending),
+            ending => put_line(f, subject_of(ending), fault_of(ending), reason_in(ending)),
         }
     }
 }
