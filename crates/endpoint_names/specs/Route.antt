@@ -13,6 +13,10 @@ addresses (Two a b) = a ∷ b ∷ []
 addresses (Three a b c) = a ∷ b ∷ c ∷ []
 addresses (Four a b c d) = a ∷ b ∷ c ∷ d ∷ []
 
+-- the most addresses of one receiver
+abbrev pub most_addresses : ℕ
+most_addresses = 4
+
 -- the route of so many addresses
 abbrev pub route_of : {A : Type 0} → List A → Option (Route A)
 route_of [] = None

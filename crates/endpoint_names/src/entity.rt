@@ -19,7 +19,7 @@ const AGENT_PORT: u16 = 2727;
 pub const LONGEST_ENTITY: usize = 128;
 
 /// The most bytes of its local name (this gateway's profile).
-const LONGEST_LOCAL: usize = 64;
+pub const LONGEST_LOCAL: usize = 64;
 
 /// An entity that notifications go to (RFC 3435, 2.1.4): its name as it was given, and its addresses.
 #[derive(Clone, Copy)]

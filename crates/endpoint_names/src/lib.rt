@@ -17,9 +17,9 @@ pub mod route_laws;
 mod table;
 
 pub use crate::domain::{LONGEST_DOMAIN, is_domain};
-pub use crate::entity::{Entity, LONGEST_ENTITY, read_entity};
+pub use crate::entity::{Entity, LONGEST_ENTITY, LONGEST_LOCAL, read_entity};
 pub use crate::fixed::FixedText;
 pub use crate::name::{NameFault, Pattern, matches, read_name, write_name};
 pub use crate::names::Names;
-pub use crate::route::Route;
+pub use crate::route::{MOST_ADDRESSES, Route};
 pub use crate::table::{Host, MOST_HOSTS, Table, TableFault};

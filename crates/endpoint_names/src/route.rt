@@ -4,11 +4,14 @@ ghost use Rattle.endpoint_names.specs.Route.{route_of, place_of, at, with_port};
 
 use std::net::{Ipv4Addr, SocketAddrV4};
 
+/// The most addresses of one receiver (this gateway's profile).
+pub const MOST_ADDRESSES: usize = 4;
+
 // So many sends go to one address before the next one's turn (this gateway's profile).
 const SENDS_EACH: u64 = 2;
 
-/// The 1 to 4 addresses of one receiver, in the order in which they are tried (RFC 3435, 3.5 and 4.3): a host has a route of
-/// addresses, a call agent one of addresses with its port. Two of them may be equal.
+/// The addresses of one receiver, one to `MOST_ADDRESSES`, in the order in which they are tried (RFC 3435, 3.5 and 4.3): a host
+/// has a route of addresses, a call agent one of addresses with its port. Two of them may be equal.
 #[derive(Clone, Copy)]
 pub enum Route<A> {
     One(A),
@@ -27,7 +30,7 @@ fn place_of(count: usize, send: u64) -> usize
 }
 
 impl<A: Copy> Route<A> {
-    /// The route of these addresses; `None` where there are none, or more than four.
+    /// The route of these addresses; `None` where there are none, or more than `MOST_ADDRESSES`.
     pub fn of(addresses: &[A]) -> Option<Route<A>>
         ensures { result ≡ route_of addresses.now }
     {

@@ -5,7 +5,8 @@ ghost use Rattle.std.specs.declared.net.ipv4_addr.Ipv4Addr.{Ipv4Addr};
 ghost use Rattle.std.specs.declared.net.socket_addr.SocketAddrV4.{SocketAddrV4};
 ghost use Rattle.endpoint_names.specs.declared.route.Route.{Route};
 ghost use Rattle.endpoint_names.specs.declared.route.Route.TheVariants.{One};
-ghost use Rattle.endpoint_names.specs.Route.{addresses, route_of, first, at, with_port};
+ghost use Rattle.endpoint_names.specs.declared.route.TheConstants.{MOST_ADDRESSES};
+ghost use Rattle.endpoint_names.specs.Route.{addresses, most_addresses, route_of, first, at, with_port};
 
 /// A message begins with the first address of its route; where that is the only one, all its sends go there.
 pub fn messages_begin_with_the_first_address()
@@ -33,7 +34,8 @@ pub fn eight_sends_reach_each_address()
 pub fn routes_are_lists_of_one_to_four()
     ensures again { (route : Route SocketAddrV4) → route_of (addresses route) ≡ Some route }
     ensures all { (list : List SocketAddrV4) (route : Route SocketAddrV4) → route_of list ≡ Some route → addresses route ≡ list }
-    ensures none { (list : List SocketAddrV4) → (route_of list ≡ None) ↔ ((length list ≡ 0) ⊎ (4 < length list)) }
+    ensures none { (list : List SocketAddrV4) → (route_of list ≡ None) ↔ ((length list ≡ 0) ⊎ (most_addresses < length list)) }
+    ensures named { MOST_ADDRESSES ≡ most_addresses }
 {}
 
 /// A port is that of each address.

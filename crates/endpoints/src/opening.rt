@@ -1,7 +1,7 @@
 //! What a configuration sets up, and what there is at the opening: the endpoints, and the post of the gateway itself.
 ghost use Rattle.std.specs.Prelude.{◌≡◌, ◌≤◌, ◌<◌, ◌+◌, ◌^◌, [], length, map, IfOk};
 ghost use Rattle.std.specs.List.{AllByRecursion, range_with_len};
-ghost use Rattle.plain_machine.specs.Setup.{table_from, are_lines, is_wait, is_media_base, is_address, parts_of, setup_of, key_at_fault, IsSetUp, most_lines};
+ghost use Rattle.plain_machine.specs.Setup.{table_from, are_lines, is_wait, is_media_base, is_address, parts_of, setup_of, key_at_fault, IsSetUp, most_lines, highest_media_base};
 ghost use Rattle.plain_machine.specs.Machine.{port_of, opening_post, opening_endpoint, opening_own};
 ghost use Rattle.endpoint_rules.specs.Telling.{HasId};
 
@@ -10,7 +10,8 @@ use endpoint_names::{Entity, Names, Table, is_domain, read_entity};
 use mg_bytes::OutOfMemory;
 use mg_line::Line;
 use plain_machine::{
-    CommandNumber, Config, ConfigFault, ConfigKey, Endpoint, MOST_LINES, NamedRoute, Post, Setup,
+    CommandNumber, Config, ConfigFault, ConfigKey, Endpoint, HIGHEST_MEDIA_BASE, LONGEST_WAIT,
+    LOWEST_MEDIA_BASE, MOST_LINES, NamedRoute, Post, SHORTEST_WAIT, Setup,
 };
 use restart::Restart;
 use std::alloc::Global;
@@ -40,13 +41,13 @@ fn are_lines(lines: u32) -> bool
 fn is_wait(wait: u32) -> bool
     ensures { result ≡ is_wait wait }
 {
-    wait >= 1 && wait <= 600_000
+    wait >= SHORTEST_WAIT && wait <= LONGEST_WAIT
 }
 
 fn is_media_base(port: u32) -> bool
     ensures { result ≡ is_media_base port }
 {
-    port >= 1024 && port <= 64_000 && port % 2 == 0
+    port >= LOWEST_MEDIA_BASE && port <= HIGHEST_MEDIA_BASE && port % 2 == 0
 }
 
 // The octets of an address: four, each of eight bits.
@@ -147,7 +148,7 @@ fn opening_post(setup: &Setup, number: CommandNumber, restart: Restart) -> Post
 
 // The first port of a line.
 fn port_of(setup: &Setup, line: u16) -> u16
-    requires ports { setup.now.media_base ≤ 64000 }
+    requires ports { setup.now.media_base ≤ highest_media_base }
     requires some { 1 ≤ line }
     requires few { line ≤ most_lines }
     ensures value { result ≡ port_of setup.now line }
@@ -158,7 +159,7 @@ fn port_of(setup: &Setup, line: u16) -> u16
 
 // The endpoint of this line, with the line as a line opens and the configured agent.
 fn opening_endpoint(alloc: Global, setup: &Setup, line: u16) -> Result<Endpoint, OutOfMemory>
-    requires ports { setup.now.media_base ≤ 64000 }
+    requires ports { setup.now.media_base ≤ highest_media_base }
     requires some { 1 ≤ line }
     requires few { line ≤ most_lines }
     ensures { IfOk result (λ endpoint. endpoint ≡ opening_endpoint setup.now line) }

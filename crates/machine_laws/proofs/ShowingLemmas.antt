@@ -58,7 +58,7 @@ use Rattle.timers.specs.declared.kind.DueKind.TheVariants.{OfLine, Resend, Annou
 use Rattle.plain_machine.specs.declared.response.Response.{Response}
 use Rattle.plain_machine.specs.declared.setup.Setup.{Setup}
 use Rattle.plain_machine.specs.declared.endpoint.Endpoint.{Endpoint}
-use Rattle.plain_machine.specs.Setup.{IsSetUp, most_lines}
+use Rattle.plain_machine.specs.Setup.{IsSetUp, most_lines, highest_media_base}
 use Rattle.plain_machine.specs.Message.{Sent}
 use Rattle.plain_machine.specs.Posting.{repeated_as, resent_by}
 use Rattle.plain_machine.specs.Announcing.{announced, announced_by, heard_on, replied}
@@ -333,7 +333,7 @@ line_shows setup line endpoint set_up sound has shows =
     let same : endpoint.connections.address ≡ setup.media_address = has.places.address_is in
     let port : endpoint.connections.port ≡ port_of setup line = has.places.port_is in
     let four : length endpoint.connections.places ≡ 4 = has.places.four in
-    let base : setup.media_base ≤ 64000 = set_up.ports in
+    let base : setup.media_base ≤ highest_media_base = set_up.ports in
     let few : line ≤ setup.names.lines = has.few in
     let lines : setup.names.lines ≤ most_lines = set_up.lines in
     record {

@@ -31,7 +31,7 @@ use Rattle.connections.specs.Standing.{Standing, described, created, created_fro
 use Rattle.command_forms.specs.declared.forms.ConnectionDeed.{ConnectionDeed}
 use Rattle.command_forms.specs.declared.forms.ConnectionDeed.TheVariants.{Keep, Create, Modify, Delete}
 use Rattle.plain_machine.specs.declared.setup.Setup.{Setup}
-use Rattle.plain_machine.specs.Setup.{is_address, IsSetUp, most_lines}
+use Rattle.plain_machine.specs.Setup.{is_address, IsSetUp, most_lines, highest_media_base}
 use Rattle.plain_machine.specs.declared.endpoint.Endpoint.{Endpoint}
 use Rattle.plain_machine.specs.Machine.{Endpoints, port_of}
 use Rattle.plain_machine.specs.Connecting.{Shown, nothing_shown, id_param, created_shown, modified_shown, counts_param, deleted_shown, showing, showing_what, connected}
@@ -115,7 +115,7 @@ module _ (setup : Setup) (set_up : IsSetUp setup) (line : ℕ) (standing : Stand
       let port : standing.port ≡ port_of setup line = has.places.port_is in
       let lines : setup.names.lines ≤ most_lines = set_up.lines in
       let few : line ≤ setup.names.lines = has.few in
-      let low : setup.media_base ≤ 64000 = set_up.ports in
+      let low : setup.media_base ≤ highest_media_base = set_up.ports in
       record {
         four = rw same address.0;
         each = rw same address.1;
