@@ -4,6 +4,7 @@ pub mod Packet
 pub mod File
 pub mod CaptureExample
 pub mod Escaping
+pub mod Grouping
 pub mod TimeOfDay
 pub mod Messages
 pub mod Notes

@@ -51,9 +51,10 @@ fn front_of(value: &[u8]) -> &[u8]
     &value[..LONGEST_VALUE]
 }
 
-/// Puts a value so: its first 64 bytes and `..` where it is longer.
+/// Puts a value as printable ASCII: each byte that is none, and the backslash, as `\x` and two hexadecimal digits; of a longer
+/// value the first 64 bytes, and `..`. Its only error is want of memory.
 #[tactic(auto, unfolding(crate::specs::Escaping::shown))]
-pub(crate) fn put_shown(out: &mut Vec<u8>, value: &[u8]) -> Result<(), OutOfMemory>
+pub fn put_shown(out: &mut Vec<u8>, value: &[u8]) -> Result<(), OutOfMemory>
     ensures { OnOk result (out.new.items ≡ out.old.items ++ shown value.now) }
 {
     if value.len() <= LONGEST_VALUE {

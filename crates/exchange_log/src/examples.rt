@@ -5,6 +5,7 @@ ghost use Rattle.std.specs.Prelude.{◌≡◌, ◌++◌, codes, [], ◌∷◌, N
 ghost use Rattle.exchange_log.specs.declared.note.Note.TheVariants as notes;
 ghost use Rattle.exchange_log.specs.declared.stamp.Way.TheVariants.{Came, Sent};
 ghost use Rattle.exchange_log.specs.Escaping.{escaped, shown};
+ghost use Rattle.exchange_log.specs.Grouping.{grouped, number_shown};
 ghost use Rattle.exchange_log.specs.TimeOfDay.{time_of_day};
 ghost use Rattle.exchange_log.specs.Messages.{message_shown, header_of};
 ghost use Rattle.exchange_log.specs.Notes.{note_text};
@@ -46,6 +47,15 @@ pub fn long_values_are_cut()
     ensures escapes { shown (10 ∷ codes "123456789012345678901234567890123456789012345678901234567890123")
         ≡ 92 ∷ codes "x0a123456789012345678901234567890123456789012345678901234567890123" }
     ensures empty { shown [] ≡ [] }
+{}
+
+/// A number of more than three digits has commas.
+pub fn numbers_have_commas()
+    ensures nothing { number_shown 0 ≡ codes "0" }
+    ensures three { number_shown 999 ≡ codes "999" }
+    ensures four { number_shown 1024 ≡ codes "1,024" }
+    ensures six { grouped (codes "600000") ≡ codes "600,000" }
+    ensures seven { grouped (codes "1048576") ≡ codes "1,048,576" }
 {}
 
 /// Of a header the first three words are shown, of a name of the gateway's own domain what stands before the first `@`.

@@ -20,6 +20,7 @@ mod checksum;
 mod escaping;
 pub mod examples;
 mod file;
+mod grouping;
 mod header;
 pub mod laws;
 mod logging;
@@ -30,7 +31,9 @@ mod packet;
 mod stamp;
 mod time;
 
+pub use crate::escaping::put_shown;
 pub use crate::file::{put_head, put_packet};
+pub use crate::grouping::put_number;
 pub use crate::logging::{put_given_up, put_message, put_note, put_refused};
 pub use crate::note::Note;
 pub use crate::packet::Packet;
