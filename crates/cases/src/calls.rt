@@ -1,6 +1,8 @@
 //! Calls of the program, which take all values of a row at once, a line each:
 //!
 //! - `settings  CHANGE  CHANGE ..  config 3 BadLines` the settings alone, changed as `set` changes them;
+//! - `fault  CHANGE  CHANGE ..  lines: 97, wanted 1 to 96` what is told of such settings, or `ok` where they have no flaw;
+//! - `setup  CHANGE  CHANGE ..  domain: rgw.example.net\n..` what is told of a gateway of such settings;
 //! - `script  LINE  LINE ..  script line 3` a script with the usual settings, from the opening;
 //! - `command  LINE  LINE ..  510 1` a datagram from the agent at Ready, and what is sent to it;
 //! - `request  LINE  LINE ..  518 1` the same of a request of line 1 that has an X, and these lines besides;
@@ -9,12 +11,13 @@
 //!
 //! Where nothing is printed the answer is `ok`; more than a line is all that is printed, with `\n` for each line end.
 use crate::played::{simulated, words_of};
+use config_faults::{flaw_of, told, told_setup};
 use mg_bytes::{OutOfMemory, Sequence};
-use rgw_play::{Task, WordFault, asked};
+use rgw_play::{Task, WordFault, asked, gateway_of};
 use scenario_files::{
-    Row, Scenario, WrittenScenario, number_in, put_line, read_scenario, value_of,
+    Row, Scenario, WrittenScenario, input_of, number_in, put_line, read_scenario, value_of,
 };
-use std::alloc::Global;
+use std::alloc::{AllocError, Global};
 use std::io;
 
 const REQUEST: &str = "RQNT 1 aaln/1@rgw.example.net MGCP 1.0\nX: 1\n";
@@ -49,6 +52,45 @@ fn put_length(row: &mut Row<'_>, fields: &str) -> io::Result<()> {
     let mut all = numbers(row.alloc, number_in(count))?;
     all.append(numbers(row.alloc, number_in(more))?)?;
     row.put_shown(all.into_items().len());
+    Ok(())
+}
+
+// The usual settings with these changes.
+fn settings_with(alloc: Global, changes: &str) -> io::Result<String> {
+    let mut scenario = read_scenario(alloc, "", false)?;
+    scenario.is_at_opening = true;
+    let changes = changes.replace(alloc, "  ", "\n")?;
+    scenario.changes.push_str(changes.as_str())?;
+    input_of(alloc, &scenario)
+}
+
+// Puts what is told of settings with these changes.
+fn put_flaw(row: &mut Row<'_>, changes: &str) -> io::Result<()> {
+    let settings = settings_with(row.alloc, changes)?;
+    let Some(flaw) = flaw_of(row.alloc, settings.as_bytes())? else {
+        row.put(b"ok");
+        return Ok(());
+    };
+    let line = told(row.alloc, settings.as_bytes(), flaw)?;
+    row.put(&line);
+    Ok(())
+}
+
+// What is told of a gateway of this configuration.
+fn setup_told(alloc: Global, config: &[u8]) -> Result<Vec<u8>, OutOfMemory> {
+    match gateway_of(alloc, config) {
+        Ok(gateway) => told_setup(alloc, gateway.setup()),
+        Err(_) => Err(AllocError),
+    }
+}
+
+// Puts what is told of a gateway of settings with these changes.
+fn put_setup(row: &mut Row<'_>, changes: &str) -> io::Result<()> {
+    let settings = settings_with(row.alloc, changes)?;
+    match setup_told(row.alloc, settings.as_bytes()) {
+        Ok(lines) => row.put(&lines),
+        Err(_) => row.refuse(),
+    }
     Ok(())
 }
 
@@ -126,6 +168,8 @@ impl Scenario for Calls {
         let done = match call {
             "words" => put_task(&mut row, values),
             "sequence" => put_length(&mut row, values),
+            "fault" => put_flaw(&mut row, values),
+            "setup" => put_setup(&mut row, values),
             _ => put_printed(&mut row, call, values),
         };
         done?;

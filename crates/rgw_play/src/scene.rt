@@ -2,14 +2,12 @@
 ghost use Rattle.std.specs.Prelude.{◌≡◌, ◌≢◌, List, [], Ok, ℕ, Result, IfOk, IfErr};
 ghost use Rattle.gateway_core.specs.Stands.{Stands};
 ghost use Rattle.rgw_scripts.specs.declared.step.ScriptStep.{ScriptStep};
-ghost use Rattle.rgw_scripts.specs.Configuration.{config_in, key_in};
+ghost use Rattle.rgw_scripts.specs.Configuration.{config_in};
 ghost use Rattle.rgw_scripts.specs.Play.{scene_of, configured, judged, Explains};
 
-use gateway_core::{ConfigFault, ConfigKey, Gateway, key_at_fault};
-use mg_bytes::OutOfMemory;
+use gateway_core::{ConfigFault, Gateway};
 use rgw_scripts::{
     PlayFault, ScriptFault, ScriptStep, is_too_long, parts_of, read_config, read_script,
-    read_unread_key,
 };
 use std::alloc::Global;
 
@@ -43,18 +41,6 @@ pub fn gateway_of(alloc: Global, text: &[u8]) -> Result<Gateway, PlayFault>
         Err(fault) => Err(PlayFault::Config {
             number: fault.number(),
         }),
-    }
-}
-
-/// The key that the first fault of a configuration's text is about, for people: of one that can't be read the first key that
-/// is missing, or whose value is of another kind. `None` where it has no fault, or one that is about no key. Its only error is
-/// want of memory.
-pub fn read_key_at_fault(alloc: Global, text: &[u8]) -> Result<Option<ConfigKey>, OutOfMemory>
-    ensures { IfOk result (λ key. key ≡ key_in text.now) }
-{
-    match read_config(alloc, text)? {
-        Some(config) => Ok(key_at_fault(&config)),
-        None => read_unread_key(alloc, text),
     }
 }
 

@@ -5,7 +5,7 @@ use Rattle.std.proofs.lemmas.Bool.{cases_Bool}
 use Rattle.std.proofs.lemmas.Str.{IsUtf8-from_is_utf8, is_utf8-from_IsUtf8}
 use Rattle.toml.specs.Data.{Members}
 use Rattle.toml.specs.Parse.{parse_document}
-use Rattle.rgw_scripts.specs.Configuration.{config_in, config_of, unread_key, unread_key_in}
+use Rattle.rgw_scripts.specs.Configuration.{config_in, config_of}
 
 not_utf8 : (text : List ℕ) → is_utf8 text ≡ false → config_in text ≡ None
 unfolding config_in
@@ -18,17 +18,3 @@ config_in-other text other =
 pub config_in-document : (text : List ℕ) (document : Members) → IsUtf8 text → parse_document text ≡ Some document → config_in text ≡ config_of document
 unfolding config_in
 config_in-document text document utf8 read = rw (is_utf8-from_IsUtf8 text utf8, read) refl
-
--- the same of the first key that can't be read
-
-no_key : (text : List ℕ) → is_utf8 text ≡ false → unread_key_in text ≡ None
-unfolding unread_key_in
-no_key text not = rw not refl
-
-pub unread-other : (text : List ℕ) → ¬ IsUtf8 text → unread_key_in text ≡ None
-unread-other text other =
-    ⊎_elim (λ (h : is_utf8 text ≡ true). absurd (other (IsUtf8-from_is_utf8 text h))) (λ (h : is_utf8 text ≡ false). no_key text h) (cases_Bool (is_utf8 text))
-
-pub unread-document : (text : List ℕ) (document : Members) → IsUtf8 text → parse_document text ≡ Some document → unread_key_in text ≡ unread_key document
-unfolding unread_key_in
-unread-document text document utf8 read = rw (is_utf8-from_IsUtf8 text utf8, read) refl

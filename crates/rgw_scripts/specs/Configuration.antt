@@ -13,7 +13,6 @@ use Rattle.endpoint_names.specs.Route.{route_of}
 use Rattle.plain_machine.specs.declared.config.Config.{Config}
 use Rattle.plain_machine.specs.declared.config.ConfigKey.{ConfigKey}
 use Rattle.plain_machine.specs.declared.config.ConfigKey.TheVariants as keys
-use Rattle.plain_machine.specs.Setup.{key_at_fault}
 use Rattle.plain_machine.specs.declared.config.NamedRoute.{NamedRoute}
 
 abbrev pub count_of : Members → ℕ
@@ -138,15 +137,3 @@ unread_key members = first_fault
     ∷ unless (is_some (address_at (codes "media_address") members)) keys.MediaAddress
     ∷ unless (is_some (number_at (codes "media_base") members)) keys.MediaBase
     ∷ [])
-
--- that of a text, where it is UTF-8 and TOML
-unfoldable pub unread_key_in : List ℕ → Option ConfigKey
-unread_key_in text = if is_utf8 text then parse_document text >>= unread_key else None
-
-abbrev pub key_from : Option Config → List ℕ → Option ConfigKey
-key_from None text = unread_key_in text
-key_from (Some config) text = key_at_fault config
-
--- the key that the first fault of a configuration's text is about, where it is about one
-abbrev pub key_in : List ℕ → Option ConfigKey
-key_in text = key_from (config_in text) text

@@ -22,7 +22,7 @@ pub use crate::link::{Direct, Link};
 pub use crate::played::{LinkFault, PlayFault, Played, StepFault, name_of_config_fault};
 pub use crate::printing::{put_datagrams, put_line, put_refusal};
 pub use crate::script::{ScriptFault, read_script};
-pub use crate::settings::{read_config, read_unread_key};
+pub use crate::settings::{config_of, read_config, route_in, unread_key, value_at};
 pub use crate::status::LineStatus;
 pub use crate::step::{ScriptLine, ScriptStep};
 pub use crate::words::line_in;

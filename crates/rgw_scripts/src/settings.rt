@@ -3,7 +3,7 @@ ghost use Rattle.std.specs.Prelude.{◌≡◌, IfOk, MatchOption, Some, None, is
 ghost use Rattle.toml.specs.View.{items_view, table_view, view};
 ghost use Rattle.toml.specs.Data.{get_member, as_str, item, no_items};
 ghost use Rattle.endpoint_names.specs.Route.{route_of};
-ghost use Rattle.rgw_scripts.specs.Configuration.{count_of, text_at, number_in, number_at, address_in, address_at, addresses_in, route_in, names_from, names_at, settings_of, config_of, config_in, unread_key, unread_key_in};
+ghost use Rattle.rgw_scripts.specs.Configuration.{count_of, text_at, number_in, number_at, address_in, address_at, addresses_in, route_in, names_from, names_at, settings_of, config_of, config_in, unread_key};
 ghost use Rattle.rgw_scripts.specs.SettingsSeen.{settings_seen};
 
 use endpoint_names::Route;
@@ -19,7 +19,8 @@ fn key_count(table: &Table) -> usize
     table.len()
 }
 
-fn value_at<'a>(table: &'a Table, key: &str) -> Option<&'a Value>
+/// What stands at a key of a document.
+pub fn value_at<'a>(table: &'a Table, key: &str) -> Option<&'a Value>
     ensures { option_map (λ v. view v.now) result ≡ get_member key.now (table_view table.now) }
 {
     table.get(key)
@@ -123,8 +124,8 @@ fn route_of(values: &[Value]) -> Option<Route<Ipv4Addr>>
     }
 }
 
-// The addresses of a host that a value gives: a text is one, a list has 1 to 4 of them.
-fn route_in(value: &Value) -> Option<Route<Ipv4Addr>>
+/// The addresses of a host that a value gives: a text is one, a list has 1 to 4 of them.
+pub fn route_in(value: &Value) -> Option<Route<Ipv4Addr>>
     ensures { result ≡ route_in (view value.now) }
 {
     match value.as_array() {
@@ -196,9 +197,9 @@ fn settings_of(table: &Table) -> Option<Settings<'_>>
     })
 }
 
-// The configuration of a document, if it has the eight keys and no ninth.
+/// The configuration of a document, if it has the eight keys and no ninth. Its only error is want of memory.
 #[tactic(auto, unfolding(crate::specs::Configuration::config_of))]
-fn config_of(alloc: Global, table: &Table) -> Result<Option<Config>, OutOfMemory>
+pub fn config_of(alloc: Global, table: &Table) -> Result<Option<Config>, OutOfMemory>
     ensures { IfOk result (λ found.
         MatchOption found (config_of (table_view table.now) ≡ None)
         (λ config. config_of (table_view table.now) ≡ Some config)) }
@@ -285,9 +286,10 @@ fn has_names(table: &Table) -> bool
     }
 }
 
-// The first key of a document that is missing, or whose value is of another kind.
+/// The first key of a document that is missing, or whose value is of another kind, for people; `None` where nothing is wrong but
+/// that it has other keys too.
 #[tactic(auto, unfolding(crate::specs::Configuration::unread_key))]
-fn unread_key(table: &Table) -> Option<ConfigKey>
+pub fn unread_key(table: &Table) -> Option<ConfigKey>
     ensures { result ≡ unread_key (table_view table.now) }
 {
     if !has_text(table, "domain") {
@@ -315,20 +317,4 @@ fn unread_key(table: &Table) -> Option<ConfigKey>
         return Some(ConfigKey::MediaBase);
     }
     None
-}
-
-/// The first key that a text lacks, or whose value is of another kind, for people; `None` where the text isn't TOML, or where
-/// nothing is wrong but that it has other keys too. Its only error is want of memory.
-#[tactic(auto, unfolding(crate::specs::Configuration::unread_key_in))]
-pub fn read_unread_key(alloc: Global, text: &[u8]) -> Result<Option<ConfigKey>, OutOfMemory>
-    ensures { IfOk result (λ key. key ≡ unread_key_in text.now) }
-{
-    let Ok(text) = std::str::from_utf8(text) else {
-        return Ok(None);
-    };
-    match toml::table_from_str(alloc, text) {
-        Ok(table) => Ok(unread_key(&table)),
-        Err(e) if e.is_memory() => Err(AllocError),
-        Err(_) => Ok(None),
-    }
 }

@@ -2,13 +2,13 @@
 use crate::ending::Ending;
 use crate::opening::{Opened, known, open};
 use crate::reception::PageReception;
-use crate::toml_fault::tell_toml_fault;
 use crate::words::{Settings, WordFault, read_words};
-use gateway_core::{ConfigKey, Gateway};
+use config_faults::{Flaw, flaw_of, told, told_setup};
+use gateway_core::Gateway;
 use live_ends::RecordState;
 use live_gateway::{Ends, serve, write_records};
 use live_journal::{Journal, TraceEntry, report};
-use rgw_play::{LIMIT, PlayFault, gateway_of, read_key_at_fault, read_limited};
+use rgw_play::{PlayFault, gateway_of, read_limited};
 use std::alloc::Global;
 use std::env;
 use std::fs::File;
@@ -17,9 +17,6 @@ use std::net::Net;
 use std::random::RandomSource;
 use std::rt::{Clock, Env, Files};
 use system_reasons::{reason_of, reason_of_reader};
-
-// The number of the fault that a configuration can't be read.
-const BAD_TOML: u8 = 7;
 
 // Why the words can't be had, as the system says.
 fn unread_words(kind: ErrorKind) -> WordFault {
@@ -41,25 +38,6 @@ fn words_of<R: AllocGlobal + Env>(rt: &R) -> Result<Vec<String>, WordFault> {
     }
 }
 
-// How the program ends at a fault of the file of its configuration, which is about this key.
-fn file_ending(file: &str, fault: PlayFault, key: Option<ConfigKey>) -> Ending<'_> {
-    match fault {
-        PlayFault::OutOfMemory => Ending::OutOfMemory,
-        PlayFault::Config { number } => Ending::Config { file, number, key },
-        PlayFault::Read | PlayFault::Write | PlayFault::Script { .. } => {
-            Ending::Unreadable { file, reason: "" }
-        }
-    }
-}
-
-// The key that the fault of a configuration is about, if it is about one; none where memory is refused.
-fn key_of(alloc: Global, text: &[u8]) -> Option<ConfigKey> {
-    match read_key_at_fault(alloc, text) {
-        Ok(key) => key,
-        Err(_) => None,
-    }
-}
-
 // How the program ends where the file of the configuration can't be read, as the system says.
 fn unread_file(file: &str, kind: ErrorKind) -> Ending<'_> {
     if kind == ErrorKind::OutOfMemory {
@@ -71,26 +49,14 @@ fn unread_file(file: &str, kind: ErrorKind) -> Ending<'_> {
     }
 }
 
-// The text of a configuration, if it isn't too long.
-fn within_limit(file: &str, text: Vec<u8>) -> Result<Vec<u8>, Ending<'_>> {
-    if text.len() > LIMIT {
-        return Err(Ending::Config {
-            file,
-            number: BAD_TOML,
-            key: None,
-        });
-    }
-    Ok(text)
-}
-
-// The text of the configuration.
+// The text of the configuration; one byte more than are taken where it is too long.
 fn config_text<'w, R: Files>(rt: &R, alloc: Global, file: &'w str) -> Result<Vec<u8>, Ending<'w>> {
     let mut reader = match File::open(rt, file) {
         Ok(reader) => reader,
         Err(fault) => return Err(unread_file(file, fault.kind())),
     };
     match read_limited(alloc, &mut reader) {
-        Ok(text) => within_limit(file, text),
+        Ok(text) => Ok(text),
         Err(PlayFault::OutOfMemory) => Err(Ending::OutOfMemory),
         Err(_) => Err(Ending::Unreadable {
             file,
@@ -166,7 +132,35 @@ fn serve_opened<'w, R: Files + Net + Clock + RandomSource + Print + Eprint>(
     }
 }
 
-// Serves with a gateway of this configuration over the sockets that were asked for.
+// Says on standard output what the gateway will be, and where its sockets would be.
+fn tell_gateway<'w, R: Print>(rt: &R, settings: &Settings<'w>, lines: &str) -> Ending<'w> {
+    let (listen, phones) = (settings.listen, settings.phones);
+    let said = match settings.http {
+        Some(http) => {
+            println!(rt; "{lines}sockets: --listen {listen} --phones {phones} --http {http}")
+        }
+        None => println!(rt; "{lines}sockets: --listen {listen} --phones {phones}"),
+    };
+    match said {
+        Ok(()) => Ending::Checked,
+        Err(_) => Ending::Write,
+    }
+}
+
+// Says on standard output what this gateway will be.
+fn check_gateway<'w, R: Print>(
+    rt: &R,
+    alloc: Global,
+    settings: &Settings<'w>,
+    gateway: &Gateway,
+) -> Ending<'w> {
+    match told_setup(alloc, gateway.setup()) {
+        Ok(lines) => tell_gateway(rt, settings, str::from_utf8(lines.as_slice()).unwrap_or("")),
+        Err(_) => Ending::OutOfMemory,
+    }
+}
+
+// Serves with a gateway of this configuration over the sockets that were asked for; or says what it will be.
 fn serve_with<'w, R: Files + Net + Clock + RandomSource + Print + Eprint>(
     rt: &R,
     alloc: Global,
@@ -174,13 +168,16 @@ fn serve_with<'w, R: Files + Net + Clock + RandomSource + Print + Eprint>(
     config: &[u8],
     gateway: &mut Gateway,
 ) -> Ending<'w> {
+    if settings.check {
+        return check_gateway(rt, alloc, settings, gateway);
+    }
     match open(rt, alloc, settings, config, gateway) {
         Ok(mut opened) => serve_opened(rt, alloc, settings, gateway, &mut opened),
         Err(unopened) => unopened.ending(settings),
     }
 }
 
-// Serves with a gateway of the configuration in this text.
+// Does the same with the configuration in this text, which has no flaw.
 fn serve_config<'w, R: Files + Net + Clock + RandomSource + Print + Eprint>(
     rt: &R,
     alloc: Global,
@@ -189,13 +186,41 @@ fn serve_config<'w, R: Files + Net + Clock + RandomSource + Print + Eprint>(
 ) -> Ending<'w> {
     match gateway_of(alloc, text) {
         Ok(mut gateway) => serve_with(rt, alloc, settings, text, &mut gateway),
-        Err(fault) => {
-            let key = key_of(alloc, text);
-            if key.is_none() && matches!(fault, PlayFault::Config { number: BAD_TOML }) {
-                tell_toml_fault(rt, alloc, settings.config, text);
-            }
-            file_ending(settings.config, fault, key)
+        // Without a flaw memory alone is refused.
+        Err(_) => Ending::OutOfMemory,
+    }
+}
+
+// Says on standard error which flaw the configuration in this text has.
+fn tell_flaw<'w, R: Eprint>(
+    rt: &R,
+    alloc: Global,
+    file: &'w str,
+    text: &[u8],
+    flaw: Flaw,
+) -> Ending<'w> {
+    match told(alloc, text, flaw) {
+        Ok(line) => {
+            let line = str::from_utf8(line.as_slice()).unwrap_or("");
+            // Nobody is left who could be told that standard error failed.
+            let _ = eprintln!(rt; "{file}: {line}");
+            Ending::Told
         }
+        Err(_) => Ending::OutOfMemory,
+    }
+}
+
+// Does what the settings ask with the configuration in this text.
+fn perform_with<'w, R: Files + Net + Clock + RandomSource + Print + Eprint>(
+    rt: &R,
+    alloc: Global,
+    settings: &Settings<'w>,
+    text: &[u8],
+) -> Ending<'w> {
+    match flaw_of(alloc, text) {
+        Ok(None) => serve_config(rt, alloc, settings, text),
+        Ok(Some(flaw)) => tell_flaw(rt, alloc, settings.config, text, flaw),
+        Err(_) => Ending::OutOfMemory,
     }
 }
 
@@ -206,7 +231,7 @@ fn perform<'w, R: Files + Net + Clock + RandomSource + Print + Eprint>(
     settings: &Settings<'w>,
 ) -> Ending<'w> {
     match config_text(rt, alloc, settings.config) {
-        Ok(text) => serve_config(rt, alloc, settings, text.as_slice()),
+        Ok(text) => perform_with(rt, alloc, settings, text.as_slice()),
         Err(ending) => ending,
     }
 }

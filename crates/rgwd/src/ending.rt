@@ -2,8 +2,6 @@
 use crate::help::{HELP, USAGE, VERSIONS, put_pieces};
 use crate::words::WordFault;
 use bad_network::SpoilingFault;
-use gateway_core::ConfigKey;
-use rgw_play::name_of_config_fault;
 use std::fmt;
 use std::net::SocketAddrV4;
 
@@ -22,8 +20,10 @@ pub enum Ending<'a> {
     Version,
     /// The words of the command line are other words.
     Usage,
-    /// They are other words, and standard error says which.
+    /// They are other words, or the configuration has a flaw, and standard error says which.
     Told,
+    /// The configuration has no flaw, and standard output says what the gateway will be.
+    Checked,
     /// What stands behind this word isn't an address.
     BadAddress {
         word: &'static str,
@@ -33,12 +33,6 @@ pub enum Ending<'a> {
     /// This part of what stands behind `--network` says nothing of a network.
     BadNetwork {
         fault: SpoilingFault,
-    },
-    /// The configuration in this file has this fault, which is about this key, if it can be read.
-    Config {
-        file: &'a str,
-        number: u8,
-        key: Option<ConfigKey>,
     },
     /// This file can't be read.
     Unreadable {
@@ -65,17 +59,16 @@ pub enum Ending<'a> {
 }
 
 impl<'a> Ending<'a> {
-    /// The exit status: 0 served or told, 2 words or a configuration that are refused, 3 memory, a
+    /// The exit status: 0 served, told or checked, 2 words or a configuration that are refused, 3 memory, a
     /// file, a socket or a stream.
     pub fn status(self) -> u8 {
         match self {
-            Ending::Served | Ending::Help | Ending::Version => 0,
+            Ending::Served | Ending::Help | Ending::Version | Ending::Checked => 0,
             Ending::Usage
             | Ending::Told
             | Ending::BadAddress { .. }
             | Ending::AnyAddress
-            | Ending::BadNetwork { .. }
-            | Ending::Config { .. } => 2,
+            | Ending::BadNetwork { .. } => 2,
             Ending::Unreadable { .. }
             | Ending::Unwritable { .. }
             | Ending::Unbound { .. }
@@ -98,21 +91,6 @@ impl<'a> From<WordFault> for Ending<'a> {
             WordFault::AnyAddress => Ending::AnyAddress,
             WordFault::BadNetwork { fault } => Ending::BadNetwork { fault },
         }
-    }
-}
-
-// What is written of a configuration.
-fn put_config<W: fmt::Write>(
-    f: &mut fmt::Formatter<W>,
-    file: &str,
-    number: u8,
-    key: Option<ConfigKey>,
-) -> fmt::Result {
-    let name = name_of_config_fault(number);
-    write!(f, "{file}: config {number} {name}")?;
-    match key {
-        Some(key) => put_pieces(f, &[": ", key.name(), "\n"]),
-        None => f.write_str("\n"),
     }
 }
 
@@ -159,15 +137,14 @@ fn put_line<W: fmt::Write>(
 }
 
 // What is written: on standard output what the words ask, else a line on standard error, or nothing
-// where it served, or where all was said.
+// where it served or checked, or where all was said.
 impl<'a> fmt::Display for Ending<'a> {
     fn fmt<W: fmt::Write>(&self, f: &mut fmt::Formatter<W>) -> fmt::Result {
         match *self {
-            Ending::Served | Ending::Told => Ok(()),
+            Ending::Served | Ending::Told | Ending::Checked => Ok(()),
             Ending::Usage => put_pieces(f, &["usage: ", USAGE, "\n"]),
             Ending::Help => put_pieces(f, &HELP),
             Ending::Version => put_pieces(f, &VERSIONS),
-            Ending::Config { file, number, key } => put_config(f, file, number, key),
             Ending::Unbound {
                 word,
                 address,

@@ -14,7 +14,7 @@ pub const PHONES: &str = "127.0.0.1:2428";
 
 /// The words of the command line, in a line.
 pub const USAGE: &str =
-    "rgwd CONFIG [--listen ADDRESS] [--phones ADDRESS] [--http ADDRESS] [--log] [--capture FILE] [--trace] [--network TEXT] [--stop-after MS]";
+    "rgwd CONFIG [--check] [--listen ADDRESS] [--phones ADDRESS] [--http ADDRESS] [--log] [--capture FILE] [--trace] [--network TEXT] [--stop-after MS]";
 
 // What the words say, from the end of the first line on. The places of the defaults are left open.
 const ABOVE: &str = "
@@ -22,6 +22,7 @@ const ABOVE: &str = "
 An MGCP gateway of telephone lines, on a network. It serves until it is stopped.
 
   CONFIG              the file of its configuration, in TOML
+  --check             what the gateway will be is written to standard output, and nothing is opened
   --listen ADDRESS    of its socket for call agents; else ";
 
 const BETWEEN: &str = "

@@ -6,7 +6,6 @@ mod ending;
 mod help;
 mod opening;
 mod reception;
-mod toml_fault;
 mod words;
 
 use std::process::ExitCode;

@@ -11,6 +11,8 @@ use std::net::SocketAddrV4;
 pub struct Settings<'a> {
     /// The file that has the configuration.
     pub config: &'a str,
+    /// Whether it only says what the gateway will be.
+    pub check: bool,
     /// The address of the gateway's socket; port 0 is any free one.
     pub listen: SocketAddrV4,
     /// The address of the telephones' socket; port 0 is any free one.
@@ -64,8 +66,9 @@ enum WordKind {
 }
 
 // The words of the command line.
-const WORDS: [(&str, WordKind); 9] = [
+const WORDS: [(&str, WordKind); 10] = [
     ("config", WordKind::Plain),
+    ("check", WordKind::Flag),
     ("listen", WordKind::Valued),
     ("phones", WordKind::Valued),
     ("http", WordKind::Valued),
@@ -157,6 +160,7 @@ fn settings_in<'a>(matches: &ArgMatches<'a>) -> Result<Settings<'a>, WordFault> 
     };
     Ok(Settings {
         config,
+        check: matches.get_flag("check"),
         listen,
         phones,
         http: site_in(matches)?,

@@ -1,0 +1,2 @@
+pub mod FlawLemmas
+pub mod Computing

@@ -1,0 +1,3 @@
+pub mod Flaws
+pub mod Bounds
+pub mod Ports
