@@ -1,5 +1,8 @@
 //! Reads the configuration of a call agent from TOML.
-use crate::config_fault::{ConfigFault, ConfigRefusal, refused};
+use crate::config_fault::{
+    ConfigRefusal, LONGEST_NUMBER, MOST_GATEWAYS, MOST_NUMBERS, Place, ValueFault, miscounted,
+    misnamed, refused, said, unknown,
+};
 use crate::text::copied;
 use digit_map::{MapFault, read_map};
 use endpoint_names::is_domain;
@@ -8,15 +11,6 @@ use std::alloc::{AllocError, Global};
 use std::collections::BTreeMap;
 use std::net::SocketAddrV4;
 use toml::{Table, Value};
-
-// So many gateways are served at most.
-const MOST_GATEWAYS: usize = 1024;
-
-// So many lines a gateway has at most.
-const MOST_NUMBERS: usize = 96;
-
-// So many keys are a number at most.
-const LONGEST_NUMBER: usize = 32;
 
 const KEYS: [&str; 3] = ["own", "digit_map", "gateways"];
 
@@ -56,9 +50,22 @@ fn other_key<'a>(table: &'a Table, known: &[&str]) -> Option<&'a str> {
     None
 }
 
-// The address at a key; none with port 0.
-fn address_at(table: &Table, key: &str) -> Option<SocketAddrV4> {
-    let address = table.get(key)?.as_str()?.parse::<SocketAddrV4>().ok()?;
+// A key of the agent's own.
+fn own_key(key: &str) -> Place<'_> {
+    Place { gateway: None, key }
+}
+
+// A key of the gateway with this domain.
+fn key_of<'a>(domain: &'a str, key: &'a str) -> Place<'a> {
+    Place {
+        gateway: Some(domain),
+        key,
+    }
+}
+
+// The address that a value is; none with port 0.
+fn address_in(value: &Value) -> Option<SocketAddrV4> {
+    let address = value.as_str()?.parse::<SocketAddrV4>().ok()?;
     if address.port() > 0 {
         Some(address)
     } else {
@@ -66,8 +73,21 @@ fn address_at(table: &Table, key: &str) -> Option<SocketAddrV4> {
     }
 }
 
-fn table_at<'a>(table: &'a Table, key: &str) -> Option<&'a Table> {
-    table.get(key)?.as_table()
+// The address at a key.
+fn address_at(
+    alloc: Global,
+    table: &Table,
+    place: Place<'_>,
+) -> Result<SocketAddrV4, ConfigRefusal> {
+    let value = table.get(place.key);
+    let found = match value {
+        Some(value) => address_in(value),
+        None => None,
+    };
+    match found {
+        Some(address) => Ok(address),
+        None => Err(refused(alloc, place, value, ValueFault::NoAddress)),
+    }
 }
 
 // The digit map, where there is one.
@@ -78,11 +98,13 @@ fn map_of(alloc: Global, table: &Table) -> Result<Option<Text>, ConfigRefusal> {
     let text = value.as_str().unwrap_or("").as_bytes();
     match read_map(alloc, text) {
         Ok(_) => Ok(Some(copied(alloc, text)?)),
-        Err(MapFault::OutOfMemory) => Err(ConfigRefusal::from(AllocError)),
-        Err(_) => {
-            let key = String::from_str(alloc, "digit_map");
-            Err(refused(ConfigFault::BadDigitMap, key))
-        }
+        Err(MapFault::OutOfMemory) => Err(ConfigRefusal::OutOfMemory),
+        Err(_) => Err(refused(
+            alloc,
+            own_key("digit_map"),
+            Some(value),
+            ValueFault::NoDigitMap,
+        )),
     }
 }
 
@@ -117,34 +139,39 @@ fn put_number(
 fn numbers_of(
     alloc: Global,
     seen: &mut Numbers,
+    place: Place<'_>,
     values: &[Value],
-) -> Result<Vec<Text>, ConfigFault> {
+) -> Result<Vec<Text>, ConfigRefusal> {
     let mut numbers = Vec::new(alloc);
     for value in values {
         let Some(number) = number_in(value) else {
-            return Err(ConfigFault::BadNumbers);
+            return Err(refused(alloc, place, Some(value), ValueFault::NoNumber));
         };
-        match put_number(alloc, seen, &mut numbers, number) {
-            Ok(true) => {}
-            Ok(false) => return Err(ConfigFault::Twice),
-            Err(_) => return Err(ConfigFault::OutOfMemory),
+        if !put_number(alloc, seen, &mut numbers, number)? {
+            return Err(refused(alloc, place, Some(value), ValueFault::Twice));
         }
     }
     if numbers.is_empty() || numbers.len() > MOST_NUMBERS {
-        return Err(ConfigFault::BadNumbers);
+        return Err(miscounted(alloc, place, numbers.len(), ValueFault::NoNumbers));
     }
     Ok(numbers)
 }
 
-// The numbers in the table of a gateway.
-fn numbers_at(alloc: Global, seen: &mut Numbers, table: &Table) -> Result<Vec<Text>, ConfigFault> {
-    let values = match table.get("numbers") {
+// The numbers at a key in the table of a gateway.
+fn numbers_at(
+    alloc: Global,
+    seen: &mut Numbers,
+    table: &Table,
+    place: Place<'_>,
+) -> Result<Vec<Text>, ConfigRefusal> {
+    let value = table.get(place.key);
+    let values = match value {
         Some(value) => value.as_array(),
         None => None,
     };
     match values {
-        Some(values) => numbers_of(alloc, seen, values.as_slice()),
-        None => Err(ConfigFault::BadNumbers),
+        Some(values) => numbers_of(alloc, seen, place, values.as_slice()),
+        None => Err(refused(alloc, place, value, ValueFault::NoNumbers)),
     }
 }
 
@@ -156,28 +183,17 @@ fn gateway_of(
     table: &Table,
 ) -> Result<GatewayConfig, ConfigRefusal> {
     if !is_domain(domain.as_bytes()) {
-        let key = format!(in alloc; "gateways.\"{domain}\"");
-        return Err(refused(ConfigFault::BadDomain, key));
+        return Err(misnamed(alloc, key_of(domain, ""), ValueFault::NoDomain));
     }
     if let Some(other) = other_key(table, &GATEWAY_KEYS) {
-        let key = format!(in alloc; "gateways.\"{domain}\".{other}");
-        return Err(refused(ConfigFault::UnknownKey, key));
+        return Err(unknown(alloc, key_of(domain, other)));
     }
-    let Some(address) = address_at(table, "address") else {
-        let key = format!(in alloc; "gateways.\"{domain}\".address");
-        return Err(refused(ConfigFault::BadAddress, key));
-    };
-    match numbers_at(alloc, seen, table) {
-        Ok(numbers) => Ok(GatewayConfig {
-            domain: copied(alloc, domain.as_bytes())?,
-            address,
-            numbers,
-        }),
-        Err(fault) => {
-            let key = format!(in alloc; "gateways.\"{domain}\".numbers");
-            Err(refused(fault, key))
-        }
-    }
+    let address = address_at(alloc, table, key_of(domain, "address"))?;
+    Ok(GatewayConfig {
+        domain: copied(alloc, domain.as_bytes())?,
+        address,
+        numbers: numbers_at(alloc, seen, table, key_of(domain, "numbers"))?,
+    })
 }
 
 // A gateway is put behind the others: whether its address is new.
@@ -197,37 +213,43 @@ fn gateways_of(alloc: Global, table: &Table) -> Result<Vec<GatewayConfig>, Confi
     for (domain, value) in table.iter() {
         let domain = domain.as_str();
         let Some(keys) = value.as_table() else {
-            let key = format!(in alloc; "gateways.\"{domain}\"");
-            return Err(refused(ConfigFault::BadGateways, key));
+            let place = key_of(domain, "");
+            return Err(refused(alloc, place, Some(value), ValueFault::NoGateway));
         };
         let gateway = gateway_of(alloc, &mut seen, domain, keys)?;
         if !put_gateway(&mut gateways, gateway)? {
-            let key = format!(in alloc; "gateways.\"{domain}\".address");
-            return Err(refused(ConfigFault::Twice, key));
+            let place = key_of(domain, "address");
+            return Err(refused(alloc, place, keys.get("address"), ValueFault::Twice));
         }
     }
     if gateways.is_empty() || gateways.len() > MOST_GATEWAYS {
-        let key = String::from_str(alloc, "gateways");
-        return Err(refused(ConfigFault::BadGateways, key));
+        let place = own_key("gateways");
+        return Err(miscounted(alloc, place, gateways.len(), ValueFault::NoGateways));
     }
     Ok(gateways)
 }
 
+// The gateways at their key.
+fn gateways_at(alloc: Global, table: &Table) -> Result<Vec<GatewayConfig>, ConfigRefusal> {
+    let value = table.get("gateways");
+    let gateways = match value {
+        Some(value) => value.as_table(),
+        None => None,
+    };
+    match gateways {
+        Some(gateways) => gateways_of(alloc, gateways),
+        None => Err(refused(alloc, own_key("gateways"), value, ValueFault::NoGateways)),
+    }
+}
+
 fn config_of(alloc: Global, table: &Table) -> Result<AgentConfig, ConfigRefusal> {
     if let Some(key) = other_key(table, &KEYS) {
-        return Err(refused(ConfigFault::UnknownKey, String::from_str(alloc, key)));
+        return Err(unknown(alloc, own_key(key)));
     }
-    let Some(own) = address_at(table, "own") else {
-        return Err(refused(ConfigFault::BadAddress, String::from_str(alloc, "own")));
-    };
-    let Some(gateways) = table_at(table, "gateways") else {
-        let key = String::from_str(alloc, "gateways");
-        return Err(refused(ConfigFault::BadGateways, key));
-    };
     Ok(AgentConfig {
-        own,
+        own: address_at(alloc, table, own_key("own"))?,
         map: map_of(alloc, table)?,
-        gateways: gateways_of(alloc, gateways)?,
+        gateways: gateways_at(alloc, table)?,
     })
 }
 
@@ -242,21 +264,21 @@ fn line_at(text: &str, place: usize) -> u64 {
     line
 }
 
-/// The configuration that a text writes, or what is wrong with it, and at which key, or in which line.
+/// The configuration that a text writes, or what is wrong with it: the key, what stands there, and what may.
 pub fn read_config(alloc: Global, text: &[u8]) -> Result<AgentConfig, ConfigRefusal> {
     let Ok(text) = std::str::from_utf8(text) else {
-        return Err(ConfigRefusal::from(ConfigFault::BadToml));
+        return Err(said(alloc, "no UTF-8"));
     };
     match toml::table_from_str(alloc, text) {
         Ok(table) => config_of(alloc, &table),
-        Err(e) if e.is_memory() => Err(ConfigRefusal::from(AllocError)),
+        Err(e) if e.is_memory() => Err(ConfigRefusal::OutOfMemory),
         Err(e) => {
             let start = match e.span() {
                 Some(span) => span.start,
                 None => 0,
             };
-            let place = format!(in alloc; "line {}: {}", line_at(text, start), e.message());
-            Err(refused(ConfigFault::BadToml, place))
+            let words = format!(in alloc; "line {}: {}", line_at(text, start), e.message())?;
+            Err(said(alloc, words.as_str()))
         }
     }
 }

@@ -1,72 +1,230 @@
-//! Why a configuration is refused.
-use std::alloc::AllocError;
+//! Why a configuration is refused, in words: the key, what stands there, and what may.
+use endpoint_names::LONGEST_DOMAIN;
+use exchange_log::{put_number, put_shown};
+use std::alloc::{AllocError, Global};
+use toml::Value;
 
-/// What is wrong with a configuration.
-#[derive(Clone, Copy)]
-pub enum ConfigFault {
-    /// Memory was refused.
-    OutOfMemory = 1,
-    /// It isn't TOML in UTF-8, or is too long.
-    BadToml = 2,
-    /// There is no such key.
-    UnknownKey = 3,
-    /// An address is missing, or isn't a.b.c.d:port with a port from 1 on.
-    BadAddress = 4,
-    /// The digit map isn't one; or it is missing, and calls are to be routed.
-    BadDigitMap = 5,
-    /// There are no gateways, or more than 1,024, or one is no table.
-    BadGateways = 6,
-    /// A gateway's domain isn't 1 to 64 letters, digits, `-` and `.`.
-    BadDomain = 7,
-    /// A gateway's numbers aren't 1 to 96 texts, each of 1 to 32 of the keys 0 to 9, A to D, `*` and `#`.
-    BadNumbers = 8,
-    /// A number, or a gateway's address, stands twice.
-    Twice = 9,
-}
+/// So many gateways are served at most.
+pub const MOST_GATEWAYS: usize = 1024;
 
-impl ConfigFault {
-    /// Its name, as it is printed.
-    pub fn name(self) -> &'static str {
-        match self {
-            ConfigFault::OutOfMemory => "OutOfMemory",
-            ConfigFault::BadToml => "BadToml",
-            ConfigFault::UnknownKey => "UnknownKey",
-            ConfigFault::BadAddress => "BadAddress",
-            ConfigFault::BadDigitMap => "BadDigitMap",
-            ConfigFault::BadGateways => "BadGateways",
-            ConfigFault::BadDomain => "BadDomain",
-            ConfigFault::BadNumbers => "BadNumbers",
-            ConfigFault::Twice => "Twice",
-        }
-    }
-}
+/// So many lines a gateway has at most.
+pub const MOST_NUMBERS: usize = 96;
 
-/// What is wrong with a configuration, and at which key, where it is about one.
+/// So many keys are a number at most.
+pub const LONGEST_NUMBER: usize = 32;
+
+/// Why a configuration is refused.
 #[derive(Drop)]
-pub struct ConfigRefusal {
-    pub fault: ConfigFault,
-    pub key: Option<String>,
-}
-
-impl From<ConfigFault> for ConfigRefusal {
-    fn from(fault: ConfigFault) -> ConfigRefusal {
-        ConfigRefusal { fault, key: None }
-    }
+pub enum ConfigRefusal {
+    /// Memory was refused.
+    OutOfMemory,
+    /// It has a fault, which a line tells, without its end: printable ASCII.
+    Told { line: Vec<u8> },
 }
 
 impl From<AllocError> for ConfigRefusal {
     fn from(_refused: AllocError) -> ConfigRefusal {
-        ConfigRefusal::from(ConfigFault::OutOfMemory)
+        ConfigRefusal::OutOfMemory
     }
 }
 
-/// What is wrong at this key, for which there was memory or not.
-pub fn refused(fault: ConfigFault, key: Result<String, AllocError>) -> ConfigRefusal {
-    match key {
-        Ok(key) => ConfigRefusal {
-            fault,
-            key: Some(key),
-        },
-        Err(_) => ConfigRefusal::from(ConfigFault::OutOfMemory),
+/// A key of a configuration; where a gateway's domain is there, of that gateway, whose own key it is where no other follows.
+#[derive(Clone, Copy)]
+pub struct Place<'a> {
+    pub gateway: Option<&'a str>,
+    pub key: &'a str,
+}
+
+/// What is wrong with what stands at a key.
+#[derive(Clone, Copy)]
+pub enum ValueFault {
+    NoAddress,
+    NoDigitMap,
+    NoDomain,
+    NoGateway,
+    NoGateways,
+    NoNumber,
+    NoNumbers,
+    Twice,
+}
+
+fn put(out: &mut Vec<u8>, words: &[&str]) -> Result<(), AllocError> {
+    for word in words {
+        out.extend_from_slice(word.as_bytes())?;
     }
+    Ok(())
+}
+
+fn put_place(out: &mut Vec<u8>, place: Place<'_>) -> Result<(), AllocError> {
+    let Some(domain) = place.gateway else {
+        return put_shown(out, place.key.as_bytes());
+    };
+    put(out, &["gateways.\""])?;
+    put_shown(out, domain.as_bytes())?;
+    put(out, &["\""])?;
+    if place.key.is_empty() {
+        return Ok(());
+    }
+    put(out, &["."])?;
+    put_shown(out, place.key.as_bytes())
+}
+
+// Puts a text that stands there, or of what kind it is.
+fn put_value(out: &mut Vec<u8>, value: &Value) -> Result<(), AllocError> {
+    let Some(text) = value.as_str() else {
+        return put(out, &[value.type_str()]);
+    };
+    put(out, &["\""])?;
+    put_shown(out, text.as_bytes())?;
+    put(out, &["\""])
+}
+
+// Puts that at least one is wanted, and so many at most.
+fn put_up_to(alloc: Global, out: &mut Vec<u8>, most: usize, of: &str) -> Result<(), AllocError> {
+    put(out, &[", wanted 1 to "])?;
+    put_number(alloc, out, most as u64)?;
+    put(out, &[of])
+}
+
+// Puts what may stand there.
+fn put_fault(alloc: Global, out: &mut Vec<u8>, fault: ValueFault) -> Result<(), AllocError> {
+    match fault {
+        ValueFault::NoAddress => put(
+            out,
+            &[", wanted an address a.b.c.d:port, with a port from 1 on"],
+        ),
+        ValueFault::NoDigitMap => put(out, &[", wanted a digit map, as \"(2xx|0)\""]),
+        ValueFault::NoDomain => {
+            put_up_to(
+                alloc,
+                out,
+                LONGEST_DOMAIN,
+                " letters, digits, \"-\" and \".\"",
+            )
+        }
+        ValueFault::NoGateway => put(out, &[", wanted a table with address and numbers"]),
+        ValueFault::NoGateways => put_up_to(alloc, out, MOST_GATEWAYS, " tables"),
+        ValueFault::NoNumber => {
+            put_up_to(
+                alloc,
+                out,
+                LONGEST_NUMBER,
+                " of 0 to 9, A to D, * and #, in quotes",
+            )
+        }
+        ValueFault::NoNumbers => put_up_to(alloc, out, MOST_NUMBERS, " numbers in a list"),
+        ValueFault::Twice => put(out, &[" stands twice"]),
+    }
+}
+
+// A line about a key.
+fn place_line(alloc: Global, before: &str, place: Place<'_>) -> Result<Vec<u8>, AllocError> {
+    let mut line = Vec::new(alloc);
+    put(&mut line, &[before])?;
+    put_place(&mut line, place)?;
+    Ok(line)
+}
+
+// A line about what stands at a key.
+fn value_line(
+    alloc: Global,
+    place: Place<'_>,
+    value: &Value,
+    fault: ValueFault,
+) -> Result<Vec<u8>, AllocError> {
+    let mut line = place_line(alloc, "", place)?;
+    put(&mut line, &[": "])?;
+    put_value(&mut line, value)?;
+    put_fault(alloc, &mut line, fault)?;
+    Ok(line)
+}
+
+// A line about how many stand at a key.
+fn count_line(
+    alloc: Global,
+    place: Place<'_>,
+    count: usize,
+    fault: ValueFault,
+) -> Result<Vec<u8>, AllocError> {
+    let mut line = place_line(alloc, "", place)?;
+    put(&mut line, &[": "])?;
+    put_number(alloc, &mut line, count as u64)?;
+    put_fault(alloc, &mut line, fault)?;
+    Ok(line)
+}
+
+// A line about a key that may not be so.
+fn name_line(alloc: Global, place: Place<'_>, fault: ValueFault) -> Result<Vec<u8>, AllocError> {
+    let mut line = place_line(alloc, "", place)?;
+    put_fault(alloc, &mut line, fault)?;
+    Ok(line)
+}
+
+fn words_line(alloc: Global, words: &str) -> Result<Vec<u8>, AllocError> {
+    Vec::from_slice(alloc, words.as_bytes())
+}
+
+// A line about a text that is too long.
+fn limit_line(alloc: Global, limit: usize) -> Result<Vec<u8>, AllocError> {
+    let mut line = Vec::new(alloc);
+    put(&mut line, &["over "])?;
+    put_number(alloc, &mut line, limit as u64)?;
+    put(&mut line, &[" bytes"])?;
+    Ok(line)
+}
+
+// The refusal that a line tells, unless memory was refused for it.
+fn told(line: Result<Vec<u8>, AllocError>) -> ConfigRefusal {
+    match line {
+        Ok(line) => ConfigRefusal::Told { line },
+        Err(_) => ConfigRefusal::OutOfMemory,
+    }
+}
+
+/// What stands at a key may not; or the key is missing.
+pub fn refused(
+    alloc: Global,
+    place: Place<'_>,
+    value: Option<&Value>,
+    fault: ValueFault,
+) -> ConfigRefusal {
+    match value {
+        Some(value) => told(value_line(alloc, place, value, fault)),
+        None => missing(alloc, place),
+    }
+}
+
+/// A key is missing.
+pub fn missing(alloc: Global, place: Place<'_>) -> ConfigRefusal {
+    told(place_line(alloc, "missing: ", place))
+}
+
+/// There is no such key.
+pub fn unknown(alloc: Global, place: Place<'_>) -> ConfigRefusal {
+    told(place_line(alloc, "unknown key ", place))
+}
+
+/// So many may not stand at a key.
+pub fn miscounted(
+    alloc: Global,
+    place: Place<'_>,
+    count: usize,
+    fault: ValueFault,
+) -> ConfigRefusal {
+    told(count_line(alloc, place, count, fault))
+}
+
+/// A key may not be so.
+pub fn misnamed(alloc: Global, place: Place<'_>, fault: ValueFault) -> ConfigRefusal {
+    told(name_line(alloc, place, fault))
+}
+
+/// It has a fault that these words tell.
+pub fn said(alloc: Global, words: &str) -> ConfigRefusal {
+    told(words_line(alloc, words))
+}
+
+/// The text has more bytes than this.
+pub fn too_long(alloc: Global, limit: usize) -> ConfigRefusal {
+    told(limit_line(alloc, limit))
 }

@@ -13,7 +13,7 @@ mod tally;
 mod text;
 
 pub use crate::config::{AgentConfig, GatewayConfig, read_config};
-pub use crate::config_fault::{ConfigFault, ConfigRefusal, refused};
+pub use crate::config_fault::{ConfigRefusal, Place, missing, too_long};
 pub use crate::journal::Journal;
 pub use crate::standing::{Standing, standing_of, tell_change};
 pub use crate::station::Station;

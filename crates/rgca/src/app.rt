@@ -2,7 +2,7 @@
 use crate::check_words::read_check_words;
 use crate::ending::{Ending, check_words_ending, config_ending};
 use crate::words::{Settings, WordFault, read_words};
-use agent_texts::{AgentConfig, ConfigFault, ConfigRefusal, read_config, refused};
+use agent_texts::{AgentConfig, ConfigRefusal, Place, missing, read_config, too_long};
 use live_agent::{ServeFault, WireSettings, check_gateway, serve_agent};
 use rgw_scripts::{LIMIT, PlayFault, read_limited};
 use std::alloc::Global;
@@ -54,12 +54,15 @@ fn config_of(
     text: &[u8],
 ) -> Result<AgentConfig, ConfigRefusal> {
     if text.len() > LIMIT {
-        return Err(ConfigRefusal::from(ConfigFault::BadToml));
+        return Err(too_long(alloc, LIMIT));
     }
     let config = read_config(alloc, text)?;
     if settings.route && config.map.is_none() {
-        let key = String::from_str(alloc, "digit_map");
-        return Err(refused(ConfigFault::BadDigitMap, key));
+        let place = Place {
+            gateway: None,
+            key: "digit_map",
+        };
+        return Err(missing(alloc, place));
     }
     Ok(config)
 }

@@ -1,7 +1,7 @@
 //! How the program ends: its status, and what it says then.
 use crate::help::{CHECK_HELP, CHECK_USAGE, HELP, USAGE, VERSIONS, put_pieces};
 use crate::words::WordFault;
-use agent_texts::{ConfigFault, ConfigRefusal};
+use agent_texts::ConfigRefusal;
 use bad_network::SpoilingFault;
 use live_agent::CheckFault;
 use std::fmt;
@@ -46,10 +46,10 @@ pub enum Ending<'a> {
     },
     /// The other line to be checked is the line itself.
     SameLine,
-    /// The configuration in this file is refused.
+    /// The configuration in this file has a fault, which a line tells, without its end.
     Config {
         file: &'a str,
-        refusal: ConfigRefusal,
+        line: Vec<u8>,
     },
     /// This file can't be read.
     Unreadable {
@@ -178,28 +178,13 @@ impl<'a> From<CheckFault> for Ending<'a> {
 
 /// How the program ends by a configuration that is refused.
 pub fn config_ending(file: &str, refusal: ConfigRefusal) -> Ending<'_> {
-    match refusal.fault {
-        ConfigFault::OutOfMemory => Ending::OutOfMemory,
-        _ => Ending::Config { file, refusal },
+    match refusal {
+        ConfigRefusal::OutOfMemory => Ending::OutOfMemory,
+        ConfigRefusal::Told { line } => Ending::Config { file, line },
     }
 }
 
-// What is written of a configuration.
-fn put_config<W: fmt::Write>(
-    f: &mut fmt::Formatter<W>,
-    file: &str,
-    refusal: &ConfigRefusal,
-) -> fmt::Result {
-    let number = refusal.fault as u8;
-    let name = refusal.fault.name();
-    write!(f, "{file}: config {number} {name}")?;
-    match &refusal.key {
-        Some(key) => put_pieces(f, &[": ", key.as_str(), "\n"]),
-        None => f.write_str("\n"),
-    }
-}
-
-// What is written of a file that can't be read or written.
+// What is written of a file: of one that can't be read or written, or of the configuration.
 fn put_file<W: fmt::Write>(
     f: &mut fmt::Formatter<W>,
     file: &str,
@@ -224,7 +209,14 @@ impl<'a> fmt::Display for Ending<'a> {
             Ending::BadNetwork { fault } => put_pieces(f, &["--network: ", fault.text(), "\n"]),
             Ending::BadLine { word } => put_pieces(f, &[*word, NO_LINE]),
             Ending::SameLine => f.write_str("--more-lines: the same line as --line\n"),
-            Ending::Config { file, refusal } => put_config(f, *file, refusal),
+            Ending::Config { file, line } => {
+                put_file(
+                    f,
+                    *file,
+                    ": ",
+                    str::from_utf8(line.as_slice()).unwrap_or(""),
+                )
+            }
             Ending::Unreadable { file, reason } => put_file(f, *file, ": read fault", *reason),
             Ending::Unwritable { file, reason } => put_file(f, *file, ": write fault", *reason),
             Ending::Unbound {
