@@ -2,6 +2,7 @@
 use crate::ending::Ending;
 use crate::opening::{Opened, known, open};
 use crate::reception::PageReception;
+use crate::telling::{TELL, tell_line};
 use crate::words::{Settings, WordFault, read_words};
 use config_faults::{Flaw, flaw_of, told, told_setup};
 use gateway_core::Gateway;
@@ -267,12 +268,23 @@ fn tell<R: Print + Eprint>(rt: &R, ending: Ending<'_>) -> u8 {
     }
 }
 
+// The words behind `--tell`, where that is the first.
+fn words_to_tell(words: &[String]) -> Option<&[String]> {
+    match words.get(1) {
+        Some(word) if word.as_str() == TELL => words.get(2..),
+        _ => None,
+    }
+}
+
 /// Runs the program, and gives its exit status.
 pub fn run<R: AllocGlobal + Env + Files + Net + Clock + RandomSource + Print + Eprint>(
     rt: &R,
 ) -> u8 {
     match words_of(rt) {
-        Ok(words) => tell(rt, ending_of(rt, words.as_slice())),
+        Ok(words) => match words_to_tell(words.as_slice()) {
+            Some(told) => tell(rt, tell_line(rt, told)),
+            None => tell(rt, ending_of(rt, words.as_slice())),
+        },
         Err(fault) => tell(rt, Ending::from(fault)),
     }
 }

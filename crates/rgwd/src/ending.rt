@@ -56,10 +56,16 @@ pub enum Ending<'a> {
     Write,
     /// Memory was refused.
     OutOfMemory,
+    /// The telephones answered a line, and the answer is printed.
+    Answered,
+    /// Nobody answered a line at this address.
+    NoAnswer {
+        address: SocketAddrV4,
+    },
 }
 
 impl<'a> Ending<'a> {
-    /// The exit status: 0 served, told or checked, 2 words or a configuration that are refused, 3 memory, a
+    /// The exit status: 0 served, told or checked, 1 no answer, 2 words or a configuration that are refused, 3 memory, a
     /// file, a socket or a stream.
     pub fn status(self) -> u8 {
         match self {
@@ -75,6 +81,8 @@ impl<'a> Ending<'a> {
             | Ending::Clock
             | Ending::Write
             | Ending::OutOfMemory => 3,
+            Ending::Answered => 0,
+            Ending::NoAnswer { .. } => 1,
         }
     }
 }
@@ -137,11 +145,11 @@ fn put_line<W: fmt::Write>(
 }
 
 // What is written: on standard output what the words ask, else a line on standard error, or nothing
-// where it served or checked, or where all was said.
+// where it served or checked, where an answer is printed, or where all was said.
 impl<'a> fmt::Display for Ending<'a> {
     fn fmt<W: fmt::Write>(&self, f: &mut fmt::Formatter<W>) -> fmt::Result {
         match *self {
-            Ending::Served | Ending::Told | Ending::Checked => Ok(()),
+            Ending::Served | Ending::Told | Ending::Checked | Ending::Answered => Ok(()),
             Ending::Usage => put_pieces(f, &["usage: ", USAGE, "\n"]),
             Ending::Help => put_pieces(f, &HELP),
             Ending::Version => put_pieces(f, &VERSIONS),
@@ -150,6 +158,10 @@ impl<'a> fmt::Display for Ending<'a> {
                 address,
                 reason,
             } => writeln!(f, "{word} {address}: no socket{reason}"),
+            Ending::NoAnswer { address } => writeln!(
+                f,
+                "{address}: no answer; does a gateway run, with its telephones (--phones) at this address?"
+            ),
             ending => put_line(f, subject_of(ending), fault_of(ending), reason_in(ending)),
         }
     }

@@ -14,7 +14,8 @@ pub const PHONES: &str = "127.0.0.1:2428";
 
 /// The words of the command line, in a line.
 pub const USAGE: &str =
-    "rgwd CONFIG [--check] [--listen ADDRESS] [--phones ADDRESS] [--http ADDRESS] [--log] [--capture FILE] [--trace] [--network TEXT] [--stop-after MS]";
+    "rgwd CONFIG [--check] [--listen ADDRESS] [--phones ADDRESS] [--http ADDRESS] [--log] [--capture FILE] [--trace] [--network TEXT] [--stop-after MS]
+       rgwd --tell ADDRESS LINE";
 
 // What the words say, from the end of the first line on. The places of the defaults are left open.
 const ABOVE: &str = "
@@ -38,6 +39,7 @@ const BELOW: &str = "
   --help, --version   this, or the version, on standard output
 
 ADDRESS is a.b.c.d:port, and port 0 any free one. The first two sockets take datagrams (UDP).
+With --tell it starts no gateway: LINE, as phone 1 off, goes to the telephones at ADDRESS, and the answer to standard output.
 More: the manual page rgwd(8), and docs/OPERATING.md.
 ";
 

@@ -1,4 +1,4 @@
-//! The program `rgwd`: its words, its exit statuses and its texts, and what it opens and serves.
+//! The program `rgwd`: its words, its exit statuses and its texts, what it opens and serves, and what it tells a gateway that runs.
 #![tactic(auto)]
 
 mod app;
@@ -6,6 +6,7 @@ mod ending;
 mod help;
 mod opening;
 mod reception;
+mod telling;
 mod words;
 
 use std::process::ExitCode;

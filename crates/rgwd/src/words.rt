@@ -100,8 +100,8 @@ fn command<'a>(alloc: Global) -> Result<Command<'a>, AllocError> {
     Ok(command)
 }
 
-// The address that a text is.
-fn address_of(text: &str) -> Option<SocketAddrV4> {
+/// The address that a text is.
+pub fn address_of(text: &str) -> Option<SocketAddrV4> {
     match text.parse::<SocketAddrV4>() {
         Ok(address) => Some(address),
         Err(_) => None,
