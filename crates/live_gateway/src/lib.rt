@@ -18,4 +18,4 @@ pub use crate::ends::Ends;
 pub use crate::live_wire::LiveWire;
 pub use crate::outlets::Outlets;
 pub use crate::reception::Reception;
-pub use crate::session::{serve, write_records};
+pub use crate::session::{answer_stop, serve, write_records};

@@ -152,7 +152,7 @@ fn answer_counts(
     }
 }
 
-// Answers what needs no turn, up to the next act: whether the gateway is to end.
+// Answers what needs no turn, up to the next act: whether the gateway is to end. Who asks for that is answered when it has ended.
 fn answer_questions(
     alloc: Global,
     gateway: &Gateway,
@@ -168,10 +168,7 @@ fn answer_questions(
             Some(TelephoneRequest::Counts) => {
                 answer_counts(alloc, gateway, telephones, &journal.tally, faults);
             }
-            Some(TelephoneRequest::Stop) => {
-                telephones.answer(DONE);
-                return true;
-            }
+            Some(TelephoneRequest::Stop) => return true,
             Some(TelephoneRequest::Unknown) => telephones.answer(UNKNOWN),
             Some(TelephoneRequest::OutOfMemory) => telephones.answer(OUT_OF_MEMORY),
             Some(TelephoneRequest::Act { .. }) | None => return false,
@@ -221,6 +218,14 @@ pub fn write_records<R: Files + Print + Eprint>(
     journal.log.write(rt);
     if let Some(file) = capture {
         journal.capture.record.write(file);
+    }
+}
+
+/// The gateway has ended, and all is written that is told of it: who asked for the end is answered, where somebody did. What stands
+/// behind that in the datagram isn't done.
+pub fn answer_stop(alloc: Global, telephones: &mut CommandSocket) {
+    if let Some(TelephoneRequest::Stop) = next_request(alloc, telephones) {
+        telephones.answer_all(DONE);
     }
 }
 

@@ -13,7 +13,7 @@ pub enum TelephoneRequest {
     Show { line: u16 },
     /// What was counted so far is asked.
     Counts,
-    /// The gateway is to end.
+    /// The gateway is to end; this stays the next line until it has ended.
     Stop,
     /// The line says nothing that can be done.
     Unknown,

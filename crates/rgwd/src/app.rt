@@ -7,7 +7,7 @@ use crate::words::{Settings, WordFault, read_words};
 use config_faults::{Flaw, flaw_of, told, told_setup};
 use gateway_core::Gateway;
 use live_ends::RecordState;
-use live_gateway::{Ends, serve, write_records};
+use live_gateway::{Ends, answer_stop, serve, write_records};
 use live_journal::{Journal, TraceEntry, report};
 use rgw_play::{PlayFault, gateway_of, read_limited};
 use std::alloc::Global;
@@ -110,15 +110,14 @@ fn served_ending<'a>(journal: &Journal, capture: Option<&'a str>) -> Ending<'a> 
     record_ending(journal.trace.record.state(), Ending::Write, ending)
 }
 
-// Says on standard error where the sockets are, serves until the end, and says what was counted.
-fn serve_opened<'w, R: Files + Net + Clock + RandomSource + Print + Eprint>(
+// Serves until the end, writes what was recorded, and says what was counted.
+fn serve_to_end<'w, R: Files + Net + Clock + RandomSource + Print + Eprint>(
     rt: &R,
     alloc: Global,
     settings: &Settings<'w>,
     gateway: &mut Gateway,
     opened: &mut Opened<'_, R, R::File>,
 ) -> Ending<'w> {
-    tell_addresses(rt, &opened.wire.ends, &opened.outlets.site);
     let faults = serve(rt, alloc, gateway, &mut opened.wire, &mut opened.outlets);
     let journal = &mut opened.wire.journal;
     journal.trace.tell(TraceEntry::End);
@@ -131,6 +130,20 @@ fn serve_opened<'w, R: Files + Net + Clock + RandomSource + Print + Eprint>(
         }
         Err(_) => Ending::OutOfMemory,
     }
+}
+
+// Says on standard error where the sockets are, serves until the end, and answers who asked for that once all is written.
+fn serve_opened<'w, R: Files + Net + Clock + RandomSource + Print + Eprint>(
+    rt: &R,
+    alloc: Global,
+    settings: &Settings<'w>,
+    gateway: &mut Gateway,
+    opened: &mut Opened<'_, R, R::File>,
+) -> Ending<'w> {
+    tell_addresses(rt, &opened.wire.ends, &opened.outlets.site);
+    let ending = serve_to_end(rt, alloc, settings, gateway, opened);
+    answer_stop(alloc, &mut opened.wire.ends.telephones);
+    ending
 }
 
 // Says on standard output what the gateway will be, and where its sockets would be.
