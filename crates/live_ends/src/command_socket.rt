@@ -1,9 +1,16 @@
 //! A socket that takes lines of text, each of which asks for something, and answers them.
+ghost use Rattle.std.specs.Prelude.{◌↔◌, IsSomeAnd, IsTrue};
+ghost use Rattle.std.specs.Net.Addr.{IsLoopbackV4, IsLoopbackV6, MatchIp};
+ghost use Rattle.std.specs.Net.Socket.{socket_ip};
+
 use mg_bytes::lines;
 use mio::net::UdpSocket;
 use std::alloc::Global;
 use std::io;
 use std::net::{Net, SocketAddr, SocketAddrV4};
+
+/// What is answered to a line that asks for the program's end, and isn't from the loopback.
+pub const STOP_FROM_AFAR: &[u8] = b"! stop is taken from a loopback address alone, 127.0.0.0/8\n";
 
 // The room for a datagram of lines. What is longer is cut off.
 const ROOM: usize = 4096;
@@ -19,6 +26,16 @@ pub struct CommandSocket {
     // Where in them the line begins that is answered next, and where what follows it does.
     line: Option<usize>,
     rest: usize,
+}
+
+// Whether somebody is at an address of the loopback, 127.0.0.0/8 (RFC 1122, 3.2.1.3), which no other machine can send from.
+fn is_loopback(sender: Option<SocketAddr>) -> bool
+    ensures { IsTrue result ↔ IsSomeAnd sender (λ s. MatchIp (socket_ip s) IsLoopbackV4 IsLoopbackV6) }
+{
+    match sender {
+        Some(sender) => sender.ip().is_loopback(),
+        None => false,
+    }
 }
 
 impl CommandSocket {
@@ -48,6 +65,13 @@ impl CommandSocket {
     /// What stands behind that line in its datagram.
     pub fn rest(&self) -> &[u8] {
         self.text.get(self.rest..).unwrap_or(&[])
+    }
+
+    /// Whether the line came from an address of the loopback (127.0.0.0/8), and so from this machine.
+    pub fn is_from_loopback(&self) -> bool
+        ensures { IsTrue result ↔ IsSomeAnd self.now.sender (λ s. MatchIp (socket_ip s) IsLoopbackV4 IsLoopbackV6) }
+    {
+        is_loopback(self.sender)
     }
 
     /// Whether no line waits to be answered.

@@ -11,7 +11,7 @@ mod readiness;
 mod record;
 
 pub use crate::clock::LiveClock;
-pub use crate::command_socket::CommandSocket;
+pub use crate::command_socket::{CommandSocket, STOP_FROM_AFAR};
 pub use crate::now::{LONGEST_TICK, Now};
 pub use crate::readiness::{MOST_VISITORS, Readiness, Visit};
 pub use crate::record::{Record, RecordState};

@@ -7,7 +7,7 @@ use crate::outlets::{Outlets, earlier, serve_site};
 use crate::reception::Reception;
 use crate::telephones::{TelephoneRequest, next_request};
 use gateway_core::{Gateway, Input, Refusal, Served};
-use live_ends::CommandSocket;
+use live_ends::{CommandSocket, STOP_FROM_AFAR};
 use live_journal::{Faults, Journal, MessageTally, Trace, TraceEntry, report};
 use mg_bytes::OutOfMemory;
 use mg_line::Act;
@@ -169,6 +169,7 @@ fn answer_questions(
                 answer_counts(alloc, gateway, telephones, &journal.tally, faults);
             }
             Some(TelephoneRequest::Stop) => return true,
+            Some(TelephoneRequest::StopFromAfar) => telephones.answer(STOP_FROM_AFAR),
             Some(TelephoneRequest::Unknown) => telephones.answer(UNKNOWN),
             Some(TelephoneRequest::OutOfMemory) => telephones.answer(OUT_OF_MEMORY),
             Some(TelephoneRequest::Act { .. }) | None => return false,

@@ -15,6 +15,8 @@ pub enum TelephoneRequest {
     Counts,
     /// The gateway is to end; this stays the next line until it has ended.
     Stop,
+    /// The gateway is to end, as somebody says who may be at another machine: that isn't taken.
+    StopFromAfar,
     /// The line says nothing that can be done.
     Unknown,
     /// Memory was refused while it was read.
@@ -44,11 +46,20 @@ fn telephone_request(alloc: Global, line: &[u8]) -> TelephoneRequest {
     }
 }
 
+// What a `stop` asks for.
+fn stop_request(telephones: &CommandSocket) -> TelephoneRequest {
+    if telephones.is_from_loopback() {
+        TelephoneRequest::Stop
+    } else {
+        TelephoneRequest::StopFromAfar
+    }
+}
+
 /// What the line asks for that is to be answered next, if one is.
 pub fn next_request(alloc: Global, telephones: &CommandSocket) -> Option<TelephoneRequest> {
     match telephones.line()? {
         b"counts" => Some(TelephoneRequest::Counts),
-        b"stop" => Some(TelephoneRequest::Stop),
+        b"stop" => Some(stop_request(telephones)),
         line => Some(telephone_request(alloc, line)),
     }
 }
