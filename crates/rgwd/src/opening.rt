@@ -1,4 +1,8 @@
 //! Opens what the words ask for: sockets, a file for a capture, and the journal.
+ghost use Rattle.std.specs.Prelude.{◌≡◌};
+ghost use Rattle.std.specs.Net.Addr.{IsUnspecifiedV4};
+ghost use Rattle.std.specs.Net.Socket.{v4_ip, v4_port};
+
 use crate::ending::Ending;
 use crate::reception::PageReception;
 use crate::words::Settings;
@@ -14,7 +18,7 @@ use std::alloc::{AllocError, Global};
 use std::fs::File;
 use std::io;
 use std::io::ErrorKind;
-use std::net::{Net, SocketAddr, SocketAddrV4};
+use std::net::{Ipv4Addr, Net, SocketAddr, SocketAddrV4};
 use std::rt::{Clock, Files};
 use system_reasons::reason_of;
 
@@ -208,7 +212,7 @@ fn trace_of(alloc: Global, is_on: bool, config: &[u8]) -> Trace {
     trace
 }
 
-// The journal of this gateway, whose socket is here.
+// The journal of this gateway, whose datagrams are captured as those of this address.
 fn journal_of(
     alloc: Global,
     settings: &Settings<'_>,
@@ -244,6 +248,20 @@ fn open_outlets<R: Files + Net>(
     Ok(Outlets { capture, site })
 }
 
+// The address that a capture tells of the gateway, whose socket is there: that of its media where the socket is at any address of
+// the machine, since no datagram comes from 0.0.0.0.
+fn captured_address(socket: SocketAddrV4, media: Ipv4Addr) -> SocketAddrV4
+    ensures any { IsUnspecifiedV4 (v4_ip socket) → v4_ip result ≡ media }
+    ensures own { ¬ (IsUnspecifiedV4 (v4_ip socket)) → v4_ip result ≡ v4_ip socket }
+    ensures port { v4_port result ≡ v4_port socket }
+{
+    if socket.ip().is_unspecified() {
+        SocketAddrV4::new(media, socket.port())
+    } else {
+        socket
+    }
+}
+
 // A wire with these ends, whose trace has begun, and the outlets.
 fn assembled<'a, R: Net + Clock, F: Drop>(
     alloc: Global,
@@ -253,7 +271,8 @@ fn assembled<'a, R: Net + Clock, F: Drop>(
     ends: Box<Ends<'a, R>>,
     outlets: Outlets<F, PageReception>,
 ) -> Result<Opened<'a, R, F>, AllocError> {
-    let here = known(ends.socket.local_addr()).unwrap_or(settings.listen);
+    let socket = known(ends.socket.local_addr()).unwrap_or(settings.listen);
+    let here = captured_address(socket, gateway.setup().media_address);
     let board = board_of(alloc, &outlets.site)?;
     let journal = journal_of(alloc, settings, config, gateway, here, board)?;
     let wire = LiveWire::new(ends, journal);
