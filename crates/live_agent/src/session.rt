@@ -4,6 +4,7 @@ use agent_texts::{Journal, count};
 use bad_network::{Packet, Way};
 use call_agent::Issued;
 use call_desk::{Switchboard, TypedFault, typed_text};
+use live_ends::STOP_FROM_AFAR;
 use mg_bytes::{OutOfMemory, put_decimal};
 use std::alloc::Global;
 use std::net::{Net, SocketAddrV4};
@@ -189,15 +190,26 @@ fn answer_counts<R: Net + Clock>(alloc: Global, wire: &mut Wire<'_, R>) {
 enum Request {
     Counts,
     Stop,
+    // As somebody asks who may be at another machine: that isn't taken.
+    StopFromAfar,
     Command { text: Vec<u8> },
     OutOfMemory,
+}
+
+// What a `stop` asks for.
+fn stop_request<R: Net + Clock>(wire: &Wire<'_, R>) -> Request {
+    if wire.control.is_from_loopback() {
+        Request::Stop
+    } else {
+        Request::StopFromAfar
+    }
 }
 
 fn request_of<R: Net + Clock>(alloc: Global, wire: &Wire<'_, R>) -> Option<Request> {
     let line = wire.control.line()?;
     match line {
         b"counts" => Some(Request::Counts),
-        b"stop" | b"quit" => Some(Request::Stop),
+        b"stop" | b"quit" => Some(stop_request(wire)),
         _ => match typed_text(alloc, line, wire.control.rest()) {
             Ok(text) => Some(Request::Command { text }),
             Err(_) => Some(Request::OutOfMemory),
@@ -218,6 +230,7 @@ fn answer_requests<R: Net + Clock>(alloc: Global, board: &mut Switchboard, wire:
                 wire.control.answer(DONE);
                 wire.end = Some(0);
             }
+            Some(Request::StopFromAfar) => wire.control.answer(STOP_FROM_AFAR),
             Some(Request::Command { text }) => answer_typed(alloc, board, wire, text.as_slice()),
             Some(Request::OutOfMemory) => wire.control.answer_all(OUT_OF_MEMORY),
         }
