@@ -9,9 +9,11 @@ mod command_socket;
 mod now;
 mod readiness;
 mod record;
+mod streams;
 
 pub use crate::clock::LiveClock;
 pub use crate::command_socket::{CommandSocket, STOP_FROM_AFAR};
 pub use crate::now::{LONGEST_TICK, Now};
 pub use crate::readiness::{MOST_VISITORS, Readiness, Visit};
 pub use crate::record::{Record, RecordState};
+pub use crate::streams::{error_takes, wait_for_streams};

@@ -6,6 +6,7 @@
 
 mod boxing;
 mod ends;
+mod finishing;
 mod live_wire;
 mod outlets;
 mod passage;
@@ -15,6 +16,7 @@ mod telephones;
 
 pub use crate::boxing::boxed;
 pub use crate::ends::Ends;
+pub use crate::finishing::finish;
 pub use crate::live_wire::LiveWire;
 pub use crate::outlets::Outlets;
 pub use crate::reception::Reception;

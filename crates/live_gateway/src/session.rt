@@ -14,7 +14,6 @@ use mg_line::Act;
 use mg_packages::Hook;
 use rgw_play::{put_line, put_refusal, status_of};
 use std::alloc::Global;
-use std::io;
 use std::net::Net;
 use std::random::RandomSource;
 use std::rt::{Clock, Files};
@@ -209,14 +208,14 @@ fn settle(gateway: &Gateway, telephones: &mut CommandSocket, journal: &mut Journ
     }
 }
 
-/// Writes what was recorded and isn't written yet.
+/// Writes what was recorded and isn't written yet, as far as it is taken at once.
 pub fn write_records<R: Files + Print + Eprint>(
     rt: &R,
     journal: &mut Journal,
     capture: &mut Option<R::File>,
 ) {
-    journal.trace.record.write(&mut io::writer(rt));
-    journal.log.write(rt);
+    journal.trace.record.print(rt);
+    journal.log.record.eprint(rt);
     if let Some(file) = capture {
         journal.capture.record.write(file);
     }

@@ -92,20 +92,4 @@ impl Log {
         self.bytes = bytes;
         self.refused.clear();
     }
-
-    /// Writes what isn't written yet, on standard error.
-    pub fn write<R: Eprint>(&mut self, rt: &R) {
-        if !self.record.is_on() || self.record.out.is_empty() {
-            return;
-        }
-        let is_written = match str::from_utf8(self.record.out.as_slice()) {
-            Ok(text) => eprint!(rt; "{text}").is_ok(),
-            Err(_) => false,
-        };
-        if is_written {
-            self.record.out.clear();
-        } else {
-            self.record.fail();
-        }
-    }
 }

@@ -6,11 +6,11 @@ use crate::telling::{TELL, tell_line};
 use crate::words::{Settings, WordFault, read_words};
 use config_faults::{Flaw, flaw_of, told, told_setup};
 use gateway_core::Gateway;
-use live_ends::RecordState;
-use live_gateway::{Ends, answer_stop, serve, write_records};
-use live_journal::{Journal, TraceEntry, report};
+use live_ends::{Record, RecordState, error_takes};
+use live_gateway::{Ends, answer_stop, finish, serve, write_records};
+use live_journal::{Faults, Journal, TraceEntry, report};
 use rgw_play::{PlayFault, gateway_of, read_limited};
-use std::alloc::Global;
+use std::alloc::{AllocError, Global};
 use std::env;
 use std::fs::File;
 use std::io::ErrorKind;
@@ -110,6 +110,19 @@ fn served_ending<'a>(journal: &Journal, capture: Option<&'a str>) -> Ending<'a> 
     record_ending(journal.trace.record.state(), Ending::Write, ending)
 }
 
+// What was counted, to be written.
+fn counts_of(
+    alloc: Global,
+    gateway: &Gateway,
+    journal: &Journal,
+    faults: Faults,
+) -> Result<Record, AllocError> {
+    let text = report(alloc, gateway, &journal.tally, faults)?;
+    let mut counts = Record::new(alloc, true);
+    counts.out.extend_from_slice(text.as_bytes())?;
+    Ok(counts)
+}
+
 // Serves until the end, writes what was recorded, and says what was counted.
 fn serve_to_end<'w, R: Files + Net + Clock + RandomSource + Print + Eprint>(
     rt: &R,
@@ -121,14 +134,14 @@ fn serve_to_end<'w, R: Files + Net + Clock + RandomSource + Print + Eprint>(
     let faults = serve(rt, alloc, gateway, &mut opened.wire, &mut opened.outlets);
     let journal = &mut opened.wire.journal;
     journal.trace.tell(TraceEntry::End);
-    write_records(rt, journal, &mut opened.outlets.capture);
-    match report(alloc, gateway, &journal.tally, faults) {
-        Ok(counts) => {
-            // Nobody is left who could be told that standard error failed.
-            let _ = eprint!(rt; "{counts}");
-            served_ending(journal, settings.capture)
-        }
-        Err(_) => Ending::OutOfMemory,
+    let Ok(mut counts) = counts_of(alloc, gateway, journal, faults) else {
+        write_records(rt, journal, &mut opened.outlets.capture);
+        return Ending::OutOfMemory;
+    };
+    if finish(rt, journal, &mut opened.outlets.capture, &mut counts) {
+        served_ending(journal, settings.capture)
+    } else {
+        Ending::Write
     }
 }
 
@@ -264,8 +277,10 @@ fn ending_of<'w, R: AllocGlobal + Files + Net + Clock + RandomSource + Print + E
 
 // Says on standard error what went wrong, if anything did.
 fn tell_fault<R: Eprint>(rt: &R, ending: Ending<'_>) -> u8 {
-    // Nobody is left who could be told that standard error failed.
-    let _ = eprint!(rt; "{ending}");
+    // Nobody is left who could be told that standard error failed; nor is one that doesn't read waited for.
+    if error_takes() {
+        let _ = eprint!(rt; "{ending}");
+    }
     ending.status()
 }
 
