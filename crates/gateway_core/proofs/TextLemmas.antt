@@ -1,5 +1,5 @@
 -- The texts of a datagram, one after the other.
-use Rattle.std.proofs.Common.{◌≡◌, ℕ, Option, Some, None, true, false, List, [], ◌∷◌, ◌++◌, length, length-append, refl, sym, ◌∙◌, ap, subst, append_assoc, append-nil, arith}
+use Rattle.std.proofs.Common.{◌≡◌, ◌<◌, ◌≤◌, ◌+◌, ℕ, suc, Option, Some, None, true, false, List, [], ◌∷◌, ◌++◌, length, length-append, refl, sym, ◌∙◌, ap, subst, append_assoc, append-nil, arith}
 use Rattle.std.proofs.lemmas.Bool.Decides.{nat_tests}
 use Rattle.std.specs.Prelude.{if◌then◌else◌, Bool, Result, Ok, nat_lt}
 use Rattle.std.specs.declared.alloc.AllocError.{AllocError}
@@ -40,7 +40,10 @@ use Rattle.gateway_core.specs.Hearing.{left_done, left_outcome, passed_over}
 use Rattle.gateway_core.specs.declared.outcome.Reply.TheVariants.{First}
 use Rattle.gateway_core.specs.declared.outcome.TextOutcome.{TextOutcome}
 use Rattle.gateway_core.specs.declared.outcome.TextOutcome.TheVariants as outcomes
-use Rattle.gateway_core.specs.Outcomes.{reply_by, text_outcome, text_outcomes}
+use Rattle.gateway_core.specs.Outcomes.{reply_by, text_outcome, text_outcomes, outcomes_of}
+use Rattle.plain_machine.specs.Event.{GatewayEvent, datagram, phone, tick}
+use Rattle.transmission.specs.Texts.{most_texts, texts_of}
+use Rattle.transmission.proofs.TextLaws.{few_texts}
 use Rattle.gateway_core.specs.State.{machine_in, found_in, Went, Does}
 
 -- a first is executed: its command changed the store, then it was answered, and then comes what lines send because of it
@@ -262,3 +265,27 @@ pub told_end : (setup : Setup) (source : SocketAddrV4) (rest : List (List ℕ)) 
 unfolding text_outcomes
 told_end setup source rest m told whole none is =
     sym (append-nil told) ∙ subst (λ (x : List (List ℕ)). told ++ text_outcomes setup m source x ≡ whole) none is
+
+pub told_nothing : (setup : Setup) (source : SocketAddrV4) (rest : List (List ℕ)) (m : Machine) (told : List TextOutcome) → told ≡ [] → rest ≡ [] → told ≡ text_outcomes setup m source rest
+unfolding text_outcomes
+told_nothing setup source rest m told empty none = rw (empty, none) refl
+
+-- there is room to tell of the next of these texts, and then of the others
+pub has_room : {A B : Type 0} (told : List A) (all texts : List B) (text : B) (most : ℕ) → all ≡ text ∷ texts → length told + length all ≤ most → length told < most
+has_room told all texts text most same few = omega (arith, ap length same, few)
+
+pub has_room_on : {A B : Type 0} (told more : List A) (all texts : List B) (text : B) (last : A) (most : ℕ) → all ≡ text ∷ texts → more ≡ told ++ last ∷ []
+    → length told + length all ≤ most → length more + length texts ≤ most
+has_room_on told more all texts text last most same one few = omega (arith, ap length same, ap length one, length-append told (last ∷ []), few)
+
+-- each text is told of
+pub length-text_outcomes : (setup : Setup) (m : Machine) (source : SocketAddrV4) (texts : List (List ℕ)) → length (text_outcomes setup m source texts) ≡ length texts
+unfolding text_outcomes
+length-text_outcomes setup m source [] = refl
+length-text_outcomes setup m source (text ∷ texts) = ap suc (length-text_outcomes setup (handled setup m source (read_text text)).value source texts)
+
+pub few_outcomes : (setup : Setup) (m : Machine) (event : GatewayEvent) → length (outcomes_of setup m event) ≤ most_texts
+unfolding outcomes_of
+few_outcomes setup m (datagram source bytes) = rw (length-text_outcomes setup m source (texts_of bytes)) (few_texts bytes)
+few_outcomes setup m (phone line act) = omega arith
+few_outcomes setup m (tick moment) = omega arith

@@ -1,9 +1,9 @@
 //! What is done at a text that came in a datagram, and what the text was.
-ghost use Rattle.std.specs.Prelude.{◌≡◌, ◌∷◌, ◌++◌, ℕ, List, nat_lt, [], length, Some, None, IfOk, IfSome, OnOk};
+ghost use Rattle.std.specs.Prelude.{◌≡◌, ◌<◌, ◌∷◌, ◌++◌, ℕ, List, nat_lt, [], length, Some, None, IfOk, IfSome, OnOk};
 ghost use Rattle.mgcp_text.specs.Reading.{outcome_of, read_text};
 ghost use Rattle.mgcp_text.specs.Message.{params_in};
 ghost use Rattle.mgcp_text.specs.Confirmation.{k_of};
-ghost use Rattle.transmission.specs.Texts.{largest_datagram, texts_of};
+ghost use Rattle.transmission.specs.Texts.{largest_datagram, most_texts, texts_of};
 ghost use Rattle.std.specs.Result.{result_err, result_ok};
 ghost use Rattle.plain_machine.specs.Refusing.{ends};
 ghost use Rattle.command_forms.specs.Order.{form_while_in};
@@ -18,6 +18,7 @@ ghost use Rattle.gateway_core.specs.Outcomes.{text_outcome, text_outcomes};
 
 use crate::commanding::commanded;
 use crate::outcome::{Reply, TextOutcome};
+use crate::outcomes::Outcomes;
 use crate::responding::respond;
 use crate::sending::send_all;
 use crate::state::State;
@@ -197,34 +198,36 @@ fn take_next(
     state: &mut State,
     source: SocketAddrV4,
     text: &[u8],
-    told: &mut Vec<TextOutcome>,
+    told: &mut Outcomes,
     out: &mut Vec<OutDatagram>,
 ) -> Result<(), OutOfMemory>
-    requires { MayTell context.setup.now state.old.clock }
+    requires tells { MayTell context.setup.now state.old.clock }
+    requires room { length told.old < most_texts }
     ensures does { Does result (handled context.entry.setup.now (machine_in state.old) source (read_text text.now))
         state.old state.new out.old.items out.new.items }
-    ensures told { OnOk result (told.new.items
-        ≡ told.old.items ++ text_outcome context.entry.setup.now (machine_in state.old) (read_text text.now) ∷ []) }
+    ensures told { OnOk result (told.new
+        ≡ told.old ++ text_outcome context.entry.setup.now (machine_in state.old) (read_text text.now) ∷ []) }
 {
     let outcome = take(context, state, source, text, out)?;
-    told.push(outcome)?;
+    told.push(outcome);
     Ok(())
 }
 
-/// A datagram: what is sent. Its texts are taken in their order, each completely, and told of; one that is too long does nothing,
-/// and takes no memory.
+/// A datagram: what is sent. Its texts are taken in their order, each completely, and told of; nothing else is told yet. One that
+/// is too long does nothing, and takes no memory.
 pub(crate) fn take_datagram(
     context: Context<'_>,
     state: &mut State,
     source: SocketAddrV4,
     bytes: &[u8],
-    told: &mut Vec<TextOutcome>,
+    told: &mut Outcomes,
 ) -> Result<Vec<OutDatagram>, Refusal>
-    requires { MayTell context.setup.now state.old.clock }
+    requires tells { MayTell context.setup.now state.old.clock }
+    requires untold { told.old ≡ [] }
     ensures happens { Happens result (took_all context.entry.setup.now (machine_in state.old) source (texts_of bytes.now))
         state.old state.new }
-    ensures told { OnOk result (told.new.items
-        ≡ told.old.items ++ text_outcomes context.entry.setup.now (machine_in state.old) source (texts_of bytes.now)) }
+    ensures told { OnOk result (told.new
+        ≡ text_outcomes context.entry.setup.now (machine_in state.old) source (texts_of bytes.now)) }
     ensures ends { ends None (nat_lt largest_datagram (length bytes.now)) (result_err result) }
 {
     let mut out = Vec::new(context.alloc);

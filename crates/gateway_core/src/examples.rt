@@ -1,10 +1,12 @@
 //! What is told of the texts of an event (RFC 3435, 3.2, 3.3 and 3.5), as theorems.
 #![tactic(auto, unfolding(crate::proofs::Computing::on_examples))]
 
-ghost use Rattle.std.specs.Prelude.{◌≡◌, ◌++◌, codes, [], ◌∷◌, replicate, true, false, None, Some};
+ghost use Rattle.std.specs.Prelude.{◌≡◌, ◌++◌, codes, [], ◌∷◌, length, replicate, true, false, None, Some};
 ghost use Rattle.mgcp_text.specs.declared.message.Verb.TheVariants.{Rqnt};
 ghost use Rattle.mg_line.specs.declared.phone.Act.TheVariants.{OffHook};
 ghost use Rattle.history.specs.Looking.{full};
+ghost use Rattle.transmission.specs.Example.{dot_lines};
+ghost use Rattle.transmission.specs.Texts.{most_texts};
 ghost use Rattle.plain_machine.specs.Event.{datagram, phone, tick};
 ghost use Rattle.plain_machine.specs.Example.{example, agent, other_agent, audit, rqnt, response, from_agent};
 ghost use Rattle.gateway_core.specs.declared.outcome.Reply.TheVariants.{First, Again, Silence, NoRoom};
@@ -50,6 +52,11 @@ pub fn each_text_is_told_of()
         (codes "RQNT 7 aaln/1@rgw.example.net MGCP 1.0\r\nX: A5\r\n.\r\n200 1 OK\r\n.\r\n"
         ++ codes "RQNT 8 aaln/1@rgw.example.net MGCP 1.0\r\nX: A5\r\n") ∷ [])
         ≡ Command (Some Rqnt) 7 (First 405) ∷ Response false ∷ Command (Some Rqnt) 8 (First 200) ∷ [] }
+{}
+
+/// As many texts are told of as a datagram can have: each of its lines is a single dot.
+pub fn as_many_texts_are_told_of_as_there_can_be()
+    ensures { length (told (from_agent (dot_lines 2000) ∷ [])) ≡ most_texts }
 {}
 
 /// Only the last event is told of; an act, a tick and a datagram that is too long have no text.

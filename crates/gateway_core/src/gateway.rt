@@ -4,6 +4,7 @@ ghost use Rattle.plain_machine.specs.Setup.{setup_of};
 ghost use Rattle.plain_machine.specs.Event.{GatewayEvent, event_of};
 
 use crate::outcome::TextOutcome;
+use crate::outcomes::Outcomes;
 use crate::state::State;
 use crate::stopped::Stopped;
 use crate::working::step_state;
@@ -28,9 +29,9 @@ pub struct Gateway {
     // In a box, so that a gateway is small where it is moved.
     state: Box<State>,
     // What the texts of the last event were that it took.
-    outcomes: Vec<TextOutcome>,
-    // The same of the event under way. Both keep their room, so that after a while neither asks for memory.
-    under_way: Vec<TextOutcome>,
+    outcomes: Outcomes,
+    // The same of the event under way. Both have their room from the beginning, so that no event takes memory for them.
+    under_way: Outcomes,
 }
 
 impl Model for Gateway {
@@ -43,7 +44,7 @@ impl Model for Gateway {
     ghost view = { λ g. record {
       setup = g.setup;
       machine = machine_in g.state.value;
-      outcomes = g.outcomes.items;
+      outcomes = g.outcomes;
     } };
 
     ghost invariant = { λ g. IsSound g.setup (machine_in g.state.value) };
@@ -57,7 +58,7 @@ impl Gateway {
     ghost use Rattle.gateway_core.specs.Outcomes.{last_outcomes};
     ghost use Rattle.gateway_core.specs.Stands.{Stands, Opens, Took, StoppedAt};
 
-    /// A gateway of this configuration, at moment 0.
+    /// A gateway of this configuration, at moment 0, with room to tell what the texts of any datagram were.
     ///
     /// The faults 2 to 6 come in the order of their numbers, and before want of memory.
     pub fn new(alloc: Global, config: Config) -> Result<Gateway, ConfigFault>
@@ -66,8 +67,8 @@ impl Gateway {
         let setup = judged(config)?;
         let list = opening_list(alloc, &setup)?;
         let store = Store::of(alloc, list, opening_own(&setup))?;
-        let outcomes = Vec::new(alloc);
-        let under_way = Vec::new(alloc);
+        let outcomes = Outcomes::new(alloc)?;
+        let under_way = Outcomes::new(alloc)?;
         let state = State {
             clock: 0,
             store,

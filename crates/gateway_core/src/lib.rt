@@ -11,6 +11,7 @@ pub mod examples;
 mod gateway;
 pub mod laws;
 mod outcome;
+mod outcomes;
 mod reporting;
 mod responding;
 mod sending;

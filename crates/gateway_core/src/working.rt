@@ -11,7 +11,7 @@ ghost use Rattle.gateway_core.specs.Outcomes.{outcomes_of};
 
 use crate::acting::act_on;
 use crate::answering::take_datagram;
-use crate::outcome::TextOutcome;
+use crate::outcomes::Outcomes;
 use crate::state::State;
 use crate::ticking::tick;
 use endpoint_rules::Context;
@@ -24,12 +24,12 @@ fn happen(
     context: Context<'_>,
     state: &mut State,
     event: Event<'_>,
-    told: &mut Vec<TextOutcome>,
+    told: &mut Outcomes,
 ) -> Result<Vec<OutDatagram>, Refusal>
     requires { IsSound context.setup.now (machine_in state.old) }
     ensures happens { Happens result (effect context.entry.setup.now (machine_in state.old) (event_of event.entry))
         state.old state.new }
-    ensures told { OnOk result (told.new.items
+    ensures told { OnOk result (told.new
         ≡ outcomes_of context.entry.setup.now (machine_in state.old) (event_of event.entry)) }
     ensures ends { Ends (machine_in state.old) (event_of event.entry) (result_err result) }
 {
@@ -47,13 +47,13 @@ fn carry_out(
     context: Context<'_>,
     state: &mut State,
     event: Event<'_>,
-    told: &mut Vec<TextOutcome>,
+    told: &mut Outcomes,
     outputs: &mut Outputs,
 ) -> Result<(), Refusal>
     requires { IsSound context.setup.now (machine_in state.old) }
     ensures ok { OnOk result (PutsOut (effect context.entry.setup.now (machine_in state.old) (event_of event.entry))
         state.new outputs.old outputs.new) }
-    ensures told { OnOk result (told.new.items
+    ensures told { OnOk result (told.new
         ≡ outcomes_of context.entry.setup.now (machine_in state.old) (event_of event.entry)) }
     ensures err { OnErr result (outputs.new ≡ outputs.old) }
     ensures found { OnErr result (found_in state.new ≡ found_in state.old) }
@@ -72,14 +72,14 @@ fn attempt(
     context: Context<'_>,
     state: &mut State,
     event: Event<'_>,
-    told: &mut Vec<TextOutcome>,
+    told: &mut Outcomes,
     outputs: &mut Outputs,
 ) -> Result<(), Refusal>
     requires { IsSound context.setup.now (machine_in state.old) }
     ensures all { AllOr (purged_in (machine_in state.old)) result
         (effect context.entry.setup.now (purged_in (machine_in state.old)) (event_of event.entry))
         state.new outputs.old outputs.new }
-    ensures told { OnOk result (told.new.items
+    ensures told { OnOk result (told.new
         ≡ outcomes_of context.entry.setup.now (purged_in (machine_in state.old)) (event_of event.entry)) }
     ensures ends { Ends (machine_in state.old) (event_of event.entry) (result_err result) }
 {
@@ -106,7 +106,7 @@ pub(crate) fn step_state(
     context: Context<'_>,
     state: &mut State,
     event: Event<'_>,
-    told: &mut Vec<TextOutcome>,
+    told: &mut Outcomes,
     outputs: &mut Outputs,
 ) -> Result<(), Refusal>
     requires { IsSound context.setup.now (machine_in state.old) }
@@ -114,7 +114,7 @@ pub(crate) fn step_state(
     ensures ok { (m : _) → Alike (machine_in state.old) m → OnOk result
         (GoesOn context.entry.setup.now m (event_of event.entry) (machine_in state.new) outputs.old outputs.new) }
     ensures told { (m : _) → Alike (machine_in state.old) m → OnOk result
-        (told.new.items ≡ outcomes_of context.entry.setup.now m (event_of event.entry)) }
+        (told.new ≡ outcomes_of context.entry.setup.now m (event_of event.entry)) }
     ensures err { (m : _) → Alike (machine_in state.old) m → OnErr result (Alike (machine_in state.new) m) }
     ensures no_outputs { OnErr result (outputs.new ≡ outputs.old) }
     ensures ends { Ends (machine_in state.old) (event_of event.entry) (result_err result) }

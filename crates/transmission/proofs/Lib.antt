@@ -1,2 +1,3 @@
 pub mod PackingLaws
+pub mod TextLaws
 pub mod Computing

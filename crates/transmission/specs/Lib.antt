@@ -4,3 +4,4 @@ pub mod Confirming
 pub mod Transacting
 pub mod Acknowledging
 pub mod Hearing
+pub mod Example

@@ -1,7 +1,7 @@
 //! What is heard in texts, as theorems: each sentence of a definition has one that a slip in it breaks.
 #![tactic(auto, unfolding(crate::proofs::Computing::on_examples))]
 
-ghost use Rattle.std.specs.Prelude.{◌≡◌, codes, true, false, [], ◌∷◌, Some, None};
+ghost use Rattle.std.specs.Prelude.{◌≡◌, codes, true, false, [], ◌∷◌, length, Some, None};
 ghost use Rattle.std.specs.declared.net.socket_addr.SocketAddrV4.{SocketAddrV4};
 ghost use Rattle.history.specs.Kept.{settled_at, first_entry, kept_with};
 ghost use Rattle.history.specs.declared.entry.Entry.TheVariants.{Confirmation};
@@ -9,6 +9,8 @@ ghost use Rattle.history.specs.Looking.{full};
 ghost use Rattle.mgcp_text.specs.Reading.{message, no_header, bad_version, bad_body};
 ghost use Rattle.mgcp_text.specs.declared.message.Verb.TheVariants as verbs;
 ghost use Rattle.mgcp_text.specs.declared.message.Message.TheVariants as messages;
+ghost use Rattle.transmission.specs.Texts.{largest_datagram, most_texts, texts_of};
+ghost use Rattle.transmission.specs.Example.{dot_lines};
 ghost use Rattle.transmission.specs.Transacting.{message_to, transacted_as, with_first};
 ghost use Rattle.transmission.specs.Hearing.{hearing, heard_at};
 
@@ -53,4 +55,12 @@ pub fn repeats_get_the_stored_answer()
 /// What finds no room is lost.
 pub fn what_finds_no_room_gets_nothing()
     ensures { transacted_as full true (λ text. true) false ≡ false }
+{}
+
+/// A datagram that is as long as may be has as many texts as may be where each of its lines is a single dot; with one more it has
+/// none, since it is too long.
+pub fn dot_lines_are_the_most_texts()
+    ensures whole { length (dot_lines 2000) ≡ largest_datagram }
+    ensures most { length (texts_of (dot_lines 2000)) ≡ most_texts }
+    ensures longer { texts_of (dot_lines 2001) ≡ [] }
 {}

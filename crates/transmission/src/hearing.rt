@@ -3,7 +3,7 @@
 ghost use Rattle.std.specs.Prelude.{◌≡◌, ◌≤◌, ◌++◌, ℕ, nat_lt, if◌then◌else◌, List, [], length, Some, None, is_none, IfSome, MatchOption, IfOk, OnOk, OnErr};
 ghost use Rattle.std.specs.Result.{result_ok};
 ghost use Rattle.mgcp_text.specs.Reading.{message, outcome_of, read_text};
-ghost use Rattle.transmission.specs.Texts.{largest_datagram, texts_of};
+ghost use Rattle.transmission.specs.Texts.{largest_datagram, most_texts, texts_of};
 ghost use Rattle.transmission.specs.Hearing.{outcome_in, refused, heard_at};
 
 use crate::LARGEST_DATAGRAM;
@@ -18,10 +18,11 @@ use std::alloc::{AllocError, Global};
 use std::net::SocketAddrV4;
 
 /// The texts of a datagram in their order; none where it is too long (RFC 3435, 3.5.4 and 3.5.5). This takes no memory.
-#[tactic(auto, unfolding(crate::specs::Texts::texts_of))]
+#[tactic(auto, unfolding(crate::specs::Texts::texts_of), using(crate::proofs::TextLaws::few_within))]
 pub fn texts(datagram: &[u8]) -> Option<Parts<'_>>
     ensures texts { MatchOption result (texts_of datagram.now ≡ []) (λ texts. texts ≡ texts_of datagram.now) }
     ensures long { is_none result ≡ nat_lt largest_datagram (length datagram.now) }
+    ensures few { IfSome result (λ texts. length texts ≤ most_texts) }
 {
     if datagram.len() > LARGEST_DATAGRAM {
         return None;

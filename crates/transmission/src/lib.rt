@@ -8,6 +8,7 @@ mod acknowledging;
 mod confirming;
 pub mod examples;
 mod hearing;
+pub mod laws;
 mod output;
 mod packing;
 mod sending;
@@ -23,3 +24,6 @@ pub use crate::transacting::{Origin, answer, is_new};
 
 /// The largest datagram that is taken, in bytes (RFC 3435, 3.5.4).
 pub const LARGEST_DATAGRAM: usize = 4000;
+
+/// The most texts that it has: between two texts stands a line that is a single dot, which takes two bytes (RFC 3435, 3.5.5).
+pub const MOST_TEXTS: usize = LARGEST_DATAGRAM / 2 + 1;
