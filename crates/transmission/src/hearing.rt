@@ -9,7 +9,7 @@ ghost use Rattle.transmission.specs.Hearing.{outcome_in, refused, heard_at};
 use crate::LARGEST_DATAGRAM;
 use crate::acknowledging::acknowledge;
 use crate::output::OutDatagram;
-use crate::transacting::{Origin, answer, is_new};
+use crate::transacting::{Origin, admit, answer};
 use history::History;
 use mg_bytes::{OutOfMemory, ReturnCode, Sequence};
 use mgcp_text::{AnswerContent, Message, TextFault};
@@ -46,7 +46,7 @@ fn refuse(
     ensures unsent { OnErr result (out.new.items ≡ out.old.items) }
     ensures settled { history.new.settled ≡ history.old.settled }
 {
-    if !is_new(alloc, history, origin, now, out)? {
+    if !admit(alloc, history, origin, now, out)? {
         return Ok(());
     }
     let confirms = Sequence::new(alloc);
@@ -72,7 +72,7 @@ fn is_left(
 {
     match said {
         Message::Command { id, .. } => {
-            Ok(is_new(alloc, history, Origin { source, id: *id }, now, out)?)
+            Ok(admit(alloc, history, Origin { source, id: *id }, now, out)?)
         }
         Message::Response { code, id, .. } => {
             acknowledge(alloc, Origin { source, id: *id }, now, *code, said, out)?;

@@ -27,9 +27,9 @@ fn copy_of(alloc: Global, text: &[u8]) -> Result<Text, OutOfMemory>
     Ok(Text::of(Vec::from_slice(alloc, text)?))
 }
 
-/// Whether a command that arrives now (in ms) is new; a repeat gets its stored answer again, and what is confirmed or finds
-/// no room gets none (RFC 3435, 3.5.1). After an error the messages are as they were.
-pub fn is_new(
+/// Admits a command that arrives now (in ms): whether it is new, and is to be executed. The stored answer of a repeat goes out
+/// again; what is confirmed or finds no room gets none (RFC 3435, 3.5.1). After an error the messages are as they were.
+pub fn admit(
     alloc: Global,
     history: &History,
     origin: Origin,
