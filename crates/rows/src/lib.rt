@@ -15,6 +15,7 @@ mod line_connections;
 mod messages;
 mod quarantines;
 mod requests;
+mod restarts;
 mod signal_sets;
 mod texts;
 mod values;
@@ -23,6 +24,7 @@ use crate::keeping::{Going, Keeping};
 use crate::line_connections::ConnectionsScenario;
 use crate::messages::MessageScenario;
 use crate::requests::RequestScenario;
+use crate::restarts::RestartScenario;
 use crate::values::Values;
 use history::History;
 use mg_line::Line;
@@ -52,6 +54,7 @@ impl Kinds for Rows {
             "history" => told::<Going<History>, R>(rt, text),
             "connections" => told::<Keeping<ConnectionsScenario>, R>(rt, text),
             "moments" => told::<Keeping<Due>, R>(rt, text),
+            "restart" => told::<Keeping<RestartScenario>, R>(rt, text),
             _ => return Ok(None),
         };
         Ok(Some(told?))

@@ -1,0 +1,70 @@
+//! The announcement of a gateway or of a line, a row each (RFC 3435, 2.3.12). Under a new title none is owed.
+//!
+//! - `waits 500 from 1000` one waits so long from this moment on, both in ms; `sent` it goes out; `answered` it is answered;
+//! - `is waiting` where it is: `waiting`, `announced` or `serving`;
+//! - `due 1500` the moment at which it is sent; `due -` none waits;
+//! - `keep` and `back`: the announcement as it was once.
+ghost use Rattle.std.specs.Prelude.{◌<◌, ◌^◌};
+
+use crate::keeping::{Kept, Thing};
+use restart::Restart;
+use scenario_files::Row;
+use std::alloc::Global;
+use std::io;
+
+/// An announcement.
+#[derive(Drop)]
+pub struct RestartScenario {
+    restart: Restart,
+}
+
+impl RestartScenario {
+    // `500 from 1000`.
+    fn wait(&mut self, row: &mut Row<'_>) {
+        let wait = row.number();
+        let moment = u64::from(row.number_behind("from"));
+        self.restart = Restart::begin(moment, wait);
+    }
+
+    // Where it is.
+    fn place(&self) -> &'static str {
+        match self.restart {
+            Restart::Waiting(_) => "waiting",
+            Restart::Announced => "announced",
+            Restart::Serving => "serving",
+        }
+    }
+
+    // When it is sent.
+    fn put_due(&self, row: &mut Row<'_>) {
+        match self.restart.due() {
+            Some(moment) => row.put_shown(moment),
+            None => row.put(b"-"),
+        }
+    }
+}
+
+impl Thing for RestartScenario {
+    fn begin(_alloc: Global) -> io::Result<RestartScenario> {
+        let restart = Restart::Serving;
+        Ok(RestartScenario { restart })
+    }
+
+    fn turn(&mut self, row: &mut Row<'_>) {
+        match row.before(" ") {
+            "waits" => self.wait(row),
+            "sent" => self.restart = Restart::Announced,
+            "answered" => self.restart = Restart::Serving,
+            "is" => row.put(self.place().as_bytes()),
+            "due" => self.put_due(row),
+            _ => row.unread(),
+        }
+    }
+}
+
+impl Kept for RestartScenario {
+    fn copy(&self, _alloc: Global) -> io::Result<RestartScenario> {
+        let restart = self.restart.try_copy()?;
+        Ok(RestartScenario { restart })
+    }
+}
