@@ -7,6 +7,7 @@ ghost use Rattle.bad_network.specs.declared.packet.Way.TheVariants.{In, Out};
 ghost use Rattle.bad_network.specs.declared.spoiling.SpoilingFault.TheVariants as faults;
 ghost use Rattle.bad_network.specs.Spelling.{percent_of, span_of};
 ghost use Rattle.bad_network.specs.Parts.{spoiling_of};
+ghost use Rattle.bad_network.specs.Naming.{mixed, named};
 ghost use Rattle.bad_network.specs.Fates.{fate_of, lateness};
 ghost use Rattle.bad_network.specs.Waiting.{packet_of, copies_of, put_in, put_all, first_due, taken};
 ghost use Rattle.bad_network.specs.Example.{rough, drawn, peer, packet};
@@ -46,6 +47,17 @@ pub fn the_first_wrong_part_is_the_fault()
     ensures copy_twice { spoiling_of (codes "copy 1%, copy 1%") ≡ Err faults.Copy }
     ensures late_twice { spoiling_of (codes "late 1-1, late 1-1") ≡ Err faults.Late }
     ensures seed_twice { spoiling_of (codes "seed 1, seed 1") ≡ Err faults.Seed }
+{}
+
+/// A seed is mixed with a name as FNV-1a is reckoned, which begins at 14,695,981,039,346,656,037 by itself. Nothing else of the
+/// network is changed, and without a name its seed isn't either.
+pub fn seeds_are_mixed_with_names()
+    ensures letter { mixed 14695981039346656037 (codes "a") ≡ 12638187200555641996 }
+    ensures word { mixed 14695981039346656037 (codes "foobar") ≡ 9625390261332436968 }
+    ensures short { mixed 7 (codes "a") ≡ 112150186077522 }
+    ensures domain { mixed 7 (codes "rgw.example.net") ≡ 4552955192935780764 }
+    ensures none { named rough [] ≡ rough }
+    ensures seed_alone { named rough (codes "b") ≡ record { lose = 10; copy = 5; least = 100; most = 3000; seed = 111050674449311 } }
 {}
 
 /// The draw for loss goes before that for a copy, and each copy has a lateness of its own.

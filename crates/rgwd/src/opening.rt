@@ -144,6 +144,7 @@ fn open_ends<'a, R: Net + Clock>(
     rt: &'a R,
     alloc: Global,
     settings: &Settings<'_>,
+    gateway: &Gateway,
 ) -> Result<Box<Ends<'a, R>>, Unopened> {
     let mut socket = open_socket(rt, settings.listen)?;
     let mut telephones = open_telephones(rt, alloc, settings.phones)?;
@@ -152,7 +153,10 @@ fn open_ends<'a, R: Net + Clock>(
     };
     let ready = watch(rt, alloc, &mut socket, &mut telephones)?;
     let network = match settings.network {
-        Some(spoiling) => Some(BadNetwork::new(alloc, spoiling)),
+        Some(spoiling) => {
+            let domain = gateway.setup().names.domain.as_bytes();
+            Some(BadNetwork::new(alloc, spoiling.with_name(domain)))
+        }
         None => None,
     };
     let end = settings.stop_after;
@@ -287,7 +291,7 @@ pub fn open<'a, R: Files + Net + Clock>(
     config: &[u8],
     gateway: &Gateway,
 ) -> Result<Opened<'a, R, R::File>, Unopened> {
-    let ends = open_ends(rt, alloc, settings)?;
+    let ends = open_ends(rt, alloc, settings, gateway)?;
     let outlets = open_outlets(rt, alloc, settings, &ends.ready)?;
     Ok(assembled(alloc, settings, config, gateway, ends, outlets)?)
 }

@@ -1,0 +1,36 @@
+//! A seed that is mixed with a name.
+ghost use Rattle.std.specs.Prelude.{◌≡◌};
+ghost use Rattle.bad_network.specs.Naming.{mixed_with, mixed, named};
+
+use crate::spoiling::Spoiling;
+
+// The prime of FNV-1a in 64 bits.
+const FNV_PRIME: u64 = 1_099_511_628_211;
+
+// A seed, mixed with one byte: what goes beyond 64 bits is dropped.
+fn mixed_with(seed: u64, byte: u8) -> u64
+    ensures { result ≡ mixed_with seed byte }
+{
+    (seed ^ u64::from(byte)).wrapping_mul(FNV_PRIME)
+}
+
+// A seed, mixed with all bytes of a name.
+fn mixed(seed: u64, name: &[u8]) -> u64
+    ensures { result ≡ mixed seed name.now }
+{
+    name.iter()
+        .fold(seed, |mixed, byte| mixed_with(mixed, *byte))
+}
+
+impl Spoiling {
+    /// The same, with a seed that is mixed with a name by FNV-1a: two that have one seed draw otherwise where their names differ,
+    /// and each draws the same every time.
+    pub fn with_name(self, name: &[u8]) -> Spoiling
+        ensures { result ≡ named self name.now }
+    {
+        Spoiling {
+            seed: mixed(self.seed, name),
+            ..self
+        }
+    }
+}
