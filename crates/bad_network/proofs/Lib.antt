@@ -1,3 +1,4 @@
 pub mod Computing
 pub mod WaitingLemmas
 pub mod PassingLaws
+pub mod NamingLaws

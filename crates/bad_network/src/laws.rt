@@ -1,5 +1,5 @@
 //! Laws of the definitions. Each function has an empty body: its clauses are the theorems.
-ghost use Rattle.std.specs.Prelude.{◌≡◌, ◌≤◌, ◌<◌, ◌+◌, ◌^◌, ◌++◌, ℕ, List, Some, None, All};
+ghost use Rattle.std.specs.Prelude.{◌≡◌, ◌≤◌, ◌<◌, ◌+◌, ◌^◌, ◌++◌, ◌∷◌, ℕ, List, Some, None, All};
 ghost use Rattle.std.specs.List.Sorted.{IsPermutation};
 ghost use Rattle.std.specs.declared.net.socket_addr.SocketAddrV4.{SocketAddrV4};
 ghost use Rattle.bad_network.specs.declared.draws.Draws.{Draws};
@@ -8,8 +8,18 @@ ghost use Rattle.bad_network.specs.declared.packet.Packet.{Packet};
 ghost use Rattle.bad_network.specs.declared.packet.Way.{Way};
 ghost use Rattle.bad_network.specs.declared.spoiling.Spoiling.{Spoiling};
 ghost use Rattle.bad_network.specs.Fates.{fate_of};
+ghost use Rattle.bad_network.specs.Naming.{mixed};
 ghost use Rattle.bad_network.specs.Waiting.{copies_of, taken, IsInOrder};
 ghost use Rattle.bad_network.specs.Passing.{NetworkStep, opening, passed};
+
+/// Seeds that differ still do once each is mixed with the same name; and one seed comes to two where it is mixed with names that
+/// differ in one byte.
+pub fn seeds_and_names_stay_apart()
+    ensures seeds { (name : List ℕ) (a b : ℕ) → All (λ byte. byte < 256) name → a < 2 ^ 64 → b < 2 ^ 64 →
+        mixed a name ≡ mixed b name → a ≡ b }
+    ensures names { (front behind : List ℕ) (seed a b : ℕ) → All (λ byte. byte < 256) behind → seed < 2 ^ 64 →
+        a < 256 → b < 256 → mixed seed (front ++ a ∷ behind) ≡ mixed seed (front ++ b ∷ behind) → a ≡ b }
+{}
 
 /// A copy is the packet itself: its way, its peer, its bytes, and the moment at which it was offered.
 pub fn copies_are_the_packet_itself()
