@@ -1,5 +1,5 @@
 -- What is done at an event, piece by piece.
-use Rattle.std.proofs.Common.{◌≡◌, ℕ, ◌≤◌, ◌+◌, Bool, true, false, not, List, [], ◌∷◌, ◌++◌, length, map, drop, Option, Some, None, Ok, refl, sym, ap, ◌∙◌, append-nil, arith, ◌<◌, ◌^◌}
+use Rattle.std.proofs.Common.{◌≡◌, ℕ, ◌≤◌, ◌+◌, Bool, true, false, not, List, [], ◌∷◌, ◌++◌, length, map, drop, Option, Some, None, refl, sym, ap, ◌∙◌, append-nil, arith, ◌<◌, ◌^◌}
 use Rattle.std.specs.Prelude.{is_some, ◌==◌}
 use Rattle.std.specs.List.{enumerate_from, range_with_len, list_all}
 use Rattle.std.proofs.lemmas.List.{drop_all}
@@ -8,7 +8,6 @@ use Rattle.history.specs.Kept.{HistoryState, settled_at as history_at, from_youn
 use Rattle.mg_line.specs.declared.phone.Act.{Act}
 use Rattle.mg_line.specs.Acting.{is_heeded}
 use Rattle.mg_line.proofs.HeedLemmas.{unheeded}
-use Rattle.plain_machine.specs.declared.config.Config.{Config}
 use Rattle.timers.specs.declared.due_item.DueItem.{DueItem}
 use Rattle.plain_machine.specs.declared.setup.Setup.{Setup}
 use Rattle.plain_machine.specs.declared.endpoint.Endpoint.{Endpoint}
@@ -16,11 +15,11 @@ use Rattle.transmission.specs.declared.output.OutDatagram.{OutDatagram}
 use Rattle.plain_machine.specs.declared.refusal.Refusal.{Refusal}
 use Rattle.plain_machine.specs.declared.refusal.Refusal.TheVariants.{OutOfMemory}
 use Rattle.plain_machine.specs.Effect.{Effect, silently}
-use Rattle.plain_machine.specs.Setup.{setup_of, most_lines}
+use Rattle.plain_machine.specs.Setup.{IsSetUp, most_lines}
 use Rattle.plain_machine.specs.Event.{GatewayEvent, datagram, phone, tick}
 use Rattle.plain_machine.specs.Message.{datagrams_of}
 use Rattle.plain_machine.specs.Notifying.{noted}
-use Rattle.plain_machine.specs.Machine.{Endpoints, Machine, told_in, endpoint_at, turned_at, on_line, opening_endpoint}
+use Rattle.plain_machine.specs.Machine.{Endpoints, Machine, told_in, endpoint_at, turned_at, on_line, opening_endpoint, opening}
 use Rattle.plain_machine.specs.Acting.{acted_on}
 use Rattle.transmission.specs.Texts.{texts_of}
 use Rattle.plain_machine.specs.Answering.{took_all}
@@ -29,7 +28,7 @@ use Rattle.transmission.specs.Packing.{packed}
 use Rattle.plain_machine.specs.Happening.{ticked, effect}
 use Rattle.plain_machine.specs.Refusing.{refusal_of, is_unheeded, takes_none, ends, Ends}
 use Rattle.plain_machine.proofs.FallingLaws.{pass_none}
-use Rattle.plain_machine.proofs.NameLemmas.{setup_is, line_writable}
+use Rattle.plain_machine.proofs.NameLemmas.{line_writable}
 use Rattle.gateway_core.specs.declared.state.State.{State}
 use Rattle.endpoints.specs.StoreState.{StoreState, committed}
 use Rattle.gateway_core.specs.Sound.{IsSound}
@@ -146,16 +145,15 @@ ends_refused setup event was is sent given some is_given e happened =
 
 -- Openings
 
-pub opening_sound : (config : Config) (setup : Setup) (m : Machine) → setup_of config ≡ Ok setup → m.endpoints.list ≡ map (opening_endpoint setup) (range_with_len 1 setup.names.lines)
-    → m.now ≡ 0 → IsSound setup m
-opening_sound config setup m is list now = record {
-  set_up = setup_is config setup is;
-  all = ap length list ∙ length-map-range_with_len (opening_endpoint setup) 1 setup.names.lines;
-  moment = rw now (omega arith);
+pub opening_sound : (setup : Setup) (m : Machine) → IsSetUp setup → m ≡ opening setup → IsSound setup m
+opening_sound setup m set_up is = record {
+  set_up = set_up;
+  all = ap (λ (x : Machine). length x.endpoints.list) is ∙ length-map-range_with_len (opening_endpoint setup) 1 setup.names.lines;
+  moment = rw is (omega arith);
 }
 
-pub opening_few : (config : Config) (setup : Setup) (list : List Endpoint) → setup_of config ≡ Ok setup → list ≡ map (opening_endpoint setup) (range_with_len 1 setup.names.lines) → length list ≤ most_lines
-opening_few config setup list is same = rw (ap length same ∙ length-map-range_with_len (opening_endpoint setup) 1 setup.names.lines) (setup_is config setup is).lines
+pub opening_few : (setup : Setup) (list : List Endpoint) → IsSetUp setup → list ≡ map (opening_endpoint setup) (range_with_len 1 setup.names.lines) → length list ≤ most_lines
+opening_few setup list set_up same = rw (ap length same ∙ length-map-range_with_len (opening_endpoint setup) 1 setup.names.lines) set_up.lines
 
 -- A list of names is whole at its end
 pub names_end : {B : Type 0} (f : ℕ × Endpoint → B) (report : List B) (place : ℕ) (list : List Endpoint) → length list ≤ place

@@ -1,7 +1,9 @@
 //! The gateway.
 ghost use Rattle.std.specs.Prelude.{◌≡◌, ◌∷◌, [], List, map, option_map, ◌<◌, ◌≤◌, ◌^◌, Some, IfOk, IfErr, OnOk, OnErr};
-ghost use Rattle.plain_machine.specs.Setup.{setup_of};
+ghost use Rattle.plain_machine.specs.Setup.{IsSetUp, setup_of};
+ghost use Rattle.plain_machine.specs.Machine.{opening};
 ghost use Rattle.plain_machine.specs.Event.{GatewayEvent, event_of};
+ghost use Rattle.gateway_core.specs.State.{machine_in};
 
 use crate::outcome::TextOutcome;
 use crate::outcomes::Outcomes;
@@ -13,10 +15,11 @@ use connections::Connection;
 use endpoint_rules::Context;
 use endpoints::{Store, judged, opening_list, opening_own};
 use history::History;
+use mg_bytes::OutOfMemory;
 use mg_line::Hook;
 use plain_machine::{Config, ConfigFault, Event, Outputs, Refusal, Setup};
 use signals::ActiveSignal;
-use std::alloc::Global;
+use std::alloc::{AllocError, Global};
 use std::marker::Model;
 use std::mem::swap;
 
@@ -50,6 +53,24 @@ impl Model for Gateway {
     ghost invariant = { λ g. IsSound g.setup (machine_in g.state.value) };
 }
 
+// What a gateway with this setup keeps at moment 0.
+fn opening_state(alloc: Global, setup: &Setup) -> Result<Box<State>, OutOfMemory>
+    requires { IsSetUp setup.now }
+    ensures { IfOk result (λ state. machine_in state.value ≡ opening setup.now) }
+{
+    let list = opening_list(alloc, setup)?;
+    let store = Store::of(alloc, list, opening_own(setup))?;
+    let state = State {
+        clock: 0,
+        store,
+        history: History::new(alloc),
+    };
+    match Box::new(alloc, state) {
+        Ok(state) => Ok(state),
+        Err(_) => Err(AllocError),
+    }
+}
+
 impl Gateway {
     ghost use Rattle.std.specs.Result.{result_err};
     ghost use Rattle.plain_machine.specs.Refusing.{Ends};
@@ -65,25 +86,16 @@ impl Gateway {
         ensures { Opens (setup_of config) result }
     {
         let setup = judged(config)?;
-        let list = opening_list(alloc, &setup)?;
-        let store = Store::of(alloc, list, opening_own(&setup))?;
+        let state = opening_state(alloc, &setup)?;
         let outcomes = Outcomes::new(alloc)?;
         let under_way = Outcomes::new(alloc)?;
-        let state = State {
-            clock: 0,
-            store,
-            history: History::new(alloc),
-        };
-        match Box::new(alloc, state) {
-            Ok(state) => Ok(Gateway {
-                alloc,
-                setup,
-                state,
-                outcomes,
-                under_way,
-            }),
-            Err(_) => Err(ConfigFault::OutOfMemory),
-        }
+        Ok(Gateway {
+            alloc,
+            setup,
+            state,
+            outcomes,
+            under_way,
+        })
     }
 
     /// What it is set up to be.
