@@ -229,8 +229,10 @@ fn tell_flaw<'w, R: Eprint>(
     match told(alloc, text, flaw) {
         Ok(line) => {
             let line = str::from_utf8(line.as_slice()).unwrap_or("");
-            // Nobody is left who could be told that standard error failed.
-            let _ = eprintln!(rt; "{file}: {line}");
+            // Nobody is left who could be told that standard error failed; nor is one that doesn't read waited for.
+            if error_takes() {
+                let _ = eprintln!(rt; "{file}: {line}");
+            }
             Ending::Told
         }
         Err(_) => Ending::OutOfMemory,
@@ -310,7 +312,7 @@ pub fn run<R: AllocGlobal + Env + Files + Net + Clock + RandomSource + Print + E
 ) -> u8 {
     match words_of(rt) {
         Ok(words) => match words_to_tell(words.as_slice()) {
-            Some(told) => tell(rt, tell_line(rt, told)),
+            Some(asked) => tell(rt, tell_line(rt, asked)),
             None => tell(rt, ending_of(rt, words.as_slice())),
         },
         Err(fault) => tell(rt, Ending::from(fault)),

@@ -145,7 +145,7 @@ fn put_line<W: fmt::Write>(
 }
 
 // What is written: on standard output what the words ask, else a line on standard error, or nothing
-// where it served or checked, where an answer is printed, or where all was said.
+// where it served or checked or an answer is printed, or where all was said.
 impl<'a> fmt::Display for Ending<'a> {
     fn fmt<W: fmt::Write>(&self, f: &mut fmt::Formatter<W>) -> fmt::Result {
         match *self {
