@@ -1,7 +1,7 @@
 //! A world: a gateway and an agent with one clock, and a bad network between them.
 ghost use Rattle.std.specs.Prelude.{◌≡◌, ◌<◌, ◌++◌, length, List, map, ⊤, IfErr, OnOk, true, option_map, option_copied, slice_get, Some};
 ghost use Rattle.std.specs.Result.{result_err};
-ghost use Rattle.plain_machine.specs.Setup.{setup_of};
+ghost use Rattle.plain_machine.specs.Setup.{firsts, setup_from, setup_of};
 ghost use Rattle.agent_core.specs.declared.packet.End.TheVariants.{GatewayEnd, AgentEnd};
 ghost use Rattle.agent_core.specs.declared.step.StepRefusal.TheVariants.{OutOfMemory};
 ghost use Rattle.agent_core.specs.World.{posted_as, WorldStep, issuing, dialling, ticking, delivering, plain_world};
@@ -66,10 +66,20 @@ impl World {
     /// ids begin with 1.
     ///
     /// The faults are those of `Gateway::new`, in their order.
+    #[tactic(auto, unfolding(plain_machine::specs::Setup::setup_of))]
     pub fn new(alloc: Global, config: Config) -> Result<World, ConfigFault>
         ensures { WorldOpens (setup_of config) result }
     {
-        let gateway = Gateway::new(alloc, config)?;
+        World::starting_at(alloc, config, 0)
+    }
+
+    /// The same, but that the ids of the gateway's lines begin with this number, below `FIRSTS`, and its own one higher, as
+    /// those of `Gateway::starting_at`.
+    pub fn starting_at(alloc: Global, config: Config, first: u32) -> Result<World, ConfigFault>
+        requires { first < firsts }
+        ensures { WorldOpens (setup_from config first) result }
+    {
+        let gateway = Gateway::starting_at(alloc, config, first)?;
         let setup = gateway.setup();
         let domain = Text::of(Vec::from_slice(alloc, setup.names.domain.as_bytes())?);
         let own = setup.agent.route;

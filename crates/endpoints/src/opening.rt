@@ -1,7 +1,7 @@
 //! What a configuration sets up, and what there is at the opening: the endpoints, and the post of the gateway itself.
 ghost use Rattle.std.specs.Prelude.{◌≡◌, ◌≤◌, ◌<◌, ◌+◌, ◌^◌, [], length, map, IfOk};
 ghost use Rattle.std.specs.List.{AllByRecursion, range_with_len};
-ghost use Rattle.plain_machine.specs.Setup.{table_from, are_lines, is_wait, is_media_base, is_address, parts_of, setup_of, key_at_fault, IsSetUp, most_lines, highest_media_base};
+ghost use Rattle.plain_machine.specs.Setup.{table_from, are_lines, is_wait, is_media_base, is_address, parts_of, setup_from, key_at_fault, IsSetUp, most_lines, highest_media_base};
 ghost use Rattle.plain_machine.specs.Machine.{port_of, opening_post, opening_endpoint, opening_own};
 ghost use Rattle.endpoint_rules.specs.Telling.{HasId};
 
@@ -112,10 +112,10 @@ pub fn key_at_fault(config: &Config) -> Option<ConfigKey>
     }
 }
 
-/// What a configuration sets up, or its first fault, in the order of their numbers.
-#[tactic(auto, unfolding(plain_machine::specs::Setup::setup_of))]
-pub fn judged(config: Config) -> Result<Setup, ConfigFault>
-    ensures { result ≡ setup_of config }
+/// What a configuration sets up where ids begin with this number, or its first fault, in the order of their numbers.
+#[tactic(auto, unfolding(plain_machine::specs::Setup::setup_from))]
+pub fn judged(config: Config, first: u32) -> Result<Setup, ConfigFault>
+    ensures { result ≡ setup_from config first }
 {
     match parts_of(&config) {
         Ok((table, agent)) => Ok(Setup {
@@ -129,6 +129,7 @@ pub fn judged(config: Config) -> Result<Setup, ConfigFault>
             disconnected_wait: config.disconnected_wait,
             media_address: config.media_address,
             media_base: config.media_base,
+            first,
         }),
         Err(key) => Err(key.fault()),
     }
@@ -166,7 +167,7 @@ fn opening_endpoint(alloc: Global, setup: &Setup, line: u16) -> Result<Endpoint,
 {
     Ok(Endpoint {
         line: Line::new(alloc)?,
-        post: opening_post(setup, CommandNumber::first(), Restart::Serving),
+        post: opening_post(setup, CommandNumber::first(setup.first), Restart::Serving),
         encoding: Encoding::Mu,
         connections: Connections::new(setup.media_address, port_of(setup, line)),
     })
@@ -192,5 +193,5 @@ pub fn opening_own(setup: &Setup) -> Post
     ensures id { HasId 0 result.number }
 {
     let restart = Restart::begin(0, setup.restart_wait);
-    opening_post(setup, CommandNumber::first_own(), restart)
+    opening_post(setup, CommandNumber::first_own(setup.first), restart)
 }

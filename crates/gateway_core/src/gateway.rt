@@ -1,6 +1,6 @@
 //! The gateway.
 ghost use Rattle.std.specs.Prelude.{◌≡◌, ◌∷◌, [], List, map, option_map, ◌<◌, ◌≤◌, ◌^◌, Some, IfOk, IfErr, OnOk, OnErr};
-ghost use Rattle.plain_machine.specs.Setup.{IsSetUp, setup_of};
+ghost use Rattle.plain_machine.specs.Setup.{IsSetUp, firsts, setup_from, setup_of};
 ghost use Rattle.plain_machine.specs.Machine.{opening};
 ghost use Rattle.plain_machine.specs.Event.{GatewayEvent, event_of};
 ghost use Rattle.gateway_core.specs.State.{machine_in};
@@ -79,13 +79,24 @@ impl Gateway {
     ghost use Rattle.gateway_core.specs.Outcomes.{last_outcomes};
     ghost use Rattle.gateway_core.specs.Stands.{Stands, Opens, Took, StoppedAt};
 
-    /// A gateway of this configuration, at moment 0, with room to tell what the texts of any datagram were.
+    /// A gateway of this configuration, at moment 0, with room to tell what the texts of any datagram were. The ids of each line
+    /// begin with 0, and its own with 1.
     ///
     /// The faults 2 to 6 come in the order of their numbers, and before want of memory.
+    #[tactic(auto, unfolding(plain_machine::specs::Setup::setup_of))]
     pub fn new(alloc: Global, config: Config) -> Result<Gateway, ConfigFault>
         ensures { Opens (setup_of config) result }
     {
-        let setup = judged(config)?;
+        Gateway::starting_at(alloc, config, 0)
+    }
+
+    /// The same, but that the ids of each line begin with this number, below `FIRSTS`, and its own one higher: so the ids of a
+    /// gateway that starts again needn't be those that it used last (RFC 3435, 3.2.1.2).
+    pub fn starting_at(alloc: Global, config: Config, first: u32) -> Result<Gateway, ConfigFault>
+        requires { first < firsts }
+        ensures { Opens (setup_from config first) result }
+    {
+        let setup = judged(config, first)?;
         let state = opening_state(alloc, &setup)?;
         let outcomes = Outcomes::new(alloc)?;
         let under_way = Outcomes::new(alloc)?;

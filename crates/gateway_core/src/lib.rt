@@ -31,5 +31,5 @@ pub use crate::stopped::Stopped;
 pub use crate::wire::{DATAGRAM_ROOM, Input, Wire, WireFault};
 pub use endpoints::key_at_fault;
 pub use plain_machine::{
-    Config, ConfigFault, ConfigKey, Event, NamedRoute, OutDatagram, Outputs, Refusal,
+    Config, ConfigFault, ConfigKey, Event, FIRSTS, NamedRoute, OutDatagram, Outputs, Refusal,
 };

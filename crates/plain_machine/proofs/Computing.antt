@@ -7,7 +7,7 @@ use Rattle.piggyback.proofs.Computing.{on_examples as part_examples}
 use Rattle.command_forms.proofs.Computing.{on_examples as form_examples}
 use Rattle.mg_line.proofs.Computing.{on_examples as line_examples}
 use Rattle.outbound.proofs.Computing.{on_examples as flight_examples}
-use Rattle.plain_machine.specs.Setup.{table_from, parts_of, setup_of, key_at_fault}
+use Rattle.plain_machine.specs.Setup.{table_from, parts_of, setup_from, setup_of, key_at_fault}
 use Rattle.transmission.specs.Texts.{texts_of}
 use Rattle.plain_machine.specs.Arriving.{arrivals_from}
 use Rattle.transmission.specs.Packing.{packed_after}
@@ -28,5 +28,5 @@ use Rattle.plain_machine.specs.Transactions.{commands_in, commands_from}
 use Rattle.plain_machine.specs.Lists.{machine_after, sent_from, outputs_from, are_taken}
 
 unfoldable pub on_examples : ⊤
-unfolding text_examples name_examples history_examples part_examples form_examples line_examples flight_examples table_from parts_of setup_of key_at_fault packed_after texts_of arrivals_from audit_examples announcement announced replied names_of notification noted connected refused_by deed_on shown_of line_with_place audited on_line on_lines post_due due_on first_due due_by happened_on happened_under passed pass responded_on replied_on redirected_on opened_on executed handled took_all effect refusal_of machine_after sent_from outputs_from are_taken commands_in commands_from
+unfolding text_examples name_examples history_examples part_examples form_examples line_examples flight_examples table_from parts_of setup_from setup_of key_at_fault packed_after texts_of arrivals_from audit_examples announcement announced replied names_of notification noted connected refused_by deed_on shown_of line_with_place audited on_line on_lines post_due due_on first_due due_by happened_on happened_under passed pass responded_on replied_on redirected_on opened_on executed handled took_all effect refusal_of machine_after sent_from outputs_from are_taken commands_in commands_from
 on_examples = tt

@@ -1,5 +1,5 @@
 -- The plain machine: its clock, its endpoints, and the transactions that there ever were.
-use Rattle.std.specs.Prelude.{ℕ, Bool, ◌+◌, ◌-◌, ◌*◌, ◌==◌, if◌then◌else◌, List, [], ◌∷◌, map, Option, Some, None, slice_get, slice_set}
+use Rattle.std.specs.Prelude.{ℕ, Bool, ◌+◌, ◌-◌, ◌*◌, ◌%◌, ◌==◌, if◌then◌else◌, List, [], ◌∷◌, map, Option, Some, None, slice_get, slice_set}
 use Rattle.std.specs.List.{enumerate_from, range_with_len}
 use Rattle.connections.specs.declared.codec.Encoding.TheVariants.{Mu}
 use Rattle.connections.specs.Standing.{no_connections}
@@ -12,6 +12,7 @@ use Rattle.plain_machine.specs.declared.post.Post.{Post}
 use Rattle.plain_machine.specs.declared.endpoint.Endpoint.{Endpoint}
 use Rattle.history.specs.declared.entry.Entry.{Entry}
 use Rattle.plain_machine.specs.Effect.{Effect, silently, effect_map, afterwards}
+use Rattle.plain_machine.specs.Setup.{firsts}
 use Rattle.plain_machine.specs.Posting.{wait_of}
 
 -- all that changes but the clock: the endpoints, of which the first is line 1, and the post of the gateway itself
@@ -37,19 +38,20 @@ opening_post setup number restart = record { entity = setup.agent; number = numb
 abbrev pub port_of : Setup → ℕ → ℕ
 port_of setup line = setup.media_base + 8 * (line - 1)
 
--- every line is as a line opens, with the encoding mu and without connections; its numbers begin with 0, and it has nothing
--- to announce
+-- every line is as a line opens, with the encoding mu and without connections; its numbers begin with the first of the setup,
+-- which goes round as they do, and it has nothing to announce
 abbrev pub opening_endpoint : Setup → ℕ → Endpoint
 opening_endpoint setup line = record {
   line = opening_line;
-  post = opening_post setup 0 Serving;
+  post = opening_post setup (setup.first % firsts) Serving;
   encoding = Mu;
   connections = no_connections setup.media_address (port_of setup line);
 }
 
--- the numbers of the gateway itself begin with 1, and it waits to announce itself (RFC 3435, 4.4.6)
+-- the numbers of the gateway itself begin one higher, since 0 is no transaction id, and it waits to announce itself (RFC 3435,
+-- 4.4.6)
 abbrev pub opening_own : Setup → Post
-opening_own setup = opening_post setup 1 (begun 0 (wait_of setup 0))
+opening_own setup = opening_post setup (1 + setup.first % firsts) (begun 0 (wait_of setup 0))
 
 abbrev pub opening_endpoints : Setup → Endpoints
 opening_endpoints setup = record {

@@ -25,11 +25,11 @@ HasNumber number (Line line) = ((number == 0) ≡ false) × (line ≡ number)
 abbrev pub numbers : ℕ
 numbers = 10000000
 
--- the first of a line is 0, that of the gateway itself 1: 0 is no transaction id
+-- the least of a line is 0, that of the gateway itself 1: 0 is no transaction id
 abbrev pub first_number : ℕ → ℕ
 first_number line = if line == 0 then 1 else 0
 
--- after the greatest number comes the first
+-- after the greatest number comes the least
 abbrev pub number_after : ℕ → ℕ → ℕ
 number_after line number = if number + 1 == numbers then first_number line else number + 1
 
