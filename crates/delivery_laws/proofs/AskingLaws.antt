@@ -164,7 +164,7 @@ module _ (setup : Setup) (set_up : IsSetUp setup) where
         [],
         record {
           log_holds = g.logged;
-          list = on_two (LineStands 0 []) (λ (i : ℕ) (st : Endpoint). Soon setup 0 i st.post) 1 (opening setup).endpoints.list g.list
+          list = on_two (LineStands setup 0 []) (λ (i : ℕ) (st : Endpoint). Soon setup 0 i st.post) 1 (opening setup).endpoints.list g.list
               (on_made (λ (i : ℕ) (st : Endpoint). Soon setup 0 i st.post) (opening_endpoint setup) 1 setup.names.lines (λ i low high. tt));
           own = (g.own, omega arith);
         },

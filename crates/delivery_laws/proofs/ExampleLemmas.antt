@@ -188,7 +188,7 @@ took_split setup first all order =
 
 pub two_lines_set_up : IsSetUp two_lines
 unfolding on_examples
-two_lines_set_up = record { domain = refl; agent = refl; lines = omega arith; address = refl; ports = omega arith }
+two_lines_set_up = record { domain = refl; agent = refl; lines = omega arith; address = refl; ports = omega arith; first = omega arith }
 
 pub no_domain : (setup : Setup) → is_domain setup.names.domain ≡ false → IsSetUp setup → ⊥
 no_domain setup none is = let clash : false ≡ true = sym none ∙ is.domain in cc

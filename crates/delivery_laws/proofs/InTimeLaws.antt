@@ -78,7 +78,7 @@ module _ (setup : Setup) (first later : List WorldStep) (within line : ℕ) (end
   in_log : InLog (now_in setup w) (own_in setup w) flight
   in_log =
       subst (λ (pending : Option InFlight). IfSome pending (InLog (now_in setup w) (own_in setup w))) flies
-      (of_its_line (λ i e. LineStands (now_in setup w) (own_in setup w) i e) (gateway_in setup w).endpoints line endpoint (world_linked setup first set_up front_taken).links.gateway.stands.list at).post.flight
+      (of_its_line (λ i e. LineStands setup (now_in setup w) (own_in setup w) i e) (gateway_in setup w).endpoints line endpoint (world_linked setup first set_up front_taken).links.gateway.stands.list at).post.flight
 
   -- the command that it is: the last one that the line began
   abbrev b : Begun

@@ -79,35 +79,35 @@ own_final until log sent logged own =
 
 -- What a turn of the endpoints says
 
-record ToldFinal (until : ℕ) (log : List Begun) (is : Effect Endpoints) : Type 0 where
-  stands : EndpointsStand until (log ++ begun_in is.sent) is.value
+record ToldFinal (setup : Setup) (until : ℕ) (log : List Begun) (is : Effect Endpoints) : Type 0 where
+  stands : EndpointsStand setup until (log ++ begun_in is.sent) is.value
   says : Each SaysFinal is.sent
 
 told_final : (setup : Setup) (until : ℕ) (set_up : IsSetUp setup) (log : List Begun) (is : Effect Endpoints)
-    → Goes setup until (LineStands until) (OwnStands until) (Own until) (Logged until) (log_turns setup until set_up) log is → ToldFinal until log is
+    → Goes setup until (LineStands setup until) (OwnStands setup until) (Own until) (Logged until) (log_turns setup until set_up) log is → ToldFinal setup until log is
 told_final setup until set_up log is goes = record {
   stands = record { logged = goes.stands.log_holds; list = goes.stands.list; own = goes.stands.own };
   says = own_final until (log ++ begun_in is.sent) is.sent goes.stands.log_holds goes.sent;
 }
 
-as_stands : (setup : Setup) (until : ℕ) (set_up : IsSetUp setup) (log : List Begun) (endpoints : Endpoints) → EndpointsStand until log endpoints
-    → Stands setup until (LineStands until) (OwnStands until) (Own until) (Logged until) (log_turns setup until set_up) log endpoints
+as_stands : (setup : Setup) (until : ℕ) (set_up : IsSetUp setup) (log : List Begun) (endpoints : Endpoints) → EndpointsStand setup until log endpoints
+    → Stands setup until (LineStands setup until) (OwnStands setup until) (Own until) (Logged until) (log_turns setup until set_up) log endpoints
 as_stands setup until set_up log endpoints s = record { log_holds = s.logged; list = s.list; own = s.own }
 
-same_stands : (until : ℕ) (log : List Begun) (endpoints : Endpoints) → EndpointsStand until log endpoints → EndpointsStand until (log ++ []) endpoints
-same_stands until log endpoints s = subst (λ (x : List Begun). EndpointsStand until x endpoints) (sym (append-nil log)) s
+same_stands : (setup : Setup) (until : ℕ) (log : List Begun) (endpoints : Endpoints) → EndpointsStand setup until log endpoints → EndpointsStand setup until (log ++ []) endpoints
+same_stands setup until log endpoints s = subst (λ (x : List Begun). EndpointsStand setup until x endpoints) (sym (append-nil log)) s
 
 -- What a text does
 
-record EndsFinal (log : List Begun) (m : Machine) (done : Effect Machine) : Type 0 where
-  stands : EndpointsStand m.now (log ++ begun_in done.sent) done.value.endpoints
+record EndsFinal (setup : Setup) (log : List Begun) (m : Machine) (done : Effect Machine) : Type 0 where
+  stands : EndpointsStand setup m.now (log ++ begun_in done.sent) done.value.endpoints
   kept : AreFinal (firsts_in done.value.history)
   says : Each SaysFinal done.sent
 
-transacted_final : (log : List Begun) (looked : Looked) (m : Machine) (source : SocketAddrV4) (t : Transaction) → EndpointsStand m.now log m.endpoints → AreFinal (firsts_in m.history)
-    → IsSaid (answer_text t) → ToldFinal m.now log t.done.told → looked ≡ look_of most_firsts m.history t.id m.now → EndsFinal log m (transacted_by looked m source t)
+transacted_final : (setup : Setup) (log : List Begun) (looked : Looked) (m : Machine) (source : SocketAddrV4) (t : Transaction) → EndpointsStand setup m.now log m.endpoints → AreFinal (firsts_in m.history)
+    → IsSaid (answer_text t) → ToldFinal setup m.now log t.done.told → looked ≡ look_of most_firsts m.history t.id m.now → EndsFinal setup log m (transacted_by looked m source t)
 unfolding executed
-transacted_final log new m source t stands kept final told at = record {
+transacted_final setup log new m source t stands kept final told at = record {
   stands = told.stands;
   kept = subst AreFinal
       (sym (firsts_in-append (m.history ++ Confirmation t.confirms ∷ []) (First (record { id = t.id; moment = m.now; answer = answer_text t }) ∷ [])))
@@ -115,8 +115,8 @@ transacted_final log new m source t stands kept final told at = record {
       (subst AreFinal (sym (firsts_in-append m.history (Confirmation t.confirms ∷ []) ∙ append-nil (firsts_in m.history))) kept) (final, tt));
   says = (final, told.says);
 }
-transacted_final log (repeat text) m source t stands kept final told at = record {
-  stands = same_stands m.now log m.endpoints stands;
+transacted_final setup log (repeat text) m source t stands kept final told at = record {
+  stands = same_stands setup m.now log m.endpoints stands;
   kept = kept;
   says = (
     one_to (λ (first : KeptFirst). IsSaid first.answer × (first.answer ≡ text)) (IsSaid text) (λ first both. subst IsSaid both.1 both.0) (firsts_in m.history)
@@ -125,62 +125,62 @@ transacted_final log (repeat text) m source t stands kept final told at = record
     tt,
   );
 }
-transacted_final log confirmed m source t stands kept final told at = record { stands = same_stands m.now log m.endpoints stands; kept = kept; says = tt }
-transacted_final log full m source t stands kept final told at = record { stands = same_stands m.now log m.endpoints stands; kept = kept; says = tt }
+transacted_final setup log confirmed m source t stands kept final told at = record { stands = same_stands setup m.now log m.endpoints stands; kept = kept; says = tt }
+transacted_final setup log full m source t stands kept final told at = record { stands = same_stands setup m.now log m.endpoints stands; kept = kept; says = tt }
 
-nothing_told : (log : List Begun) (until : ℕ) (endpoints : Endpoints) → EndpointsStand until log endpoints → ToldFinal until log (silently endpoints)
-nothing_told log until endpoints stands = record { stands = same_stands until log endpoints stands; says = tt }
+nothing_told : (setup : Setup) (log : List Begun) (until : ℕ) (endpoints : Endpoints) → EndpointsStand setup until log endpoints → ToldFinal setup until log (silently endpoints)
+nothing_told setup log until endpoints stands = record { stands = same_stands setup until log endpoints stands; says = tt }
 
 none_acknowledged : (now : ℕ) (source : SocketAddrV4) (code id : ℕ) (params : List Param) → asks_for_acknowledgement code params ≡ false → acknowledged now source code id params ≡ []
 none_acknowledged now source code id params none = ap (λ (b : Bool). if b then acknowledging now source id ∷ [] else []) none
 
-handled_final : (setup : Setup) (log : List Begun) (m : Machine) (source : SocketAddrV4) (outcome : Outcome) → Fits setup m → EndpointsStand m.now log m.endpoints → AreFinal (firsts_in m.history)
-    → IfSome (id_in outcome) IsId → AsksNothing outcome → EndsFinal log m (handled setup m source outcome)
+handled_final : (setup : Setup) (log : List Begun) (m : Machine) (source : SocketAddrV4) (outcome : Outcome) → Fits setup m → EndpointsStand setup m.now log m.endpoints → AreFinal (firsts_in m.history)
+    → IfSome (id_in outcome) IsId → AsksNothing outcome → EndsFinal setup log m (handled setup m source outcome)
 unfolding handled
-handled_final setup log m source no_header fits stands kept has asks = record { stands = same_stands m.now log m.endpoints stands; kept = kept; says = tt }
+handled_final setup log m source no_header fits stands kept has asks = record { stands = same_stands setup m.now log m.endpoints stands; kept = kept; says = tt }
 handled_final setup log m source (bad_version id) fits stands kept has asks =
-    transacted_final log _ m source (refusing m id 528) stands kept (written_final id (plain_code 528) has (omega arith, omega arith), written_asks id (plain_code 528) has (code_is 528 (omega arith)) tt) (nothing_told log m.now m.endpoints stands) refl
+    transacted_final setup log _ m source (refusing m id 528) stands kept (written_final id (plain_code 528) has (omega arith, omega arith), written_asks id (plain_code 528) has (code_is 528 (omega arith)) tt) (nothing_told setup log m.now m.endpoints stands) refl
 handled_final setup log m source (bad_body id) fits stands kept has asks =
-    transacted_final log _ m source (refusing m id 510) stands kept (written_final id (plain_code 510) has (omega arith, omega arith), written_asks id (plain_code 510) has (code_is 510 (omega arith)) tt) (nothing_told log m.now m.endpoints stands) refl
+    transacted_final setup log _ m source (refusing m id 510) stands kept (written_final id (plain_code 510) has (omega arith, omega arith), written_asks id (plain_code 510) has (code_is 510 (omega arith)) tt) (nothing_told setup log m.now m.endpoints stands) refl
 handled_final setup log m source (message (messages.Command verb id name params body)) fits stands kept has asks =
     let said : Command = record { verb = verb; name = name; params = params; body = body } in
     let t = command_with setup m id said (k_of params) in
-    transacted_final log _ m source t stands kept (
+    transacted_final setup log _ m source t stands kept (
       written_final id (commanded setup m.endpoints m.now id said (k_of params)).answer has (commanded_final setup m.endpoints m.now id said (k_of params)),
       written_asks id (commanded setup m.endpoints m.now id said (k_of params)).answer has (command_answered setup m id said (k_of params) fits has).is
           (commanded_bare setup m.endpoints m.now id said (k_of params)),
     )
     (told_final setup m.now fits.set_up log t.done.told
-    (command_goes setup m.now (LineStands m.now) (OwnStands m.now) (Own m.now) (Logged m.now) (log_turns setup m.now fits.set_up) said (k_of params) log m.endpoints id
+    (command_goes setup m.now (LineStands setup m.now) (OwnStands setup m.now) (Own m.now) (Logged m.now) (log_turns setup m.now fits.set_up) said (k_of params) log m.endpoints id
     (as_stands setup m.now fits.set_up log m.endpoints stands))) refl
 handled_final setup log m source (message (messages.Response code id params body)) fits stands kept has asks =
     let response = response_with setup id code params in
     let done = responded setup m.endpoints m.now response in
     let told = told_final setup m.now fits.set_up log done
-    (responded_goes setup m.now (LineStands m.now) (OwnStands m.now) (Own m.now) (Logged m.now) (log_turns setup m.now fits.set_up) log m.endpoints response
+    (responded_goes setup m.now (LineStands setup m.now) (OwnStands setup m.now) (Own m.now) (Logged m.now) (log_turns setup m.now fits.set_up) log m.endpoints response
     (as_stands setup m.now fits.set_up log m.endpoints stands)) in
-    subst (λ (first : List Sent). EndsFinal log m (record { value = record m { endpoints = done.value }; sent = first ++ done.sent }))
+    subst (λ (first : List Sent). EndsFinal setup log m (record { value = record m { endpoints = done.value }; sent = first ++ done.sent }))
     (sym (none_acknowledged m.now source code id params asks)) (record { stands = told.stands; kept = kept; says = told.says })
 
 abbrev pub AskNothing : List (List ℕ) → Type 0
 AskNothing texts = Each (λ (text : List ℕ). AsksNothing (read_text text)) texts
 
-texts_final : (setup : Setup) (log : List Begun) (m : Machine) (source : SocketAddrV4) (texts : List (List ℕ)) → Fits setup m → EndpointsStand m.now log m.endpoints → AreFinal (firsts_in m.history)
-    → AskNothing texts → EndsFinal log m (took_all setup m source texts)
+texts_final : (setup : Setup) (log : List Begun) (m : Machine) (source : SocketAddrV4) (texts : List (List ℕ)) → Fits setup m → EndpointsStand setup m.now log m.endpoints → AreFinal (firsts_in m.history)
+    → AskNothing texts → EndsFinal setup log m (took_all setup m source texts)
 unfolding took_all
-texts_final setup log m source [] fits stands kept ask = record { stands = same_stands m.now log m.endpoints stands; kept = kept; says = tt }
+texts_final setup log m source [] fits stands kept ask = record { stands = same_stands setup m.now log m.endpoints stands; kept = kept; says = tt }
 texts_final setup log m source (text ∷ texts) fits stands kept ask =
     let one = handled setup m source (read_text text) in
     let first = handled_final setup log m source (read_text text) fits stands kept (read_id text) ask.0 in
     let now : one.value.now ≡ m.now = handled_now setup m source (read_text text) in
     let log' = log ++ begun_in one.sent in
     let others = took_all setup one.value source texts in
-    let rest : EndsFinal log' one.value others =
+    let rest : EndsFinal setup log' one.value others =
     texts_final setup log' one.value source texts (handled_fits setup m source (read_text text) fits)
-    (subst (λ (t : ℕ). EndpointsStand t log' one.value.endpoints) (sym now) first.stands) first.kept ask.1 in
+    (subst (λ (t : ℕ). EndpointsStand setup t log' one.value.endpoints) (sym now) first.stands) first.kept ask.1 in
     record {
-      stands = subst (λ (x : List Begun). EndpointsStand m.now x others.value.endpoints) (sym (log_both log one.sent others.sent))
-          (subst (λ (t : ℕ). EndpointsStand t (log' ++ begun_in others.sent) others.value.endpoints) now rest.stands);
+      stands = subst (λ (x : List Begun). EndpointsStand setup m.now x others.value.endpoints) (sym (log_both log one.sent others.sent))
+          (subst (λ (t : ℕ). EndpointsStand setup t (log' ++ begun_in others.sent) others.value.endpoints) now rest.stands);
       kept = rest.kept;
       says = each_both SaysFinal one.sent others.sent first.says rest.says;
     }
@@ -191,13 +191,13 @@ flight_later : (now later : ℕ) → now ≤ later → (log : List Begun) (found
 flight_later now later past log None is = tt
 flight_later now later past log (Some flight) is = record { known = is.known; later = is.later; past = omega (arith, past, is.past) }
 
-stands_later : (now later : ℕ) → now ≤ later → (log : List Begun) (endpoints : Endpoints) → EndpointsStand now log endpoints → EndpointsStand later log endpoints
-stands_later now later past log endpoints s = record {
+stands_later : (setup : Setup) (now later : ℕ) → now ≤ later → (log : List Begun) (endpoints : Endpoints) → EndpointsStand setup now log endpoints → EndpointsStand setup later log endpoints
+stands_later setup now later past log endpoints s = record {
   logged = record {
     begun = each_weaker (WasBegun now) (WasBegun later) (λ b w. record { name = w.name; reads = w.reads; past = omega (arith, past, w.past) }) log s.logged.begun;
     apart = s.logged.apart;
   };
-  list = on_later (LineStands now log) (LineStands later log) 1 endpoints.list
+  list = on_later (LineStands setup now log) (LineStands setup later log) 1 endpoints.list
       (λ i endpoint low is. record { sound = is.sound; post = record { below = is.post.below; counts = is.post.counts; flight = flight_later now later past log endpoint.post.pending is.post.flight } })
       s.list;
   own = record {
@@ -225,12 +225,12 @@ event_final setup log m (datagram source bytes) h taken kept ask =
 event_final setup log m (phone line act) h taken kept ask = record {
   kept = kept;
   says = (told_final setup m.now h.fits.set_up log _
-      (acted_goes setup m.now (LineStands m.now) (OwnStands m.now) (Own m.now) (Logged m.now) (log_turns setup m.now h.fits.set_up) log m.endpoints line act
+      (acted_goes setup m.now (LineStands setup m.now) (OwnStands setup m.now) (Own m.now) (Logged m.now) (log_turns setup m.now h.fits.set_up) log m.endpoints line act
       (as_stands setup m.now h.fits.set_up log m.endpoints h.stands))).says;
 }
 event_final setup log m (tick moment) h taken kept ask = record {
   kept = kept;
   says = (told_final setup moment h.fits.set_up log _
-      (pass_goes setup moment (LineStands moment) (OwnStands moment) (Own moment) (Logged moment) (log_turns setup moment h.fits.set_up) log m.endpoints
-      (as_stands setup moment h.fits.set_up log m.endpoints (stands_later m.now moment (tick_on m moment taken) log m.endpoints h.stands)))).says;
+      (pass_goes setup moment (LineStands setup moment) (OwnStands setup moment) (Own moment) (Logged moment) (log_turns setup moment h.fits.set_up) log m.endpoints
+      (as_stands setup moment h.fits.set_up log m.endpoints (stands_later setup m.now moment (tick_on m moment taken) log m.endpoints h.stands)))).says;
 }

@@ -136,10 +136,10 @@ opened_soon setup now line moment agent endpoint soon = noted_soon setup now lin
 -- All turns, beside what they keep of the commands that began
 
 abbrev pub LineSoon : Setup → ℕ → List Begun → ℕ → Endpoint → Type 0
-LineSoon setup now log line endpoint = LineStands now log line endpoint × Soon setup now line endpoint.post
+LineSoon setup now log line endpoint = LineStands setup now log line endpoint × Soon setup now line endpoint.post
 
 abbrev pub OwnSoon : Setup → ℕ → List Begun → Post → Type 0
-OwnSoon setup now log own = OwnStands now log own × Soon setup now 0 own
+OwnSoon setup now log own = OwnStands setup now log own × Soon setup now 0 own
 
 both_keep : {A : Type 0} (P : List Begun → A → Type 0) (S : A → Type 0) (Q : List Begun → Sent → Type 0) (L : List Begun → Type 0) (log : List Begun) (line : ℕ) (turn : Effect A)
     → EffectKeeps P Q L log line turn → S turn.value → EffectKeeps (λ (x : List Begun) (a : A). P x a × S a) Q L log line turn
@@ -149,31 +149,31 @@ pub soon_turns : (setup : Setup) (now : ℕ) → IsSetUp setup → LogTurns setu
 unfolding happened_on
 soon_turns setup now set_up = record {
   act = λ log line act endpoint logged s.
-      both_keep (λ (x : List Begun). LineStands now x line) (λ (st : Endpoint). Soon setup now line st.post) (Own now) (Logged now) log line _ (turns.act log line act endpoint logged s.0)
+      both_keep (λ (x : List Begun). LineStands setup now x line) (λ (st : Endpoint). Soon setup now line st.post) (Own now) (Logged now) log line _ (turns.act log line act endpoint logged s.0)
       (noted_soon setup now line now endpoint _ s.1);
   deed = λ command confirms target deed is log line endpoint logged s.
-      both_keep (λ (x : List Begun). LineStands now x line) (λ (st : Endpoint). Soon setup now line st.post) (Own now) (Logged now) log line _
+      both_keep (λ (x : List Begun). LineStands setup now x line) (λ (st : Endpoint). Soon setup now line st.post) (Own now) (Logged now) log line _
       (turns.deed command confirms target deed is log line endpoint logged s.0) (deed_soon setup now line now deed endpoint s.1);
   response = λ log line response endpoint logged s.
-      both_keep (λ (x : List Begun). LineStands now x line) (λ (st : Endpoint). Soon setup now line st.post) (Own now) (Logged now) log line _
+      both_keep (λ (x : List Begun). LineStands setup now x line) (λ (st : Endpoint). Soon setup now line st.post) (Own now) (Logged now) log line _
       (turns.response log line response endpoint logged s.0) (responded_soon setup now line now response endpoint s.1);
   happening = λ log line item endpoint logged s due past.
-      both_keep (λ (x : List Begun). LineStands now x line) (λ (st : Endpoint). Soon setup now line st.post) (Own now) (Logged now) log line _
+      both_keep (λ (x : List Begun). LineStands setup now x line) (λ (st : Endpoint). Soon setup now line st.post) (Own now) (Logged now) log line _
       (turns.happening log line item endpoint logged s.0 due past) (happened_soon setup now line item.moment item.kind endpoint past s.1);
   redirecting = λ log agent line endpoint logged s.
-      both_keep (λ (x : List Begun). LineStands now x line) (λ (st : Endpoint). Soon setup now line st.post) (Own now) (Logged now) log line _
+      both_keep (λ (x : List Begun). LineStands setup now x line) (λ (st : Endpoint). Soon setup now line st.post) (Own now) (Logged now) log line _
       (turns.redirecting log agent line endpoint logged s.0) (redirected_soon setup now line agent endpoint s.1);
   opening = λ log agent line endpoint logged s.
-      both_keep (λ (x : List Begun). LineStands now x line) (λ (st : Endpoint). Soon setup now line st.post) (Own now) (Logged now) log line _
+      both_keep (λ (x : List Begun). LineStands setup now x line) (λ (st : Endpoint). Soon setup now line st.post) (Own now) (Logged now) log line _
       (turns.opening log agent line endpoint logged s.0) (opened_soon setup now line now agent endpoint s.1);
   own_response = λ log response own logged s.
-      both_keep (OwnStands now) (Soon setup now 0) (Own now) (Logged now) log 0 _ (turns.own_response log response own logged s.0) (own_responded_soon setup now now response own s.1);
+      both_keep (OwnStands setup now) (Soon setup now 0) (Own now) (Logged now) log 0 _ (turns.own_response log response own logged s.0) (own_responded_soon setup now now response own s.1);
   own_happening = λ log item own logged s due past.
-      both_keep (OwnStands now) (Soon setup now 0) (Own now) (Logged now) log 0 _ (turns.own_happening log item own logged s.0 due past)
+      both_keep (OwnStands setup now) (Soon setup now 0) (Own now) (Logged now) log 0 _ (turns.own_happening log item own logged s.0 due past)
       (own_happened_soon setup now item.moment item.kind own past s.1);
   others = λ log new line endpoint apart s. (turns.others log new line endpoint apart s.0, s.1);
   own_others = λ log new own apart s. (turns.own_others log new own apart s.0, s.1);
   more = turns.more;
 } where
-  turns : LogTurns setup now (LineStands now) (OwnStands now) (Own now) (Logged now)
+  turns : LogTurns setup now (LineStands setup now) (OwnStands setup now) (Own now) (Logged now)
   turns = log_turns setup now set_up

@@ -1,7 +1,7 @@
 -- A line's commands are numbered in turn, and so does each turn of the line leave them.
 use Rattle.std.proofs.Common.{◌≡◌, ℕ, ◌+◌, ◌<◌, ◌≤◌, ◌==◌, Bool, true, false, if◌then◌else◌, List, [], ◌∷◌, ◌++◌, Option, Some, None, inl, inr, refl, sym, ap, ◌∙◌, subst, arith, append-nil}
 use Rattle.std.proofs.lemmas.Bool.{eqb-false, eqb-true, ltb-false, ltb-true}
-use Rattle.std.specs.Prelude.{nat_lt}
+use Rattle.std.specs.Prelude.{◌%◌, nat_lt}
 use Rattle.std.proofs.lemmas.Nat.{div-mul-add}
 use Rattle.std.specs.Option.{unwrap_or}
 use Rattle.endpoint_names.specs.declared.entity.Entity.{Entity}
@@ -23,6 +23,7 @@ use Rattle.command_forms.specs.declared.forms.Deed.{Deed}
 use Rattle.plain_machine.specs.declared.post.Post.{Post}
 use Rattle.plain_machine.specs.declared.response.Response.{Response}
 use Rattle.plain_machine.specs.declared.setup.Setup.{Setup}
+use Rattle.plain_machine.specs.Setup.{firsts}
 use Rattle.plain_machine.specs.declared.endpoint.Endpoint.{Endpoint}
 use Rattle.plain_machine.specs.Effect.{Effect}
 use Rattle.plain_machine.specs.Announcing.{announcement, announced, announced_by, announced_on, heard_on, replied}
@@ -175,7 +176,7 @@ opening_stands setup line some = record {
   order = opening_waits setup;
   holds = λ s at.
       of_its_line (λ n endpoint. Counted [] endpoint) (opening setup).endpoints line s
-      (on_made (λ n endpoint. Counted [] endpoint) (opening_endpoint setup) 1 setup.names.lines (λ i low high. (omega arith, (0, refl)))) at;
+      (on_made (λ n endpoint. Counted [] endpoint) (opening_endpoint setup) 1 setup.names.lines (λ i low high. (omega arith, (setup.first % firsts, refl)))) at;
 }
 
 pub line_counted : (setup : Setup) (line : ℕ) → 1 ≤ line → (events : List GatewayEvent) (s : Endpoint) → endpoint_at (plain setup events).endpoints line ≡ Some s

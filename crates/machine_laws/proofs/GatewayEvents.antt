@@ -1,7 +1,7 @@
 -- What a gateway sends at an event: commands of its own, answers to the firsts that it keeps, and acknowledgements.
 use Rattle.std.proofs.Common.{◌≡◌, ℕ, ◌+◌, ◌≤◌, Bool, true, false, ◌||◌, if◌then◌else◌, List, [], ◌∷◌, ◌++◌, Option, Some, None, inl, inr, refl, sym, ap, ◌∙◌, subst, arith, append-nil, append_assoc}
 use Rattle.std.specs.Prelude.{IfSome, nat_le, nat_lt, ◌^◌}
-use Rattle.std.proofs.lemmas.Bool.{ltb-false, ne_eqb}
+use Rattle.std.proofs.lemmas.Bool.{ltb-false}
 use Rattle.std.proofs.lemmas.Option.{none-some}
 use Rattle.std.specs.declared.net.socket_addr.SocketAddrV4.{SocketAddrV4}
 use Rattle.mgcp_text.specs.declared.message.Message.TheVariants as messages
@@ -26,7 +26,6 @@ use Rattle.plain_machine.specs.Effect.{Effect, silently}
 use Rattle.plain_machine.specs.Setup.{IsSetUp, most_lines}
 use Rattle.plain_machine.specs.Event.{GatewayEvent, datagram, phone, tick}
 use Rattle.plain_machine.specs.Message.{of_none, again, acknowledgement, Sent, text_of}
-use Rattle.plain_machine.specs.Posting.{first_number}
 use Rattle.plain_machine.specs.Machine.{Endpoints, Machine, opening, opening_endpoint}
 use Rattle.transmission.specs.Texts.{texts_of}
 use Rattle.plain_machine.specs.Arriving.{clock_after}
@@ -43,6 +42,7 @@ use Rattle.machine_laws.proofs.MessageLaws.{nothing_kept, opening_fits, Fits, co
 use Rattle.plain_machine.proofs.EffectLaws.{handled_now, effect_now}
 use Rattle.machine_laws.proofs.EachLemmas.{Each, each_both, each_weaker, one_behind}
 use Rattle.machine_laws.proofs.GatewayTurns.{OwnStands, LineStands, log_turns}
+use Rattle.machine_laws.proofs.GoingRound.{begins_there, own_begins_there}
 use Rattle.machine_laws.proofs.LogTurns.{Goes, Stands, acted_goes, command_goes, log_both, on_later, pass_goes, responded_goes}
 use Rattle.machine_laws.proofs.PostLogs.{InLog, Logged, Own, WasBegun}
 use Rattle.machine_laws.proofs.TellsLemmas.{AreAnswers, tells_on}
@@ -57,19 +57,19 @@ pub said_on : (log more : List Begun) (firsts later : List KeptFirst) (until : �
 said_on log more firsts later until sent s = (tells_on log more firsts later (text_of sent.said) sent.moment s.0, s.1)
 
 -- the endpoints by this moment
-pub record EndpointsStand (until : ℕ) (log : List Begun) (endpoints : Endpoints) : Type 0 where
+pub record EndpointsStand (setup : Setup) (until : ℕ) (log : List Begun) (endpoints : Endpoints) : Type 0 where
   pub logged : Logged until log
-  pub list : OnAll (LineStands until log) 1 endpoints.list
-  pub own : OwnStands until log endpoints.own
+  pub list : OnAll (LineStands setup until log) 1 endpoints.list
+  pub own : OwnStands setup until log endpoints.own
 
 -- what is done is said by the gateway's lines and itself alone
-pub record ToldGoes (until : ℕ) (log : List Begun) (is : Effect Endpoints) : Type 0 where
-  pub stands : EndpointsStand until (log ++ begun_in is.sent) is.value
+pub record ToldGoes (setup : Setup) (until : ℕ) (log : List Begun) (is : Effect Endpoints) : Type 0 where
+  pub stands : EndpointsStand setup until (log ++ begun_in is.sent) is.value
   pub sent_own : Each (Own until (log ++ begun_in is.sent)) is.sent
 
 -- what a text does
-pub record TextGoes (log : List Begun) (m : Machine) (done : Effect Machine) : Type 0 where
-  pub stands : EndpointsStand m.now (log ++ begun_in done.sent) done.value.endpoints
+pub record TextGoes (setup : Setup) (log : List Begun) (m : Machine) (done : Effect Machine) : Type 0 where
+  pub stands : EndpointsStand setup m.now (log ++ begun_in done.sent) done.value.endpoints
   pub more : List KeptFirst
   pub grown : firsts_in done.value.history ≡ firsts_in m.history ++ more
   pub answers : AreAnswers (firsts_in done.value.history)
@@ -93,27 +93,27 @@ answer_is t has is =
     let given = t.done.answer in
     record { code = given.code; params = given.params; body = given.body; reads = read_again (response_to t) (answer_writable t.id given has.0 has.1 is) }
 
-endpoints_same : (until : ℕ) (log : List Begun) (endpoints : Endpoints) (sent : List Sent) → begun_in sent ≡ [] → EndpointsStand until log endpoints → EndpointsStand until (log ++ begun_in sent) endpoints
-endpoints_same until log endpoints sent none s =
-    subst (λ (x : List Begun). EndpointsStand until x endpoints) (sym (ap (λ (x : List Begun). log ++ x) none ∙ append-nil log)) s
+endpoints_same : (setup : Setup) (until : ℕ) (log : List Begun) (endpoints : Endpoints) (sent : List Sent) → begun_in sent ≡ [] → EndpointsStand setup until log endpoints → EndpointsStand setup until (log ++ begun_in sent) endpoints
+endpoints_same setup until log endpoints sent none s =
+    subst (λ (x : List Begun). EndpointsStand setup until x endpoints) (sym (ap (λ (x : List Begun). log ++ x) none ∙ append-nil log)) s
 
-still_goes : (log : List Begun) (m : Machine) (sent : List Sent) → begun_in sent ≡ [] → EndpointsStand m.now log m.endpoints → AreAnswers (firsts_in m.history)
-    → Each (Said log (firsts_in m.history) m.now) sent → TextGoes log m (record { value = m; sent = sent })
-still_goes log m sent none stands answered says =
+still_goes : (setup : Setup) (log : List Begun) (m : Machine) (sent : List Sent) → begun_in sent ≡ [] → EndpointsStand setup m.now log m.endpoints → AreAnswers (firsts_in m.history)
+    → Each (Said log (firsts_in m.history) m.now) sent → TextGoes setup log m (record { value = m; sent = sent })
+still_goes setup log m sent none stands answered says =
     let same : log ≡ log ++ begun_in sent = sym (ap (λ (x : List Begun). log ++ x) none ∙ append-nil log) in
     record {
-      stands = endpoints_same m.now log m.endpoints sent none stands;
+      stands = endpoints_same setup m.now log m.endpoints sent none stands;
       more = [];
       grown = sym (append-nil (firsts_in m.history));
       answers = answered;
       sent_says = subst (λ (x : List Begun). Each (Said x (firsts_in m.history) m.now) sent) same says;
     }
 
-transacted_goes : (log : List Begun) (looked : Looked) (m : Machine) (source : SocketAddrV4) (t : Transaction) → EndpointsStand m.now log m.endpoints
-    → AreAnswers (firsts_in m.history) → IsAnswerTo t.id (answer_text t) → ToldGoes m.now log t.done.told → looked ≡ look_of most_firsts m.history t.id m.now
-    → TextGoes log m (transacted_by looked m source t)
+transacted_goes : (setup : Setup) (log : List Begun) (looked : Looked) (m : Machine) (source : SocketAddrV4) (t : Transaction) → EndpointsStand setup m.now log m.endpoints
+    → AreAnswers (firsts_in m.history) → IsAnswerTo t.id (answer_text t) → ToldGoes setup m.now log t.done.told → looked ≡ look_of most_firsts m.history t.id m.now
+    → TextGoes setup log m (transacted_by looked m source t)
 unfolding executed
-transacted_goes log new m source t stands answered is goes at = record {
+transacted_goes setup log new m source t stands answered is goes at = record {
   stands = goes.stands;
   more = kept ∷ [];
   grown = one_first m t;
@@ -125,14 +125,14 @@ transacted_goes log new m source t stands answered is goes at = record {
 } where
   kept : KeptFirst
   kept = record { id = t.id; moment = m.now; answer = answer_text t }
-transacted_goes log (repeat text) m source t stands answered is goes at =
-    still_goes log m (reply m source t.line (again text) ∷ []) refl stands answered
+transacted_goes setup log (repeat text) m source t stands answered is goes at =
+    still_goes setup log m (reply m source t.line (again text) ∷ []) refl stands answered
     ((inr (inl (repeat_gives most_firsts m.history t.id m.now text (sym at))), omega arith), tt)
-transacted_goes log confirmed m source t stands answered is goes at = still_goes log m [] refl stands answered tt
-transacted_goes log full m source t stands answered is goes at = still_goes log m [] refl stands answered tt
+transacted_goes setup log confirmed m source t stands answered is goes at = still_goes setup log m [] refl stands answered tt
+transacted_goes setup log full m source t stands answered is goes at = still_goes setup log m [] refl stands answered tt
 
-only_goes : (log : List Begun) (until : ℕ) (endpoints : Endpoints) → EndpointsStand until log endpoints → ToldGoes until log (silently endpoints)
-only_goes log until endpoints stands = record { stands = endpoints_same until log endpoints [] refl stands; sent_own = tt }
+only_goes : (setup : Setup) (log : List Begun) (until : ℕ) (endpoints : Endpoints) → EndpointsStand setup until log endpoints → ToldGoes setup until log (silently endpoints)
+only_goes setup log until endpoints stands = record { stands = endpoints_same setup until log endpoints [] refl stands; sent_own = tt }
 
 none_acknowledged : (now : ℕ) (source : SocketAddrV4) (code id : ℕ) (params : List Param) → begun_in (acknowledged now source code id params) ≡ []
 none_acknowledged now source code id params = by_test (asks_for_acknowledgement code params) where
@@ -149,40 +149,40 @@ acknowledged_says log firsts now source code id params has = by_test (asks_for_a
 
 -- what a turn of the endpoints gives
 from_goes : (setup : Setup) (until : ℕ) (set_up : IsSetUp setup) (log : List Begun) (is : Effect Endpoints)
-    → Goes setup until (LineStands until) (OwnStands until) (Own until) (Logged until) (log_turns setup until set_up) log is → ToldGoes until log is
+    → Goes setup until (LineStands setup until) (OwnStands setup until) (Own until) (Logged until) (log_turns setup until set_up) log is → ToldGoes setup until log is
 from_goes setup until set_up log is goes =
     record { stands = record { logged = goes.stands.log_holds; list = goes.stands.list; own = goes.stands.own }; sent_own = goes.sent }
 
-to_stands : (setup : Setup) (until : ℕ) (set_up : IsSetUp setup) (log : List Begun) (endpoints : Endpoints) → EndpointsStand until log endpoints
-    → Stands setup until (LineStands until) (OwnStands until) (Own until) (Logged until) (log_turns setup until set_up) log endpoints
+to_stands : (setup : Setup) (until : ℕ) (set_up : IsSetUp setup) (log : List Begun) (endpoints : Endpoints) → EndpointsStand setup until log endpoints
+    → Stands setup until (LineStands setup until) (OwnStands setup until) (Own until) (Logged until) (log_turns setup until set_up) log endpoints
 to_stands setup until set_up log endpoints s = record { log_holds = s.logged; list = s.list; own = s.own }
 
-handled_goes : (setup : Setup) (log : List Begun) (m : Machine) (source : SocketAddrV4) (outcome : Outcome) → Fits setup m → EndpointsStand m.now log m.endpoints
-    → AreAnswers (firsts_in m.history) → IfSome (id_in outcome) IsId → TextGoes log m (handled setup m source outcome)
+handled_goes : (setup : Setup) (log : List Begun) (m : Machine) (source : SocketAddrV4) (outcome : Outcome) → Fits setup m → EndpointsStand setup m.now log m.endpoints
+    → AreAnswers (firsts_in m.history) → IfSome (id_in outcome) IsId → TextGoes setup log m (handled setup m source outcome)
 unfolding handled
-handled_goes setup log m source no_header fits stands answered has = still_goes log m [] refl stands answered tt
+handled_goes setup log m source no_header fits stands answered has = still_goes setup log m [] refl stands answered tt
 handled_goes setup log m source (bad_version id) fits stands answered has =
-    transacted_goes log _ m source (refusing m id 528) stands answered (answer_is (refusing m id 528) has (code_is 528 (omega arith))) (only_goes log m.now m.endpoints stands) refl
+    transacted_goes setup log _ m source (refusing m id 528) stands answered (answer_is (refusing m id 528) has (code_is 528 (omega arith))) (only_goes setup log m.now m.endpoints stands) refl
 handled_goes setup log m source (bad_body id) fits stands answered has =
-    transacted_goes log _ m source (refusing m id 510) stands answered (answer_is (refusing m id 510) has (code_is 510 (omega arith))) (only_goes log m.now m.endpoints stands) refl
+    transacted_goes setup log _ m source (refusing m id 510) stands answered (answer_is (refusing m id 510) has (code_is 510 (omega arith))) (only_goes setup log m.now m.endpoints stands) refl
 handled_goes setup log m source (message (messages.Command verb id name params body)) fits stands answered has =
     let said : Command = record { verb = verb; name = name; params = params; body = body } in
     let t = command_with setup m id said (k_of params) in
-    transacted_goes log _ m source t stands answered (answer_is t has (command_answered setup m id said (k_of params) fits has).is)
+    transacted_goes setup log _ m source t stands answered (answer_is t has (command_answered setup m id said (k_of params) fits has).is)
     (from_goes setup m.now fits.set_up log t.done.told
-    (command_goes setup m.now (LineStands m.now) (OwnStands m.now) (Own m.now) (Logged m.now) (log_turns setup m.now fits.set_up) said (k_of params) log m.endpoints id
+    (command_goes setup m.now (LineStands setup m.now) (OwnStands setup m.now) (Own m.now) (Logged m.now) (log_turns setup m.now fits.set_up) said (k_of params) log m.endpoints id
     (to_stands setup m.now fits.set_up log m.endpoints stands))) refl
 handled_goes setup log m source (message (messages.Response code id params body)) fits stands answered has =
     let response = response_with setup id code params in
     let goes = from_goes setup m.now fits.set_up log (responded setup m.endpoints m.now response)
-    (responded_goes setup m.now (LineStands m.now) (OwnStands m.now) (Own m.now) (Logged m.now) (log_turns setup m.now fits.set_up) log m.endpoints response
+    (responded_goes setup m.now (LineStands setup m.now) (OwnStands setup m.now) (Own m.now) (Logged m.now) (log_turns setup m.now fits.set_up) log m.endpoints response
     (to_stands setup m.now fits.set_up log m.endpoints stands)) in
     let own = (responded setup m.endpoints m.now response).sent in
     let ack = acknowledged m.now source code id params in
     let same : log ++ begun_in own ≡ log ++ begun_in (ack ++ own) =
     sym (log_both log ack own ∙ ap (λ (x : List Begun). (log ++ x) ++ begun_in own) (none_acknowledged m.now source code id params) ∙ ap (λ (x : List Begun). x ++ begun_in own) (append-nil log)) in
     record {
-      stands = subst (λ (x : List Begun). EndpointsStand m.now x (responded setup m.endpoints m.now response).value) same goes.stands;
+      stands = subst (λ (x : List Begun). EndpointsStand setup m.now x (responded setup m.endpoints m.now response).value) same goes.stands;
       more = [];
       grown = sym (append-nil (firsts_in m.history));
       answers = answered;
@@ -191,22 +191,22 @@ handled_goes setup log m source (message (messages.Response code id params body)
           (subst (λ (x : List Begun). Each (Said x (firsts_in m.history) m.now) own) same (own_said m.now (log ++ begun_in own) (firsts_in m.history) own goes.sent_own));
     }
 
-texts_go : (setup : Setup) (log : List Begun) (m : Machine) (source : SocketAddrV4) (texts : List (List ℕ)) → Fits setup m → EndpointsStand m.now log m.endpoints
-    → AreAnswers (firsts_in m.history) → TextGoes log m (took_all setup m source texts)
+texts_go : (setup : Setup) (log : List Begun) (m : Machine) (source : SocketAddrV4) (texts : List (List ℕ)) → Fits setup m → EndpointsStand setup m.now log m.endpoints
+    → AreAnswers (firsts_in m.history) → TextGoes setup log m (took_all setup m source texts)
 unfolding took_all
-texts_go setup log m source [] fits stands answered = still_goes log m [] refl stands answered tt
+texts_go setup log m source [] fits stands answered = still_goes setup log m [] refl stands answered tt
 texts_go setup log m source (text ∷ texts) fits stands answered =
     let one = handled setup m source (read_text text) in
     let first = handled_goes setup log m source (read_text text) fits stands answered (read_id text) in
     let now : one.value.now ≡ m.now = handled_now setup m source (read_text text) in
     let log' = log ++ begun_in one.sent in
     let rest = texts_go setup log' one.value source texts (handled_fits setup m source (read_text text) fits)
-    (subst (λ (t : ℕ). EndpointsStand t log' one.value.endpoints) (sym now) first.stands) first.answers in
+    (subst (λ (t : ℕ). EndpointsStand setup t log' one.value.endpoints) (sym now) first.stands) first.answers in
     let others = took_all setup one.value source texts in
     let is = sym (log_both log one.sent others.sent) in
     record {
-      stands = subst (λ (x : List Begun). EndpointsStand m.now x others.value.endpoints) is
-          (subst (λ (t : ℕ). EndpointsStand t (log' ++ begun_in others.sent) others.value.endpoints) now rest.stands);
+      stands = subst (λ (x : List Begun). EndpointsStand setup m.now x others.value.endpoints) is
+          (subst (λ (t : ℕ). EndpointsStand setup t (log' ++ begun_in others.sent) others.value.endpoints) now rest.stands);
       more = first.more ++ rest.more;
       grown = rest.grown ∙ ap (λ (x : List KeptFirst). x ++ rest.more) first.grown ∙ append_assoc (firsts_in m.history) first.more rest.more;
       answers = rest.answers;
@@ -223,7 +223,7 @@ texts_go setup log m source (text ∷ texts) fits stands answered =
 -- what holds of a gateway whose commands began so
 pub record GatewayHolds (setup : Setup) (log : List Begun) (m : Machine) : Type 0 where
   pub fits : Fits setup m
-  pub stands : EndpointsStand m.now log m.endpoints
+  pub stands : EndpointsStand setup m.now log m.endpoints
   pub kept : AreKept m.history
   pub answers : AreAnswers (firsts_in m.history)
 
@@ -237,13 +237,13 @@ flight_later : (now later : ℕ) → now ≤ later → (log : List Begun) (found
 flight_later now later past log None is = tt
 flight_later now later past log (Some flight) is = record { known = is.known; later = is.later; past = omega (arith, past, is.past) }
 
-stands_later : (now later : ℕ) → now ≤ later → (log : List Begun) (endpoints : Endpoints) → EndpointsStand now log endpoints → EndpointsStand later log endpoints
-stands_later now later past log endpoints s = record {
+stands_later : (setup : Setup) (now later : ℕ) → now ≤ later → (log : List Begun) (endpoints : Endpoints) → EndpointsStand setup now log endpoints → EndpointsStand setup later log endpoints
+stands_later setup now later past log endpoints s = record {
   logged = record {
     begun = each_weaker (WasBegun now) (WasBegun later) (λ b w. record { name = w.name; reads = w.reads; past = omega (arith, past, w.past) }) log s.logged.begun;
     apart = s.logged.apart;
   };
-  list = on_later (LineStands now log) (LineStands later log) 1 endpoints.list
+  list = on_later (LineStands setup now log) (LineStands setup later log) 1 endpoints.list
       (λ i endpoint low is. record { sound = is.sound; post = record { below = is.post.below; counts = is.post.counts; flight = flight_later now later past log endpoint.post.pending is.post.flight } })
       s.list;
   own = record {
@@ -272,7 +272,7 @@ event_holds setup log m (datagram source bytes) h taken =
     record {
       holds = record {
         fits = event_fits setup m (datagram source bytes) h.fits;
-        stands = subst (λ (t : ℕ). EndpointsStand t (log ++ begun_in done.sent) done.value.endpoints) (sym now) goes.stands;
+        stands = subst (λ (t : ℕ). EndpointsStand setup t (log ++ begun_in done.sent) done.value.endpoints) (sym now) goes.stands;
         kept = (event_goes setup m (datagram source bytes) h.fits h.kept).kept;
         answers = goes.answers;
       };
@@ -282,7 +282,7 @@ event_holds setup log m (datagram source bytes) h taken =
     }
 event_holds setup log m (phone line act) h taken =
     let goes = from_goes setup m.now h.fits.set_up log _
-    (acted_goes setup m.now (LineStands m.now) (OwnStands m.now) (Own m.now) (Logged m.now) (log_turns setup m.now h.fits.set_up) log m.endpoints line act (to_stands setup m.now h.fits.set_up log m.endpoints h.stands)) in
+    (acted_goes setup m.now (LineStands setup m.now) (OwnStands setup m.now) (Own m.now) (Logged m.now) (log_turns setup m.now h.fits.set_up) log m.endpoints line act (to_stands setup m.now h.fits.set_up log m.endpoints h.stands)) in
     record {
       holds = record { fits = event_fits setup m (phone line act) h.fits; stands = goes.stands; kept = h.kept; answers = h.answers };
       more = [];
@@ -292,8 +292,8 @@ event_holds setup log m (phone line act) h taken =
 event_holds setup log m (tick moment) h taken =
     let past = tick_on m moment taken in
     let goes = from_goes setup moment h.fits.set_up log _
-    (pass_goes setup moment (LineStands moment) (OwnStands moment) (Own moment) (Logged moment) (log_turns setup moment h.fits.set_up) log m.endpoints
-    (to_stands setup moment h.fits.set_up log m.endpoints (stands_later m.now moment past log m.endpoints h.stands))) in
+    (pass_goes setup moment (LineStands setup moment) (OwnStands setup moment) (Own moment) (Logged moment) (log_turns setup moment h.fits.set_up) log m.endpoints
+    (to_stands setup moment h.fits.set_up log m.endpoints (stands_later setup m.now moment past log m.endpoints h.stands))) in
     record {
       holds = record { fits = event_fits setup m (tick moment) h.fits; stands = goes.stands; kept = h.kept; answers = h.answers };
       more = [];
@@ -301,21 +301,19 @@ event_holds setup log m (tick moment) h taken =
       sent_says = own_said moment _ (firsts_in m.history) _ goes.sent_own;
     }
 
-opening_stands : (setup : Setup) → IsSetUp setup → EndpointsStand 0 [] (opening setup).endpoints
+opening_stands : (setup : Setup) → IsSetUp setup → EndpointsStand setup 0 [] (opening setup).endpoints
 opening_stands setup set_up =
     let lines : setup.names.lines ≤ most_lines = set_up.lines in
     let sound = opening_is_sound setup set_up in
     record {
       logged = record { begun = tt; apart = λ few. λ i j d less none. absurd (omega arith) };
-      list = on_made (LineStands 0 []) (opening_endpoint setup) 1 setup.names.lines
+      list = on_made (LineStands setup 0 []) (opening_endpoint setup) 1 setup.names.lines
           (λ i low high. record {
             sound = record { some = low; few = omega (arith, high, lines); below = omega arith; fine = opening_is_fine; flight = tt };
-            post = record { below = omega arith; counts = λ few. record { count = first_of i low; below = tt }; flight = tt };
+            post = record { below = omega arith; counts = λ few. record { behind = inl (begins_there setup i low); taken = tt }; flight = tt };
           });
-      own = record { sound = sound.own; post = record { below = omega arith; counts = λ few. record { count = refl; below = tt }; flight = tt } };
-    } where
-      first_of : (i : ℕ) → 1 ≤ i → 0 ≡ first_number i + 0
-      first_of i low = ap (λ (b : Bool). (if b then 1 else 0) + 0) (sym (ne_eqb i 0 (λ none. absurd (omega (arith, low, none)))))
+      own = record { sound = sound.own; post = record { below = omega arith; counts = λ few. record { behind = inl (own_begins_there setup); taken = tt }; flight = tt } };
+    }
 
 pub opening_gateway : (setup : Setup) → IsSetUp setup → GatewayHolds setup [] (opening setup)
 opening_gateway setup set_up = record { fits = opening_fits setup set_up; stands = opening_stands setup set_up; kept = nothing_kept setup; answers = tt }

@@ -32,6 +32,7 @@ pub mod EachLemmas
 pub mod TellsLemmas
 pub mod FlightLemmas
 pub mod KeepLemmas
+pub mod GoingRound
 pub mod PostLogs
 pub mod LogTurns
 pub mod GatewayTurns

@@ -37,6 +37,7 @@ use Rattle.plain_machine.specs.Message.{own_of, command, resent, Sent, text_of}
 use Rattle.plain_machine.specs.Posting.{numbers, first_number, number_after, id_on, line_of_id, with_command, given_up, repeated_as, resent_by, resent_on}
 use Rattle.plain_machine.specs.Announcing.{announced_lines, method_of, announcement, announced, announced_by, announced_on, put_off, replied}
 use Rattle.machine_laws.proofs.FlightLaws.{next_below}
+use Rattle.machine_laws.proofs.GoingRound.{start_on, start_below, IsBehind, behind_next, IsTaken, taken_apart, taken_more}
 use Rattle.machine_laws.proofs.AnnouncementLemmas.{announcement_writable}
 use Rattle.machine_laws.proofs.EachLemmas.{Each, all_from_each, each_both, each_push, each_weaker, one_before, one_behind, one_weaker}
 use Rattle.machine_laws.proofs.KeepLemmas.{EffectKeeps, silent_keeps}
@@ -69,14 +70,18 @@ pub record InLog (until : ℕ) (log : List Begun) (flight : InFlight) : Type 0 w
   pub later : flight.first ≤ flight.due
   pub past : flight.first ≤ until
 
--- the line's ids so far are below its next
-pub record Counts (line number : ℕ) (log : List Begun) : Type 0 where
-  pub count : number ≡ first_number line + count_of line log
-  pub below : Each (λ (b : Begun). line_of_id b.id ≡ line → b.id < id_on line number) log
+-- if it is of this line, it is one of its first commands, of which there are so many
+abbrev pub OneOfFirst : Setup → ℕ → ℕ → Begun → Type 0
+OneOfFirst setup line count b = line_of_id b.id ≡ line → IsTaken line (start_on setup line) count b.id
 
-pub record Posted (until : ℕ) (log : List Begun) (line : ℕ) (post : Post) : Type 0 where
+-- the line's next number is the one behind the numbers of all that it began
+pub record Counts (setup : Setup) (line number : ℕ) (log : List Begun) : Type 0 where
+  pub behind : IsBehind line (start_on setup line) (count_of line log) number
+  pub taken : Each (OneOfFirst setup line (count_of line log)) log
+
+pub record Posted (setup : Setup) (until : ℕ) (log : List Begun) (line : ℕ) (post : Post) : Type 0 where
   pub below : post.number < numbers
-  pub counts : Few line log → Counts line post.number log
+  pub counts : Few line log → Counts setup line post.number log
   pub flight : IfSome post.pending (InLog until log)
 
 pub record Own (until : ℕ) (log : List Begun) (sent : Sent) : Type 0 where
@@ -84,8 +89,8 @@ pub record Own (until : ℕ) (log : List Begun) (sent : Sent) : Type 0 where
   pub early : sent.moment ≤ until
 
 -- a turn of a post keeps all that
-abbrev pub PostGood : ℕ → List Begun → ℕ → Effect Post → Type 0
-PostGood until log line turn = EffectKeeps (λ (x : List Begun). Posted until x line) (Own until) (Logged until) log line turn
+abbrev pub PostGood : Setup → ℕ → List Begun → ℕ → Effect Post → Type 0
+PostGood setup until log line turn = EffectKeeps (λ (x : List Begun). Posted setup until x line) (Own until) (Logged until) log line turn
 
 -- Counting
 
@@ -116,69 +121,68 @@ in_log_on : (until : ℕ) (log new : List Begun) (found : Option InFlight) → I
 in_log_on until log new None is = tt
 in_log_on until log new (Some flight) is = record { known = known_on log new flight is.known; later = is.later; past = is.past }
 
+-- so it counts, where so many of the log are the line's
+counts_so : (setup : Setup) (line number count : ℕ) (log : List Begun) → count ≡ count_of line log → IsBehind line (start_on setup line) count number
+    → Each (OneOfFirst setup line count) log → Counts setup line number log
+counts_so setup line number count log same behind taken = record {
+  behind = subst (λ (n : ℕ). IsBehind line (start_on setup line) n number) same behind;
+  taken = subst (λ (n : ℕ). Each (OneOfFirst setup line n) log) same taken;
+}
+
 -- what other lines begin changes nothing
-pub others_stay : (until : ℕ) (log new : List Begun) (line : ℕ) (post : Post) → Each (λ (b : Begun). line_of_id b.id ≢ line) new → Posted until log line post
-    → Posted until (log ++ new) line post
-others_stay until log new line post apart s = record {
+pub others_stay : (setup : Setup) (until : ℕ) (log new : List Begun) (line : ℕ) (post : Post) → Each (λ (b : Begun). line_of_id b.id ≢ line) new → Posted setup until log line post
+    → Posted setup until (log ++ new) line post
+others_stay setup until log new line post apart s = record {
   below = s.below;
   counts = λ few.
       let was = s.counts (few_before line log new few) in
-      record {
-        count = let both = count_both line log new in let none = count_none line new apart in omega (arith, was.count, both, none);
-        below = both_each log new was.below (each_weaker (λ (b : Begun). line_of_id b.id ≢ line) (λ (b : Begun). line_of_id b.id ≡ line → b.id < id_on line post.number)
-            (λ b other. λ same. absurd (other same)) new apart);
-      };
+      counts_so setup line post.number (count_of line log) (log ++ new) (sym as_many) was.behind
+      (each_both (OneOfFirst setup line (count_of line log)) log new was.taken
+      (each_weaker (λ (b : Begun). line_of_id b.id ≢ line) (OneOfFirst setup line (count_of line log)) (λ b other. λ same. absurd (other same)) new apart));
   flight = in_log_on until log new post.pending s.flight;
 } where
-  both_each : (xs ys : List Begun) → Each (λ (b : Begun). line_of_id b.id ≡ line → b.id < id_on line post.number) xs
-      → Each (λ (b : Begun). line_of_id b.id ≡ line → b.id < id_on line post.number) ys → Each (λ (b : Begun). line_of_id b.id ≡ line → b.id < id_on line post.number) (xs ++ ys)
-  both_each xs ys one two = each_both (λ (b : Begun). line_of_id b.id ≡ line → b.id < id_on line post.number) xs ys one two
+  as_many : count_of line (log ++ new) ≡ count_of line log
+  as_many = let both = count_both line log new in let none = count_none line new apart in omega (arith, both, none)
 
 pub own_more : (until : ℕ) (log new : List Begun) (sent : Sent) → Own until log sent → Own until (log ++ new) sent
 own_more until log new sent own = record { carries = one_before (Carries (text_of sent.said) sent.moment) log new own.carries; early = own.early }
 
 -- A turn in which nothing begins and nothing is sent
 
-pub post_still : (until : ℕ) (log : List Begun) (line : ℕ) (post : Post) → Logged until log → Posted until log line post → PostGood until log line (silently post)
-post_still until log line post logged s = silent_keeps (λ (x : List Begun). Posted until x line) (Own until) (Logged until) log line post logged s
+pub post_still : (setup : Setup) (until : ℕ) (log : List Begun) (line : ℕ) (post : Post) → Logged until log → Posted setup until log line post → PostGood setup until log line (silently post)
+post_still setup until log line post logged s = silent_keeps (λ (x : List Begun). Posted setup until x line) (Own until) (Logged until) log line post logged s
 
 -- A command begins
 
 same_command : (id : ℕ) (name : List ℕ) → (id == id && bytes_eq name name) ≡ true
 same_command id name = and_from (id == id) (bytes_eq name name) (eq-eqb id id refl) ((bytes_eq-Decides name name).1 refl)
 
-next_number : (line number count : ℕ) → number ≡ first_number line + count → first_number line + (count + 1) < numbers → number_after line number ≡ number + 1
-next_number line number count is few =
-    ap (λ (b : Bool). if b then first_number line else number + 1) (ne_eqb (number + 1) numbers (λ same. absurd (omega (arith, is, few, same))))
-
-pub command_good : (until : ℕ) (log : List Begun) (line moment : ℕ) (post : Post) (verb : Verb) (name : List ℕ) (params : List Param) (body : List ℕ)
-    → is_writable (messages.Command verb (id_on line post.number) name params body) ≡ true → moment ≤ until → Logged until log → Posted until log line post
-    → PostGood until log line (with_command line moment post (messages.Command verb (id_on line post.number) name params body))
-command_good until log line moment post verb name params body writable past logged s = record {
+pub command_good : (setup : Setup) (until : ℕ) (log : List Begun) (line moment : ℕ) (post : Post) (verb : Verb) (name : List ℕ) (params : List Param) (body : List ℕ)
+    → is_writable (messages.Command verb (id_on line post.number) name params body) ≡ true → moment ≤ until → Logged until log → Posted setup until log line post
+    → PostGood setup until log line (with_command line moment post (messages.Command verb (id_on line post.number) name params body))
+command_good setup until log line moment post verb name params body writable past logged s = record {
   log_holds = record {
     begun = each_push (WasBegun until) log b logged.begun
         (record { name = name; reads = ap (is_command_as id name) reads ∙ same_command id name; past = past });
     apart = λ few. all_pairs_push (λ (a c : Begun). a.id ≢ c.id) log b (logged.apart (λ i. few_before i log (b ∷ []) (few i)))
         (all_from_each (λ (a : Begun). a.id ≢ id) log
-        (each_weaker (λ (a : Begun). line_of_id a.id ≡ line → a.id < id) (λ (a : Begun). a.id ≢ id)
-        (λ a below. λ same. absurd (let less : a.id < id = below (ap (λ (x : ℕ). line_of_id x) same ∙ of_line) in omega (arith, less, same)))
-        log (s.counts (few_before line log (b ∷ []) (few line))).below));
+        (each_weaker (OneOfFirst setup line (count_of line log)) (λ (a : Begun). a.id ≢ id) (other (few_before line log (b ∷ []) (few line)))
+        log (s.counts (few_before line log (b ∷ []) (few line))).taken));
   };
   of = (of_line, tt);
   holds = record {
     below = next_below line post.number s.below;
     counts = λ few.
-        let old = s.counts (few_before line log (b ∷ []) few) in
+        let before = few_before line log (b ∷ []) few in
+        let old = s.counts before in
         let total : count_of line (log ++ b ∷ []) ≡ count_of line log + 1 = count_both line log (b ∷ []) ∙ ap (λ (x : ℕ). count_of line log + x) (count_one line b of_line) in
-        let next : number_after line post.number ≡ post.number + 1 =
-        next_number line post.number (count_of line log) old.count (let f : first_number line + count_of line (log ++ b ∷ []) < numbers = few in omega (arith, f, total)) in
-        record {
-          count = omega (arith, next, total, old.count);
-          below = each_push (λ (a : Begun). line_of_id a.id ≡ line → a.id < id_on line (number_after line post.number)) log b
-              (each_weaker (λ (a : Begun). line_of_id a.id ≡ line → a.id < id) (λ (a : Begun). line_of_id a.id ≡ line → a.id < id_on line (number_after line post.number))
-              (λ a below. λ of. let less : a.id < id = below of in omega (arith, less, next)) log old.below)
-              (λ of. omega (arith, next));
-        };
+        let left : first_number line + (count_of line log + 1) < numbers = (let f : first_number line + count_of line (log ++ b ∷ []) < numbers = few in omega (arith, f, total)) in
+        counts_so setup line (number_after line post.number) (count_of line log + 1) (log ++ b ∷ []) (sym total)
+        (behind_next line (start_on setup line) (count_of line log) post.number (start_below setup line) left old.behind)
+        (each_push (OneOfFirst setup line (count_of line log + 1)) log b
+        (each_weaker (OneOfFirst setup line (count_of line log)) (OneOfFirst setup line (count_of line log + 1))
+        (λ a taken. λ of. taken_more line (start_on setup line) (count_of line log) (count_of line log + 1) a.id (omega arith) (taken of)) log old.taken)
+        (λ of. record { place = count_of line log; number = post.number; fewer = omega arith; behind = old.behind; is = refl }));
     flight = record { known = one_behind (IsSame flight) log (b ∷ []) (inl (record { id = refl; text = refl; moment = refl })); later = omega arith; past = past };
   };
   sent_holds = (record { carries = one_behind (Carries text moment) log (b ∷ []) (inl (record { text = refl; since = omega arith; within = omega arith })); early = past }, tt);
@@ -198,20 +202,25 @@ command_good until log line moment post verb name params body writable past logg
   of_line : line_of_id (id_on line post.number) ≡ line
   of_line = line_is line post.number s.below
 
+  -- none of those before it has its id
+  other : Few line log → (a : Begun) → OneOfFirst setup line (count_of line log) a → a.id ≢ id_on line post.number
+  other few a taken = λ same.
+      taken_apart line (start_on setup line) (count_of line log) post.number a.id few (s.counts few).behind (taken (ap (λ (x : ℕ). line_of_id x) same ∙ of_line)) same
+
   reads : read_text text ≡ message (messages.Command verb (id_on line post.number) name params body)
   reads = read_again (messages.Command verb (id_on line post.number) name params body) writable
 
 -- What falls due of a post
 
 pub resent_good : (setup : Setup) (until : ℕ) (log : List Begun) (line moment : ℕ) (post : Post) (flight : InFlight) → post.pending ≡ Some flight → moment ≡ flight.due → moment ≤ until
-    → Logged until log → Posted until log line post → PostGood until log line (resent_on setup line moment post)
+    → Logged until log → Posted setup until log line post → PostGood setup until log line (resent_on setup line moment post)
 resent_good setup until log line moment post flight pending due past logged s =
-    subst (λ (found : Option InFlight). PostGood until log line (resent_by found setup line moment post)) (sym pending) (by_repeat (repeat_of flight moment) refl) where
+    subst (λ (found : Option InFlight). PostGood setup until log line (resent_by found setup line moment post)) (sym pending) (by_repeat (repeat_of flight moment) refl) where
       in_log : InLog until log flight
       in_log = subst (λ (found : Option InFlight). IfSome found (InLog until log)) pending s.flight
 
-      by_repeat : (repeat : Repeat) → repeat_of flight moment ≡ repeat → PostGood until log line (repeated_as repeat setup line moment post flight)
-      by_repeat GivenUp is = post_still until log line (given_up setup line moment post) logged (record { below = s.below; counts = s.counts; flight = tt })
+      by_repeat : (repeat : Repeat) → repeat_of flight moment ≡ repeat → PostGood setup until log line (repeated_as repeat setup line moment post flight)
+      by_repeat GivenUp is = post_still setup until log line (given_up setup line moment post) logged (record { below = s.below; counts = s.counts; flight = tt })
       by_repeat SentAgain is =
           let same = repeat_same flight moment in
           let later = sent_later flight moment is in
@@ -219,7 +228,7 @@ resent_good setup until log line moment post flight pending due past logged s =
           record {
             log_holds = subst (Logged until) (sym (append-nil log)) logged;
             of = tt;
-            holds = subst (λ (x : List Begun). Posted until x line (record post { pending = Some (repeated flight moment) })) (sym (append-nil log)) (record {
+            holds = subst (λ (x : List Begun). Posted setup until x line (record post { pending = Some (repeated flight moment) })) (sym (append-nil log)) (record {
               below = s.below;
               counts = s.counts;
               flight = record {
@@ -242,20 +251,20 @@ resent_good setup until log line moment post flight pending due past logged s =
 -- An announcement
 
 pub announced_good : (setup : Setup) (until : ℕ) (log : List Begun) (line moment : ℕ) (post : Post) → IsSetUp setup → line ≤ most_lines → 1 ≤ id_on line post.number → moment ≤ until → Logged until log
-    → Posted until log line post → PostGood until log line (announced setup line moment post)
+    → Posted setup until log line post → PostGood setup until log line (announced setup line moment post)
 unfolding announced announcement
 announced_good setup until log line moment post set_up few some past logged s =
-    command_good until log line moment (record post { restart = Announced }) Rsip (name_text (announced_lines line) setup.names.domain)
+    command_good setup until log line moment (record post { restart = Announced }) Rsip (name_text (announced_lines line) setup.names.domain)
     ((record { code = codes "RM"; value = method_of line }) ∷ []) [] (announcement_writable setup line post.number set_up few s.below some) past logged
     (record { below = s.below; counts = s.counts; flight = s.flight })
 
 pub announcing_good : (setup : Setup) (until : ℕ) (log : List Begun) (line moment : ℕ) (post : Post) → IsSetUp setup → line ≤ most_lines → 1 ≤ id_on line post.number → moment ≤ until → Logged until log
-    → Posted until log line post → PostGood until log line (announced_on setup line moment post)
+    → Posted setup until log line post → PostGood setup until log line (announced_on setup line moment post)
 announcing_good setup until log line moment post set_up few some past logged s = by_restart post.restart where
-  by_restart : (restart : Restart) → PostGood until log line (announced_by restart setup line moment post)
+  by_restart : (restart : Restart) → PostGood setup until log line (announced_by restart setup line moment post)
   by_restart (Waiting since) = announced_good setup until log line moment post set_up few some past logged s
-  by_restart Announced = post_still until log line post logged s
-  by_restart Serving = post_still until log line post logged s
+  by_restart Announced = post_still setup until log line post logged s
+  by_restart Serving = post_still setup until log line post logged s
 
 -- A response
 
@@ -271,21 +280,21 @@ heard_in_log until log flight id code is = by_reply (reply_of flight id code) wh
   }
   by_reply Stranger = is
 
-put_off_stands : (until : ℕ) (log : List Begun) (line : ℕ) (response : Response) (post : Post) → Posted until log line post → Posted until log line (put_off response until post)
-put_off_stands until log line response post s = by_pending post.pending s.flight where
+put_off_stands : (setup : Setup) (until : ℕ) (log : List Begun) (line : ℕ) (response : Response) (post : Post) → Posted setup until log line post → Posted setup until log line (put_off response until post)
+put_off_stands setup until log line response post s = by_pending post.pending s.flight where
   by_pending : (pending : Option InFlight) → IfSome pending (InLog until log)
-      → Posted until log line (record post { pending = option_map (λ message. heard message response.id response.code until) pending })
+      → Posted setup until log line (record post { pending = option_map (λ message. heard message response.id response.code until) pending })
   by_pending None is = record { below = s.below; counts = s.counts; flight = tt }
   by_pending (Some flight) is = record { below = s.below; counts = s.counts; flight = heard_in_log until log flight response.id response.code is }
 
 pub replied_good : (heard : Heard) (setup : Setup) (until : ℕ) (log : List Begun) (line : ℕ) (response : Response) (post : Post) → IsSetUp setup → line ≤ most_lines → 1 ≤ id_on line post.number → Logged until log
-    → Posted until log line post → PostGood until log line (replied heard setup line until response post)
+    → Posted setup until log line post → PostGood setup until log line (replied heard setup line until response post)
 unfolding replied
-replied_good Nothing setup until log line response post set_up few some logged s = post_still until log line post logged s
+replied_good Nothing setup until log line response post set_up few some logged s = post_still setup until log line post logged s
 replied_good PutOff setup until log line response post set_up few some logged s =
-    post_still until log line (put_off response until post) logged (put_off_stands until log line response post s)
+    post_still setup until log line (put_off response until post) logged (put_off_stands setup until log line response post s)
 replied_good (Redirected agent) setup until log line response post set_up few some logged s =
     announced_good setup until log line until (record post { entity = agent }) set_up few some (omega arith) logged (record { below = s.below; counts = s.counts; flight = s.flight })
 replied_good (Answered agent) setup until log line response post set_up few some logged s =
-    post_still until log line (record post { entity = unwrap_or agent post.entity; pending = None; restart = Serving }) logged
+    post_still setup until log line (record post { entity = unwrap_or agent post.entity; pending = None; restart = Serving }) logged
     (record { below = s.below; counts = s.counts; flight = tt })

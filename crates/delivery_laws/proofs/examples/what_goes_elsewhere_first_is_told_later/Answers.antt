@@ -11,7 +11,7 @@ use Rattle.delivery_laws.proofs.examples.what_goes_elsewhere_first_is_told_later
 pub returns : goal.returns
 unfolding on_examples
 returns c = record {
-  set_up = record { domain = refl; agent = refl; lines = omega arith; address = refl; ports = omega arith };
+  set_up = record { domain = refl; agent = refl; lines = omega arith; address = refl; ports = omega arith; first = omega arith };
   steps = refl;
   events = took_split roaming asked_to_roam found_at_last refl;
   asked = record { undone = refl; asked = record { requested = notifies_each _ refl refl; quarantined = refl }; since = tt; none_lost = refl };

@@ -12,7 +12,7 @@ use Rattle.delivery_laws.proofs.examples.what_is_given_up_is_never_told.Goals as
 pub returns : goal.returns
 unfolding on_examples
 returns c = record {
-  set_up = record { domain = refl; agent = refl; lines = omega arith; address = refl; ports = omega arith };
+  set_up = record { domain = refl; agent = refl; lines = omega arith; address = refl; ports = omega arith; first = omega arith };
   steps = refl;
   events = took_split hasty asked_for_all announced_anew refl;
   asked = record { undone = refl; asked = record { requested = notifies_each _ refl refl; quarantined = refl }; since = tt; none_lost = refl };
