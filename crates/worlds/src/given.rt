@@ -2,7 +2,7 @@
 use crate::forms::{Command, act_in, but_refusal, command_in, number_of};
 use crate::gateways::config_with;
 use agent_core::{Step, World};
-use gateway_core::ConfigFault;
+use gateway_core::{ConfigFault, FIRSTS};
 use mg_line::Act;
 use scenario_files::Row;
 use std::alloc::Global;
@@ -69,4 +69,15 @@ fn boxed(alloc: Global, made: Result<World, ConfigFault>) -> Result<Box<World>, 
 pub fn world_of(alloc: Global, lines: u32, entity: &[u8]) -> Result<Box<World>, ConfigFault> {
     let config = config_with(alloc, lines, entity)?;
     boxed(alloc, World::new(alloc, config))
+}
+
+/// The same, whose gateway's ids begin with this number.
+pub fn world_from(
+    alloc: Global,
+    lines: u32,
+    entity: &[u8],
+    first: u32,
+) -> Result<Box<World>, ConfigFault> {
+    let config = config_with(alloc, lines, entity)?;
+    boxed(alloc, World::starting_at(alloc, config, first % FIRSTS))
 }

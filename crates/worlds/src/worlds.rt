@@ -2,6 +2,7 @@
 //!
 //! - `world 2` a new world with so many lines; `world 2  ca@[127.0.0.1]:2427` the same with this configured agent; the host
 //!   two.example.net has two addresses, and four.example.net four, from 127.0.0.1 on;
+//! - `first 5` a new world with the usual lines, whose gateway's ids begin with this number;
 //! - `issue AUEP  aaln/1@rgw.example.net` the agent issues a command; `issue RQNT  aaln/1@rgw.example.net  X: 1¶` one with
 //!   these bytes behind its line;
 //! - `dial 1 off`, `tick 1000`, `deliver 0` the other steps; `deliver 9  8 NoSuchPacket` one that is refused;
@@ -12,7 +13,7 @@
 //! - `hook 1 off` the telephone of a line; `now 1000` the moment that it is.
 use crate::forms::{put_answer, put_refusal, put_taken, text_of};
 use crate::gateways::{ENTITY, LINES, put_hook};
-use crate::given::{Given, given_in, world_of};
+use crate::given::{Given, given_in, world_from, world_of};
 use agent_core::{Step, StepRefusal, World, WorldStopped, world_run};
 use gateway_core::ConfigFault;
 use mg_bytes::Text;
@@ -25,6 +26,8 @@ use std::io;
 pub struct WorldScenario {
     lines: u32,
     entity: Text,
+    // The number with which ids begin.
+    first: u32,
     // The steps that it took, for another that becomes what this one was.
     given: Vec<Given>,
     world: Box<World>,
@@ -49,7 +52,8 @@ impl WorldScenario {
         for given in &self.given {
             steps.push(given.step())?;
         }
-        let Ok(mut world) = world_of(alloc, self.lines, self.entity.as_bytes()) else {
+        let entity = self.entity.as_bytes();
+        let Ok(mut world) = world_from(alloc, self.lines, entity, self.first) else {
             return Err(refused());
         };
         if world_run(&mut world, &steps).is_err() {
@@ -79,11 +83,28 @@ impl WorldScenario {
         }
     }
 
+    // `5`
+    fn start(&mut self, row: &mut Row<'_>) {
+        let first = row.number();
+        let entity = text_of(row, ENTITY);
+        if row.is_unread || row.is_refused {
+            return;
+        }
+        match world_from(row.alloc, LINES, entity.as_bytes(), first) {
+            Ok(world) => {
+                self.begin_with(row.alloc, world, LINES, entity);
+                self.first = first;
+            }
+            Err(_) => row.refuse(),
+        }
+    }
+
     // It begins anew with this world.
     fn begin_with(&mut self, alloc: Global, world: Box<World>, lines: u32, entity: Text) {
         self.world = world;
         self.lines = lines;
         self.entity = entity;
+        self.first = 0;
         self.given = Vec::new(alloc);
         self.told = 0;
     }
@@ -149,6 +170,7 @@ impl WorldScenario {
         let word = row.before(" ");
         match word {
             "world" => self.open(row),
+            "first" => self.start(row),
             "posts" => self.put_post(row),
             "answers" => put_answer(row, self.world.agent()),
             "taken" => put_taken(row, self.world.agent()),
@@ -171,6 +193,7 @@ impl Scenario for WorldScenario {
         Ok(WorldScenario {
             lines: LINES,
             entity,
+            first: 0,
             given: Vec::new(alloc),
             world,
             spent: false,
