@@ -1,6 +1,6 @@
 -- What a gateway sends with a whole list of events.
 use Rattle.std.proofs.Common.{◌≡◌, ◌≢◌, ℕ, ◌<◌, ◌≤◌, true, List, [], ◌∷◌, ◌++◌, sym, ap, ◌∙◌, subst, arith, append-nil, append_assoc}
-use Rattle.std.specs.Prelude.{All, AllPairs, is_none}
+use Rattle.std.specs.Prelude.{All, AllPairs, Some, is_none}
 use Rattle.std.proofs.lemmas.Bool.{and_parts}
 use Rattle.history.specs.declared.entry.KeptFirst.{KeptFirst}
 use Rattle.history.specs.Kept.{firsts_in}
@@ -8,7 +8,8 @@ use Rattle.plain_machine.specs.declared.setup.Setup.{Setup}
 use Rattle.plain_machine.specs.Setup.{IsSetUp}
 use Rattle.plain_machine.specs.Event.{GatewayEvent}
 use Rattle.plain_machine.specs.Message.{Sent, text_of}
-use Rattle.plain_machine.specs.Machine.{Machine, opening}
+use Rattle.plain_machine.specs.declared.endpoint.Endpoint.{Endpoint}
+use Rattle.plain_machine.specs.Machine.{Machine, endpoint_at, opening}
 use Rattle.plain_machine.specs.Happening.{effect}
 use Rattle.plain_machine.specs.Refusing.{refusal_of}
 use Rattle.plain_machine.specs.Lists.{machine_after, sent_from, sent_of, are_taken, plain}
@@ -16,7 +17,10 @@ use Rattle.plain_machine.proofs.EffectLaws.{effect_now}
 use Rattle.machine_laws.proofs.EachLemmas.{Each, all_from_each, each_both, each_weaker, is_none-None}
 use Rattle.machine_laws.proofs.GatewayEvents.{GatewayHolds, Said, event_holds, gateway_forward, opening_gateway, said_on}
 use Rattle.machine_laws.proofs.LogTurns.{log_both}
-use Rattle.machine_laws.specs.Saying.{HasNumbersLeft, IsAnswerTo, Begun, Tells, begun_in}
+use Rattle.machine_laws.proofs.GatewayTurns.{LineStands}
+use Rattle.machine_laws.proofs.PostLogs.{OneOfFirst}
+use Rattle.machine_laws.proofs.TurnLemmas.{of_line}
+use Rattle.machine_laws.specs.Saying.{HasNumbersLeft, IsAnswerTo, Begun, Tells, begun_in, count_of}
 
 record ListGoes (setup : Setup) (log : List Begun) (m n : Machine) (sent : List Sent) : Type 0 where
   holds : GatewayHolds setup (log ++ begun_in sent) n
@@ -71,3 +75,16 @@ all_answers setup es set_up taken = all_from_each (λ (first : KeptFirst). IsAns
 pub all_apart : (setup : Setup) (es : List GatewayEvent) → IsSetUp setup → are_taken setup (opening setup) es ≡ true → HasNumbersLeft (begun_in (sent_of setup es))
     → AllPairs (λ (a b : Begun). a.id ≢ b.id) (begun_in (sent_of setup es))
 all_apart setup es set_up taken few = (all_hold setup es set_up taken).holds.stands.logged.apart few
+
+-- so the ids of a line are those of its first numbers, and those of the gateway itself of its own
+pub line_in_turn : (setup : Setup) (es : List GatewayEvent) (line : ℕ) (endpoint : Endpoint) → IsSetUp setup → are_taken setup (opening setup) es ≡ true
+    → HasNumbersLeft (begun_in (sent_of setup es)) → endpoint_at (plain setup es).endpoints line ≡ Some endpoint
+    → Each (OneOfFirst setup line (count_of line (begun_in (sent_of setup es)))) (begun_in (sent_of setup es))
+line_in_turn setup es line endpoint set_up taken few at =
+    let stands = of_line (LineStands setup (plain setup es).now (begun_in (sent_of setup es))) (plain setup es).endpoints line endpoint
+    (all_hold setup es set_up taken).holds.stands.list at in
+    (stands.post.counts (few line)).taken
+
+pub own_in_turn : (setup : Setup) (es : List GatewayEvent) → IsSetUp setup → are_taken setup (opening setup) es ≡ true → HasNumbersLeft (begun_in (sent_of setup es))
+    → Each (OneOfFirst setup 0 (count_of 0 (begun_in (sent_of setup es)))) (begun_in (sent_of setup es))
+own_in_turn setup es set_up taken few = ((all_hold setup es set_up taken).holds.stands.own.post.counts (few 0)).taken

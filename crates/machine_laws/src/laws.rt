@@ -18,9 +18,10 @@ ghost use Rattle.plain_machine.specs.Machine.{Machine, Endpoints};
 ghost use Rattle.plain_machine.specs.Falling.{due_at, due_by, happened, pass};
 ghost use Rattle.timers.specs.declared.due_item.DueItem.{DueItem};
 ghost use Rattle.plain_machine.specs.declared.config.Config.{Config};
+ghost use Rattle.plain_machine.specs.declared.config.ConfigFault.{ConfigFault};
 ghost use Rattle.plain_machine.specs.declared.config.ConfigKey.{ConfigKey};
 ghost use Rattle.plain_machine.specs.ConfigFault.{fault_about};
-ghost use Rattle.plain_machine.specs.Setup.{setup_of, key_at_fault, IsSetUp};
+ghost use Rattle.plain_machine.specs.Setup.{firsts, setup_from, setup_of, key_at_fault, IsSetUp};
 ghost use Rattle.plain_machine.specs.Answering.{Transaction, reply, executed, transacted};
 ghost use Rattle.transmission.specs.Packing.{messages_in};
 ghost use Rattle.transmission.specs.Texts.{largest_datagram};
@@ -115,6 +116,17 @@ pub fn a_refusal_is_about_a_key()
 /// ports of all its lines.
 pub fn configurations_set_up_gateways()
     ensures { (config : Config) (setup : Setup) → setup_of config ≡ Ok setup → IsSetUp setup }
+{}
+
+/// Where ids begin with another number than 0 nothing else is otherwise: a configuration has the same fault, or the same setup
+/// but for that number. It is one as others, as long as it is a number with which ids may begin.
+pub fn a_first_number_changes_nothing_else()
+    ensures set_up { (config : Config) (first : ℕ) (setup : Setup) → setup_of config ≡ Ok setup →
+        setup_from config first ≡ Ok (record setup { first = first }) }
+    ensures refused { (config : Config) (first : ℕ) (fault : ConfigFault) → setup_of config ≡ Err fault →
+        setup_from config first ≡ Err fault }
+    ensures bounds { (config : Config) (first : ℕ) (setup : Setup) → first < firsts →
+        setup_from config first ≡ Ok setup → IsSetUp setup }
 {}
 
 /// With such a setup the datagrams that go out hold the messages that are sent, in their order, and none of them is longer
