@@ -1,2 +1,3 @@
+pub mod SceneLemmas
 pub mod PlayLemmas
 pub mod Computing

@@ -20,7 +20,7 @@ mod words;
 
 pub use crate::app::{asked, loopback, perform, run, simulate};
 pub use crate::ending::Ending;
-pub use crate::scene::{Scene, gateway_of, judge};
+pub use crate::scene::{Scene, gateway_from, gateway_of, judge};
 pub use crate::session::{carry, play};
 pub use crate::status::status_of;
 pub use crate::udp_wire::UdpWire;

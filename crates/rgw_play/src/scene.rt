@@ -1,9 +1,10 @@
 //! Judges an input: its gateway and its steps, or its first fault.
-ghost use Rattle.std.specs.Prelude.{◌≡◌, ◌≢◌, List, [], Ok, ℕ, Result, IfOk, IfErr};
+ghost use Rattle.std.specs.Prelude.{◌≡◌, ◌≢◌, ◌<◌, List, [], Ok, ℕ, Result, IfOk, IfErr};
+ghost use Rattle.plain_machine.specs.Setup.{firsts};
 ghost use Rattle.gateway_core.specs.Stands.{Stands};
 ghost use Rattle.rgw_scripts.specs.declared.step.ScriptStep.{ScriptStep};
 ghost use Rattle.rgw_scripts.specs.Configuration.{config_in};
-ghost use Rattle.rgw_scripts.specs.Play.{scene_of, configured, judged, Explains};
+ghost use Rattle.rgw_scripts.specs.Play.{scene_of, configured, configured_from, judged, Explains};
 
 use gateway_core::{ConfigFault, Gateway};
 use rgw_scripts::{
@@ -32,10 +33,25 @@ pub fn gateway_of(alloc: Global, text: &[u8]) -> Result<Gateway, PlayFault>
         Explains fault (configured (config_in text.now) steps)) }
     ensures no_stream { IfErr result (λ fault. (fault ≢ PlayFault.Read) × (fault ≢ PlayFault.Write)) }
 {
+    gateway_from(alloc, text, 0)
+}
+
+/// The same, whose ids begin with this number, below `FIRSTS`, and its own one higher (RFC 3435, 3.2.1.2).
+pub fn gateway_from(alloc: Global, text: &[u8], first: u32) -> Result<Gateway, PlayFault>
+    requires { first < firsts }
+    ensures ok { IfOk result
+        (λ gateway. (steps : Result (List ScriptStep) ℕ) →
+        configured_from first (config_in text.now) steps ≡ scene_of gateway.setup steps) }
+    ensures opened { IfOk result (λ gateway. Stands gateway []) }
+    ensures err { IfErr result
+        (λ fault. (steps : Result (List ScriptStep) ℕ) →
+        Explains fault (configured_from first (config_in text.now) steps)) }
+    ensures no_stream { IfErr result (λ fault. (fault ≢ PlayFault.Read) × (fault ≢ PlayFault.Write)) }
+{
     let Some(config) = read_config(alloc, text)? else {
         return Err(PlayFault::Config { number: BAD_TOML });
     };
-    match Gateway::new(alloc, config) {
+    match Gateway::starting_at(alloc, config, first) {
         Ok(gateway) => Ok(gateway),
         Err(ConfigFault::OutOfMemory) => Err(PlayFault::OutOfMemory),
         Err(fault) => Err(PlayFault::Config {

@@ -6,7 +6,7 @@ use Rattle.plain_machine.specs.declared.config.Config.{Config}
 use Rattle.plain_machine.specs.declared.config.ConfigFault.{ConfigFault}
 use Rattle.plain_machine.specs.ConfigFault.{config_fault_number}
 use Rattle.plain_machine.specs.declared.setup.Setup.{Setup}
-use Rattle.plain_machine.specs.Setup.{setup_of}
+use Rattle.plain_machine.specs.Setup.{setup_from, setup_of}
 use Rattle.rgw_scripts.specs.declared.played.PlayFault.{PlayFault}
 use Rattle.rgw_scripts.specs.declared.played.PlayFault.TheVariants as play_fault
 use Rattle.rgw_scripts.specs.declared.played.LinkFault.{LinkFault}
@@ -36,6 +36,11 @@ scene_in (Err fault) steps = Err (play_fault.Config (config_fault_number fault))
 abbrev pub configured : Option Config → Result (List ScriptStep) ℕ → Result Scene PlayFault
 configured None steps = Err (play_fault.Config bad_toml)
 configured (Some config) steps = scene_in (setup_of config) steps
+
+-- the same where ids begin with this number
+abbrev pub configured_from : ℕ → Option Config → Result (List ScriptStep) ℕ → Result Scene PlayFault
+configured_from first None steps = Err (play_fault.Config bad_toml)
+configured_from first (Some config) steps = scene_in (setup_from config first) steps
 
 -- how many bytes of input are taken
 abbrev pub largest_input : ℕ

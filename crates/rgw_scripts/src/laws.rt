@@ -8,7 +8,7 @@ ghost use Rattle.plain_machine.specs.declared.config.Config.{Config};
 ghost use Rattle.plain_machine.specs.declared.config.ConfigFault.{ConfigFault};
 ghost use Rattle.plain_machine.specs.ConfigFault.{config_fault_number};
 ghost use Rattle.plain_machine.specs.declared.setup.Setup.{Setup};
-ghost use Rattle.plain_machine.specs.Setup.{setup_of};
+ghost use Rattle.plain_machine.specs.Setup.{setup_from, setup_of};
 ghost use Rattle.plain_machine.specs.Event.{GatewayEvent};
 ghost use Rattle.rgw_scripts.specs.declared.step.ScriptStep.{ScriptStep};
 ghost use Rattle.rgw_scripts.specs.declared.step.ScriptStep.TheVariants as steps;
@@ -19,7 +19,7 @@ ghost use Rattle.rgw_scripts.specs.Input.{config_text, script_lines};
 ghost use Rattle.rgw_scripts.specs.Configuration.{config_in};
 ghost use Rattle.rgw_scripts.specs.Script.{line_in, is_end, steps_of, steps_after};
 ghost use Rattle.rgw_scripts.specs.Moves.{Move, went, printed, is_refused};
-ghost use Rattle.rgw_scripts.specs.Play.{Scene, configured, judged, shown, Plays, PlaysInto, Explains};
+ghost use Rattle.rgw_scripts.specs.Play.{Scene, configured, configured_from, judged, shown, Plays, PlaysInto, Explains};
 
 /// A line outside a `from` is nothing, a whole step, or a fault of its number.
 #[tactic(auto, unfolding(crate::specs::Script::read_from))]
@@ -74,6 +74,19 @@ pub fn faults_come_in_their_order()
         configured (Some config) (Err line) ≡ Err (faults.Script line) }
     ensures fine { (config : Config) (setup : Setup) (script : List ScriptStep) → setup_of config ≡ Ok setup →
         configured (Some config) (Ok script) ≡ Ok (record { setup = setup; steps = script }) }
+{}
+
+/// So they do with whatever number ids begin.
+pub fn faults_come_so_with_any_first_number()
+    ensures no_config { (first : ℕ) (script : Result (List ScriptStep) ℕ) →
+        configured_from first None script ≡ Err (faults.Config 7) }
+    ensures bad_config { (first : ℕ) (config : Config) (fault : ConfigFault) (script : Result (List ScriptStep) ℕ) →
+        setup_from config first ≡ Err fault →
+        configured_from first (Some config) script ≡ Err (faults.Config (config_fault_number fault)) }
+    ensures bad_script { (first : ℕ) (config : Config) (setup : Setup) (line : ℕ) → setup_from config first ≡ Ok setup →
+        configured_from first (Some config) (Err line) ≡ Err (faults.Script line) }
+    ensures fine { (first : ℕ) (config : Config) (setup : Setup) (script : List ScriptStep) → setup_from config first ≡ Ok setup →
+        configured_from first (Some config) (Ok script) ≡ Ok (record { setup = setup; steps = script }) }
 {}
 
 /// A play writes all that the steps show and nothing else, and counts all of them; a refused input isn't played.
