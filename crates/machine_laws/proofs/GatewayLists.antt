@@ -12,6 +12,7 @@ use Rattle.plain_machine.specs.declared.endpoint.Endpoint.{Endpoint}
 use Rattle.plain_machine.specs.Machine.{Machine, endpoint_at, opening}
 use Rattle.plain_machine.specs.Happening.{effect}
 use Rattle.plain_machine.specs.Refusing.{refusal_of}
+use Rattle.plain_machine.specs.Posting.{line_of_id}
 use Rattle.plain_machine.specs.Lists.{machine_after, sent_from, sent_of, are_taken, plain}
 use Rattle.plain_machine.proofs.EffectLaws.{effect_now}
 use Rattle.machine_laws.proofs.EachLemmas.{Each, all_from_each, each_both, each_weaker, is_none-None}
@@ -20,6 +21,7 @@ use Rattle.machine_laws.proofs.LogTurns.{log_both}
 use Rattle.machine_laws.proofs.GatewayTurns.{LineStands}
 use Rattle.machine_laws.proofs.PostLogs.{OneOfFirst}
 use Rattle.machine_laws.proofs.TurnLemmas.{of_line}
+use Rattle.machine_laws.specs.Numbering.{start_on, IsTaken}
 use Rattle.machine_laws.specs.Saying.{HasNumbersLeft, IsAnswerTo, Begun, Tells, begun_in, count_of}
 
 record ListGoes (setup : Setup) (log : List Begun) (m n : Machine) (sent : List Sent) : Type 0 where
@@ -79,12 +81,14 @@ all_apart setup es set_up taken few = (all_hold setup es set_up taken).holds.sta
 -- so the ids of a line are those of its first numbers, and those of the gateway itself of its own
 pub line_in_turn : (setup : Setup) (es : List GatewayEvent) (line : ℕ) (endpoint : Endpoint) → IsSetUp setup → are_taken setup (opening setup) es ≡ true
     → HasNumbersLeft (begun_in (sent_of setup es)) → endpoint_at (plain setup es).endpoints line ≡ Some endpoint
-    → Each (OneOfFirst setup line (count_of line (begun_in (sent_of setup es)))) (begun_in (sent_of setup es))
+    → All (λ (one : Begun). line_of_id one.id ≡ line → IsTaken line (start_on setup line) (count_of line (begun_in (sent_of setup es))) one.id) (begun_in (sent_of setup es))
 line_in_turn setup es line endpoint set_up taken few at =
-    let stands = of_line (LineStands setup (plain setup es).now (begun_in (sent_of setup es))) (plain setup es).endpoints line endpoint
-    (all_hold setup es set_up taken).holds.stands.list at in
-    (stands.post.counts (few line)).taken
+    let log = begun_in (sent_of setup es) in
+    let stands = of_line (LineStands setup (plain setup es).now log) (plain setup es).endpoints line endpoint (all_hold setup es set_up taken).holds.stands.list at in
+    all_from_each (OneOfFirst setup line (count_of line log)) log (stands.post.counts (few line)).taken
 
 pub own_in_turn : (setup : Setup) (es : List GatewayEvent) → IsSetUp setup → are_taken setup (opening setup) es ≡ true → HasNumbersLeft (begun_in (sent_of setup es))
-    → Each (OneOfFirst setup 0 (count_of 0 (begun_in (sent_of setup es)))) (begun_in (sent_of setup es))
-own_in_turn setup es set_up taken few = ((all_hold setup es set_up taken).holds.stands.own.post.counts (few 0)).taken
+    → All (λ (one : Begun). line_of_id one.id ≡ 0 → IsTaken 0 (start_on setup 0) (count_of 0 (begun_in (sent_of setup es))) one.id) (begun_in (sent_of setup es))
+own_in_turn setup es set_up taken few =
+    let log = begun_in (sent_of setup es) in
+    all_from_each (OneOfFirst setup 0 (count_of 0 log)) log ((all_hold setup es set_up taken).holds.stands.own.post.counts (few 0)).taken

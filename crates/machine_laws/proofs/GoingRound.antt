@@ -1,28 +1,12 @@
 -- The numbers of a line's commands, in turn: from where they begin, and behind the greatest from the least on.
 use Rattle.std.proofs.Common.{◌≡◌, ◌≢◌, ℕ, ◌+◌, ◌%◌, ◌<◌, ◌≤◌, Bool, true, false, ◌==◌, if◌then◌else◌, inl, inr, refl, arith}
-use Rattle.std.specs.Prelude.{◌⊎◌}
 use Rattle.std.proofs.lemmas.Bool.{eqb-true}
 use Rattle.plain_machine.specs.declared.setup.Setup.{Setup}
 use Rattle.plain_machine.specs.Setup.{firsts}
 use Rattle.plain_machine.specs.Posting.{numbers, first_number, number_after, id_on}
+use Rattle.machine_laws.specs.Numbering.{start_on, IsBehind, IsTaken}
 
--- the number of a line's first command, or of the gateway's own, which is line 0
-abbrev pub start_on : Setup → ℕ → ℕ
-start_on setup line = first_number line + setup.first % firsts
-
--- a number is the one so many behind this start, where those are fewer than there are: it went round once at most
-abbrev pub IsBehind : ℕ → ℕ → ℕ → ℕ → Type 0
-IsBehind line start count number = (start + count ≡ number) ⊎ (start + count + first_number line ≡ number + numbers)
-
--- an id of the line is that of one of its first commands, of which there are so many
-pub record IsTaken (line start count id : ℕ) : Type 0 where
-  pub place : ℕ
-  pub number : ℕ
-  pub fewer : place < count
-  pub behind : IsBehind line start place number
-  pub is : id ≡ id_on line number
-
-first_low : (line : ℕ) → first_number line ≤ 1
+pub first_low : (line : ℕ) → first_number line ≤ 1
 first_low line = by_test (line == 0) where
   by_test : (b : Bool) → (if b then 1 else 0) ≤ 1
   by_test true = omega arith

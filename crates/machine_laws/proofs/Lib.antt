@@ -33,6 +33,7 @@ pub mod TellsLemmas
 pub mod FlightLemmas
 pub mod KeepLemmas
 pub mod GoingRound
+pub mod StartingLaws
 pub mod PostLogs
 pub mod LogTurns
 pub mod GatewayTurns

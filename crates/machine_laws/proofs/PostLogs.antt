@@ -37,11 +37,12 @@ use Rattle.plain_machine.specs.Message.{own_of, command, resent, Sent, text_of}
 use Rattle.plain_machine.specs.Posting.{numbers, first_number, number_after, id_on, line_of_id, with_command, given_up, repeated_as, resent_by, resent_on}
 use Rattle.plain_machine.specs.Announcing.{announced_lines, method_of, announcement, announced, announced_by, announced_on, put_off, replied}
 use Rattle.machine_laws.proofs.FlightLaws.{next_below}
-use Rattle.machine_laws.proofs.GoingRound.{start_on, start_below, IsBehind, behind_next, IsTaken, taken_apart, taken_more}
+use Rattle.machine_laws.proofs.GoingRound.{start_below, behind_next, taken_apart, taken_more}
 use Rattle.machine_laws.proofs.AnnouncementLemmas.{announcement_writable}
 use Rattle.machine_laws.proofs.EachLemmas.{Each, all_from_each, each_both, each_push, each_weaker, one_before, one_behind, one_weaker}
 use Rattle.machine_laws.proofs.KeepLemmas.{EffectKeeps, silent_keeps}
 use Rattle.machine_laws.proofs.FlightLemmas.{IsSame}
+use Rattle.machine_laws.specs.Numbering.{start_on, IsBehind, IsTaken}
 use Rattle.machine_laws.specs.Saying.{Carries, Begun, OneOf, count_of, is_command_as}
 
 -- a command of a gateway's own: it is read as a command with its id, and began by this moment

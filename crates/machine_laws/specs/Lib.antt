@@ -3,6 +3,8 @@ pub mod Refusals
 pub mod Owning
 pub mod Waiting
 pub mod Saying
+pub mod Numbering
+pub mod Starting
 pub mod Example
 pub mod Notified
 pub mod Belonging

@@ -25,5 +25,6 @@ pub mod isolation_laws;
 pub mod laws;
 pub mod packing_laws;
 pub mod saying_laws;
+pub mod starting_laws;
 pub mod text_laws;
 pub mod waiting_laws;
