@@ -15,6 +15,7 @@ mod packet;
 mod spoiling;
 
 pub use crate::fate::Fate;
+pub use crate::naming::mixed;
 pub use crate::network::BadNetwork;
 pub use crate::packet::{Packet, Way};
 pub use crate::spoiling::{Spoiling, SpoilingFault};

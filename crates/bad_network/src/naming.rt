@@ -14,8 +14,8 @@ fn mixed_with(seed: u64, byte: u8) -> u64
     (seed ^ u64::from(byte)).wrapping_mul(FNV_PRIME)
 }
 
-// A seed, mixed with all bytes of a name.
-fn mixed(seed: u64, name: &[u8]) -> u64
+/// A seed, mixed with all bytes of a name by FNV-1a.
+pub fn mixed(seed: u64, name: &[u8]) -> u64
     ensures { result ≡ mixed seed name.now }
 {
     name.iter()

@@ -1,5 +1,5 @@
 //! A clock that goes on by ticks, over the machine's.
-ghost use Rattle.std.specs.Prelude.{◌≡◌, ◌≤◌, ◌+◌, ◌*◌, IfOk, min, max};
+ghost use Rattle.std.specs.Prelude.{◌≡◌, ◌≤◌, ◌+◌, ◌*◌, IfOk, OnOk, min, max};
 
 use crate::now::{LONGEST_TICK, Now};
 use std::io;
@@ -11,19 +11,19 @@ use std::time::{Instant, SystemTime};
 pub struct LiveClock<'a, R> {
     rt: &'a R,
     start: Instant,
-    // The time of day at the start, in microseconds since 1970.
+    // The time of day at the start, in microseconds since 1970; 0 where the machine had none.
     opened: u64,
     ticked: u64,
 }
 
-// The time of day, in microseconds since 1970; 0 where the machine has none.
-fn time_of_day<R: Clock>(rt: &R) -> u64 {
+/// The time of day, in microseconds since 1970, where the machine has one.
+pub fn time_of_day<R: Clock>(rt: &R) -> Option<u64> {
     let Ok(now) = SystemTime::now(rt) else {
-        return 0;
+        return None;
     };
     match now.duration_since(SystemTime::UNIX_EPOCH) {
-        Ok(passed) => u64::try_from(passed.as_micros()).unwrap_or(0),
-        Err(_) => 0,
+        Ok(passed) => u64::try_from(passed.as_micros()).ok(),
+        Err(_) => None,
     }
 }
 
@@ -42,9 +42,19 @@ impl<'a, R: Clock> LiveClock<'a, R> {
         Ok(LiveClock {
             rt,
             start: Instant::now(rt)?,
-            opened: time_of_day(rt),
+            opened: time_of_day(rt).unwrap_or(0),
             ticked: 0,
         })
+    }
+
+    /// The clock begins anew, at moment 0.
+    pub fn begin_anew(&mut self) -> io::Result<()>
+        ensures { OnOk result (self.new.ticked ≡ 0) }
+    {
+        self.start = Instant::now(self.rt)?;
+        self.opened = time_of_day(self.rt).unwrap_or(0);
+        self.ticked = 0;
+        Ok(())
     }
 
     /// The moment to which ticks have come.

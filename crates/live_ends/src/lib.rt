@@ -11,7 +11,7 @@ mod readiness;
 mod record;
 mod streams;
 
-pub use crate::clock::LiveClock;
+pub use crate::clock::{LiveClock, time_of_day};
 pub use crate::command_socket::{CommandSocket, STOP_FROM_AFAR};
 pub use crate::now::{LONGEST_TICK, Now};
 pub use crate::readiness::{MOST_VISITORS, Readiness, Visit};

@@ -106,6 +106,7 @@ pub fn picture_of(
 ) -> Result<Picture, AllocError> {
     let mut picture = Picture::new(alloc);
     picture.clock = gateway.now();
+    picture.first = gateway.setup().first;
     for before in 0..gateway.lines() {
         picture.lines.push(line_view(alloc, gateway, before + 1)?)?;
     }

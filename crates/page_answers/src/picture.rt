@@ -32,10 +32,12 @@ pub struct LineView {
     pub lost: u64,
 }
 
-/// What is shown of a gateway: its clock in ms, its lines from the first, and what was counted.
+/// What is shown of a gateway: its clock in ms, the number with which its ids began (RFC 3435, 3.2.1.2), its lines from the first,
+/// and what was counted.
 #[derive(Drop)]
 pub struct Picture {
     pub clock: u64,
+    pub first: u32,
     pub lines: Vec<LineView>,
     pub counts: Counts,
 }
@@ -72,6 +74,7 @@ impl Picture {
     {
         Picture {
             clock: 0,
+            first: 0,
             lines: Vec::new(alloc),
             counts: Counts {
                 datagrams_in: 0,

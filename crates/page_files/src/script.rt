@@ -686,7 +686,7 @@ function takeState(state) {
   const held = state.lines.reduce((sum, line) => sum + line.connections.length, 0);
   const counts = state.counts;
   setText(byId("numbers"), `${state.lines.length} lines, ${off} off hook, ${held} connections, `
-    + `datagrams ${counts.datagrams_in} in ${counts.datagrams_out} out`);
+    + `datagrams ${counts.datagrams_in} in ${counts.datagrams_out} out, ids from ${state.first}`);
 }
 
 // Asks what happened, and goes on asking while this is the latest turn.

@@ -2,6 +2,7 @@
 use crate::ending::Ending;
 use crate::opening::{Opened, known, open};
 use crate::reception::PageReception;
+use crate::starting::{Begun, Start};
 use crate::telling::{TELL, tell_line};
 use crate::words::{Settings, WordFault, read_words};
 use config_faults::{Flaw, flaw_of, told, told_setup};
@@ -9,14 +10,17 @@ use gateway_core::Gateway;
 use live_ends::{Record, RecordState, error_takes};
 use live_gateway::{Ends, answer_stop, finish, serve, write_records};
 use live_journal::{Faults, Journal, TraceEntry, report};
-use rgw_play::{PlayFault, gateway_of, read_limited};
+use rgw_play::{PlayFault, gateway_from, read_limited};
 use std::alloc::{AllocError, Global};
 use std::env;
 use std::fs::File;
+use std::io;
 use std::io::ErrorKind;
 use std::net::Net;
 use std::random::RandomSource;
 use std::rt::{Clock, Env, Files};
+use std::thread::sleep;
+use std::time::Duration;
 use system_reasons::{reason_of, reason_of_reader};
 
 // Why the words can't be had, as the system says.
@@ -66,11 +70,12 @@ fn config_text<'w, R: Files>(rt: &R, alloc: Global, file: &'w str) -> Result<Vec
     }
 }
 
-// Says on standard error where the sockets are.
-fn tell_addresses<R: Net + Clock + Eprint>(
+// Says on standard error where the sockets are, and how it starts.
+fn tell_start<R: Net + Clock + Eprint>(
     rt: &R,
     ends: &Ends<'_, R>,
     site: &Option<Box<PageReception>>,
+    begun: Begun,
 ) {
     let Some(listen) = known(ends.socket.local_addr()) else {
         return;
@@ -79,11 +84,11 @@ fn tell_addresses<R: Net + Clock + Eprint>(
         return;
     };
     let Some(reception) = site else {
-        let _ = eprintln!(rt; "listen {listen} phones {phones}");
+        let _ = eprintln!(rt; "listen {listen} phones {phones} {begun}");
         return;
     };
     if let Some(http) = reception.site.address() {
-        let _ = eprintln!(rt; "listen {listen} phones {phones} http {http}");
+        let _ = eprintln!(rt; "listen {listen} phones {phones} http {http} {begun}");
     }
 }
 
@@ -145,15 +150,31 @@ fn serve_to_end<'w, R: Files + Net + Clock + RandomSource + Print + Eprint>(
     }
 }
 
+// Waits as long as a start waits, before its clock begins: so what is recorded of the gateway doesn't tell it.
+fn wait_first<R: Net + Clock>(rt: &R, ends: &mut Ends<'_, R>, begun: Begun) -> io::Result<()> {
+    match begun.waits {
+        Some(waits) => {
+            sleep(rt, Duration::from_millis(waits));
+            ends.clock.begin_anew()
+        }
+        None => Ok(()),
+    }
+}
+
 // Says on standard error where the sockets are, serves until the end, and answers who asked for that once all is written.
 fn serve_opened<'w, R: Files + Net + Clock + RandomSource + Print + Eprint>(
     rt: &R,
     alloc: Global,
     settings: &Settings<'w>,
+    start: Start,
     gateway: &mut Gateway,
     opened: &mut Opened<'_, R, R::File>,
 ) -> Ending<'w> {
-    tell_addresses(rt, &opened.wire.ends, &opened.outlets.site);
+    let begun = start.begun(gateway.setup().names.domain.as_bytes());
+    tell_start(rt, &opened.wire.ends, &opened.outlets.site, begun);
+    if wait_first(rt, &mut opened.wire.ends, begun).is_err() {
+        return Ending::Clock;
+    }
     let ending = serve_to_end(rt, alloc, settings, gateway, opened);
     answer_stop(alloc, &mut opened.wire.ends.telephones);
     ending
@@ -192,6 +213,7 @@ fn serve_with<'w, R: Files + Net + Clock + RandomSource + Print + Eprint>(
     rt: &R,
     alloc: Global,
     settings: &Settings<'w>,
+    start: Start,
     config: &[u8],
     gateway: &mut Gateway,
 ) -> Ending<'w> {
@@ -199,7 +221,7 @@ fn serve_with<'w, R: Files + Net + Clock + RandomSource + Print + Eprint>(
         return check_gateway(rt, alloc, settings, gateway);
     }
     match open(rt, alloc, settings, config, gateway) {
-        Ok(mut opened) => serve_opened(rt, alloc, settings, gateway, &mut opened),
+        Ok(mut opened) => serve_opened(rt, alloc, settings, start, gateway, &mut opened),
         Err(unopened) => unopened.ending(settings),
     }
 }
@@ -211,8 +233,11 @@ fn serve_config<'w, R: Files + Net + Clock + RandomSource + Print + Eprint>(
     settings: &Settings<'w>,
     text: &[u8],
 ) -> Ending<'w> {
-    match gateway_of(alloc, text) {
-        Ok(mut gateway) => serve_with(rt, alloc, settings, text, &mut gateway),
+    let Some(start) = Start::now(rt, settings) else {
+        return Ending::NoTimeOfDay;
+    };
+    match gateway_from(alloc, text, start.first.number()) {
+        Ok(mut gateway) => serve_with(rt, alloc, settings, start, text, &mut gateway),
         // Without a flaw memory alone is refused.
         Err(_) => Ending::OutOfMemory,
     }

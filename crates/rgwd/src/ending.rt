@@ -2,12 +2,21 @@
 use crate::help::{HELP, USAGE, VERSIONS, put_pieces};
 use crate::words::WordFault;
 use bad_network::SpoilingFault;
+use gateway_core::FIRSTS;
+use new_start::LONGEST_SPREAD;
 use std::fmt;
 use std::net::SocketAddrV4;
 
 // Why there is no page at any address.
 const ANY_ADDRESS: &str =
     "--http: the page answers those who name its address, and nobody names 0.0.0.0: write one of this machine's, as 127.0.0.1:8080";
+
+// Why ids begin with no number.
+const NO_TIME_OF_DAY: &str =
+    "this machine has no time of day: --first N says with which number ids begin, another at each start";
+
+// The last number with which ids may begin.
+const LAST_FIRST: u32 = FIRSTS - 1;
 
 /// How the program ends. A reason is what `system_reasons::reason_of` makes of the system's error.
 #[derive(Clone, Copy)]
@@ -34,6 +43,12 @@ pub enum Ending<'a> {
     BadNetwork {
         fault: SpoilingFault,
     },
+    /// What stands behind `--first` is no number with which ids may begin.
+    BadFirst,
+    /// What stands behind `--spread` is no time that a start may wait.
+    BadSpread,
+    /// The machine has no time of day, and no word says with which number ids begin.
+    NoTimeOfDay,
     /// This file can't be read.
     Unreadable {
         file: &'a str,
@@ -74,10 +89,13 @@ impl<'a> Ending<'a> {
             | Ending::Told
             | Ending::BadAddress { .. }
             | Ending::AnyAddress
-            | Ending::BadNetwork { .. } => 2,
+            | Ending::BadNetwork { .. }
+            | Ending::BadFirst
+            | Ending::BadSpread => 2,
             Ending::Unreadable { .. }
             | Ending::Unwritable { .. }
             | Ending::Unbound { .. }
+            | Ending::NoTimeOfDay
             | Ending::Clock
             | Ending::Write
             | Ending::OutOfMemory => 3,
@@ -98,6 +116,8 @@ impl<'a> From<WordFault> for Ending<'a> {
             WordFault::BadAddress { word } => Ending::BadAddress { word },
             WordFault::AnyAddress => Ending::AnyAddress,
             WordFault::BadNetwork { fault } => Ending::BadNetwork { fault },
+            WordFault::BadFirst => Ending::BadFirst,
+            WordFault::BadSpread => Ending::BadSpread,
         }
     }
 }
@@ -120,6 +140,7 @@ fn fault_of(ending: Ending<'_>) -> &'static str {
         Ending::BadNetwork { fault } => fault.text(),
         Ending::Unreadable { .. } => ": read fault",
         Ending::Unwritable { .. } => ": write fault",
+        Ending::NoTimeOfDay => NO_TIME_OF_DAY,
         Ending::Clock => "clock fault",
         Ending::Write => "write fault",
         Ending::OutOfMemory => "out of memory",
@@ -158,6 +179,8 @@ impl<'a> fmt::Display for Ending<'a> {
                 address,
                 reason,
             } => writeln!(f, "{word} {address}: no socket{reason}"),
+            Ending::BadFirst => writeln!(f, "--first: wanted a number, 0 to {}", LAST_FIRST),
+            Ending::BadSpread => writeln!(f, "--spread: wanted 0 to {} ms", LONGEST_SPREAD),
             Ending::NoAnswer { address } => writeln!(
                 f,
                 "{address}: no answer; does a gateway run, with its telephones (--phones) at this address?"

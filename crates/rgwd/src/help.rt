@@ -14,7 +14,7 @@ pub const PHONES: &str = "127.0.0.1:2428";
 
 /// The words of the command line, in a line.
 pub const USAGE: &str =
-    "rgwd CONFIG [--check] [--listen ADDRESS] [--phones ADDRESS] [--http ADDRESS] [--log] [--capture FILE] [--trace] [--network TEXT] [--stop-after MS]
+    "rgwd CONFIG [--check] [--listen ADDRESS] [--phones ADDRESS] [--http ADDRESS] [--log] [--capture FILE] [--trace] [--network TEXT] [--first N] [--spread MS] [--stop-after MS]
        rgwd --tell ADDRESS LINE";
 
 // What the words say, from the end of the first line on. The places of the defaults are left open.
@@ -35,6 +35,8 @@ const BELOW: &str = "
   --capture FILE      datagrams are written into this file, for tshark and Wireshark
   --trace             all that happens is written to standard output; else nothing is
   --network TEXT      datagrams are lost, copied and late, as \"lose 10%, copy 5%, late 0-3000, seed 7\"
+  --first N           ids begin with this number; else with one that the time of day gives, so that a new start has others
+  --spread MS         it waits up to that before its clock begins, so that gateways don't start together; else it doesn't
   --stop-after MS     it ends at this moment of its clock, in ms; else it goes on
   --help, --version   this, or the version, on standard output
 

@@ -6,6 +6,7 @@ mod ending;
 mod help;
 mod opening;
 mod reception;
+mod starting;
 mod telling;
 mod words;
 

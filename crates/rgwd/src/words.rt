@@ -3,6 +3,7 @@ use crate::help::{LISTEN, PHONES, USAGE, VERSION};
 use bad_network::{Spoiling, SpoilingFault};
 use clap::error::ErrorKind;
 use clap::{Arg, ArgAction, ArgMatches, Command, Error};
+use new_start::{FirstNumber, spread_in};
 use std::alloc::{AllocError, Global};
 use std::net::SocketAddrV4;
 
@@ -27,6 +28,10 @@ pub struct Settings<'a> {
     pub capture: Option<&'a str>,
     /// How a network spoils its datagrams, where one is asked for.
     pub network: Option<Spoiling>,
+    /// The number with which ids begin, where that is said.
+    pub first: Option<FirstNumber>,
+    /// How long it waits at most before its clock begins, in ms, where it waits.
+    pub spread: Option<u32>,
     /// The moment at which it ends, in ms.
     pub stop_after: Option<u64>,
 }
@@ -50,6 +55,10 @@ pub enum WordFault {
     AnyAddress,
     /// This part of what stands behind `--network` says nothing of a network.
     BadNetwork { fault: SpoilingFault },
+    /// What stands behind `--first` is no number with which ids may begin.
+    BadFirst,
+    /// What stands behind `--spread` is no time that a start may wait.
+    BadSpread,
 }
 
 // What a word of the command line is.
@@ -66,7 +75,7 @@ enum WordKind {
 }
 
 // The words of the command line.
-const WORDS: [(&str, WordKind); 10] = [
+const WORDS: [(&str, WordKind); 12] = [
     ("config", WordKind::Plain),
     ("check", WordKind::Flag),
     ("listen", WordKind::Valued),
@@ -76,6 +85,8 @@ const WORDS: [(&str, WordKind); 10] = [
     ("log", WordKind::Flag),
     ("capture", WordKind::Valued),
     ("network", WordKind::Valued),
+    ("first", WordKind::Valued),
+    ("spread", WordKind::Valued),
     ("stop-after", WordKind::Number),
 ];
 
@@ -131,6 +142,22 @@ fn network_in(matches: &ArgMatches<'_>) -> Result<Option<Spoiling>, WordFault> {
     }
 }
 
+// The number with which ids begin, if that stands there and is one.
+fn first_in(matches: &ArgMatches<'_>) -> Option<FirstNumber> {
+    FirstNumber::read(matches.get_str("first")?.as_bytes())
+}
+
+// How long it waits at most before its clock begins, if that stands there.
+fn longest_wait_in(matches: &ArgMatches<'_>) -> Result<Option<u32>, WordFault> {
+    let Some(text) = matches.get_str("spread") else {
+        return Ok(None);
+    };
+    match spread_in(text.as_bytes()) {
+        Some(spread) => Ok(Some(spread)),
+        None => Err(WordFault::BadSpread),
+    }
+}
+
 // Why no settings are found in words, by the kind of clap's error: which words are wrong goes to standard error.
 fn fault_of<R: Eprint>(rt: &R, fault: &Error) -> WordFault {
     let kind = fault.kind();
@@ -158,16 +185,24 @@ fn settings_in<'a>(matches: &ArgMatches<'a>) -> Result<Settings<'a>, WordFault> 
     let Some(phones) = address_of(matches.get_str("phones").unwrap_or(PHONES)) else {
         return Err(WordFault::BadAddress { word: "--phones" });
     };
+    let http = site_in(matches)?;
+    let network = network_in(matches)?;
+    let first = first_in(matches);
+    if first.is_none() && matches.get_str("first").is_some() {
+        return Err(WordFault::BadFirst);
+    }
     Ok(Settings {
         config,
         check: matches.get_flag("check"),
         listen,
         phones,
-        http: site_in(matches)?,
+        http,
         trace: matches.get_flag("trace"),
         log: matches.get_flag("log"),
         capture: matches.get_str("capture"),
-        network: network_in(matches)?,
+        network,
+        first,
+        spread: longest_wait_in(matches)?,
         stop_after: matches.get_one::<u64>("stop-after"),
     })
 }

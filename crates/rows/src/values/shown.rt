@@ -12,10 +12,11 @@ use page_answers::{
 use scenario_files::Row;
 use std::alloc::Global;
 
-// Sets the number that a word names, the clock or a count, and says whether it names one.
+// Sets the number that a word names, the clock, the first of ids or a count, and says whether it names one.
 fn set_number(picture: &mut Picture, key: &str, number: u64) -> bool {
     match key {
         "clock" => picture.clock = number,
+        "first" => picture.first = u32::try_from(number).unwrap_or(u32::MAX),
         "in" => picture.counts.datagrams_in = number,
         "out" => picture.counts.datagrams_out = number,
         "responses" => picture.counts.responses = number,
