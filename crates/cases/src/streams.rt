@@ -5,11 +5,13 @@
 //! - `whole  2 commands, 1 refused  line 1 on signals - ..\n` nothing fails: how the play ends, and what is written;
 //! - `interrupted  2 commands, 1 refused  ..` each call of the reader but every second is interrupted, from the first on;
 //! - `read 1-32  read fault  ''` each of these calls of the reader fails in its turn, alone;
+//! - `replayed  1 line, all as told\n` the input is replayed as a trace; `replay 3  read fault` where this call of the reader fails;
 //! - `write 2  write fault  line 1\s` this call of the writer fails, and all behind it.
 use rgw_play::{Ending, PlayFault, Played, play};
 use scenario_files::{Row, SETTINGS, Scenario, bytes_of, range_in};
 use std::alloc::Global;
-use std::io::{self, Read, Write};
+use std::io::{self, BufReader, Read, Write};
+use traces::{ReplayFault, Verdict, put_verdict, replay};
 
 // What is wrong with the streams.
 #[derive(Clone, Copy)]
@@ -104,6 +106,20 @@ fn put_ending(row: &mut Row<'_>, outcome: Result<Played, PlayFault>) -> io::Resu
     Ok(())
 }
 
+// Puts what a replay finds.
+fn put_found(row: &mut Row<'_>, found: Result<Verdict, ReplayFault>) -> io::Result<()> {
+    match found {
+        Ok(verdict) => {
+            let mut text = Vec::new(row.alloc);
+            put_verdict(row.alloc, &mut text, &verdict)?;
+            row.put(&text);
+        }
+        Err(ReplayFault::OutOfMemory) => row.refuse(),
+        Err(ReplayFault::Read { .. }) => row.put(b"read fault"),
+    }
+    Ok(())
+}
+
 /// What there is to read.
 #[derive(Drop)]
 pub struct StreamScenario {
@@ -140,11 +156,23 @@ impl StreamScenario {
         Ok(())
     }
 
+    // What a replay of it as a trace finds, with this fault.
+    fn put_replayed(&self, row: &mut Row<'_>, fault: Fault) -> io::Result<()> {
+        let reader = SlowReader {
+            text: &self.input,
+            calls: 0,
+            fault,
+        };
+        let buffered = BufReader::new(row.alloc, reader)?;
+        put_found(row, replay(row.alloc, buffered))
+    }
+
     // What comes of it where this call of a stream fails.
     fn put_failed(&self, row: &mut Row<'_>, stream: &str, call: u32) -> io::Result<()> {
         let call = u64::from(call);
         let fault = match stream {
             "read" => Fault::Read(call),
+            "replay" => return self.put_replayed(row, Fault::Read(call)),
             _ => Fault::Write(call),
         };
         self.put_played(row, fault)
@@ -175,7 +203,8 @@ impl StreamScenario {
             "input" => self.read(row.alloc, false, rest),
             "whole" => self.put_played(row, Fault::Nothing),
             "interrupted" => self.put_played(row, Fault::Interrupts),
-            "read" | "write" => self.put_all_failed(row, word, rest),
+            "replayed" => self.put_replayed(row, Fault::Nothing),
+            "read" | "replay" | "write" => self.put_all_failed(row, word, rest),
             _ => {
                 row.unread();
                 Ok(())

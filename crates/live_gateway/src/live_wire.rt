@@ -109,12 +109,12 @@ impl<'a, R: Net + Clock> Wire for LiveWire<'a, R> {
         self.journal.sent(now, to, bytes);
         match self.ends.send(now.clock, to, bytes) {
             Ok(fate) => {
-                self.journal.log.spoil(now, to, fate);
+                self.journal.spoilt(now, to, fate);
                 Ok(())
             }
             Err(fault) => {
                 self.send_faults = self.send_faults.saturating_add(1);
-                self.journal.log.fail_to_send(now, to);
+                self.journal.unsent(now, to);
                 Err(fault)
             }
         }

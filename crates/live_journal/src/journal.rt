@@ -3,11 +3,13 @@ use crate::capture::Capture;
 use crate::log::Log;
 use crate::message_tally::MessageTally;
 use crate::trace::{Trace, TraceEntry};
+use bad_network::Fate;
 use exchange_log::Way;
 use gateway_core::Input;
 use live_ends::Now;
 use page_answers::{Board, Kind};
 use std::net::{Ipv4Addr, SocketAddrV4};
+use traces::Mark;
 
 /// The journal of a wire. What is large stands in boxes.
 #[derive(Drop)]
@@ -58,5 +60,19 @@ impl Journal {
         self.log.send(now, to, bytes);
         self.capture.pass(now.time, Way::Sent, to, bytes);
         self.show(now.clock, Kind::Sent, Some(to), bytes);
+    }
+
+    /// The datagram that was sent last has this fate.
+    pub fn spoilt(&mut self, now: Now, to: SocketAddrV4, fate: Fate) {
+        if matches!(fate, Fate::Lost) {
+            self.trace.tell(TraceEntry::Became { mark: Mark::Lost });
+        }
+        self.log.spoil(now, to, fate);
+    }
+
+    /// The datagram that was sent last didn't leave.
+    pub fn unsent(&mut self, now: Now, to: SocketAddrV4) {
+        self.trace.tell(TraceEntry::Became { mark: Mark::Unsent });
+        self.log.fail_to_send(now, to);
     }
 }

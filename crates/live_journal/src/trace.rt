@@ -1,13 +1,13 @@
 //! The trace: what came to the gateway as a script that can be played again, and what that must print.
 //!
 //! A line that is printed has the mark `| ` in front; a datagram that goes out has its address there, and no moment.
-//! Ticks at which nothing was sent are told together.
+//! Ticks at which nothing was sent are told together. What became of a datagram that went out is told at the head of the next turn,
+//! behind all that the gateway sent at its own.
 use live_ends::{LONGEST_TICK, Record};
-use mg_bytes::{OutOfMemory, lines, put_decimal};
+use mg_bytes::{OutOfMemory, put_decimal};
 use std::alloc::Global;
 use std::net::SocketAddrV4;
-
-const MARK: &[u8] = b"| ";
+use traces::{Mark, put_first, put_mark, put_sent, put_shown};
 
 const HEX_DIGITS: [u8; 16] = *b"0123456789abcdef";
 
@@ -30,6 +30,9 @@ pub struct Trace {
     pending: Pending,
     // The lines of the input that is pending.
     lines: Vec<u8>,
+    // What became of datagrams of this turn, and how many there are.
+    marks: Vec<u8>,
+    sent: u64,
     // The moment of the gateway's clock, and the one that the script has come to.
     clock: u64,
     told: u64,
@@ -38,9 +41,10 @@ pub struct Trace {
 /// What a trace is told.
 #[derive(Clone, Copy)]
 pub enum TraceEntry<'a> {
-    /// The text of the configuration, with which it begins.
+    /// The text of the configuration, with which it begins, and the number with which ids do.
     Config {
         text: &'a [u8],
+        first: u32,
     },
     /// A datagram is given to the gateway.
     Datagram {
@@ -63,6 +67,10 @@ pub enum TraceEntry<'a> {
     Sent {
         to: SocketAddrV4,
         bytes: &'a [u8],
+    },
+    /// This became of the datagram that the gateway sent last.
+    Became {
+        mark: Mark,
     },
     /// These lines are printed, of what was given or asked last.
     Shown {
@@ -115,14 +123,6 @@ fn put_datagram(
     out.extend_from_slice(b"\n")
 }
 
-// Lines that are printed.
-fn put_marked(out: &mut Vec<u8>, text: &[u8]) -> Result<(), OutOfMemory> {
-    for line in lines(text) {
-        put_pieces(out, &[MARK, line, b"\n"])?;
-    }
-    Ok(())
-}
-
 impl Trace {
     /// A trace of which nothing is told yet.
     pub fn new(alloc: Global, is_on: bool) -> Trace {
@@ -131,6 +131,8 @@ impl Trace {
             record: Record::new(alloc, is_on),
             pending: Pending::Nothing,
             lines: Vec::new(alloc),
+            marks: Vec::new(alloc),
+            sent: 0,
             clock: 0,
             told: 0,
         }
@@ -177,50 +179,79 @@ impl Trace {
         }
     }
 
-    fn begin(&mut self, config: &[u8]) -> Result<(), OutOfMemory> {
+    fn begin(&mut self, config: &[u8], first: u32) -> Result<(), OutOfMemory> {
         self.record.out.extend_from_slice(config)?;
-        if config.is_empty() || config.ends_with(b"\n") {
-            self.record.out.extend_from_slice(b"%%\n")
-        } else {
-            self.record.out.extend_from_slice(b"\n%%\n")
+        if !config.is_empty() && !config.ends_with(b"\n") {
+            self.record.out.extend_from_slice(b"\n")?;
         }
+        self.record.out.extend_from_slice(b"%%\n")?;
+        if first == 0 {
+            return Ok(());
+        }
+        put_first(self.alloc, &mut self.record.out, first)
+    }
+
+    // A turn begins: what became of the datagrams of the last one is told.
+    fn begin_turn(&mut self) -> Result<(), OutOfMemory> {
+        self.sent = 0;
+        if self.marks.is_empty() {
+            return Ok(());
+        }
+        self.record.out.extend_from_slice(self.marks.as_slice())?;
+        self.marks.clear();
+        Ok(())
+    }
+
+    // An input is given whose lines are told once it is taken.
+    fn give(&mut self) -> Result<(), OutOfMemory> {
+        self.begin_turn()?;
+        self.pending = Pending::Lines;
+        self.lines.clear();
+        Ok(())
+    }
+
+    // A tick is given.
+    fn tick(&mut self, moment: u64) -> Result<(), OutOfMemory> {
+        self.begin_turn()?;
+        self.pending = Pending::Tick { moment };
+        Ok(())
     }
 
     fn send(&mut self, to: SocketAddrV4, bytes: &[u8]) -> Result<(), OutOfMemory> {
         self.tell_input(true)?;
-        put_address(self.alloc, &mut self.record.out, b"| > ", to, b"\n")?;
-        put_marked(&mut self.record.out, bytes)?;
-        self.record.out.extend_from_slice(b"| --\n")
+        self.sent = self.sent.saturating_add(1);
+        put_sent(self.alloc, &mut self.record.out, to, bytes)
     }
 
     fn try_tell(&mut self, told: TraceEntry<'_>) -> Result<(), OutOfMemory> {
         match told {
-            TraceEntry::Config { text } => self.begin(text),
+            TraceEntry::Config { text, first } => self.begin(text, first),
             TraceEntry::Datagram { source, bytes } => {
-                self.pending = Pending::Lines;
-                self.lines.clear();
+                self.give()?;
                 put_datagram(self.alloc, &mut self.lines, source, bytes)
             }
             TraceEntry::Line { line } => {
-                self.pending = Pending::Lines;
-                self.lines.clear();
+                self.give()?;
                 put_pieces(&mut self.lines, &[line, b"\n"])
             }
-            TraceEntry::Tick { moment } => {
-                self.pending = Pending::Tick { moment };
-                Ok(())
-            }
+            TraceEntry::Tick { moment } => self.tick(moment),
             TraceEntry::Taken => self.tell_input(false),
             TraceEntry::Refused => {
                 self.pending = Pending::Nothing;
                 Ok(())
             }
             TraceEntry::Sent { to, bytes } => self.send(to, bytes),
+            TraceEntry::Became { mark } => {
+                put_mark(self.alloc, &mut self.marks, mark, self.sent)
+            }
             TraceEntry::Shown { text } => {
                 self.tell_input(true)?;
-                put_marked(&mut self.record.out, text)
+                put_shown(&mut self.record.out, text)
             }
-            TraceEntry::End => self.tell_clock(),
+            TraceEntry::End => {
+                self.begin_turn()?;
+                self.tell_clock()
+            }
         }
     }
 

@@ -135,7 +135,12 @@ fn state_value(alloc: Global, picture: &Picture, version: u64) -> Result<Value, 
 {
     let mut map = Map::new(alloc);
     put_shown(alloc, &mut map, version, picture.clock)?;
-    put(&mut map, alloc, "first", Value::from(u64::from(picture.first)))?;
+    put(
+        &mut map,
+        alloc,
+        "first",
+        Value::from(u64::from(picture.first)),
+    )?;
     put(&mut map, alloc, "lost", Value::from(picture.totals().lost))?;
     let lines = lines_value(alloc, picture.lines.as_slice())?;
     put(&mut map, alloc, "lines", lines)?;

@@ -2,6 +2,7 @@
 use crate::ending::Ending;
 use crate::opening::{Opened, known, open};
 use crate::reception::PageReception;
+use crate::replaying::{REPLAY, replay_trace};
 use crate::starting::{Begun, Start};
 use crate::telling::{TELL, tell_line};
 use crate::words::{Settings, WordFault, read_words};
@@ -12,15 +13,14 @@ use live_gateway::{Ends, answer_stop, finish, serve, write_records};
 use live_journal::{Faults, Journal, TraceEntry, report};
 use rgw_play::{PlayFault, gateway_from, read_limited};
 use std::alloc::{AllocError, Global};
-use std::env;
 use std::fs::File;
-use std::io;
 use std::io::ErrorKind;
 use std::net::Net;
 use std::random::RandomSource;
 use std::rt::{Clock, Env, Files};
 use std::thread::sleep;
 use std::time::Duration;
+use std::{env, io};
 use system_reasons::{reason_of, reason_of_reader};
 
 // Why the words can't be had, as the system says.
@@ -323,11 +323,25 @@ fn tell<R: Print + Eprint>(rt: &R, ending: Ending<'_>) -> u8 {
     }
 }
 
-// The words behind `--tell`, where that is the first.
-fn words_to_tell(words: &[String]) -> Option<&[String]> {
+// The words behind this one, where that is the first.
+fn words_behind<'w>(first: &str, words: &'w [String]) -> Option<&'w [String]> {
     match words.get(1) {
-        Some(word) if word.as_str() == TELL => words.get(2..),
+        Some(word) if word.as_str() == first => words.get(2..),
         _ => None,
+    }
+}
+
+// How the program with these words ends, whatever they ask for.
+fn ending_by<'w, R: AllocGlobal + Files + Net + Clock + RandomSource + Print + Eprint>(
+    rt: &R,
+    words: &'w [String],
+) -> Ending<'w> {
+    if let Some(asked) = words_behind(TELL, words) {
+        return tell_line(rt, asked);
+    }
+    match words_behind(REPLAY, words) {
+        Some(asked) => replay_trace(rt, asked),
+        None => ending_of(rt, words),
     }
 }
 
@@ -336,10 +350,7 @@ pub fn run<R: AllocGlobal + Env + Files + Net + Clock + RandomSource + Print + E
     rt: &R,
 ) -> u8 {
     match words_of(rt) {
-        Ok(words) => match words_to_tell(words.as_slice()) {
-            Some(asked) => tell(rt, tell_line(rt, asked)),
-            None => tell(rt, ending_of(rt, words.as_slice())),
-        },
+        Ok(words) => tell(rt, ending_by(rt, words.as_slice())),
         Err(fault) => tell(rt, Ending::from(fault)),
     }
 }

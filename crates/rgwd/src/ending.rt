@@ -71,6 +71,12 @@ pub enum Ending<'a> {
     Write,
     /// Memory was refused.
     OutOfMemory,
+    /// Each line that went out is as its trace tells it, and that is printed.
+    Replayed,
+    /// One isn't, and that is printed.
+    Differs,
+    /// What was to be replayed is no trace, and standard error says where.
+    NoTrace,
     /// The telephones answered a line, and the answer is printed.
     Answered,
     /// Nobody answered a line at this address.
@@ -80,8 +86,8 @@ pub enum Ending<'a> {
 }
 
 impl<'a> Ending<'a> {
-    /// The exit status: 0 served, told or checked, 1 no answer, 2 words or a configuration that are refused, 3 memory, a
-    /// file, a socket or a stream.
+    /// The exit status: 0 served, told, checked or replayed, 1 no answer or another line, 2 words, a configuration or a trace that
+    /// are refused, 3 memory, a file, a socket, a stream or the clock.
     pub fn status(self) -> u8 {
         match self {
             Ending::Served | Ending::Help | Ending::Version | Ending::Checked => 0,
@@ -91,7 +97,8 @@ impl<'a> Ending<'a> {
             | Ending::AnyAddress
             | Ending::BadNetwork { .. }
             | Ending::BadFirst
-            | Ending::BadSpread => 2,
+            | Ending::BadSpread
+            | Ending::NoTrace => 2,
             Ending::Unreadable { .. }
             | Ending::Unwritable { .. }
             | Ending::Unbound { .. }
@@ -99,8 +106,8 @@ impl<'a> Ending<'a> {
             | Ending::Clock
             | Ending::Write
             | Ending::OutOfMemory => 3,
-            Ending::Answered => 0,
-            Ending::NoAnswer { .. } => 1,
+            Ending::Answered | Ending::Replayed => 0,
+            Ending::NoAnswer { .. } | Ending::Differs => 1,
         }
     }
 }
@@ -171,6 +178,7 @@ impl<'a> fmt::Display for Ending<'a> {
     fn fmt<W: fmt::Write>(&self, f: &mut fmt::Formatter<W>) -> fmt::Result {
         match *self {
             Ending::Served | Ending::Told | Ending::Checked | Ending::Answered => Ok(()),
+            Ending::Replayed | Ending::Differs | Ending::NoTrace => Ok(()),
             Ending::Usage => put_pieces(f, &["usage: ", USAGE, "\n"]),
             Ending::Help => put_pieces(f, &HELP),
             Ending::Version => put_pieces(f, &VERSIONS),

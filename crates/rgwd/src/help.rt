@@ -15,7 +15,8 @@ pub const PHONES: &str = "127.0.0.1:2428";
 /// The words of the command line, in a line.
 pub const USAGE: &str =
     "rgwd CONFIG [--check] [--listen ADDRESS] [--phones ADDRESS] [--http ADDRESS] [--log] [--capture FILE] [--trace] [--network TEXT] [--first N] [--spread MS] [--stop-after MS]
-       rgwd --tell ADDRESS LINE";
+       rgwd --tell ADDRESS LINE
+       rgwd --replay TRACE";
 
 // What the words say, from the end of the first line on. The places of the defaults are left open.
 const ABOVE: &str = "
@@ -42,6 +43,7 @@ const BELOW: &str = "
 
 ADDRESS is a.b.c.d:port, and port 0 any free one. The first two sockets take datagrams (UDP).
 With --tell it starts no gateway: LINE, as phone 1 off, goes to the telephones at ADDRESS, and the answer to standard output.
+With --replay it starts none either: what went out in the file TRACE is compared with what the gateway sends for what came in.
 More: the manual page rgwd(8), and docs/OPERATING.md.
 ";
 

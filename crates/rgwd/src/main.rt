@@ -1,4 +1,5 @@
-//! The program `rgwd`: its words, its exit statuses and its texts, what it opens and serves, and what it tells a gateway that runs.
+//! The program `rgwd`: its words, its exit statuses and its texts, what it opens and serves, what it tells a gateway that runs,
+//! and how it replays a trace.
 #![tactic(auto)]
 
 mod app;
@@ -6,6 +7,7 @@ mod ending;
 mod help;
 mod opening;
 mod reception;
+mod replaying;
 mod starting;
 mod telling;
 mod words;

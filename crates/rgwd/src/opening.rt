@@ -210,9 +210,12 @@ fn board_of(
 }
 
 // A trace that has begun.
-fn trace_of(alloc: Global, is_on: bool, config: &[u8]) -> Trace {
+fn trace_of(alloc: Global, is_on: bool, config: &[u8], first: u32) -> Trace {
     let mut trace = Trace::new(alloc, is_on);
-    trace.tell(TraceEntry::Config { text: config });
+    trace.tell(TraceEntry::Config {
+        text: config,
+        first,
+    });
     trace
 }
 
@@ -227,7 +230,8 @@ fn journal_of(
 ) -> Result<Box<Journal>, AllocError> {
     let tally = boxed(alloc, MessageTally::new(alloc)?)?;
     let log = boxed(alloc, Log::new(alloc, settings.log, gateway)?)?;
-    let trace = boxed(alloc, trace_of(alloc, settings.trace, config))?;
+    let first = gateway.setup().first;
+    let trace = boxed(alloc, trace_of(alloc, settings.trace, config, first))?;
     let capture = Capture::new(alloc, settings.capture.is_some(), here);
     let journal = Journal {
         tally,

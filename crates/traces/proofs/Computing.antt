@@ -1,0 +1,9 @@
+-- The definitions opened, so that worked examples compute.
+use Rattle.std.specs.Prelude.{⊤}
+use Rattle.rgw_scripts.proofs.Computing.{on_examples as script_examples}
+use Rattle.traces.specs.Telling.{told_datagram, told, is_mark}
+use Rattle.traces.specs.Replaying.{move_in, next}
+
+unfoldable pub on_examples : ⊤
+unfolding script_examples told_datagram told is_mark move_in next
+on_examples = tt

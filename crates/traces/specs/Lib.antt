@@ -1,0 +1,5 @@
+pub mod Telling
+pub mod Head
+pub mod Replaying
+pub mod Example
+pub mod Running

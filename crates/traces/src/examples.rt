@@ -1,0 +1,84 @@
+//! Worked examples of traces, as theorems: each sentence of a definition has one that a slip in it breaks.
+#![tactic(auto, unfolding(crate::proofs::Computing::on_examples))]
+
+ghost use Rattle.std.specs.Prelude.{◌≡◌, codes, true, false, [], ◌∷◌, Some};
+ghost use Rattle.mg_line.specs.declared.phone.Act.TheVariants.{OnHook};
+ghost use Rattle.plain_machine.specs.declared.refusal.Refusal.TheVariants.{PhoneState};
+ghost use Rattle.plain_machine.specs.Event.{datagram, phone, tick};
+ghost use Rattle.plain_machine.specs.Example.{agent, example, to_agent_at, to_other_at};
+ghost use Rattle.rgw_scripts.specs.Moves.{give, ask, sends, refuses};
+ghost use Rattle.traces.specs.declared.telling.Mark.TheVariants.{Unsent, Lost};
+ghost use Rattle.traces.specs.Telling.{told, told_first, told_mark, is_mark};
+ghost use Rattle.traces.specs.Replaying.{goes_on, tells, differs, is_broken, may_end, next};
+ghost use Rattle.traces.specs.Example.{owing, comes_first, comes_where};
+
+/// A datagram that goes out is told by its address, without its moment, and by its lines; so is a refusal by its line.
+pub fn what_is_shown_is_told()
+    ensures datagrams { told (sends (to_agent_at 7 (codes "200 1 OK\r\n") ∷ to_other_at 7 [] ∷ []))
+        ≡ codes "| > 127.0.0.1:2727\n| 200 1 OK\n| --\n| > 127.0.0.2:2728\n| --\n" }
+    ensures none { told (sends []) ≡ [] }
+    ensures refusal { told (refuses PhoneState) ≡ codes "| ! 5 PhoneState\n" }
+{}
+
+/// A trace tells the first number of its ids, and what became of a datagram.
+pub fn what_is_noted_is_told()
+    ensures first { told_first 4711 ≡ codes "| first 4711\n" }
+    ensures unsent { told_mark Unsent 1 ≡ codes "| ! not sent 1\n" }
+    ensures lost { told_mark Lost 12 ≡ codes "| ! lost on its way 12\n" }
+{}
+
+/// A line tells what became of a datagram where it says just that, and by a number.
+pub fn marks_are_known()
+    ensures unsent { is_mark (codes "| ! not sent 1") ≡ true }
+    ensures lost { is_mark (codes "| ! lost on its way 12") ≡ true }
+    ensures no_number { is_mark (codes "| ! not sent ") ≡ false }
+    ensures more { is_mark (codes "| ! not sent 1 ") ≡ false }
+    ensures refusal { is_mark (codes "| ! 5 PhoneState") ≡ false }
+    ensures bare { is_mark (codes "! not sent 1") ≡ false }
+{}
+
+/// What came in is given to the gateway, and what that sends is owed.
+pub fn what_came_in_is_played()
+    ensures tick { comes_first (codes "at 1\n") ≡ goes_on (give (tick 1) ∷ []) (owing (tick 1 ∷ [])
+        (codes "| > 127.0.0.1:2727\n| RSIP 1 *@rgw.example.net MGCP 1.0\n| RM: restart\n| --\n")) }
+    ensures refused { comes_first (codes "phone 1 on\n") ≡ goes_on (give (phone 1 OnHook) ∷ []) (owing [] (codes "| ! 5 PhoneState\n")) }
+    ensures too_far { comes_first (codes "at 1001\n") ≡ goes_on (give (tick 1001) ∷ []) (owing [] (codes "| ! 2 TickTooFar\n")) }
+    ensures line { comes_first (codes "show 1\n")
+        ≡ goes_on (ask 1 ∷ []) (owing [] (codes "| line 1 on signals - connections - lost 0\n")) }
+    ensures bytes { comes_first (codes "raw 127.0.0.1:2727 0d0a\n")
+        ≡ goes_on (give (datagram agent (13 ∷ 10 ∷ [])) ∷ []) (owing (datagram agent (13 ∷ 10 ∷ []) ∷ []) []) }
+{}
+
+/// A datagram without a byte is two lines.
+pub fn a_datagram_may_have_no_byte()
+    ensures from { comes_first (codes "from 127.0.0.1:2727\n")
+        ≡ goes_on [] (record { taken = []; opened = Some agent; owed = [] }) }
+    ensures end { next example (record { taken = []; opened = Some agent; owed = [] }) (codes "--\n")
+        ≡ goes_on (give (datagram agent []) ∷ []) (owing (datagram agent [] ∷ []) []) }
+    ensures other { next example (record { taken = []; opened = Some agent; owed = [] }) (codes "AUEP\n") ≡ is_broken }
+    ensures open { may_end (record { taken = []; opened = Some agent; owed = [] }) ≡ false }
+{}
+
+/// A line that went out is the next that is owed. A mark stands where none is.
+pub fn what_went_out_is_compared()
+    ensures first { comes_where (codes "| a\n| b\n") (codes "| a\n") ≡ tells (owing [] (codes "| b\n")) }
+    ensures other { comes_where (codes "| a\n| b\n") (codes "| b\n") ≡ differs }
+    ensures front { comes_where (codes "| ab\n") (codes "| a\n") ≡ differs }
+    ensures more { comes_where [] (codes "| a\n") ≡ differs }
+    ensures less { comes_where (codes "| a\n") (codes "show 1\n") ≡ differs }
+    ensures mark { comes_where [] (codes "| ! not sent 1\n") ≡ goes_on [] (owing [] []) }
+    ensures early { comes_where (codes "| a\n") (codes "| ! not sent 1\n") ≡ differs }
+    ensures done { may_end (owing [] []) ≡ true }
+    ensures owed { may_end (owing [] (codes "| a\n")) ≡ false }
+{}
+
+/// A line without an end, an empty one, and what no trace has are where it breaks off.
+pub fn other_lines_are_broken()
+    ensures half { comes_first (codes "show 1") ≡ is_broken }
+    ensures half_told { comes_where (codes "| ab\n") (codes "| a") ≡ is_broken }
+    ensures empty { comes_first (codes "\n") ≡ is_broken }
+    ensures nothing { comes_first [] ≡ is_broken }
+    ensures word { comes_first (codes "hello\n") ≡ is_broken }
+    ensures tick { comes_first (codes "tick 1\n") ≡ is_broken }
+    ensures wait { comes_first (codes "wait 1\n") ≡ is_broken }
+{}

@@ -1,0 +1,24 @@
+//! Traces: what they have of what a gateway sends and answers, and how one is replayed.
+//!
+//! A trace is a configuration, a line `%%`, and lines: what came in, as a script has it, and behind `| ` what went out, without its
+//! moment. Who writes a trace and who replays one put what went out alike, here. It is read a line at a time, so it may have any
+//! length.
+#![tactic(auto)]
+
+pub mod examples;
+mod head;
+pub mod laws;
+mod replaying;
+mod reporting;
+mod steps;
+mod telling;
+mod verdict;
+mod wording;
+
+pub use crate::head::{first_in, is_head_end};
+pub use crate::replaying::{Progress, Replay};
+pub use crate::reporting::replay;
+pub use crate::steps::shown_by;
+pub use crate::telling::{Mark, is_mark, put_first, put_mark, put_sent, put_shown};
+pub use crate::verdict::{ReplayFault, Verdict};
+pub use crate::wording::put_verdict;

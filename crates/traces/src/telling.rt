@@ -1,0 +1,133 @@
+//! What a trace has of what a gateway sends and answers.
+ghost use Rattle.std.specs.Prelude.{◌≡◌, ◌++◌, decimal, IfOk, OnOk, string_bytes, codes};
+ghost use Rattle.std.specs.List.{flat_map};
+ghost use Rattle.std.specs.Net.Text.{socket_v4_text};
+ghost use Rattle.mg_bytes.specs.Lines.{lines_of};
+ghost use Rattle.rgw_scripts.specs.Printing.{printed_line};
+ghost use Rattle.traces.specs.Telling.{told_line, told_text, told_datagram, told_first, told_mark, begins, mark, number_behind, is_mark};
+
+use mg_bytes::{OutOfMemory, decimal, lines, put_decimal};
+use std::alloc::Global;
+use std::net::SocketAddrV4;
+
+// What stands before each line that is told.
+const MARK: &[u8] = b"| ";
+
+// What stands before the number with which ids begin.
+pub(crate) const FIRST: &[u8] = b"| first ";
+
+const UNSENT: &[u8] = b"| ! not sent ";
+
+const LOST: &[u8] = b"| ! lost on its way ";
+
+/// What became of a datagram of the turn before.
+#[derive(Clone, Copy)]
+pub enum Mark {
+    /// It wasn't sent.
+    Unsent,
+    /// A network that spoils what goes over it lost it.
+    Lost,
+}
+
+fn put_line(out: &mut Vec<u8>, line: &[u8]) -> Result<(), OutOfMemory>
+    ensures { OnOk result (out.new.items ≡ out.old.items ++ told_line line.now) }
+{
+    out.extend_from_slice(MARK)?;
+    out.extend_from_slice(line)?;
+    out.push(b'\n')?;
+    Ok(())
+}
+
+/// Puts the lines that are printed.
+pub fn put_shown(out: &mut Vec<u8>, text: &[u8]) -> Result<(), OutOfMemory>
+    ensures { OnOk result (out.new.items ≡ out.old.items ++ told_text text.now) }
+{
+    for line in lines(text) {
+        put_line(out, line)?;
+    }
+    Ok(())
+}
+
+// The line of a datagram's address.
+fn address_line(alloc: Global, to: SocketAddrV4) -> Result<String, OutOfMemory>
+    ensures { IfOk result (λ line. string_bytes line ≡ codes "> " ++ socket_v4_text to) }
+{
+    let line = format!(in alloc; "> {to}")?;
+    Ok(line)
+}
+
+/// Puts a datagram that goes out.
+#[tactic(auto, unfolding(crate::specs::Telling::told_datagram))]
+pub fn put_sent(
+    alloc: Global,
+    out: &mut Vec<u8>,
+    to: SocketAddrV4,
+    bytes: &[u8],
+) -> Result<(), OutOfMemory>
+    ensures { OnOk result (out.new.items ≡ out.old.items ++ told_datagram to bytes.now) }
+{
+    let line = address_line(alloc, to)?;
+    put_line(out, line.as_bytes())?;
+    put_shown(out, bytes)?;
+    put_line(out, b"--")
+}
+
+// Puts words, a number behind them, and the end of a line.
+fn put_numbered(
+    alloc: Global,
+    out: &mut Vec<u8>,
+    words: &[u8],
+    number: u64,
+) -> Result<(), OutOfMemory>
+    ensures { OnOk result (out.new.items ≡ out.old.items ++ (words.now ++ printed_line (decimal number))) }
+{
+    out.extend_from_slice(words)?;
+    put_decimal(alloc, out, number)?;
+    out.push(b'\n')?;
+    Ok(())
+}
+
+/// Puts the number with which ids begin, behind the configuration's end.
+pub fn put_first(alloc: Global, out: &mut Vec<u8>, first: u32) -> Result<(), OutOfMemory>
+    ensures { OnOk result (out.new.items ≡ out.old.items ++ told_first first) }
+{
+    put_numbered(alloc, out, FIRST, u64::from(first))
+}
+
+/// Puts what became of the datagram at this place among those of the turn before, counted from 1.
+pub fn put_mark(alloc: Global, out: &mut Vec<u8>, mark: Mark, place: u64) -> Result<(), OutOfMemory>
+    ensures { OnOk result (out.new.items ≡ out.old.items ++ told_mark mark place) }
+{
+    match mark {
+        Mark::Unsent => put_numbered(alloc, out, UNSENT, place),
+        Mark::Lost => put_numbered(alloc, out, LOST, place),
+    }
+}
+
+/// Whether a line is told: it went out, or became something.
+pub(crate) fn is_told(line: &[u8]) -> bool
+    ensures { result ≡ begins mark line.now }
+{
+    match line.strip_prefix(MARK) {
+        Some(_) => true,
+        None => false,
+    }
+}
+
+/// The number that stands in a line behind these words, with nothing behind it.
+pub(crate) fn number_behind(words: &[u8], line: &[u8]) -> Option<u64>
+    ensures { result ≡ number_behind words.now line.now }
+{
+    match line.strip_prefix(words) {
+        Some(rest) => decimal(rest),
+        None => None,
+    }
+}
+
+/// Whether a line, without its end, tells what became of a datagram.
+#[tactic(auto, unfolding(crate::specs::Telling::is_mark))]
+pub fn is_mark(line: &[u8]) -> bool
+    ensures { result ≡ is_mark line.now }
+{
+    number_behind(UNSENT, line).is_some() || number_behind(LOST, line).is_some()
+}
