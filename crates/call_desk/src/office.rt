@@ -24,6 +24,8 @@ struct Care {
     // What is next, and what the command in flight is for, if one is.
     next: Duty,
     flight: Option<Duty>,
+    // Whether the gateway has started again since that was issued: what it is answered may be of before, and isn't believed.
+    is_outlived: bool,
     // Whether the line has told something since it was audited.
     has_told: bool,
     // Whether an audit told that its handset was lifted, and it has told nothing since.
@@ -35,6 +37,7 @@ struct Care {
 const NEW_CARE: Care = Care {
     next: Duty::Clear,
     flight: None,
+    is_outlived: false,
     has_told: false,
     is_found_off: false,
     shown: Standing::Rest,
@@ -193,6 +196,7 @@ impl Office {
         }
         let duty = care.next;
         care.flight = Some(duty);
+        care.is_outlived = false;
         match duty {
             Duty::Clear => care.next = Duty::Audit,
             Duty::Audit => {
@@ -280,8 +284,20 @@ impl Office {
         }
     }
 
-    /// The command in flight to the line was answered by this final response.
+    // Whether the gateway has started again since the command in flight to the line was issued.
+    fn is_outlived(&self, line: usize) -> bool {
+        match self.cares.get(line) {
+            Some(care) => care.is_outlived,
+            None => false,
+        }
+    }
+
+    /// The command in flight to the line was answered by this final response. Where the gateway has started again since, that says
+    /// nothing of what is there now, and the command counts as given up.
     pub fn answered(&mut self, alloc: Global, line: usize, code: u16, text: &[u8]) {
+        if self.is_outlived(line) {
+            return self.given_up(line);
+        }
         match self.land(line) {
             Some(Duty::Route) => self.answer(alloc, line, code, text),
             Some(Duty::Audit) => self.audited(alloc, line, text),
@@ -314,11 +330,19 @@ impl Office {
         }
     }
 
-    /// The line is announced: it has started again, and knows of no call and no request; or it lost its agent, and with that a
-    /// notification (RFC 3435, 4.4.7). Its handset may have been moved, so its hook is asked for.
+    // The line has started again: a call that it was in is over, and what is in flight to it was issued to what it was before.
+    fn restart(&mut self, line: usize) {
+        self.exchange.tell(line, Told::Restarted);
+        if let Some(care) = self.cares.get_mut(line) {
+            care.is_outlived = care.flight.is_some();
+        }
+    }
+
+    /// The line is announced: it has started again, and knows of no call and no request (RFC 3435, 4.4.6); or it lost its agent, and
+    /// with that a notification (RFC 3435, 4.4.7). Its handset may have been moved, so its hook is asked for.
     pub fn announced(&mut self, line: usize, is_restart: bool) {
         if is_restart {
-            self.exchange.tell(line, Told::OnHook);
+            self.restart(line);
         }
         self.owe(line, Duty::Audit);
     }
