@@ -24,12 +24,12 @@ use Rattle.machine_laws.proofs.TurnLemmas.{of_line}
 use Rattle.machine_laws.specs.Numbering.{start_on, IsTaken}
 use Rattle.machine_laws.specs.Saying.{HasNumbersLeft, IsAnswerTo, Begun, Tells, begun_in, count_of}
 
-record ListGoes (setup : Setup) (log : List Begun) (m n : Machine) (sent : List Sent) : Type 0 where
-  holds : GatewayHolds setup (log ++ begun_in sent) n
-  more : List KeptFirst
-  grown : firsts_in n.history ≡ firsts_in m.history ++ more
-  time : m.now ≤ n.now
-  says : Each (Said (log ++ begun_in sent) (firsts_in n.history) n.now) sent
+pub record ListGoes (setup : Setup) (log : List Begun) (m n : Machine) (sent : List Sent) : Type 0 where
+  pub holds : GatewayHolds setup (log ++ begun_in sent) n
+  pub more : List KeptFirst
+  pub grown : firsts_in n.history ≡ firsts_in m.history ++ more
+  pub time : m.now ≤ n.now
+  pub says : Each (Said (log ++ begun_in sent) (firsts_in n.history) n.now) sent
 
 said_later : (log : List Begun) (firsts : List KeptFirst) (now later : ℕ) → now ≤ later → (sent : Sent) → Said log firsts now sent → Said log firsts later sent
 said_later log firsts now later past sent s = (s.0, omega (arith, past, s.1))
@@ -62,7 +62,7 @@ events_hold setup log m (e ∷ es) h taken =
           rest.says);
     }
 
-all_hold : (setup : Setup) (es : List GatewayEvent) → IsSetUp setup → are_taken setup (opening setup) es ≡ true → ListGoes setup [] (opening setup) (plain setup es) (sent_of setup es)
+pub all_hold : (setup : Setup) (es : List GatewayEvent) → IsSetUp setup → are_taken setup (opening setup) es ≡ true → ListGoes setup [] (opening setup) (plain setup es) (sent_of setup es)
 all_hold setup es set_up taken = events_hold setup [] (opening setup) es (opening_gateway setup set_up) taken
 
 pub all_said : (setup : Setup) (es : List GatewayEvent) → IsSetUp setup → are_taken setup (opening setup) es ≡ true

@@ -25,14 +25,14 @@ no_response : (id : ℕ) (name : List ℕ) (outcome : Outcome) (code other : ℕ
     → outcome ≡ message (messages.Response code other params body) → ⊥
 no_response id name outcome code other params body is reads = absurd (let e : is_command_as id name (message (messages.Response code other params body)) ≡ true = ap (is_command_as id name) (sym reads) ∙ is in cc)
 
-abbrev code_of : Outcome → ℕ
+abbrev pub code_of : Outcome → ℕ
 code_of (message (messages.Response code id params body)) = code
 code_of (message (messages.Command verb id name params body)) = 0
 code_of no_header = 0
 code_of (bad_version id) = 0
 code_of (bad_body id) = 0
 
-abbrev id_of : Outcome → ℕ
+abbrev pub id_of : Outcome → ℕ
 id_of (message (messages.Response code id params body)) = id
 id_of (message (messages.Command verb id name params body)) = 0
 id_of no_header = 0

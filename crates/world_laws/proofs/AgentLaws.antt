@@ -374,7 +374,7 @@ responded_on all m source code id params text h has = by_found (find (has_id id)
     sent = acknowledged_fine all _ m.now source code id params has;
   }
 
-small_code : (verb : Verb) → code_for verb ≤ 999
+pub small_code : (verb : Verb) → code_for verb ≤ 999
 small_code Ntfy = omega arith
 small_code Rsip = omega arith
 small_code Epcf = omega arith
@@ -394,7 +394,7 @@ handled_by setup all m source text (bad_body id) h has = transacted_on all _ m s
 handled_by setup all m source text (message (messages.Command verb id name params body)) h has = transacted_on all _ m source (read_command setup verb id name params) h has (small_code verb) refl
 handled_by setup all m source text (message (messages.Response code id params body)) h has = responded_on all m source code id params text h has
 
-handled_on : (setup : AgentSetup) (all : List Begun) (m : AgentMachine) (source : SocketAddrV4) (text : List ℕ) → Holds all m → GoesOn all m (handled setup m source text)
+pub handled_on : (setup : AgentSetup) (all : List Begun) (m : AgentMachine) (source : SocketAddrV4) (text : List ℕ) → Holds all m → GoesOn all m (handled setup m source text)
 unfolding handled
 handled_on setup all m source text h = handled_by setup all m source text (read_text text) h (read_id text)
 

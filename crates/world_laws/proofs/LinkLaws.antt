@@ -293,7 +293,7 @@ log_commands until log logged = each_weaker (WasBegun until) IsCommand (λ b w. 
 
 -- the gateway takes an event
 
-sent_more : (setup : Setup) (m : Machine) (es : List GatewayEvent) (e : GatewayEvent)
+pub sent_more : (setup : Setup) (m : Machine) (es : List GatewayEvent) (e : GatewayEvent)
     → sent_from setup m (es ++ e ∷ []) ≡ sent_from setup m es ++ (effect setup (machine_after setup m es) e).sent
 unfolding sent_from machine_after
 sent_more setup m [] e = append-nil (effect setup m e).sent

@@ -52,7 +52,7 @@ use Rattle.history.specs.Memory.{memory_time}
 abbrev pub Holding : (List ℕ → ℕ → Type 0) → ℕ → List ℕ → ℕ → Type 0
 Holding S now bytes moment = Each (λ text. S text moment × (moment ≤ now)) (texts_of bytes)
 
-texts_hold : (P : List ℕ → Type 0) (bytes : List ℕ) → Each P (parts_of bytes) → Each P (texts_of bytes)
+pub texts_hold : (P : List ℕ → Type 0) (bytes : List ℕ) → Each P (parts_of bytes) → Each P (texts_of bytes)
 unfolding texts_of
 texts_hold P bytes all = by_length (nat_lt largest_datagram (length bytes)) where
   by_length : (b : Bool) → Each P (if b then [] else parts_of bytes)
@@ -113,7 +113,7 @@ clock_on m event taken = forward m event taken
 
 -- the agent takes an event
 
-agent_agrees : (setup : Setup) (w : World) (event : AgentEvent) → Agrees (issued_in setup w) (agent_in setup w) w → agent_refusal (agent_in setup w) event ≡ None
+pub agent_agrees : (setup : Setup) (w : World) (event : AgentEvent) → Agrees (issued_in setup w) (agent_in setup w) w → agent_refusal (agent_in setup w) event ≡ None
     → Agrees (issued_in setup (to_agent setup w event)) (agent_in setup (to_agent setup w event)) (to_agent setup w event)
 agent_agrees setup w event a taken =
     rw (issued_more (agent_of setup) (agent_opening (agent_of setup)) w.agent_took event, after_on (agent_of setup) (agent_opening (agent_of setup)) w.agent_took (event ∷ []), one_after) (record {
