@@ -1,0 +1,11 @@
+pub mod Computing
+pub mod PairLemmas
+pub mod HandedLaws
+pub mod LifeSays
+pub mod AnswersSoon
+pub mod LinkedLives
+pub mod HeardLaws
+pub mod ApartLaws
+pub mod TimeOfDay
+pub mod OneWorld
+pub mod ExampleLemmas

@@ -1,0 +1,143 @@
+//! Worked examples of lives, as theorems: each sentence of a definition has one that a slip in it breaks, and each premise of a law one
+//! in which it is missing and the law fails.
+#![tactic(auto, unfolding(crate::proofs::Computing::on_examples))]
+
+ghost use Rattle.std.specs.Prelude.{◌≡◌, ◌++◌, codes, [], ◌∷◌, map, fold, ⊤, true, false, None, Some};
+ghost use Rattle.mg_packages.specs.declared.event.LineEvent.TheVariants as events;
+ghost use Rattle.mg_line.specs.declared.phone.Act.TheVariants as acts;
+ghost use Rattle.event_values.specs.declared.observed.Observed.TheVariants.{Happened};
+ghost use Rattle.plain_machine.specs.declared.refusal.Refusal.TheVariants as refusals;
+ghost use Rattle.endpoint_names.specs.Table.{is_domain};
+ghost use Rattle.plain_machine.specs.Event.{datagram, phone, tick};
+ghost use Rattle.plain_machine.specs.Machine.{serves};
+ghost use Rattle.plain_machine.specs.Example.{two_lines, agent};
+ghost use Rattle.call_agent.specs.Hearing.{as_event};
+ghost use Rattle.agent_core.specs.World.{ticking, delivering, dialling, by_gateway, by_agent, no_such_packet, packet_too_old};
+ghost use Rattle.world_laws.specs.Reached.{issued_in};
+ghost use Rattle.life_laws.specs.Lives.{Life, stepping, restarting, lives_opening, lives_of, lives_are_taken, new_life, agent_side, clock_of, gateway_of, plain_lives, as_step, no_such_first};
+ghost use Rattle.life_laws.specs.Apart.{BringsCopy, moved, begun_of, OfLife, BeginsLater, LieApart, IsTakenFor, firsts_of_lives, taken_after};
+ghost use Rattle.life_laws.specs.Example.{lives, first_life, both_lives, answered_late, audited_twice, audited_too_late, issued_two, broken, broken_after, started_late, serves_after, told_after, texts_after, owners_after, brought_key, brought_after, firsts_after, keys_of, refused_then, bringing, beginning, begun_key};
+
+/// Where both lives' numbers begin alike, all that the second says is taken for repeats: the agent never hears that line 1 was lifted
+/// again. Their ids don't lie apart.
+pub fn numbers_that_begin_alike_are_taken_for_repeats()
+    ensures taken { lives_are_taken two_lines (lives_opening two_lines) (both_lives 0) ≡ true }
+    ensures brought { brought_after (both_lives 0) ≡ (0, 1) ∷ (0, 10000000) ∷ (1, 1) ∷ (1, 10000000) ∷ [] }
+    ensures firsts { firsts_after (both_lives 0) ≡ (0, 1) ∷ (0, 10000000) ∷ [] }
+    ensures told { told_after (both_lives 0) ≡ Happened events.OffHook ∷ [] }
+    ensures not_apart { ¬ LieApart (lives_of (lives (both_lives 0))) }
+    ensures repeat { IsTakenFor (bringing 0 1 1) (bringing 1 1 2) }
+{}
+
+/// Where the second's begin otherwise, the agent hears both.
+pub fn numbers_that_begin_otherwise_are_heard()
+    ensures taken { lives_are_taken two_lines (lives_opening two_lines) (both_lives 20) ≡ true }
+    ensures firsts { firsts_after (both_lives 20) ≡ (0, 1) ∷ (0, 10000000) ∷ (1, 21) ∷ (1, 10000020) ∷ [] }
+    ensures told { told_after (both_lives 20) ≡ Happened events.OffHook ∷ Happened events.OffHook ∷ [] }
+    ensures texts { texts_after (both_lives 20) ≡ codes "RSIP 1 *@rgw.example.net MGCP 1.0\r\nRM: restart\r\n" ∷ codes "200 1 OK\r\n"
+        ∷ codes "NTFY 10000000 aaln/1@rgw.example.net MGCP 1.0\r\nX: 0\r\nO: L/hd\r\n" ∷ codes "200 10000000 OK\r\n"
+        ∷ codes "RSIP 21 *@rgw.example.net MGCP 1.0\r\nRM: restart\r\n" ∷ codes "200 21 OK\r\n"
+        ∷ codes "NTFY 10000020 aaln/1@rgw.example.net MGCP 1.0\r\nX: 0\r\nO: L/hd\r\n" ∷ codes "200 10000020 OK\r\n" ∷ [] }
+    ensures owners { owners_after (both_lives 20) ≡ 0 ∷ 0 ∷ 0 ∷ 0 ∷ 1 ∷ 1 ∷ 1 ∷ 1 ∷ [] }
+    ensures began { map begun_key (begun_of (lives (both_lives 20)).life) ≡ (21, 2) ∷ (10000020, 2) ∷ [] }
+{}
+
+/// An answer that was given to a life, and comes to the next where that has a command with its id in flight, counts as its own: the
+/// gateway serves, though the agent never heard its announcement. With other numbers it waits.
+pub fn an_answer_to_one_life_counts_for_the_next()
+    ensures taken { lives_are_taken two_lines (lives_opening two_lines) (answered_late 0) ≡ true }
+    ensures counts { serves_after (answered_late 0) ≡ true }
+    ensures unheard { brought_after (answered_late 0) ≡ (0, 1) ∷ [] }
+    ensures owners { owners_after (answered_late 0) ≡ 0 ∷ 0 ∷ 1 ∷ [] }
+    ensures not_apart { ¬ LieApart (lives_of (lives (answered_late 0))) }
+    ensures otherwise { serves_after (answered_late 20) ≡ false }
+{}
+
+/// A command that arrives in each of two lives is executed in each, once: its history ended with the first. So it isn't executed once
+/// in all.
+pub fn a_command_may_be_executed_in_each_life()
+    ensures taken { lives_are_taken two_lines (lives_opening two_lines) audited_twice ≡ true }
+    ensures executed { map keys_of (lives_of (lives audited_twice)) ≡ ((1, 1) ∷ []) ∷ ((1, 0) ∷ []) ∷ [] }
+    ensures owners { owners_after audited_twice ≡ 0 ∷ 0 ∷ 0 ∷ 0 ∷ 1 ∷ [] }
+    ensures again { keys_of (lives (audited_twice ++ stepping (delivering 2) ∷ [])).life ≡ (1, 0) ∷ [] }
+    ensures not_handed { map keys_of (lives_of (lives (first_life ++ restarting 20 ∷ []))) ≡ [] ∷ [] ∷ [] }
+{}
+
+/// Where a step is done that a world refuses, as a packet that is half a minute old is handed over, a command is executed twice in one
+/// life; and where the agent issues two commands in one text, one is executed that it never issued.
+pub fn steps_that_are_refused_may_do_more()
+    ensures refused { lives_are_taken two_lines (lives_opening two_lines) audited_too_late ≡ false }
+    ensures twice { keys_of (lives audited_too_late).life ≡ (1, 1) ∷ (1, 30001) ∷ [] }
+    ensures refused_two { lives_are_taken two_lines (lives_opening two_lines) issued_two ≡ false }
+    ensures issued { map (λ b. b.id) (issued_in two_lines (agent_side (lives issued_two))) ≡ 1 ∷ [] }
+    ensures executed { keys_of (lives issued_two).life ≡ (1, 0) ∷ (99, 0) ∷ [] }
+{}
+
+/// Where the setup is one that no configuration gives, a life may say more than it began: its ids lie apart from those of the next, and
+/// all the same what that brings is taken for a repeat, and an answer to the first counts for the second.
+pub fn a_setup_of_no_configuration_may_say_more()
+    ensures not_set_up { is_domain broken.names.domain ≡ false }
+    ensures taken { lives_are_taken broken (lives_opening broken) (answered_late 20 ++ stepping (delivering 2) ∷ []) ≡ true }
+    ensures apart { LieApart (lives_of broken_after) }
+    ensures began { map (λ life. map begun_key (begun_of life)) (lives_of broken_after) ≡ ((1, 1) ∷ []) ∷ ((21, 2) ∷ []) ∷ [] }
+    ensures brought { map brought_key broken_after.brought ≡ (0, 1) ∷ (0, 21) ∷ (1, 21) ∷ (1, 21) ∷ [] }
+    ensures firsts { map brought_key (firsts_of_lives broken_after) ≡ (0, 1) ∷ (0, 21) ∷ [] }
+    ensures counts { serves (gateway_of (plain_lives broken (answered_late 20)).life).endpoints ≡ true }
+{}
+
+/// Where a life begins two commands under one id, as one does whose numbers are used up, both are firsts. Such a life is too long to
+/// compute: these are commands as they would come.
+pub fn a_life_without_numbers_is_heard_twice()
+    ensures twice { map brought_key (fold taken_after [] (bringing 0 10000000 5 ∷ bringing 0 10000000 30005 ∷ [])) ≡ (0, 10000000) ∷ (0, 10000000) ∷ [] }
+    ensures repeat { map brought_key (fold taken_after [] (bringing 0 10000000 5 ∷ bringing 0 10000000 30004 ∷ [])) ≡ (0, 10000000) ∷ [] }
+    ensures any_life { map brought_key (fold taken_after [] (bringing 0 5 5 ∷ bringing 1 5 6 ∷ bringing 1 6 6 ∷ [])) ≡ (0, 5) ∷ (1, 6) ∷ [] }
+{}
+
+/// A new life has its hooks down and serves no more, its moments begin with 0, and its setup is that of the first but for its number.
+/// The agent, its clock and the packets go on.
+pub fn a_new_life_has_nothing()
+    ensures life { (lives (first_life ++ restarting 20 ∷ [])).life ≡ record { setup = record two_lines { first = 20 }; start = 1; took = [] } }
+    ensures over { map (λ life. life.start) (lives (first_life ++ restarting 20 ∷ restarting 40 ∷ [])).over ≡ 0 ∷ 1 ∷ [] }
+    ensures hooks_down { refused_then (first_life ++ restarting 20 ∷ []) (stepping (dialling 1 acts.OnHook))
+        ≡ Some (as_step (by_gateway refusals.PhoneState)) }
+    ensures lifts { refused_then (first_life ++ restarting 20 ∷ []) (stepping (dialling 1 acts.OffHook)) ≡ None }
+    ensures was_lifted { refused_then first_life (stepping (dialling 1 acts.OffHook)) ≡ Some (as_step (by_gateway refusals.PhoneState)) }
+    ensures serves { serves_after first_life ≡ true }
+    ensures serves_no_more { serves_after (first_life ++ restarting 20 ∷ []) ≡ false }
+    ensures told { told_after (first_life ++ restarting 20 ∷ []) ≡ Happened events.OffHook ∷ [] }
+    ensures packets { owners_after (first_life ++ restarting 20 ∷ []) ≡ 0 ∷ 0 ∷ 0 ∷ 0 ∷ [] }
+    ensures fly_on { refused_then (first_life ++ restarting 20 ∷ []) (stepping (delivering 3)) ≡ None }
+    ensures own_clock { (gateway_of (lives (first_life ++ restarting 20 ∷ stepping (ticking 5) ∷ [])).life).now ≡ 4 }
+    ensures clock { clock_of two_lines (lives (first_life ++ restarting 20 ∷ stepping (ticking 5) ∷ [])) ≡ 5 }
+{}
+
+/// Packets age by the world's clock, a tick is one of it, and a number with which ids begin is one that there is.
+pub fn steps_of_lives_are_refused()
+    ensures young { refused_then started_late (stepping (delivering 0)) ≡ None }
+    ensures old { refused_then (started_late ++ stepping (ticking 10002) ∷ []) (stepping (delivering 0)) ≡ Some (as_step packet_too_old) }
+    ensures none { refused_then first_life (stepping (delivering 4)) ≡ Some (as_step no_such_packet) }
+    ensures back { refused_then (first_life ++ restarting 20 ∷ []) (stepping (ticking 0)) ≡ Some (as_step (by_agent (as_event refusals.ClockBack))) }
+    ensures far { refused_then (first_life ++ restarting 20 ∷ []) (stepping (ticking 1002)) ≡ Some (as_step (by_agent (as_event refusals.TickTooFar))) }
+    ensures near { refused_then (first_life ++ restarting 20 ∷ []) (stepping (ticking 1001)) ≡ None }
+    ensures last_first { refused_then [] (restarting 9999998) ≡ None }
+    ensures no_first { refused_then [] (restarting 9999999) ≡ Some no_such_first }
+    ensures taken_in_turn { lives_are_taken two_lines (lives_opening two_lines) (restarting 20 ∷ restarting 9999999 ∷ []) ≡ false }
+{}
+
+/// What the laws of lives say of commands.
+pub fn commands_of_lives_are_these()
+    ensures later { BeginsLater (beginning 7 5) (beginning 7 60005) }
+    ensures too_soon { ¬ BeginsLater (beginning 7 5) (beginning 7 60004) }
+    ensures other_id { BeginsLater (beginning 7 5) (beginning 8 6) }
+    ensures taken_for { IsTakenFor (bringing 0 7 5) (bringing 1 7 30004) }
+    ensures too_late { ¬ IsTakenFor (bringing 0 7 5) (bringing 1 7 30005) }
+    ensures before { ¬ IsTakenFor (bringing 0 7 5) (bringing 1 7 4) }
+    ensures another { ¬ IsTakenFor (bringing 0 7 5) (bringing 1 8 5) }
+    ensures moved { moved 100 (beginning 7 5) ≡ beginning 7 105 }
+    ensures of_life { OfLife (λ (life : Life). life.start ≡ 5) (new_life two_lines 0 ∷ new_life two_lines 5 ∷ []) 1 }
+    ensures of_no_life { ¬ OfLife (λ (life : Life). ⊤) (new_life two_lines 0 ∷ []) 1 }
+    ensures copy { BringsCopy (codes "AUEP 8") (datagram agent (codes "AUEP 7\r\n.\r\nAUEP 8")) }
+    ensures no_copy { ¬ BringsCopy (codes "AUEP 9") (datagram agent (codes "AUEP 8")) }
+    ensures none_with_a_tick { ¬ BringsCopy (codes "AUEP 8") (tick 5) }
+    ensures none_with_an_act { ¬ BringsCopy (codes "AUEP 8") (phone 1 acts.OffHook) }
+{}
