@@ -448,7 +448,8 @@ class Recording {
     const sent = /^> (?:(\d+) )?(\S+)$/.exec(line.trim());
     if (sent) {
       this.begin("out", sent[2], sent[1] === undefined ? this.at : Number(sent[1]));
-    } else if (/^(! |line )/.test(line)) {
+    } else if (/^(! \d|line )/.test(line)) {
+      // (`! not sent 1` and `! lost on its way 1` are marks of the trace's own)
       this.put("told", "", line);
     }
   }
