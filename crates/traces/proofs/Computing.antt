@@ -3,7 +3,9 @@ use Rattle.std.specs.Prelude.{⊤}
 use Rattle.rgw_scripts.proofs.Computing.{on_examples as script_examples}
 use Rattle.traces.specs.Telling.{told_datagram, told, is_mark}
 use Rattle.traces.specs.Replaying.{move_in, next}
+use Rattle.traces.specs.Running.{run_from}
+use Rattle.new_start.proofs.Computing.{on_examples as start_examples}
 
 unfoldable pub on_examples : ⊤
-unfolding script_examples told_datagram told is_mark move_in next
+unfolding script_examples start_examples told_datagram told is_mark move_in next run_from
 on_examples = tt

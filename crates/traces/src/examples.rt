@@ -1,7 +1,7 @@
 //! Worked examples of traces, as theorems: each sentence of a definition has one that a slip in it breaks.
 #![tactic(auto, unfolding(crate::proofs::Computing::on_examples))]
 
-ghost use Rattle.std.specs.Prelude.{◌≡◌, codes, true, false, [], ◌∷◌, Some};
+ghost use Rattle.std.specs.Prelude.{◌≡◌, codes, true, false, [], ◌∷◌, None, Some, option_map};
 ghost use Rattle.mg_line.specs.declared.phone.Act.TheVariants.{OnHook};
 ghost use Rattle.plain_machine.specs.declared.refusal.Refusal.TheVariants.{PhoneState};
 ghost use Rattle.plain_machine.specs.Event.{datagram, phone, tick};
@@ -10,6 +10,8 @@ ghost use Rattle.rgw_scripts.specs.Moves.{give, ask, sends, refuses};
 ghost use Rattle.traces.specs.declared.telling.Mark.TheVariants.{Unsent, Lost};
 ghost use Rattle.traces.specs.Telling.{told, told_first, told_mark, is_mark};
 ghost use Rattle.traces.specs.Replaying.{goes_on, tells, differs, is_broken, may_end, next};
+ghost use Rattle.traces.specs.Head.{first_told_in};
+ghost use Rattle.traces.specs.Running.{opening_run, run_from};
 ghost use Rattle.traces.specs.Example.{owing, comes_first, comes_where};
 
 /// A datagram that goes out is told by its address, without its moment, and by its lines; so is a refusal by its line.
@@ -81,4 +83,26 @@ pub fn other_lines_are_broken()
     ensures word { comes_first (codes "hello\n") ≡ is_broken }
     ensures tick { comes_first (codes "tick 1\n") ≡ is_broken }
     ensures wait { comes_first (codes "wait 1\n") ≡ is_broken }
+{}
+
+/// The head tells the first number of ids in a line that has its end, and nothing else.
+pub fn the_head_tells_the_first_number()
+    ensures told { first_told_in (codes "| first 4711\n") ≡ Some 4711 }
+    ensures past { first_told_in (codes "| first 9999999\n") ≡ None }
+    ensures half { first_told_in (codes "| first 4711") ≡ None }
+    ensures more { first_told_in (codes "| first 4711 \n") ≡ None }
+    ensures other { first_told_in (codes "| last 4711\n") ≡ None }
+    ensures bare { first_told_in (codes "first 4711\n") ≡ None }
+{}
+
+/// Lines are replayed in turn. What went out is put together, and so are the moves that the others say; a line that differs, or can't
+/// stand there, ends that.
+pub fn lines_are_replayed_in_turn()
+    ensures none { run_from example opening_run [] ≡ Some opening_run }
+    ensures told { option_map (λ run. run.told) (run_from example opening_run (codes "phone 1 on\n" ∷ codes "| ! 5 PhoneState\n"
+        ∷ codes "show 17\n" ∷ codes "| ! 4 NoSuchLine\n" ∷ [])) ≡ Some (codes "| ! 5 PhoneState\n| ! 4 NoSuchLine\n") }
+    ensures moves { option_map (λ run. run.moves) (run_from example opening_run (codes "phone 1 on\n" ∷ codes "| ! 5 PhoneState\n"
+        ∷ codes "show 17\n" ∷ codes "| ! 4 NoSuchLine\n" ∷ [])) ≡ Some (give (phone 1 OnHook) ∷ ask 17 ∷ []) }
+    ensures differs { run_from example opening_run (codes "| ! 5 PhoneState\n" ∷ []) ≡ None }
+    ensures broken { run_from example opening_run (codes "hello\n" ∷ []) ≡ None }
 {}
