@@ -11,8 +11,8 @@ use Rattle.call_agent.specs.Agent.{observed_on}
 use Rattle.agent_core.specs.World.{WorldStep, issuing, ticking, delivering, dialling}
 use Rattle.world_laws.specs.Reached.{key_reached}
 use Rattle.world_laws.specs.Example.{announced, audits, seconds}
-use Rattle.life_laws.specs.Lives.{Life, Brought, LivesWorld, LivesStep, LivesRefusal, stepping, restarting, plain_lives, agent_then, gateway_of, lived_refusal}
-use Rattle.life_laws.specs.Apart.{executed_by, firsts_of_lives}
+use Rattle.life_laws.specs.Lives.{Life, Brought, LivesWorld, LivesStep, LivesRefusal, stepping, restarting, plain_lives, lives_of, agent_then, gateway_of, lived_refusal}
+use Rattle.life_laws.specs.Apart.{executed_by, begun_of, firsts_of_lives}
 
 abbrev pub lives : List LivesStep → LivesWorld
 lives steps = plain_lives two_lines steps
@@ -49,6 +49,34 @@ audited_too_late = in_one_life (announced ++ audits ∷ delivering 2 ∷ deliver
 abbrev pub started_late : List LivesStep
 started_late = in_one_life (seconds 11) ++ restarting 20 ∷ []
 
+-- the announcement, packet 0, comes to the agent when the gateway has started again
+abbrev pub heard_late : List LivesStep
+heard_late = stepping (ticking 1) ∷ restarting 20 ∷ stepping (delivering 0) ∷ []
+
+-- it has started again when the agent audits line 1, and half a second later, when it has announced itself, the agent says that again
+abbrev pub audited_later : List LivesStep
+audited_later = restarting 20 ∷ in_one_life (audits ∷ ticking 500 ∷ [])
+
+-- it is announced, starts again with 0 a minute later, all at once, as no clock of a world goes on, and announces that by packet 2
+abbrev pub started_far : List LivesStep
+started_far = in_one_life (announced ++ ticking 60001 ∷ []) ++ restarting 0 ∷ stepping (ticking 60002) ∷ []
+
+-- its announcement, packet 0, is handed over half a minute later, as no network of a world does
+abbrev pub announced_too_late : List LivesStep
+announced_too_late = in_one_life (announced ++ ticking 30001 ∷ delivering 0 ∷ [])
+
+-- the clock goes back when it has started again
+abbrev pub gone_back : List LivesStep
+gone_back = in_one_life (ticking 5 ∷ []) ++ restarting 20 ∷ stepping (ticking 3) ∷ []
+
+-- it starts again a second after its start, and with the same number
+abbrev pub started_alike : List LivesStep
+started_alike = first_life ++ stepping (ticking 1001) ∷ restarting 0 ∷ stepping (ticking 1002) ∷ []
+
+-- it answers an audit, starts again, and announces that under the id of the audit
+abbrev pub audited_first : List LivesStep
+audited_first = in_one_life (audits ∷ delivering 0 ∷ []) ++ restarting 0 ∷ stepping (ticking 1) ∷ []
+
 -- an agent that issued what it refuses to issue: two commands in one text
 abbrev pub issued_two : List LivesStep
 issued_two =
@@ -62,6 +90,10 @@ broken = record two_lines {
 
 abbrev pub broken_after : LivesWorld
 broken_after = plain_lives broken (answered_late 20 ++ stepping (delivering 2) ∷ [])
+
+-- the same gateway is announced, and notifies half a minute later that line 1 goes off hook, by packet 2
+abbrev pub broken_notified : List LivesStep
+broken_notified = in_one_life (announced ++ seconds 31 ++ dialling 1 OffHook ∷ delivering 2 ∷ [])
 
 -- whether the gateway serves
 abbrev pub serves_after : List LivesStep → Bool
@@ -77,6 +109,20 @@ texts_after steps = map (λ letter. letter.post.packet.bytes) (lives steps).lett
 
 abbrev pub owners_after : List LivesStep → List ℕ
 owners_after steps = map (λ letter. letter.life) (lives steps).letters
+
+-- under which id a command began, and when
+abbrev pub begun_key : Begun → ℕ × ℕ
+begun_key one = (one.id, one.moment)
+
+abbrev pub moments_after : List LivesStep → List ℕ
+moments_after steps = map (λ letter. letter.post.packet.moment) (lives steps).letters
+
+-- under which ids each life began its commands, and when
+abbrev pub began_after : List LivesStep → List (List (ℕ × ℕ))
+began_after steps = map (λ life. map begun_key (begun_of life)) (lives_of (lives steps))
+
+abbrev pub starts_after : List LivesStep → List ℕ
+starts_after steps = map (λ life. life.start) (lives_of (lives steps))
 
 -- by which life, and under which id
 abbrev pub brought_key : Brought → ℕ × ℕ
@@ -101,10 +147,6 @@ refused_then steps step = lived_refusal two_lines (lives steps) step
 abbrev pub bringing : ℕ → ℕ → ℕ → Brought
 bringing life id moment =
     record { life = life; reached = record { asked = record { source = agent; moment = moment; id = id; confirms = [] }; outcome = bad_body id } }
-
--- under which id a command began, and when
-abbrev pub begun_key : Begun → ℕ × ℕ
-begun_key one = (one.id, one.moment)
 
 -- a command with this id that began at this moment
 abbrev pub beginning : ℕ → ℕ → Begun

@@ -2,7 +2,7 @@
 //! in which it is missing and the law fails.
 #![tactic(auto, unfolding(crate::proofs::Computing::on_examples))]
 
-ghost use Rattle.std.specs.Prelude.{◌≡◌, ◌++◌, codes, [], ◌∷◌, map, fold, ⊤, true, false, None, Some};
+ghost use Rattle.std.specs.Prelude.{◌≡◌, ◌++◌, codes, [], ◌∷◌, map, fold, ⊤, true, false, None, Some, All};
 ghost use Rattle.mg_packages.specs.declared.event.LineEvent.TheVariants as events;
 ghost use Rattle.mg_line.specs.declared.phone.Act.TheVariants as acts;
 ghost use Rattle.event_values.specs.declared.observed.Observed.TheVariants.{Happened};
@@ -15,8 +15,8 @@ ghost use Rattle.call_agent.specs.Hearing.{as_event};
 ghost use Rattle.agent_core.specs.World.{ticking, delivering, dialling, by_gateway, by_agent, no_such_packet, packet_too_old};
 ghost use Rattle.world_laws.specs.Reached.{issued_in};
 ghost use Rattle.life_laws.specs.Lives.{Life, stepping, restarting, lives_opening, lives_of, lives_are_taken, new_life, agent_side, clock_of, gateway_of, plain_lives, as_step, no_such_first};
-ghost use Rattle.life_laws.specs.Apart.{BringsCopy, moved, begun_of, OfLife, BeginsLater, LieApart, IsTakenFor, firsts_of_lives, taken_after};
-ghost use Rattle.life_laws.specs.Example.{lives, first_life, both_lives, answered_late, audited_twice, audited_too_late, issued_two, broken, broken_after, started_late, serves_after, told_after, texts_after, owners_after, brought_key, brought_after, firsts_after, keys_of, refused_then, bringing, beginning, begun_key};
+ghost use Rattle.life_laws.specs.Apart.{BringsCopy, moved, begun_of, OfLife, BeginsLater, LieApart, IsByTime, BeganByTime, StartsLater, IsTakenFor, firsts_of_lives, taken_after};
+ghost use Rattle.life_laws.specs.Example.{lives, first_life, both_lives, answered_late, audited_twice, audited_too_late, heard_late, audited_later, started_far, announced_too_late, gone_back, started_alike, audited_first, issued_two, broken, broken_after, broken_notified, started_late, serves_after, told_after, texts_after, owners_after, moments_after, began_after, starts_after, brought_key, brought_after, firsts_after, keys_of, refused_then, bringing, beginning, begun_key};
 
 /// Where both lives' numbers begin alike, all that the second says is taken for repeats: the agent never hears that line 1 was lifted
 /// again. Their ids don't lie apart.
@@ -40,6 +40,17 @@ pub fn numbers_that_begin_otherwise_are_heard()
         ∷ codes "NTFY 10000020 aaln/1@rgw.example.net MGCP 1.0\r\nX: 0\r\nO: L/hd\r\n" ∷ codes "200 10000020 OK\r\n" ∷ [] }
     ensures owners { owners_after (both_lives 20) ≡ 0 ∷ 0 ∷ 0 ∷ 0 ∷ 1 ∷ 1 ∷ 1 ∷ 1 ∷ [] }
     ensures began { map begun_key (begun_of (lives (both_lives 20)).life) ≡ (21, 2) ∷ (10000020, 2) ∷ [] }
+    ensures moments { moments_after (both_lives 20) ≡ 1 ∷ 1 ∷ 1 ∷ 1 ∷ 2 ∷ 2 ∷ 2 ∷ 2 ∷ [] }
+{}
+
+/// What a life sent is its own when the next has started, and so is the agent's answer to that; what the agent sends of its own is of
+/// the life that goes on.
+pub fn a_packet_is_of_the_life_that_sent_it()
+    ensures brought { brought_after heard_late ≡ (0, 1) ∷ [] }
+    ensures answered { owners_after heard_late ≡ 0 ∷ 0 ∷ [] }
+    ensures issued { owners_after audited_later ≡ 1 ∷ 1 ∷ 1 ∷ [] }
+    ensures texts { texts_after audited_later ≡ codes "AUEP 1 aaln/1@rgw.example.net MGCP 1.0\r\n"
+        ∷ codes "RSIP 21 *@rgw.example.net MGCP 1.0\r\nRM: restart\r\n" ∷ codes "AUEP 1 aaln/1@rgw.example.net MGCP 1.0\r\n" ∷ [] }
 {}
 
 /// An answer that was given to a life, and comes to the next where that has a command with its id in flight, counts as its own: the
@@ -73,6 +84,50 @@ pub fn steps_that_are_refused_may_do_more()
     ensures executed { keys_of (lives issued_two).life ≡ (1, 0) ∷ (99, 0) ∷ [] }
 {}
 
+/// So does a gateway's own command come to the agent twice, as it was sent; and the clock of a world that goes back isn't that of a
+/// life any more.
+pub fn steps_that_are_refused_may_bring_more()
+    ensures refused { lives_are_taken two_lines (lives_opening two_lines) announced_too_late ≡ false }
+    ensures twice { firsts_after announced_too_late ≡ (0, 1) ∷ (0, 1) ∷ [] }
+    ensures refused_back { lives_are_taken two_lines (lives_opening two_lines) gone_back ≡ false }
+    ensures clock { clock_of two_lines (lives gone_back) ≡ 3 }
+    ensures starts { starts_after gone_back ≡ 0 ∷ 5 ∷ [] }
+{}
+
+/// Where they are refused, lives whose ids lie apart may still be taken for each other: a packet of a minute ago is handed over, which
+/// is taken for a repeat, or counts as an answer.
+pub fn steps_that_are_refused_may_mix_lives()
+    ensures refused { lives_are_taken two_lines (lives_opening two_lines) started_far ≡ false }
+    ensures began { began_after started_far ≡ ((1, 1) ∷ []) ∷ ((1, 60002) ∷ []) ∷ [] }
+    ensures apart { LieApart (lives_of (lives started_far)) }
+    ensures brought { brought_after (started_far ++ stepping (delivering 2) ∷ stepping (delivering 0) ∷ [])
+        ≡ (0, 1) ∷ (1, 1) ∷ (0, 1) ∷ [] }
+    ensures firsts { firsts_after (started_far ++ stepping (delivering 2) ∷ stepping (delivering 0) ∷ []) ≡ (0, 1) ∷ (1, 1) ∷ [] }
+    ensures waits { serves_after started_far ≡ false }
+    ensures counts { serves_after (started_far ++ stepping (delivering 1) ∷ []) ≡ true }
+{}
+
+/// What a life answers itself may have the id of a command of the next: that is no answer of the agent's.
+pub fn an_answer_of_a_life_may_have_an_id_of_the_next()
+    ensures taken { lives_are_taken two_lines (lives_opening two_lines) audited_first ≡ true }
+    ensures texts { texts_after audited_first ≡ codes "AUEP 1 aaln/1@rgw.example.net MGCP 1.0\r\n" ∷ codes "200 1 OK\r\n"
+        ∷ codes "RSIP 1 *@rgw.example.net MGCP 1.0\r\nRM: restart\r\n" ∷ [] }
+    ensures owners { owners_after audited_first ≡ 0 ∷ 0 ∷ 1 ∷ [] }
+    ensures began { began_after audited_first ≡ [] ∷ ((1, 1) ∷ []) ∷ [] }
+{}
+
+/// Lives whose numbers follow the time of day, and start a millisecond apart, begin one id soon; and so do lives that start a second
+/// apart, but with one number.
+pub fn lives_that_start_too_soon_or_alike_share_ids()
+    ensures by_time { All (IsByTime 0) (lives_of (lives (both_lives 0))) }
+    ensures starts { starts_after (both_lives 0) ≡ 0 ∷ 1 ∷ [] }
+    ensures began { began_after (both_lives 0) ≡ ((1, 1) ∷ (10000000, 1) ∷ []) ∷ ((1, 2) ∷ (10000000, 2) ∷ []) ∷ [] }
+    ensures taken { lives_are_taken two_lines (lives_opening two_lines) started_alike ≡ true }
+    ensures starts_alike { starts_after started_alike ≡ 0 ∷ 1001 ∷ [] }
+    ensures began_alike { began_after started_alike ≡ ((1, 1) ∷ (10000000, 1) ∷ []) ∷ ((1, 1002) ∷ []) ∷ [] }
+    ensures not_apart { ¬ LieApart (lives_of (lives started_alike)) }
+{}
+
 /// Where the setup is one that no configuration gives, a life may say more than it began: its ids lie apart from those of the next, and
 /// all the same what that brings is taken for a repeat, and an answer to the first counts for the second.
 pub fn a_setup_of_no_configuration_may_say_more()
@@ -83,6 +138,14 @@ pub fn a_setup_of_no_configuration_may_say_more()
     ensures brought { map brought_key broken_after.brought ≡ (0, 1) ∷ (0, 21) ∷ (1, 21) ∷ (1, 21) ∷ [] }
     ensures firsts { map brought_key (firsts_of_lives broken_after) ≡ (0, 1) ∷ (0, 21) ∷ [] }
     ensures counts { serves (gateway_of (plain_lives broken (answered_late 20)).life).endpoints ≡ true }
+{}
+
+/// Such a life is heard twice: what it says once more under an id half a minute later is another first.
+pub fn a_setup_of_no_configuration_is_heard_twice()
+    ensures taken { lives_are_taken broken (lives_opening broken) broken_notified ≡ true }
+    ensures began { map begun_key (begun_of (plain_lives broken broken_notified).life) ≡ (1, 1) ∷ (10000000, 30001) ∷ [] }
+    ensures firsts { map brought_key (firsts_of_lives (plain_lives broken broken_notified))
+        ≡ (0, 1) ∷ (0, 21) ∷ (0, 10000000) ∷ (0, 21) ∷ [] }
 {}
 
 /// Where a life begins two commands under one id, as one does whose numbers are used up, both are firsts. Such a life is too long to
@@ -134,6 +197,11 @@ pub fn commands_of_lives_are_these()
     ensures before { ¬ IsTakenFor (bringing 0 7 5) (bringing 1 7 4) }
     ensures another { ¬ IsTakenFor (bringing 0 7 5) (bringing 1 8 5) }
     ensures moved { moved 100 (beginning 7 5) ≡ beginning 7 105 }
+    ensures by_time { BeganByTime 7 1000 (beginning 10000020 1000) }
+    ensures not_by_time { ¬ BeganByTime 7 1000 (beginning 10000019 1000) }
+    ensures too_long { ¬ BeganByTime 7 1000 (beginning 10000020 432001001) }
+    ensures starts_later { StartsLater (new_life two_lines 5) (new_life two_lines 1005) }
+    ensures starts_soon { ¬ StartsLater (new_life two_lines 5) (new_life two_lines 1004) }
     ensures of_life { OfLife (λ (life : Life). life.start ≡ 5) (new_life two_lines 0 ∷ new_life two_lines 5 ∷ []) 1 }
     ensures of_no_life { ¬ OfLife (λ (life : Life). ⊤) (new_life two_lines 0 ∷ []) 1 }
     ensures copy { BringsCopy (codes "AUEP 8") (datagram agent (codes "AUEP 7\r\n.\r\nAUEP 8")) }

@@ -1,8 +1,19 @@
 use Rattle.std.proofs.Common.{◌≡◌, ℕ, ◌+◌, ◌-◌, ◌<◌, ◌≤◌, List, codes, inl, inr, refl, ap, arith}
 use Rattle.std.specs.List.{slice_index_or}
+use Rattle.plain_machine.specs.Posting.{first_number, id_on, numbers}
+use Rattle.machine_laws.specs.Numbering.{IsBehind}
+use Rattle.machine_laws.specs.Starting.{first_at, most_after}
+use Rattle.machine_laws.proofs.GoingRound.{first_low}
 use Rattle.life_laws.proofs.ExampleLemmas.{none_of_one}
 use Rattle.life_laws.proofs.Computing.{on_examples}
 use Rattle.life_laws.proofs.examples.commands_of_lives_are_these.Goals as goal
+
+-- the number before that of the start comes after almost all others
+before_first : (line number place : ℕ) → number < numbers → 10000019 ≡ id_on line number → place < most_after ((7 + 1000) - (7 + 1000))
+    → IsBehind line (first_number line + first_at (7 + 1000)) place number → ⊥
+before_first line number place below is few (inl on) = let start : first_at (7 + 1000) ≡ 20 = refl in omega (arith, below, is, few, on, start)
+before_first line number place below is few (inr over) =
+    let start : first_at (7 + 1000) ≡ 20 = refl in let low = first_low line in omega (arith, below, is, few, over, start, low)
 
 -- all computed at once
 
@@ -17,6 +28,11 @@ returns c = record {
   before = λ is. absurd (let first : 5 ≤ 4 = is.0 in omega (arith, first));
   another = λ is. absurd (let same : 7 ≡ 8 = is.1.0 in omega (arith, same));
   moved = refl;
+  by_time = record { line = 1; number = 20; below = omega arith; is = refl; began = record { place = 0; since = omega arith; few = omega arith; behind = inl refl }; within = omega arith };
+  not_by_time = λ b. before_first b.line b.number b.began.place b.below b.is b.began.few b.began.behind;
+  too_long = λ b. absurd (let within : 432001001 ≤ 1000 + 432000000 = b.within in omega (arith, within));
+  starts_later = omega arith;
+  starts_soon = λ is. absurd (let late : 5 + 1000 ≤ 1004 = is in omega (arith, late));
   of_life = refl;
   of_no_life = λ is. absurd is;
   copy = inr (inl refl);

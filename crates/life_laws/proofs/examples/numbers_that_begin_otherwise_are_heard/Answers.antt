@@ -13,4 +13,5 @@ returns c = record {
   texts = refl;
   owners = refl;
   began = refl;
+  moments = refl;
 }
