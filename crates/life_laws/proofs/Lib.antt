@@ -9,3 +9,4 @@ pub mod ApartLaws
 pub mod TimeOfDay
 pub mod OneWorld
 pub mod ExampleLemmas
+pub mod GatewaysOfLives

@@ -9,10 +9,13 @@ ghost use Rattle.event_values.specs.declared.observed.Observed.TheVariants.{Happ
 ghost use Rattle.plain_machine.specs.declared.refusal.Refusal.TheVariants as refusals;
 ghost use Rattle.endpoint_names.specs.Table.{is_domain};
 ghost use Rattle.plain_machine.specs.Event.{datagram, phone, tick};
-ghost use Rattle.plain_machine.specs.Machine.{serves};
+ghost use Rattle.plain_machine.specs.Machine.{opening, serves};
+ghost use Rattle.plain_machine.specs.Lists.{are_taken};
 ghost use Rattle.plain_machine.specs.Example.{two_lines, agent};
+ghost use Rattle.call_agent.specs.Agent.{agent_opening};
 ghost use Rattle.call_agent.specs.Hearing.{as_event};
-ghost use Rattle.agent_core.specs.World.{ticking, delivering, dialling, by_gateway, by_agent, no_such_packet, packet_too_old};
+ghost use Rattle.call_agent.specs.AgentStands.{agent_takes};
+ghost use Rattle.agent_core.specs.World.{agent_of, ticking, delivering, dialling, by_gateway, by_agent, no_such_packet, packet_too_old};
 ghost use Rattle.world_laws.specs.Reached.{issued_in};
 ghost use Rattle.life_laws.specs.Lives.{Life, stepping, restarting, lives_opening, lives_of, lives_are_taken, new_life, agent_side, clock_of, gateway_of, plain_lives, as_step, no_such_first};
 ghost use Rattle.life_laws.specs.Apart.{BringsCopy, moved, begun_of, OfLife, BeginsLater, LieApart, IsByTime, BeganByTime, StartsLater, IsTakenFor, firsts_of_lives, taken_after};
@@ -89,6 +92,8 @@ pub fn steps_that_are_refused_may_do_more()
 pub fn steps_that_are_refused_may_bring_more()
     ensures refused { lives_are_taken two_lines (lives_opening two_lines) announced_too_late ≡ false }
     ensures twice { firsts_after announced_too_late ≡ (0, 1) ∷ (0, 1) ∷ [] }
+    ensures no_gateways { are_taken two_lines (opening two_lines) (lives announced_too_late).life.took ≡ false }
+    ensures no_agents { agent_takes (agent_of two_lines) (agent_opening (agent_of two_lines)) (lives announced_too_late).agent_took ≡ false }
     ensures refused_back { lives_are_taken two_lines (lives_opening two_lines) gone_back ≡ false }
     ensures clock { clock_of two_lines (lives gone_back) ≡ 3 }
     ensures starts { starts_after gone_back ≡ 0 ∷ 5 ∷ [] }

@@ -8,10 +8,12 @@ ghost use Rattle.outbound.specs.Flight.{InFlight};
 ghost use Rattle.plain_machine.specs.declared.endpoint.Endpoint.{Endpoint};
 ghost use Rattle.plain_machine.specs.declared.setup.Setup.{Setup};
 ghost use Rattle.plain_machine.specs.Setup.{IsSetUp};
-ghost use Rattle.plain_machine.specs.Machine.{endpoint_at};
+ghost use Rattle.plain_machine.specs.Machine.{endpoint_at, opening};
+ghost use Rattle.plain_machine.specs.Lists.{are_taken};
 ghost use Rattle.transmission.specs.Texts.{texts_of};
 ghost use Rattle.machine_laws.specs.Saying.{Begun};
-ghost use Rattle.call_agent.specs.Agent.{nothing_taken};
+ghost use Rattle.call_agent.specs.Agent.{agent_opening, nothing_taken};
+ghost use Rattle.call_agent.specs.AgentStands.{agent_takes};
 ghost use Rattle.call_agent.specs.Taking.{with_taken};
 ghost use Rattle.agent_core.specs.declared.packet.End.TheVariants.{AgentEnd};
 ghost use Rattle.agent_core.specs.World.{WorldStep, delivering, agent_of, world_opening, plain_world, steps_are_taken};
@@ -107,4 +109,18 @@ pub fn one_life_is_a_world()
         (agent_side (plain_lives setup (map stepping steps))).posted ≡ (plain_world setup steps).posted }
     ensures taken { (setup : Setup) (steps : List WorldStep) → steps_are_taken setup world_opening steps ≡ true →
         lives_are_taken setup (lives_opening setup) (map stepping steps) ≡ true }
+{}
+
+/// Each life has a setup as configurations give, that of the first but for its number, and took what its gateway takes; and the agent
+/// took what it takes. So a gateway that `Gateway::starting_at` made with that number, and that was given what the life took, stands
+/// for it, as an agent does for what the agent took: what is said here of lives is said of them.
+pub fn lives_are_those_of_gateways()
+    ensures gateways { (setup : Setup) (steps : List LivesStep) → IsSetUp setup →
+        lives_are_taken setup (lives_opening setup) steps ≡ true →
+        All (λ (life : Life). IsSetUp life.setup × (are_taken life.setup (opening life.setup) life.took ≡ true))
+        (lives_of (plain_lives setup steps)) }
+    ensures setups { (setup : Setup) (steps : List LivesStep) →
+        All (λ (life : Life). life.setup ≡ record setup { first = life.setup.first }) (lives_of (plain_lives setup steps)) }
+    ensures agent { (setup : Setup) (steps : List LivesStep) → lives_are_taken setup (lives_opening setup) steps ≡ true →
+        agent_takes (agent_of setup) (agent_opening (agent_of setup)) (plain_lives setup steps).agent_took ≡ true }
 {}

@@ -1,4 +1,4 @@
-use Rattle.std.proofs.Common.{ℕ, List, [], ◌∷◌, ◌++◌, codes, inl, refl, arith}
+use Rattle.std.proofs.Common.{ℕ, [], ◌∷◌, ◌++◌, codes, inl, refl, arith}
 use Rattle.agent_core.specs.World.{ticking}
 use Rattle.machine_laws.specs.Saying.{Begun}
 use Rattle.life_laws.specs.Lives.{stepping}

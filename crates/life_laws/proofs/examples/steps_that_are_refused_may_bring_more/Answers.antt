@@ -9,6 +9,8 @@ unfolding on_examples
 returns c = record {
   refused = refl;
   twice = refl;
+  no_gateways = refl;
+  no_agents = refl;
   refused_back = refl;
   clock = refl;
   starts = refl;
