@@ -131,7 +131,7 @@ below_last number over life within other = by_case (cases_lt number (length over
   by_case (inr least) = absurd (other (let all = length-append over (life ∷ []) in omega (arith, least, within, all)))
 
 abbrev NoneWith : LivesWorld → List ℕ → Type 0
-NoneWith w text = (code id : ℕ) (params : List Param) (body : List ℕ) → read_text text ≡ message (messages.Response code id params body) → 200 ≤ code
+NoneWith w text = (code id : ℕ) (params : List Param) (body : List ℕ) → read_text text ≡ message (messages.Response code id params body)
     → All (λ (b : Begun). b.id ≢ id) (begun_of w.life)
 
 -- a packet of the agent's is handed over, which answered another life
@@ -155,16 +155,16 @@ handed_to_another setup w letter l is end late other next same linked apart =
 
       -- whatever the life that goes on became
       by_life : (life : Life) → IsLife (clock_of setup w) life → Pairs AreApart (w.over ++ life ∷ [])
-          → Each (λ (text : List ℕ). (code id : ℕ) (params : List Param) (body : List ℕ) → read_text text ≡ message (messages.Response code id params body) → 200 ≤ code
+          → Each (λ (text : List ℕ). (code id : ℕ) (params : List Param) (body : List ℕ) → read_text text ≡ message (messages.Response code id params body)
           → All (λ (b : Begun). b.id ≢ id) (begun_of life)) (texts_of post.packet.bytes)
       by_life life is_life pairs =
           each_weaker (λ (text : List ℕ). OfLife (λ (one : Life). AnswersSoon (begun_of one) text post.packet.moment × (post.packet.moment ≤ clock_of setup w)) (w.over ++ life ∷ []) letter.life)
-          (λ (text : List ℕ). (code id : ℕ) (params : List Param) (body : List ℕ) → read_text text ≡ message (messages.Response code id params body) → 200 ≤ code
+          (λ (text : List ℕ). (code id : ℕ) (params : List Param) (body : List ℕ) → read_text text ≡ message (messages.Response code id params body)
           → All (λ (b : Begun). b.id ≢ id) (begun_of life))
-          (λ text soon. λ code id params body reads high.
+          (λ text soon. λ code id params body reads.
           too_soon (w.over ++ life ∷ []) life letter.life (number_of w) (clock_of setup w) post.packet.moment id pairs is_life earlier late
           (of_life_weaker (λ (one : Life). AnswersSoon (begun_of one) text post.packet.moment × (post.packet.moment ≤ clock_of setup w)) (λ (one : Life). OneOf (IsRecent id post.packet.moment) (begun_of one))
-          (w.over ++ life ∷ []) letter.life (λ one s. s.0 code id params body reads high) soon)
+          (w.over ++ life ∷ []) letter.life (λ one s. s.0 code id params body reads) soon)
           (of_last (λ (one : Life). one ≡ life) w.over life refl))
           (texts_of post.packet.bytes)
           (of_life_each (λ (one : Life) (text : List ℕ). AnswersSoon (begun_of one) text post.packet.moment × (post.packet.moment ≤ clock_of setup w)) (texts_of post.packet.bytes) (w.over ++ life ∷ []) letter.life
@@ -199,7 +199,7 @@ late_is setup w number letter at none =
 pub none_is_answered_for_another : (setup : Setup) (steps : List LivesStep) (number : ℕ) (letter : Letter) → IsSetUp setup
     → lives_are_taken setup (lives_opening setup) (steps ++ stepping (delivering number) ∷ []) ≡ true → LieApart (lives_of (plain_lives setup (steps ++ stepping (delivering number) ∷ [])))
     → slice_get (plain_lives setup steps).letters number ≡ Some letter → letter.post.end ≡ agent_end → letter.life ≢ number_of (plain_lives setup steps)
-    → All (λ (text : List ℕ). (code id : ℕ) (params : List Param) (body : List ℕ) → read_text text ≡ message (messages.Response code id params body) → 200 ≤ code
+    → All (λ (text : List ℕ). (code id : ℕ) (params : List Param) (body : List ℕ) → read_text text ≡ message (messages.Response code id params body)
     → All (λ (b : Begun). b.id ≢ id) (begun_of (plain_lives setup (steps ++ stepping (delivering number) ∷ [])).life)) (texts_of letter.post.packet.bytes)
 none_is_answered_for_another setup steps number letter set_up taken apart at end other =
     let t = taken_then setup (lives_opening setup) steps (stepping (delivering number)) taken in
@@ -214,18 +214,20 @@ none_is_answered_for_another setup steps number letter set_up taken apart at end
 
 -- What a life has in flight it began
 
-pub lines_have_begun : (setup : Setup) (steps : List LivesStep) → IsSetUp setup → lives_are_taken setup (lives_opening setup) steps ≡ true
-    → All (λ (life : Life). (line : ℕ) (endpoint : Endpoint) → endpoint_at (gateway_of life).endpoints line ≡ Some endpoint
+-- what is so of every life is so of these
+of_every : (P : Life → Type 0) (lives : List Life) → ((life : Life) → P life) → Each P lives
+of_every P [] is = tt
+of_every P (life ∷ lives) is = (is life, of_every P lives is)
+
+pub lines_have_begun : (setup : Setup) (steps : List LivesStep) → All (λ (life : Life). (line : ℕ) (endpoint : Endpoint) → endpoint_at (gateway_of life).endpoints line ≡ Some endpoint
     → IfSome endpoint.post.pending (λ (message : InFlight). Any (λ (b : Begun). b.id ≡ message.id) (begun_of life))) (lives_of (plain_lives setup steps))
-lines_have_begun setup steps set_up taken =
-    let w = plain_lives setup steps in
+lines_have_begun setup steps =
     let P : Life → Type 0 = λ life. (line : ℕ) (endpoint : Endpoint) → endpoint_at (gateway_of life).endpoints line ≡ Some endpoint
     → IfSome endpoint.post.pending (λ (message : InFlight). Any (λ (b : Begun). b.id ≡ message.id) (begun_of life)) in
-    all_from_each P (lives_of w) (each_weaker (IsLife (clock_of setup w)) P (λ life is. line_flies (clock_of setup w) life is) (lives_of w) (lives_stand setup steps set_up taken).linked.each)
+    all_from_each P (lives_of (plain_lives setup steps)) (of_every P (lives_of (plain_lives setup steps)) line_flies)
 
-pub gateways_have_begun : (setup : Setup) (steps : List LivesStep) → IsSetUp setup → lives_are_taken setup (lives_opening setup) steps ≡ true
+pub gateways_have_begun : (setup : Setup) (steps : List LivesStep)
     → All (λ (life : Life). IfSome (gateway_of life).endpoints.own.pending (λ (message : InFlight). Any (λ (b : Begun). b.id ≡ message.id) (begun_of life))) (lives_of (plain_lives setup steps))
-gateways_have_begun setup steps set_up taken =
-    let w = plain_lives setup steps in
+gateways_have_begun setup steps =
     let P : Life → Type 0 = λ life. IfSome (gateway_of life).endpoints.own.pending (λ (message : InFlight). Any (λ (b : Begun). b.id ≡ message.id) (begun_of life)) in
-    all_from_each P (lives_of w) (each_weaker (IsLife (clock_of setup w)) P (λ life is. own_flies (clock_of setup w) life is) (lives_of w) (lives_stand setup steps set_up taken).linked.each)
+    all_from_each P (lives_of (plain_lives setup steps)) (of_every P (lives_of (plain_lives setup steps)) own_flies)

@@ -396,7 +396,3 @@ each_was_handed setup steps taken =
     (each_weaker (CameTo all life) (IsHanded all life) (handed_there all life) (executed_by life)
     (executed_each (CameTo all life) (flat_map reached (arrivals_of life.took)) executes)))
     (lives_of w) k.lives)
-
-pub no_id_twice : (setup : Setup) (steps : List LivesStep) → lives_are_taken setup (lives_opening setup) steps ≡ true
-    → AllPairs (λ (a b : Begun). a.id ≢ b.id) (issued_in setup (agent_side (plain_lives setup steps)))
-no_id_twice setup steps taken = (lives_kept setup steps taken).agrees.agent.apart

@@ -1,19 +1,18 @@
--- The agent's firsts, each with its life: they are those that it keeps, each is a command that its life sent, and each command of a life
--- that has numbers left is one once at most.
+-- The agent's firsts, each with its life: they are those that it keeps, and each command of a life that has numbers
+-- left is one once at most.
 use Rattle.std.proofs.Common.{◌≡◌, ◌≢◌, ℕ, ◌-◌, ◌<◌, Bool, true, false, if◌then◌else◌, List, [], ◌∷◌, ◌++◌, map, length, Option, Some, None, refl, sym, ap, ◌∙◌, subst, arith}
-use Rattle.std.specs.Prelude.{All, AllPairs, Any, flat_map, fold, slice_get}
+use Rattle.std.specs.Prelude.{AllPairs, flat_map, fold, slice_get}
 use Rattle.std.specs.List.{slice_index_or}
 use Rattle.std.proofs.lemmas.List.{map-append, length-map, get_or-map}
 use Rattle.history.specs.Firsts.{Kind, a_first, a_repeat, lost, kind_of, firsts_of}
 use Rattle.history.specs.Kept.{firsts_in}
 use Rattle.history.specs.Memory.{memory_time, most_firsts}
 use Rattle.history.proofs.BareLaws.{firsts_bare}
-use Rattle.mgcp_text.specs.Reading.{read_text}
 use Rattle.plain_machine.specs.declared.setup.Setup.{Setup}
 use Rattle.plain_machine.specs.Setup.{IsSetUp}
 use Rattle.plain_machine.specs.Event.{datagram, tick}
-use Rattle.machine_laws.specs.Saying.{Begun, HasNumbersLeft}
-use Rattle.machine_laws.proofs.EachLemmas.{Each, all_from_each, any_from_one, each_from_all, each_push, each_weaker, one_weaker}
+use Rattle.machine_laws.specs.Saying.{HasNumbersLeft}
+use Rattle.machine_laws.proofs.EachLemmas.{Each, all_from_each, each_from_all, each_push}
 use Rattle.call_agent.specs.Agent.{AgentMachine, agent_opening, nothing_taken}
 use Rattle.call_agent.specs.Hearing.{AgentEvent, agent_after, agent_effect, hears, issues}
 use Rattle.call_agent.specs.Taking.{with_taken}
@@ -28,7 +27,7 @@ use Rattle.world_laws.proofs.AgentLaws.{alone}
 use Rattle.world_laws.proofs.FirstLaws.{keys_from}
 use Rattle.world_laws.proofs.LinkLaws.{arrives_with}
 use Rattle.world_laws.proofs.ReachedLaws.{Apart, executed_apart, executed_is}
-use Rattle.world_laws.proofs.WorldLaws.{Comes, same_issued}
+use Rattle.world_laws.proofs.WorldLaws.{same_issued}
 use Rattle.transmission.specs.Packing.{same_address}
 use Rattle.life_laws.specs.Lives.{Brought, Life, Letter, LivesWorld, LivesStep, agent_then, brought_by, clock_of, comes_with, handed, handed_from, lived, lives_after, lives_are_taken, lives_of, lives_opening, number_of, plain_lives, restarting, stepping, to_agent_of, to_life}
 use Rattle.life_laws.specs.Apart.{AllHaveNumbersLeft, OfLife, added_as, begun_of, firsts_of_lives, own_of, taken_after, what_came}
@@ -152,26 +151,7 @@ firsts_tell setup steps =
     (lives_keep setup steps).taken
     ∙ ap (λ (x : List Reached). fold with_taken (nothing_taken (agent_of setup)) (flat_map (taken_with (agent_of setup)) x)) (sym (firsts_are (plain_lives setup steps).brought))
 
--- Each is a command of its life
-
-abbrev WasSentBy : Brought → Life → Type 0
-WasSentBy one life = Any (λ (b : Begun). (b.id ≡ one.reached.asked.id) × (one.reached.outcome ≡ read_text b.text)) (begun_of life)
-
-pub firsts_as_sent : (setup : Setup) (steps : List LivesStep) → IsSetUp setup → lives_are_taken setup (lives_opening setup) steps ≡ true
-    → All (λ (one : Brought). OfLife (λ (life : Life). Any (λ (b : Begun). (b.id ≡ one.reached.asked.id) × (one.reached.outcome ≡ read_text b.text)) (begun_of life)) (lives_of (plain_lives setup steps)) one.life)
-    (firsts_of_lives (plain_lives setup steps))
-firsts_as_sent setup steps set_up taken =
-    let w = plain_lives setup steps in
-    let s = lives_stand setup steps set_up taken in
-    let P : Brought → Type 0 = λ one. OfLife (WasSentBy one) (lives_of w) one.life in
-    all_from_each P (firsts_of_lives w)
-    (each_weaker (IsBrought (lives_of w)) P
-    (λ one is. of_life_weaker (IsBegunBy one.reached) (WasSentBy one) (lives_of w) one.life
-    (λ life came. any_from_one (λ (b : Begun). (b.id ≡ one.reached.asked.id) × (one.reached.outcome ≡ read_text b.text)) (begun_of life)
-    (one_weaker (Comes one.reached) (λ (b : Begun). (b.id ≡ one.reached.asked.id) × (one.reached.outcome ≡ read_text b.text)) (λ b c. (c.id, c.read)) (begun_of life) came)) is)
-    (firsts_of_lives w) (firsts_each (IsBrought (lives_of w)) w.brought s.linked.came))
-
--- and is one once at most
+-- Each is one once at most
 
 pub firsts_once : (setup : Setup) (steps : List LivesStep) → IsSetUp setup → lives_are_taken setup (lives_opening setup) steps ≡ true → AllHaveNumbersLeft (lives_of (plain_lives setup steps))
     → AllPairs (λ (first later : Brought). first.life ≡ later.life → first.reached.asked.id ≢ later.reached.asked.id) (firsts_of_lives (plain_lives setup steps))

@@ -30,10 +30,8 @@ use Rattle.machine_laws.proofs.EachLemmas.{Each, any_from_one, each_mapped, each
 use Rattle.machine_laws.proofs.FlightLemmas.{IsSame}
 use Rattle.machine_laws.proofs.GatewayEvents.{Said}
 use Rattle.machine_laws.proofs.GatewayLists.{all_apart, all_hold}
-use Rattle.machine_laws.proofs.GatewayTurns.{LineStands}
 use Rattle.machine_laws.proofs.MessageLaws.{sent_as_messages}
-use Rattle.machine_laws.proofs.PostLogs.{InLog, WasBegun}
-use Rattle.machine_laws.proofs.TurnLemmas.{of_line}
+use Rattle.machine_laws.proofs.PostLogs.{WasBegun}
 use Rattle.machine_laws.proofs.TellsLemmas.{AreAnswers, IsCommand}
 use Rattle.agent_core.specs.declared.packet.Posted.{Posted}
 use Rattle.world_laws.proofs.LinkLaws.{sent_more}
@@ -41,6 +39,7 @@ use Rattle.world_laws.proofs.WorldLaws.{Holding, texts_hold}
 use Rattle.life_laws.specs.Lives.{Life, Letter, gateway_of, sent_by}
 use Rattle.life_laws.specs.Apart.{begun_of, moved, own_of}
 use Rattle.life_laws.proofs.HandedLaws.{life_clock, with_event}
+use Rattle.life_laws.proofs.OwnEvents.{line_in_flight, own_in_flight}
 use Rattle.life_laws.proofs.PairLemmas.{each_among}
 
 -- what is so of a life by this moment of the world
@@ -126,24 +125,6 @@ module _ (now : ℕ) (life : Life) (is : IsLife now life) where
       (ap (λ (b : Begun). b.id) (sym (get_or-map (moved life.start) (own_of life) i d d (omega (arith, less, inside)))) ∙ same
       ∙ ap (λ (b : Begun). b.id) (get_or-map (moved life.start) (own_of life) j d d inside))
 
-  -- what it has in flight it began
-  pending_begun : (pending : Option InFlight) → IfSome pending (InLog (gateway_of life).now (own_of life)) → IfSome pending (λ (message : InFlight). Any (λ (b : Begun). b.id ≡ message.id) (begun_of life))
-  pending_begun None in_log = tt
-  pending_begun (Some message) in_log =
-      any_from_one (λ (b : Begun). b.id ≡ message.id) (begun_of life)
-      (one_mapped (λ (b : Begun). b.id ≡ message.id) (moved life.start) (own_of life)
-      (one_weaker (IsSame message) (λ (b : Begun). b.id ≡ message.id) (λ b same. same.id) (own_of life) in_log.known))
-
-  pub line_flies : (line : ℕ) (endpoint : Endpoint) → endpoint_at (gateway_of life).endpoints line ≡ Some endpoint
-      → IfSome endpoint.post.pending (λ (message : InFlight). Any (λ (b : Begun). b.id ≡ message.id) (begun_of life))
-  line_flies line endpoint at =
-      pending_begun endpoint.post.pending
-      (of_line (LineStands life.setup (gateway_of life).now (own_of life)) (gateway_of life).endpoints line endpoint
-      (all_hold life.setup life.took is.set_up is.taken).holds.stands.list at).post.flight
-
-  pub own_flies : IfSome (gateway_of life).endpoints.own.pending (λ (message : InFlight). Any (λ (b : Begun). b.id ≡ message.id) (begun_of life))
-  own_flies = pending_begun (gateway_of life).endpoints.own.pending (all_hold life.setup life.took is.set_up is.taken).holds.stands.own.post.flight
-
   abbrev SaysBy : OutDatagram → Type 0
   SaysBy out = Tells (begun_of life) (kept_of life) out.bytes (life.start + out.moment) × (life.start + out.moment ≤ now)
 
@@ -166,6 +147,23 @@ module _ (now : ℕ) (life : Life) (is : IsLife now life) where
       (λ out each. texts_hold (λ (text : List ℕ). Tells (begun_of life) (kept_of life) text (life.start + out.moment) × (life.start + out.moment ≤ now)) out.bytes
       (each_unmapped SaysBy (λ text. record out { bytes = text }) (parts_of out.bytes) each))
       outs (each_unflat SaysBy messages_in outs inside)
+
+-- What a life has in flight it began
+
+began_so : (life : Life) (pending : Option InFlight) → IfSome pending (λ (message : InFlight). OneOf (IsSame message) (own_of life))
+    → IfSome pending (λ (message : InFlight). Any (λ (b : Begun). b.id ≡ message.id) (begun_of life))
+began_so life None known = tt
+began_so life (Some message) known =
+    any_from_one (λ (b : Begun). b.id ≡ message.id) (begun_of life)
+    (one_mapped (λ (b : Begun). b.id ≡ message.id) (moved life.start) (own_of life)
+    (one_weaker (IsSame message) (λ (b : Begun). b.id ≡ message.id) (λ b same. same.id) (own_of life) known))
+
+pub line_flies : (life : Life) (line : ℕ) (endpoint : Endpoint) → endpoint_at (gateway_of life).endpoints line ≡ Some endpoint
+    → IfSome endpoint.post.pending (λ (message : InFlight). Any (λ (b : Begun). b.id ≡ message.id) (begun_of life))
+line_flies life line endpoint at = began_so life endpoint.post.pending (line_in_flight life.setup life.took line endpoint at)
+
+pub own_flies : (life : Life) → IfSome (gateway_of life).endpoints.own.pending (λ (message : InFlight). Any (λ (b : Begun). b.id ≡ message.id) (begun_of life))
+own_flies life = began_so life (gateway_of life).endpoints.own.pending (own_in_flight life.setup life.took)
 
 -- A packet of a life's
 

@@ -33,6 +33,7 @@ use Rattle.life_laws.specs.Lives.{Brought, Life, Letter, LivesWorld, LivesStep, 
 use Rattle.life_laws.specs.Apart.{OfLife, begun_of}
 use Rattle.life_laws.proofs.PairLemmas.{Pairs, each_last, of_last, of_life_before, of_life_each, of_life_on, of_life_weaker, of_life_with, pairs_last, pairs_push}
 use Rattle.life_laws.proofs.LifeSays.{IsLife, IsSentBy, event_sends, kept_of, life_answers, life_commands, life_later, life_on, one_begun_on, packet_says, sent_on, tick_moved}
+use Rattle.life_laws.proofs.LifeTexts.{IsPlain, packet_plain}
 use Rattle.life_laws.proofs.AnswersSoon.{AnswersSoon, IsRecent, hears_soon, issues_soon, ticks_soon}
 use Rattle.life_laws.proofs.HandedLaws.{Kept, life_agrees, opening_kept, side_clock, step_none, stepped_kept, tick_past, with_event}
 
@@ -79,7 +80,7 @@ packet_on now life event gateway_end post is = sent_on life event post is
 packet_on now life event agent_end post is =
     each_weaker (λ (text : List ℕ). AnswersSoon (begun_of life) text post.packet.moment × (post.packet.moment ≤ now))
     (λ (text : List ℕ). AnswersSoon (begun_of (with_event life event)) text post.packet.moment × (post.packet.moment ≤ now))
-    (λ text s. ((λ code id params body reads high. one_begun_on (IsRecent id post.packet.moment) life event (s.0 code id params body reads high)), s.1)) (texts_of post.packet.bytes) is
+    (λ text s. ((λ code id params body reads. one_begun_on (IsRecent id post.packet.moment) life event (s.0 code id params body reads)), s.1)) (texts_of post.packet.bytes) is
 
 pub life_linked : (over : List Life) (life : Life) (event : GatewayEvent) (now later : ℕ) (letters : List Letter) (brought : List Brought) → Linked (over ++ life ∷ []) now letters brought
     → refusal_of (gateway_of life) event ≡ None → now ≤ later → life.start + clock_after (gateway_of life).now event ≤ later
@@ -179,9 +180,9 @@ hears_linked setup w number post k l sent late =
     (sym (side_clock setup number w event k.agrees (never (agent_then setup w) post.packet.sender post.packet.bytes)))
     (agent_linked lives now now w.letters (map (said_to setup number) outs) w.brought (map (brought_by number) comes) l (omega arith)
     (said_letters setup lives number now outs
-    (of_life_weaker (λ (life : Life). Each (Came (begun_of life)) comes)
+    (of_life_weaker (λ (life : Life). Each IsPlain (texts_of post.packet.bytes) × Each (Came (begun_of life)) comes)
     (λ (life : Life). Each (λ (out : OutDatagram). Holding (AnswersSoon (begun_of life)) now out.bytes out.moment) outs) lives number
-    (λ life each. hears_soon (agent_of setup) (issued_in setup (agent_side w)) (begun_of life) (agent_then setup w) post.packet.sender post.packet.bytes k.agrees.agent each) came))
+    (λ life both. hears_soon (agent_of setup) (issued_in setup (agent_side w)) (begun_of life) (agent_then setup w) post.packet.sender post.packet.bytes k.agrees.agent both.0 both.1) plain))
     (each_mapped (IsBrought lives) (brought_by number) comes (of_life_each (λ (life : Life) (one : Reached). Came (begun_of life) one) comes lives number came))) where
       lives : List Life
       lives = lives_of w
@@ -198,15 +199,27 @@ hears_linked setup w number post k l sent late =
       comes : List Reached
       comes = flat_map reached (map (arrival (clock_of setup w) post.packet.sender) (texts_of post.packet.bytes))
 
-      came : OfLife (λ (life : Life). Each (Came (begun_of life)) (flat_map reached (map (arrival (clock_of setup w) post.packet.sender) (texts_of post.packet.bytes)))) (lives_of w) number
-      came =
+      plain : OfLife (λ (life : Life). Each IsPlain (texts_of post.packet.bytes)
+          × Each (Came (begun_of life)) (flat_map reached (map (arrival (clock_of setup w) post.packet.sender) (texts_of post.packet.bytes)))) (lives_of w) number
+      plain =
           of_life_weaker (λ (life : Life). IsLife (clock_of setup w) life × IsSentBy post life)
-          (λ (life : Life). Each (Came (begun_of life)) (flat_map reached (map (arrival (clock_of setup w) post.packet.sender) (texts_of post.packet.bytes)))) (lives_of w) number
-          (λ life both. texts_came (begun_of life) (kept_of life) post.packet.moment (clock_of setup w) post.packet.sender (texts_of post.packet.bytes)
-          (life_commands (clock_of setup w) life both.0) (life_answers (clock_of setup w) life both.0) (packet_says (clock_of setup w) life post both.0 both.1) late)
+          (λ (life : Life). Each IsPlain (texts_of post.packet.bytes)
+          × Each (Came (begun_of life)) (flat_map reached (map (arrival (clock_of setup w) post.packet.sender) (texts_of post.packet.bytes)))) (lives_of w) number
+          (λ life both. (
+            packet_plain life post both.0.set_up both.1,
+            texts_came (begun_of life) (kept_of life) post.packet.moment (clock_of setup w) post.packet.sender (texts_of post.packet.bytes)
+                (life_commands (clock_of setup w) life both.0) (life_answers (clock_of setup w) life both.0) (packet_says (clock_of setup w) life post both.0 both.1) late,
+          ))
           (of_life_with (IsLife (clock_of setup w)) (IsSentBy post) (lives_of w) number l.each sent)
 
-never_refused : (setup : Setup) (life : Life) (source : SocketAddrV4) (bytes : List ℕ) → refusal_of (gateway_of life) (datagram source bytes) ≡ None
+      came : OfLife (λ (life : Life). Each (Came (begun_of life)) (flat_map reached (map (arrival (clock_of setup w) post.packet.sender) (texts_of post.packet.bytes)))) (lives_of w) number
+      came =
+          of_life_weaker (λ (life : Life). Each IsPlain (texts_of post.packet.bytes)
+          × Each (Came (begun_of life)) (flat_map reached (map (arrival (clock_of setup w) post.packet.sender) (texts_of post.packet.bytes))))
+          (λ (life : Life). Each (Came (begun_of life)) (flat_map reached (map (arrival (clock_of setup w) post.packet.sender) (texts_of post.packet.bytes)))) (lives_of w) number
+          (λ life both. both.1) plain
+
+pub never_refused : (setup : Setup) (life : Life) (source : SocketAddrV4) (bytes : List ℕ) → refusal_of (gateway_of life) (datagram source bytes) ≡ None
 unfolding refusal_of
 never_refused setup life source bytes = refl
 
@@ -264,7 +277,7 @@ first_is first taken = by_test (nat_lt first firsts) refl taken where
   by_test true less e = ltb-true first firsts less
   by_test false more e = absurd (none-some no_such_first (sym e))
 
-tick_none : (m : AgentMachine) (moment : ℕ) → agent_refusal m (hears (tick moment)) ≡ None → tick_refusal m.now moment ≡ None
+pub tick_none : (m : AgentMachine) (moment : ℕ) → agent_refusal m (hears (tick moment)) ≡ None → tick_refusal m.now moment ≡ None
 unfolding agent_refusal
 tick_none m moment taken = by_refusal (tick_refusal m.now moment) taken where
   by_refusal : (refusal : Option Refusal) → event_refused refusal ≡ None → refusal ≡ None

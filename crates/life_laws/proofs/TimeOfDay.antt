@@ -3,7 +3,6 @@ use Rattle.std.proofs.Common.{◌≡◌, ℕ, ◌+◌, ◌<◌, ◌≤◌, true,
 use Rattle.std.specs.Prelude.{All, AllPairs}
 use Rattle.std.proofs.lemmas.Nat.{div-mul-add}
 use Rattle.plain_machine.specs.declared.setup.Setup.{Setup}
-use Rattle.plain_machine.specs.Setup.{IsSetUp}
 use Rattle.plain_machine.specs.Posting.{numbers, id_on, line_of_id}
 use Rattle.machine_laws.specs.Saying.{Begun}
 use Rattle.machine_laws.specs.Starting.{BeganUnder, safe_time, shortest_life}
@@ -11,8 +10,8 @@ use Rattle.machine_laws.proofs.EachLemmas.{all_from_each, each_from_all, each_we
 use Rattle.machine_laws.proofs.StartingLaws.{starts_apart}
 use Rattle.life_laws.specs.Lives.{Life, LivesStep, clock_of, gateway_of, lives_are_taken, lives_of, lives_opening, plain_lives}
 use Rattle.life_laws.specs.Apart.{AreApart, BeganByTime, BeginsLater, IsByTime, LieApart, StartsLater, begun_of}
-use Rattle.life_laws.proofs.LifeSays.{IsLife, life_past}
-use Rattle.life_laws.proofs.LinkedLives.{IsOverBefore, LinkedWorld, lives_stand}
+use Rattle.life_laws.proofs.LinkedLives.{IsOverBefore}
+use Rattle.life_laws.proofs.TimedLives.{IsTimed, TimedWorld, life_began, lives_timed}
 use Rattle.life_laws.proofs.PairLemmas.{each_and, pairs_both, pairs_from, pairs_to, pairs_with}
 
 -- one id is one number of one line
@@ -33,23 +32,23 @@ begins_later day first next end one other apart over past was is = λ same.
     (omega (arith, apart)) (omega (arith, over, past)) (omega (arith, within)) began is.began in
     omega (arith, far)
 
-pub by_time_they_lie_apart : (day : ℕ) (setup : Setup) (steps : List LivesStep) → IsSetUp setup → lives_are_taken setup (lives_opening setup) steps ≡ true
+pub by_time_they_lie_apart : (day : ℕ) (setup : Setup) (steps : List LivesStep) → lives_are_taken setup (lives_opening setup) steps ≡ true
     → All (IsByTime day) (lives_of (plain_lives setup steps)) → AllPairs StartsLater (lives_of (plain_lives setup steps)) → LieApart (lives_of (plain_lives setup steps))
-by_time_they_lie_apart day setup steps set_up taken by_time starts =
+by_time_they_lie_apart day setup steps taken by_time starts =
     pairs_to AreApart lives
-    (pairs_with (λ (life : Life). IsLife now life × IsByTime day life) (λ (earlier later : Life). IsOverBefore earlier later × StartsLater earlier later) AreApart both lives
-    (each_and (IsLife now) (IsByTime day) lives linked.each (each_from_all (IsByTime day) lives by_time))
-    (pairs_both IsOverBefore StartsLater lives linked.follow (pairs_from StartsLater lives starts))) where
+    (pairs_with (λ (life : Life). IsTimed now life × IsByTime day life) (λ (earlier later : Life). IsOverBefore earlier later × StartsLater earlier later) AreApart both lives
+    (each_and (IsTimed now) (IsByTime day) lives timed.each (each_from_all (IsByTime day) lives by_time))
+    (pairs_both IsOverBefore StartsLater lives timed.follow (pairs_from StartsLater lives starts))) where
       lives : List Life
       lives = lives_of (plain_lives setup steps)
 
       now : ℕ
       now = clock_of setup (plain_lives setup steps)
 
-      linked : LinkedWorld setup (plain_lives setup steps)
-      linked = (lives_stand setup steps set_up taken).linked
+      timed : TimedWorld setup (plain_lives setup steps)
+      timed = lives_timed setup steps taken
 
-      both : (earlier later : Life) → IsLife now earlier × IsByTime day earlier → IsLife now later × IsByTime day later → IsOverBefore earlier later × StartsLater earlier later → AreApart earlier later
+      both : (earlier later : Life) → IsTimed now earlier × IsByTime day earlier → IsTimed now later × IsByTime day later → IsOverBefore earlier later × StartsLater earlier later → AreApart earlier later
       both earlier later one two follows =
           all_from_each (λ (b : Begun). All (BeginsLater b) (begun_of later)) (begun_of earlier)
           (each_weaker (λ (b : Begun). (b.moment ≤ earlier.start + (gateway_of earlier).now) × BeganByTime day earlier.start b) (λ (b : Begun). All (BeginsLater b) (begun_of later))
@@ -58,5 +57,5 @@ by_time_they_lie_apart day setup steps set_up taken by_time starts =
           (λ other is. begins_later day earlier.start later.start (earlier.start + (gateway_of earlier).now) b other follows.1 follows.0 was.0 was.1 is)
           (begun_of later) (each_from_all (BeganByTime day later.start) (begun_of later) two.1)))
           (begun_of earlier)
-          (each_and (λ (b : Begun). b.moment ≤ earlier.start + (gateway_of earlier).now) (BeganByTime day earlier.start) (begun_of earlier) (life_past now earlier one.0)
+          (each_and (λ (b : Begun). b.moment ≤ earlier.start + (gateway_of earlier).now) (BeganByTime day earlier.start) (begun_of earlier) (life_began now earlier one.0)
           (each_from_all (BeganByTime day earlier.start) (begun_of earlier) one.1)))

@@ -151,3 +151,8 @@ bringing life id moment =
 -- a command with this id that began at this moment
 abbrev pub beginning : ℕ → ℕ → Begun
 beginning id moment = record { id = id; moment = moment; text = [] }
+
+-- the clock goes on by more than a world lets it, so that the gateway announces itself 21 times, and back; then it starts again, a second
+-- after it started first
+abbrev pub started_back : List LivesStep
+started_back = in_one_life (ticking 470021 ∷ ticking 1000 ∷ []) ++ restarting 20 ∷ stepping (ticking 1001) ∷ []

@@ -2,7 +2,7 @@
 //! in which it is missing and the law fails.
 #![tactic(auto, unfolding(crate::proofs::Computing::on_examples))]
 
-ghost use Rattle.std.specs.Prelude.{◌≡◌, ◌++◌, codes, [], ◌∷◌, map, fold, ⊤, true, false, None, Some, All};
+ghost use Rattle.std.specs.Prelude.{◌≡◌, ◌++◌, codes, [], ◌∷◌, map, fold, ⊤, true, false, None, Some, All, AllPairs};
 ghost use Rattle.mg_packages.specs.declared.event.LineEvent.TheVariants as events;
 ghost use Rattle.mg_line.specs.declared.phone.Act.TheVariants as acts;
 ghost use Rattle.event_values.specs.declared.observed.Observed.TheVariants.{Happened};
@@ -19,7 +19,7 @@ ghost use Rattle.agent_core.specs.World.{agent_of, ticking, delivering, dialling
 ghost use Rattle.world_laws.specs.Reached.{issued_in};
 ghost use Rattle.life_laws.specs.Lives.{Life, stepping, restarting, lives_opening, lives_of, lives_are_taken, new_life, agent_side, clock_of, gateway_of, plain_lives, as_step, no_such_first};
 ghost use Rattle.life_laws.specs.Apart.{BringsCopy, moved, begun_of, OfLife, BeginsLater, LieApart, IsByTime, BeganByTime, StartsLater, IsTakenFor, firsts_of_lives, taken_after};
-ghost use Rattle.life_laws.specs.Example.{lives, first_life, both_lives, answered_late, audited_twice, audited_too_late, heard_late, audited_later, started_far, announced_too_late, gone_back, started_alike, audited_first, issued_two, broken, broken_after, broken_notified, started_late, serves_after, told_after, texts_after, owners_after, moments_after, began_after, starts_after, brought_key, brought_after, firsts_after, keys_of, refused_then, bringing, beginning, begun_key};
+ghost use Rattle.life_laws.specs.Example.{lives, first_life, both_lives, answered_late, audited_twice, audited_too_late, heard_late, audited_later, started_far, announced_too_late, gone_back, started_alike, audited_first, issued_two, broken, broken_after, broken_notified, started_late, started_back, serves_after, told_after, texts_after, owners_after, moments_after, began_after, starts_after, brought_key, brought_after, firsts_after, keys_of, refused_then, bringing, beginning, begun_key};
 
 /// Where both lives' numbers begin alike, all that the second says is taken for repeats: the agent never hears that line 1 was lifted
 /// again. Their ids don't lie apart.
@@ -151,6 +151,16 @@ pub fn a_setup_of_no_configuration_is_heard_twice()
     ensures began { map begun_key (begun_of (plain_lives broken broken_notified).life) ≡ (1, 1) ∷ (10000000, 30001) ∷ [] }
     ensures firsts { map brought_key (firsts_of_lives (plain_lives broken broken_notified))
         ≡ (0, 1) ∷ (0, 21) ∷ (0, 10000000) ∷ (0, 21) ∷ [] }
+{}
+
+/// Where the clock of a world goes back, as its steps refuse to, the life before may have begun what the next begins a minute earlier,
+/// though both follow the time of day and start a second apart.
+pub fn a_clock_that_goes_back_lets_lives_share_an_id()
+    ensures refused { lives_are_taken two_lines (lives_opening two_lines) started_back ≡ false }
+    ensures by_time { All (IsByTime 0) (lives_of (lives started_back)) }
+    ensures starts { AllPairs StartsLater (lives_of (lives started_back)) }
+    ensures began { map begun_key (begun_of (lives started_back).life) ≡ (21, 1001) ∷ [] }
+    ensures not_apart { ¬ LieApart (lives_of (lives started_back)) }
 {}
 
 /// Where a life begins two commands under one id, as one does whose numbers are used up, both are firsts. Such a life is too long to

@@ -1,5 +1,5 @@
 //! Laws of a world in which the gateway starts again.
-ghost use Rattle.std.specs.Prelude.{◌≡◌, ◌≢◌, ◌≤◌, ◌+◌, ◌++◌, ◌∷◌, [], ℕ, List, map, flat_map, fold, slice_get, Some, true, All, Any, AllPairs, IfSome};
+ghost use Rattle.std.specs.Prelude.{◌≡◌, ◌≢◌, ◌+◌, ◌++◌, ◌∷◌, [], ℕ, List, map, flat_map, fold, slice_get, Some, true, All, Any, AllPairs, IfSome};
 ghost use Rattle.mgcp_text.specs.declared.message.Message.TheVariants as messages;
 ghost use Rattle.mgcp_text.specs.declared.message.Param.{Param};
 ghost use Rattle.mgcp_text.specs.Reading.{message, read_text};
@@ -31,19 +31,19 @@ pub fn each_life_executes_a_command_once()
         All (λ (life : Life). All (λ (one : Reached). Any (λ (b : Begun).
         (b.id ≡ one.asked.id) × (one.outcome ≡ read_text b.text) × Any (BringsCopy b.text) life.took)
         (issued_in setup (agent_side (plain_lives setup steps)))) (executed_by life)) (lives_of (plain_lives setup steps)) }
-    ensures ids { (setup : Setup) (steps : List LivesStep) → lives_are_taken setup (lives_opening setup) steps ≡ true →
+    ensures ids { (setup : Setup) (steps : List LivesStep) →
         AllPairs (λ (a b : Begun). a.id ≢ b.id) (issued_in setup (agent_side (plain_lives setup steps))) }
 {}
 
-/// The agent's firsts are commands of the lives that brought them, as these sent them; and where a life has numbers left, each of
-/// its notifications and announcements is a first once at most.
+/// The agent's firsts are commands of the lives that brought them, as these sent them, where their setups are as configurations give
+/// them; and where a life has numbers left, each of its notifications and announcements is a first once at most.
 pub fn each_life_is_heard_once()
     ensures once { (setup : Setup) (steps : List LivesStep) → IsSetUp setup → lives_are_taken setup (lives_opening setup) steps ≡ true →
         AllHaveNumbersLeft (lives_of (plain_lives setup steps)) →
         AllPairs (λ (first later : Brought). first.life ≡ later.life → first.reached.asked.id ≢ later.reached.asked.id)
         (firsts_of_lives (plain_lives setup steps)) }
-    ensures as_sent { (setup : Setup) (steps : List LivesStep) → IsSetUp setup → lives_are_taken setup (lives_opening setup) steps ≡ true →
-        All (λ (one : Brought). OfLife (λ (life : Life). Any (λ (b : Begun). (b.id ≡ one.reached.asked.id)
+    ensures as_sent { (setup : Setup) (steps : List LivesStep) →
+        All (λ (one : Brought). OfLife (λ (life : Life). IsSetUp life.setup → Any (λ (b : Begun). (b.id ≡ one.reached.asked.id)
         × (one.reached.outcome ≡ read_text b.text)) (begun_of life)) (lives_of (plain_lives setup steps)) one.life)
         (firsts_of_lives (plain_lives setup steps)) }
     ensures kept { (setup : Setup) (steps : List LivesStep) →
@@ -56,7 +56,7 @@ pub fn each_life_is_heard_once()
 
 /// Where the ids of lives lie apart, the agent takes no command of a life for a repeat of another's; and what is handed to a life,
 /// though the agent answered another by it, is no answer to a command of that life: it has begun none with that id, not even with
-/// what it does at that packet, and what a life has in flight it has begun.
+/// what it does at that packet; and what a life has in flight it has begun, whatever is refused.
 pub fn no_life_is_taken_for_another()
     ensures repeats { (setup : Setup) (steps : List LivesStep) → IsSetUp setup →
         lives_are_taken setup (lives_opening setup) steps ≡ true → LieApart (lives_of (plain_lives setup steps)) →
@@ -68,16 +68,14 @@ pub fn no_life_is_taken_for_another()
         slice_get (plain_lives setup steps).letters number ≡ Some letter → letter.post.end ≡ AgentEnd →
         letter.life ≢ number_of (plain_lives setup steps) →
         All (λ (text : List ℕ). (code id : ℕ) (params : List Param) (body : List ℕ) →
-        read_text text ≡ message (messages.Response code id params body) → 200 ≤ code →
+        read_text text ≡ message (messages.Response code id params body) →
         All (λ (b : Begun). b.id ≢ id) (begun_of (plain_lives setup (steps ++ stepping (delivering number) ∷ [])).life))
         (texts_of letter.post.packet.bytes) }
-    ensures in_flight { (setup : Setup) (steps : List LivesStep) → IsSetUp setup →
-        lives_are_taken setup (lives_opening setup) steps ≡ true →
+    ensures in_flight { (setup : Setup) (steps : List LivesStep) →
         All (λ (life : Life). (line : ℕ) (endpoint : Endpoint) → endpoint_at (gateway_of life).endpoints line ≡ Some endpoint →
         IfSome endpoint.post.pending (λ (message : InFlight). Any (λ (b : Begun). b.id ≡ message.id) (begun_of life)))
         (lives_of (plain_lives setup steps)) }
-    ensures own_in_flight { (setup : Setup) (steps : List LivesStep) → IsSetUp setup →
-        lives_are_taken setup (lives_opening setup) steps ≡ true →
+    ensures own_in_flight { (setup : Setup) (steps : List LivesStep) →
         All (λ (life : Life). IfSome (gateway_of life).endpoints.own.pending (λ (message : InFlight).
         Any (λ (b : Begun). b.id ≡ message.id) (begun_of life))) (lives_of (plain_lives setup steps)) }
 {}
@@ -86,7 +84,7 @@ pub fn no_life_is_taken_for_another()
 /// a second apart at least, and in no life a line, or the gateway itself, began more than 10 commands and one for each 100 ms, or any
 /// five days after its start.
 pub fn lives_by_the_time_of_day_lie_apart()
-    ensures { (day : ℕ) (setup : Setup) (steps : List LivesStep) → IsSetUp setup →
+    ensures { (day : ℕ) (setup : Setup) (steps : List LivesStep) →
         lives_are_taken setup (lives_opening setup) steps ≡ true → All (IsByTime day) (lives_of (plain_lives setup steps)) →
         AllPairs StartsLater (lives_of (plain_lives setup steps)) → LieApart (lives_of (plain_lives setup steps)) }
 {}

@@ -1,4 +1,5 @@
-use Rattle.life_laws.proofs.HandedLaws.{each_executes_once, each_was_handed, no_id_twice}
+use Rattle.life_laws.proofs.HandedLaws.{each_executes_once, each_was_handed}
+use Rattle.life_laws.proofs.IssuedIds.{no_id_twice}
 use Rattle.life_laws.proofs.laws.each_life_executes_a_command_once.Goals as goal
 
 pub returns-clause-once : goal.returns-clause-once

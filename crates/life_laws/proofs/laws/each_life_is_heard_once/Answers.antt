@@ -1,4 +1,5 @@
-use Rattle.life_laws.proofs.HeardLaws.{firsts_are_kept, firsts_as_sent, firsts_once, firsts_tell}
+use Rattle.life_laws.proofs.HeardLaws.{firsts_are_kept, firsts_once, firsts_tell}
+use Rattle.life_laws.proofs.SentByLives.{firsts_as_sent}
 use Rattle.life_laws.proofs.laws.each_life_is_heard_once.Goals as goal
 
 pub returns-clause-once : goal.returns-clause-once
