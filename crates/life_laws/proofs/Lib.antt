@@ -15,6 +15,8 @@ pub mod TimedLives
 pub mod ApartLaws
 pub mod TimeOfDay
 pub mod OneWorld
+pub mod CallsOfLives
+pub mod OpenedLemmas
 pub mod ExampleLemmas
 pub mod ClockBack
 pub mod GatewaysOfLives

@@ -9,3 +9,5 @@
 
 pub mod examples;
 pub mod laws;
+pub mod standing_examples;
+pub mod standing_laws;
