@@ -5,7 +5,10 @@ use Rattle.mg_line.specs.declared.phone.Act.TheVariants.{OffHook}
 use Rattle.mgcp_text.specs.Reading.{bad_body}
 use Rattle.plain_machine.specs.declared.setup.Setup.{Setup}
 use Rattle.plain_machine.specs.Machine.{serves}
-use Rattle.plain_machine.specs.Example.{two_lines, agent}
+use Rattle.std.specs.declared.net.socket_addr.SocketAddrV4.{SocketAddrV4}
+use Rattle.endpoint_names.specs.declared.route.Route.TheVariants.{Two}
+use Rattle.agent_core.specs.declared.packet.Packet.{Packet}
+use Rattle.plain_machine.specs.Example.{two_lines, agent, other_agent}
 use Rattle.machine_laws.specs.Saying.{Begun}
 use Rattle.call_agent.specs.Agent.{observed_on}
 use Rattle.agent_core.specs.World.{WorldStep, issuing, ticking, delivering, dialling}
@@ -156,3 +159,11 @@ beginning id moment = record { id = id; moment = moment; text = [] }
 -- after it started first
 abbrev pub started_back : List LivesStep
 started_back = in_one_life (ticking 470021 ∷ ticking 1000 ∷ []) ++ restarting 20 ∷ stepping (ticking 1001) ∷ []
+
+-- a packet to this address
+abbrev pub packet_to : SocketAddrV4 → Packet
+packet_to to = record { moment = 0; sender = agent; to = to; bytes = [] }
+
+-- the gateway of an agent that has two addresses
+abbrev pub two_addresses : Setup
+two_addresses = record two_lines { agent = record { text = codes "ca@ca.example.net"; route = Two agent other_agent } }

@@ -2,7 +2,7 @@
 //! in which it is missing and the law fails.
 #![tactic(auto, unfolding(crate::proofs::Computing::on_examples))]
 
-ghost use Rattle.std.specs.Prelude.{◌≡◌, ◌++◌, codes, [], ◌∷◌, map, fold, ⊤, true, false, None, Some, All, AllPairs};
+ghost use Rattle.std.specs.Prelude.{◌≡◌, ◌++◌, codes, [], ◌∷◌, map, fold, length, replicate, ⊤, true, false, None, Some, All, AllPairs};
 ghost use Rattle.mg_packages.specs.declared.event.LineEvent.TheVariants as events;
 ghost use Rattle.mg_line.specs.declared.phone.Act.TheVariants as acts;
 ghost use Rattle.event_values.specs.declared.observed.Observed.TheVariants.{Happened};
@@ -11,15 +11,18 @@ ghost use Rattle.endpoint_names.specs.Table.{is_domain};
 ghost use Rattle.plain_machine.specs.Event.{datagram, phone, tick};
 ghost use Rattle.plain_machine.specs.Machine.{opening, serves};
 ghost use Rattle.plain_machine.specs.Lists.{are_taken};
-ghost use Rattle.plain_machine.specs.Example.{two_lines, agent};
+ghost use Rattle.plain_machine.specs.Example.{two_lines, agent, other_agent, to_other_at};
 ghost use Rattle.call_agent.specs.Agent.{agent_opening};
 ghost use Rattle.call_agent.specs.Hearing.{as_event};
 ghost use Rattle.call_agent.specs.AgentStands.{agent_takes};
-ghost use Rattle.agent_core.specs.World.{agent_of, ticking, delivering, dialling, by_gateway, by_agent, no_such_packet, packet_too_old};
+ghost use Rattle.history.specs.Firsts.{lost};
+ghost use Rattle.machine_laws.specs.Saying.{HasNumbersLeft};
+ghost use Rattle.agent_core.specs.declared.packet.End.TheVariants.{AgentEnd, GatewayEnd};
+ghost use Rattle.agent_core.specs.World.{agent_of, gateway_address, ticking, delivering, dialling, by_gateway, by_agent, no_such_packet, packet_too_old};
 ghost use Rattle.world_laws.specs.Reached.{issued_in};
-ghost use Rattle.life_laws.specs.Lives.{Life, stepping, restarting, lives_opening, lives_of, lives_are_taken, new_life, agent_side, clock_of, gateway_of, plain_lives, as_step, no_such_first};
-ghost use Rattle.life_laws.specs.Apart.{BringsCopy, moved, begun_of, OfLife, BeginsLater, LieApart, IsByTime, BeganByTime, StartsLater, IsTakenFor, firsts_of_lives, taken_after};
-ghost use Rattle.life_laws.specs.Example.{lives, first_life, both_lives, answered_late, audited_twice, audited_too_late, heard_late, audited_later, started_far, announced_too_late, gone_back, started_alike, audited_first, issued_two, broken, broken_after, broken_notified, started_late, started_back, serves_after, told_after, texts_after, owners_after, moments_after, began_after, starts_after, brought_key, brought_after, firsts_after, keys_of, refused_then, bringing, beginning, begun_key};
+ghost use Rattle.life_laws.specs.Lives.{Life, handed_from, said_to, sent_by, stepping, restarting, lives_opening, lives_of, lives_are_taken, new_life, agent_side, clock_of, gateway_of, plain_lives, as_step, no_such_first};
+ghost use Rattle.life_laws.specs.Apart.{AllHaveNumbersLeft, added_as, own_of, BringsCopy, moved, begun_of, OfLife, BeginsLater, LieApart, IsByTime, BeganByTime, StartsLater, IsTakenFor, firsts_of_lives, taken_after};
+ghost use Rattle.life_laws.specs.Example.{lives, packet_to, two_addresses, first_life, both_lives, answered_late, audited_twice, audited_too_late, heard_late, audited_later, started_far, announced_too_late, gone_back, started_alike, audited_first, issued_two, broken, broken_after, broken_notified, started_late, started_back, serves_after, told_after, texts_after, owners_after, moments_after, began_after, starts_after, brought_key, brought_after, firsts_after, keys_of, refused_then, bringing, beginning, begun_key};
 
 /// Where both lives' numbers begin alike, all that the second says is taken for repeats: the agent never hears that line 1 was lifted
 /// again. Their ids don't lie apart.
@@ -181,6 +184,7 @@ pub fn a_new_life_has_nothing()
     ensures lifts { refused_then (first_life ++ restarting 20 ∷ []) (stepping (dialling 1 acts.OffHook)) ≡ None }
     ensures was_lifted { refused_then first_life (stepping (dialling 1 acts.OffHook)) ≡ Some (as_step (by_gateway refusals.PhoneState)) }
     ensures serves { serves_after first_life ≡ true }
+    ensures starts { starts_after (first_life ++ restarting 20 ∷ stepping (ticking 5) ∷ restarting 40 ∷ []) ≡ 0 ∷ 1 ∷ 5 ∷ [] }
     ensures serves_no_more { serves_after (first_life ++ restarting 20 ∷ []) ≡ false }
     ensures told { told_after (first_life ++ restarting 20 ∷ []) ≡ Happened events.OffHook ∷ [] }
     ensures packets { owners_after (first_life ++ restarting 20 ∷ []) ≡ 0 ∷ 0 ∷ 0 ∷ 0 ∷ [] }
@@ -202,18 +206,37 @@ pub fn steps_of_lives_are_refused()
     ensures taken_in_turn { lives_are_taken two_lines (lives_opening two_lines) (restarting 20 ∷ restarting 9999999 ∷ []) ≡ false }
 {}
 
+/// A packet goes to the end that didn't send it and that has its address, and what has another is lost; what an end sends has its
+/// address, the first of an agent's. What comes to an agent that has no room is lost too. All have numbers left where each has.
+pub fn packets_have_addresses()
+    ensures no_gateways { handed_from AgentEnd two_lines 0 (lives []) (packet_to other_agent) ≡ lives [] }
+    ensures no_agents { handed_from GatewayEnd two_lines 0 (lives []) (packet_to other_agent) ≡ lives [] }
+    ensures by_agent { (said_to two_addresses 0 (to_other_at 5 [])).post.packet.sender ≡ agent }
+    ensures by_gateway { (sent_by 0 (new_life two_lines 0) (to_other_at 5 [])).post.packet.sender ≡ gateway_address two_lines }
+    ensures none_of_lost { added_as lost (bringing 0 5 5 ∷ []) (bringing 0 6 6) ≡ bringing 0 5 5 ∷ [] }
+    ensures room { length (taken_after (replicate 4095 (bringing 0 1 5)) (bringing 0 2 6)) ≡ 4096 }
+    ensures no_room { length (taken_after (replicate 4096 (bringing 0 1 5)) (bringing 0 2 6)) ≡ 4096 }
+    ensures have_left { AllHaveNumbersLeft (new_life two_lines 0 ∷ new_life two_lines 5 ∷ []) }
+    ensures each_has_left { (one other : Life) → AllHaveNumbersLeft (one ∷ other ∷ []) → HasNumbersLeft (own_of one) × HasNumbersLeft (own_of other) }
+{}
+
 /// What the laws of lives say of commands.
 pub fn commands_of_lives_are_these()
     ensures later { BeginsLater (beginning 7 5) (beginning 7 60005) }
     ensures too_soon { ¬ BeginsLater (beginning 7 5) (beginning 7 60004) }
     ensures other_id { BeginsLater (beginning 7 5) (beginning 8 6) }
     ensures taken_for { IsTakenFor (bringing 0 7 5) (bringing 1 7 30004) }
+    ensures at_once { IsTakenFor (bringing 0 7 5) (bringing 1 7 5) }
     ensures too_late { ¬ IsTakenFor (bringing 0 7 5) (bringing 1 7 30005) }
     ensures before { ¬ IsTakenFor (bringing 0 7 5) (bringing 1 7 4) }
     ensures another { ¬ IsTakenFor (bringing 0 7 5) (bringing 1 8 5) }
     ensures moved { moved 100 (beginning 7 5) ≡ beginning 7 105 }
     ensures by_time { BeganByTime 7 1000 (beginning 10000020 1000) }
     ensures not_by_time { ¬ BeganByTime 7 1000 (beginning 10000019 1000) }
+    ensures day_counts { BeganByTime 1000 0 (beginning 10000020 0) }
+    ensures own_number { BeganByTime 0 0 (beginning 1 0) }
+    ensures past_the_last { ¬ BeganByTime 0 499999949 (beginning 10000008 499999949) }
+    ensures longest { BeganByTime 7 1000 (beginning 10000020 432001000) }
     ensures too_long { ¬ BeganByTime 7 1000 (beginning 10000020 432001001) }
     ensures starts_later { StartsLater (new_life two_lines 5) (new_life two_lines 1005) }
     ensures starts_soon { ¬ StartsLater (new_life two_lines 5) (new_life two_lines 1004) }

@@ -13,6 +13,7 @@ returns c = record {
   lifts = refl;
   was_lifted = refl;
   serves = refl;
+  starts = refl;
   serves_no_more = refl;
   told = refl;
   packets = refl;

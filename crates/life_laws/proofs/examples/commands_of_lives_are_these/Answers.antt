@@ -15,6 +15,17 @@ before_first line number place below is few (inl on) = let start : first_at (7 +
 before_first line number place below is few (inr over) =
     let start : first_at (7 + 1000) ≡ 20 = refl in let low = first_low line in omega (arith, below, is, few, over, start, low)
 
+of_one : (line number : ℕ) → number < numbers → 10000008 ≡ id_on line number → line ≡ 1
+of_one line number below is = omega (arith, below, is)
+
+-- the eleventh number of a line comes after the tenth, though the gateway's own tenth goes past the last
+none_past : (line number place : ℕ) → number < numbers → 10000008 ≡ id_on line number → place < most_after ((0 + 499999949) - (0 + 499999949))
+    → IsBehind line (first_number line + first_at (0 + 499999949)) place number → ⊥
+none_past line number place below is few (inl on) = let start : first_at (0 + 499999949) ≡ 9999998 = refl in omega (arith, below, is, few, on, start)
+none_past line number place below is few (inr over) =
+    let start : first_at (0 + 499999949) ≡ 9999998 = refl in
+    let none : first_number line ≡ 0 = ap first_number (of_one line number below is) in omega (arith, below, is, few, over, start, none)
+
 -- all computed at once
 
 pub returns : goal.returns
@@ -24,12 +35,17 @@ returns c = record {
   too_soon = λ begins. absurd (let far : 5 + 60000 ≤ 60004 = begins refl in omega (arith, far));
   other_id = λ same. absurd (let e : 7 ≡ 8 = same in omega (arith, e));
   taken_for = (omega arith, (refl, omega arith));
+  at_once = (omega arith, (refl, omega arith));
   too_late = λ is. absurd (let young : 30005 - 5 < 30000 = is.1.1 in omega (arith, young));
   before = λ is. absurd (let first : 5 ≤ 4 = is.0 in omega (arith, first));
   another = λ is. absurd (let same : 7 ≡ 8 = is.1.0 in omega (arith, same));
   moved = refl;
   by_time = record { line = 1; number = 20; below = omega arith; is = refl; began = record { place = 0; since = omega arith; few = omega arith; behind = inl refl }; within = omega arith };
   not_by_time = λ b. before_first b.line b.number b.began.place b.below b.is b.began.few b.began.behind;
+  day_counts = record { line = 1; number = 20; below = omega arith; is = refl; began = record { place = 0; since = omega arith; few = omega arith; behind = inl refl }; within = omega arith };
+  own_number = record { line = 0; number = 1; below = omega arith; is = refl; began = record { place = 0; since = omega arith; few = omega arith; behind = inl refl }; within = omega arith };
+  past_the_last = λ b. none_past b.line b.number b.began.place b.below b.is b.began.few b.began.behind;
+  longest = record { line = 1; number = 20; below = omega arith; is = refl; began = record { place = 0; since = omega arith; few = omega arith; behind = inl refl }; within = omega arith };
   too_long = λ b. absurd (let within : 432001001 ≤ 1000 + 432000000 = b.within in omega (arith, within));
   starts_later = omega arith;
   starts_soon = λ is. absurd (let late : 5 + 1000 ≤ 1004 = is in omega (arith, late));
