@@ -188,6 +188,7 @@ pub fn a_new_life_has_nothing()
     ensures serves_no_more { serves_after (first_life ++ restarting 20 ∷ []) ≡ false }
     ensures told { told_after (first_life ++ restarting 20 ∷ []) ≡ Happened events.OffHook ∷ [] }
     ensures packets { owners_after (first_life ++ restarting 20 ∷ []) ≡ 0 ∷ 0 ∷ 0 ∷ 0 ∷ [] }
+    ensures agents_alone { (agent_side (lives first_life)).gateway_took ≡ [] }
     ensures fly_on { refused_then (first_life ++ restarting 20 ∷ []) (stepping (delivering 3)) ≡ None }
     ensures own_clock { (gateway_of (lives (first_life ++ restarting 20 ∷ stepping (ticking 5) ∷ [])).life).now ≡ 4 }
     ensures clock { clock_of two_lines (lives (first_life ++ restarting 20 ∷ stepping (ticking 5) ∷ [])) ≡ 5 }

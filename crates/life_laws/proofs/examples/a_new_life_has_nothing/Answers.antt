@@ -17,6 +17,7 @@ returns c = record {
   serves_no_more = refl;
   told = refl;
   packets = refl;
+  agents_alone = refl;
   fly_on = refl;
   own_clock = refl;
   clock = refl;

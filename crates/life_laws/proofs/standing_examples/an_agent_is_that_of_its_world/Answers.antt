@@ -1,4 +1,4 @@
-use Rattle.std.proofs.Common.{◌≡◌, ℕ, refl, ap, arith}
+use Rattle.std.proofs.Common.{◌≡◌, refl, ap, arith}
 use Rattle.call_agent.specs.declared.setup.AgentSetup.{AgentSetup}
 use Rattle.call_agent.specs.Agent.{AgentMachine}
 use Rattle.call_agent.proofs.StandLemmas.{stands_for_none}
