@@ -96,6 +96,13 @@ impl Pending {
         self.route.at(u64::from(self.repeats))
     }
 
+    /// How often it was sent again: 0 after `begin`, and at most 7.
+    pub fn repeats(&self) -> u8
+        ensures { result ≡ self.now.repeats }
+    {
+        self.repeats
+    }
+
     /// Its text.
     pub fn text(&self) -> &[u8]
         ensures { result.now ≡ self.now.text }
@@ -110,6 +117,17 @@ impl Pending {
         ensures sends { (sends : Sends) → Follows self.now sends → result ≡ due_of sends }
     {
         self.due
+    }
+
+    /// What `repeat` would be at this moment, in ms: it is sent again, or given up.
+    pub fn next(&self, moment: u64) -> Repeat
+        ensures { result ≡ repeat_of self.now moment }
+    {
+        if may_repeat(self.first, self.repeats, moment) {
+            Repeat::Sent
+        } else {
+            Repeat::GivenUp
+        }
     }
 
     /// What is done with it now, where something is due (RFC 3435, 3.5.3 and 4.3). Where that is `Sent`, the owner sends
