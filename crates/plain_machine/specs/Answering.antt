@@ -79,7 +79,7 @@ executed m source t = record {
 abbrev pub transacted_by : Looked → Machine → SocketAddrV4 → Transaction → Effect Machine
 transacted_by told m source t =
     transacted_as told (executed m source t)
-    (λ text. record { value = m; sent = reply m source t.line (again text) ∷ [] }) (silently m)
+    (λ text. record { value = m; sent = reply m source t.line (again t.id text) ∷ [] }) (silently m)
 
 abbrev pub transacted : Machine → SocketAddrV4 → Transaction → Effect Machine
 transacted m source t = transacted_by (look_of most_firsts m.history t.id m.now) m source t

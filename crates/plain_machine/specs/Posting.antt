@@ -67,7 +67,7 @@ given_up setup line moment post = record post { pending = None; restart = begun 
 abbrev pub repeated_as : Repeat → Setup → ℕ → ℕ → Post → InFlight → Effect Post
 repeated_as SentAgain setup line moment post message = record {
   value = record post { pending = Some (repeated message moment) };
-  sent = (record { to = sent_to (repeated message moment); moment = moment; owner = own_of line; said = resent message.text }) ∷ [];
+  sent = (record { to = sent_to (repeated message moment); moment = moment; owner = own_of line; said = resent message }) ∷ [];
 }
 repeated_as GivenUp setup line moment post message = silently (given_up setup line moment post)
 

@@ -28,7 +28,7 @@ ghost use Rattle.transmission.specs.Acknowledging.{asks_for_acknowledgement};
 ghost use Rattle.plain_machine.specs.Answering.{transaction, transacted_by};
 ghost use Rattle.plain_machine.specs.Lists.{outputs_of};
 ghost use Rattle.plain_machine.specs.Example.{example, agent, audit, from_agent, one_answer, to_agent_at, rqnt, sends, ntfy, lifted_on_2, response, first_endpoints, busiest, wide, ready_endpoints, machine_at, busiest_own};
-ghost use Rattle.plain_machine.specs.Example.{requesting_nothing, holding, first_connection, other_host, to_agent, to_other_at, own_at, lifted};
+ghost use Rattle.plain_machine.specs.Example.{requesting_nothing, holding, first_connection, other_host, to_agent, to_other_at, own_at, lifted, flown};
 
 /// The answer to a line's command lets that line go on, under its own ids, whichever it is.
 pub fn an_answer_is_for_its_line()
@@ -163,13 +163,13 @@ pub fn successive_messages_share_a_datagram()
 /// What becomes of a part is put into the whole, and its messages stay; one thing after another begins with what that
 /// left, and its messages go out behind.
 pub fn effects_are_put_together()
-    ensures whole { effect_map (λ (x : List ℕ). x ++ codes "b") (record { value = codes "a"; sent = own_at 1 0 (resent lifted) ∷ [] })
-        ≡ record { value = codes "ab"; sent = own_at 1 0 (resent lifted) ∷ [] } }
+    ensures whole { effect_map (λ (x : List ℕ). x ++ codes "b") (record { value = codes "a"; sent = own_at 1 0 (resent (flown 7 lifted 0 1500)) ∷ [] })
+        ≡ record { value = codes "ab"; sent = own_at 1 0 (resent (flown 7 lifted 0 1500)) ∷ [] } }
     ensures silent { silently (codes "a") ≡ record { value = codes "a"; sent = [] } }
-    ensures sent_first { behind (own_at 1 0 (resent lifted) ∷ [])
-        (record { value = codes "a"; sent = own_at 2 0 (resent lifted_on_2) ∷ [] })
-        ≡ record { value = codes "a"; sent = own_at 1 0 (resent lifted) ∷ own_at 2 0 (resent lifted_on_2) ∷ [] } }
-    ensures after { afterwards (record { value = codes "a"; sent = own_at 1 0 (resent lifted) ∷ [] })
-        (λ (x : List ℕ). record { value = x ++ codes "b"; sent = own_at 2 0 (resent x) ∷ [] })
-        ≡ record { value = codes "ab"; sent = own_at 1 0 (resent lifted) ∷ own_at 2 0 (resent (codes "a")) ∷ [] } }
+    ensures sent_first { behind (own_at 1 0 (resent (flown 7 lifted 0 1500)) ∷ [])
+        (record { value = codes "a"; sent = own_at 2 0 (resent (flown 8 lifted_on_2 0 1500)) ∷ [] })
+        ≡ record { value = codes "a"; sent = own_at 1 0 (resent (flown 7 lifted 0 1500)) ∷ own_at 2 0 (resent (flown 8 lifted_on_2 0 1500)) ∷ [] } }
+    ensures after { afterwards (record { value = codes "a"; sent = own_at 1 0 (resent (flown 7 lifted 0 1500)) ∷ [] })
+        (λ (x : List ℕ). record { value = x ++ codes "b"; sent = own_at 2 0 (resent (flown 8 x 0 1500)) ∷ [] })
+        ≡ record { value = codes "ab"; sent = own_at 1 0 (resent (flown 7 lifted 0 1500)) ∷ own_at 2 0 (resent (flown 8 (codes "a") 0 1500)) ∷ [] } }
 {}

@@ -10,7 +10,7 @@ ghost use Rattle.plain_machine.specs.Effect.{silently};
 ghost use Rattle.plain_machine.specs.Message.{resent};
 ghost use Rattle.plain_machine.specs.Flights.{Waits, HasOwnId, InOrderBy, IsInOrder, OwnInOrderBy, OwnIsInOrder, IsClosed, InOrderWhile, AreInOrder, BeginsNothing, IsSame, Carries};
 ghost use Rattle.plain_machine.specs.Machine.{opening_endpoint, opening_own, with_own};
-ghost use Rattle.plain_machine.specs.Example.{example, agent, other_agent, agent_route, other_route, announced, announced_under, announcing, lifted, own_at, flying, ending, waiting, ready_own, ready_post, ready_endpoint, lost_endpoint, first_endpoints, endpoints_announcing, disconnected};
+ghost use Rattle.plain_machine.specs.Example.{example, agent, other_agent, agent_route, other_route, announced, announced_under, announcing, lifted, own_at, flying, ending, waiting, ready_own, ready_post, ready_endpoint, lost_endpoint, first_endpoints, endpoints_announcing, disconnected, lifted_again, announced_again};
 
 /// While a command of a line is in flight, under an id of that line, the line waits for the answer.
 pub fn a_line_waits_while_its_command_flies()
@@ -89,7 +89,7 @@ pub fn a_line_may_begin_nothing()
     ensures answered { BeginsNothing (ending None [] (Some 1500)) (silently (ready_endpoint example 1)) → ⊥ }
     ensures begins { BeginsNothing (ready_endpoint example 1) (silently (ending None [] (Some 1500))) → ⊥ }
     ensures sends { BeginsNothing (ending None [] (Some 1500))
-        (record { value = ending None [] (Some 1500); sent = own_at 1 1500 (resent lifted) ∷ [] }) → ⊥ }
+        (record { value = ending None [] (Some 1500); sent = own_at 1 1500 (resent (lifted_again 0 1500)) ∷ [] }) → ⊥ }
 {}
 
 /// A message is the same where its id, its route and its bytes are, whenever it was sent and is due again.
@@ -106,12 +106,12 @@ pub fn a_message_stays_the_same()
 /// What is sent is a message in flight where it goes to the address for the send's number, has the message's bytes and is a
 /// command of that line's own.
 pub fn what_is_sent_is_in_flight()
-    ensures carries { Carries 1 1 (sent_first 10000000 agent_route lifted 1000) (own_at 1 1500 (resent lifted)) }
-    ensures of_the_gateway { Carries 0 1 (sent_first 1 agent_route announced 1000) (own_at 0 1500 (resent announced)) }
-    ensures other_address { Carries 1 1 (sent_first 10000000 other_route lifted 1000) (own_at 1 1500 (resent lifted)) → ⊥ }
-    ensures in_turn { Carries 1 2 (sent_first 10000000 (Two other_agent agent) lifted 1000) (own_at 1 2500 (resent lifted)) }
+    ensures carries { Carries 1 1 (sent_first 10000000 agent_route lifted 1000) (own_at 1 1500 (resent (lifted_again 0 1500))) }
+    ensures of_the_gateway { Carries 0 1 (sent_first 1 agent_route announced 1000) (own_at 0 1500 (resent (announced_again 0 1500))) }
+    ensures other_address { Carries 1 1 (sent_first 10000000 other_route lifted 1000) (own_at 1 1500 (resent (lifted_again 0 1500))) → ⊥ }
+    ensures in_turn { Carries 1 2 (sent_first 10000000 (Two other_agent agent) lifted 1000) (own_at 1 2500 (resent (lifted_again 0 1500))) }
     ensures out_of_turn { Carries 1 1 (sent_first 10000000 (Two other_agent agent) lifted 1000)
-        (own_at 1 1500 (resent lifted)) → ⊥ }
-    ensures other_text { Carries 1 1 (sent_first 10000000 agent_route lifted 1000) (own_at 1 1500 (resent announced)) → ⊥ }
-    ensures other_line { Carries 1 1 (sent_first 10000000 agent_route lifted 1000) (own_at 2 1500 (resent lifted)) → ⊥ }
+        (own_at 1 1500 (resent (lifted_again 0 1500))) → ⊥ }
+    ensures other_text { Carries 1 1 (sent_first 10000000 agent_route lifted 1000) (own_at 1 1500 (resent (announced_again 0 1500))) → ⊥ }
+    ensures other_line { Carries 1 1 (sent_first 10000000 agent_route lifted 1000) (own_at 2 1500 (resent (lifted_again 0 1500))) → ⊥ }
 {}

@@ -11,7 +11,7 @@ ghost use Rattle.plain_machine.specs.Machine.{opening_endpoints};
 ghost use Rattle.plain_machine.specs.Falling.{due_at, first_due, due_by, happened, pass};
 ghost use Rattle.plain_machine.specs.Refusing.{takes_none};
 ghost use Rattle.plain_machine.specs.Lists.{sent_from};
-ghost use Rattle.plain_machine.specs.Example.{example, agent_route, from_agent, from_other, to_agent_at, to_other_at, lifted, response, machine_at, machine_then, own_at, line_end, command_due, ending, announced, announcing, endpoints_announcing, announcing_machine, announcing_sends, announcing_then, own_then, ready_endpoints};
+ghost use Rattle.plain_machine.specs.Example.{example, agent_route, from_agent, from_other, to_agent_at, to_other_at, lifted, response, machine_at, machine_then, own_at, line_end, command_due, ending, announced, announcing, endpoints_announcing, announcing_machine, announcing_sends, announcing_then, own_then, ready_endpoints, lifted_again, announced_again};
 
 /// It is repeated at its moments, and given up, as a line's command is; the lines stay. It waits anew then, and goes out
 /// under the next id.
@@ -22,7 +22,7 @@ pub fn an_own_message_is_repeated_and_given_up()
         ∷ to_agent_at 20500 announced ∷ [] }
     ensures before { announcing_sends (tick 1499 ∷ []) ≡ [] }
     ensures at { announcing_sends (tick 1499 ∷ tick 1500 ∷ tick 1500 ∷ []) ≡ to_agent_at 1500 announced ∷ [] }
-    ensures message { sent_from example announcing_machine (tick 1500 ∷ []) ≡ own_at 0 1500 (resent announced) ∷ [] }
+    ensures message { sent_from example announcing_machine (tick 1500 ∷ []) ≡ own_at 0 1500 (resent (announced_again 0 1500)) ∷ [] }
     ensures repeated { own_then (tick 1500 ∷ []) ≡ record {
       entity = example.agent;
       number = 2;
@@ -39,7 +39,7 @@ pub fn an_own_message_is_repeated_and_given_up()
         ∷ to_agent_at 8500 announced ∷ to_agent_at 12500 announced ∷ to_agent_at 16500 announced
         ∷ to_agent_at 20500 announced
         ∷ to_agent_at 24501 (codes "RSIP 2 *@rgw.example.net MGCP 1.0\r\nRM: restart\r\n") ∷ [] }
-    ensures without_lines { (pass example (endpoints_announcing []) 5000).sent ≡ own_at 0 5000 (resent announced) ∷ [] }
+    ensures without_lines { (pass example (endpoints_announcing []) 5000).sent ≡ own_at 0 5000 (resent (announced_again 0 5000)) ∷ [] }
     ensures memory { takes_none announcing_machine (tick 1500) ≡ false }
     ensures no_memory { takes_none announcing_machine (tick 1499) ≡ true }
 {}
@@ -59,9 +59,9 @@ pub fn an_own_message_goes_before_lines()
     ensures on_line_0 { due_at (endpoints_announcing (ending None [] (Some 4000) ∷ [])) 0 ≡ Some (command_due 5000 0) }
     ensures on_line_1 { due_at (endpoints_announcing (ending None [] (Some 4000) ∷ [])) 1 ≡ Some (command_due 4000 1) }
     ensures goes_first { (pass example (endpoints_announcing (ending None [] (Some 5000) ∷ [])) 5000).sent
-        ≡ own_at 0 5000 (resent announced) ∷ own_at 1 5000 (resent lifted) ∷ [] }
+        ≡ own_at 0 5000 (resent (announced_again 0 5000)) ∷ own_at 1 5000 (resent (lifted_again 0 5000)) ∷ [] }
     ensures in_its_place { (pass example (endpoints_announcing (ending None [] (Some 4900) ∷ [])) 5000).sent
-        ≡ own_at 1 4900 (resent lifted) ∷ own_at 0 5000 (resent announced) ∷ [] }
+        ≡ own_at 1 4900 (resent (lifted_again 0 4900)) ∷ own_at 0 5000 (resent (announced_again 0 5000)) ∷ [] }
     ensures no_timer { happened example (endpoints_announcing []) (line_end 5000 0 ends.DigitTimer)
         ≡ silently (endpoints_announcing []) }
     ensures idle { happened example (ready_endpoints example) (command_due 5000 0)
