@@ -249,7 +249,7 @@ module _ (A : ℕ → Type 0) where
   unfolding executed
   transacted_own new m source t sent still s = behind_answer sent (reply m source t.line (answer (response_to t))) t.done.told m.endpoints refl still s
   transacted_own (repeat text) m source t sent still s =
-      behind_answer sent (record { to = source; moment = m.now; owner = answer_of t.line; said = again text }) (silently m.endpoints) m.endpoints refl (silent_still m.endpoints) s
+      behind_answer sent (record { to = source; moment = m.now; owner = answer_of t.line; said = again t.id text }) (silently m.endpoints) m.endpoints refl (silent_still m.endpoints) s
   transacted_own confirmed m source t sent still s = still_own sent m.endpoints.own s
   transacted_own full m source t sent still s = still_own sent m.endpoints.own s
 

@@ -143,8 +143,8 @@ begun_says b one began = by_said one.said began where
   by_said (command (messages.Command verb id name params body)) (inr none) = absurd none
   by_said (command (messages.Response code id params body)) none = absurd none
   by_said (answer response) none = absurd none
-  by_said (again text) none = absurd none
-  by_said (resent text) none = absurd none
+  by_said (again id text) none = absurd none
+  by_said (resent message) none = absurd none
   by_said (acknowledgement response) none = absurd none
 
 pub began_says : (b : Begun) (sent : List Sent) → OneOf (λ (x : Begun). x ≡ b) (begun_in sent) → OneOf (SaysAt b.text b.moment) sent

@@ -96,8 +96,8 @@ said_asks : (said : Said) → requests_in (notified_by said) ≡ []
 said_asks (command (messages.Command verb id name params body)) = verb_asks verb params
 said_asks (command (messages.Response code id params body)) = refl
 said_asks (answer response) = refl
-said_asks (again text) = refl
-said_asks (resent text) = refl
+said_asks (again id text) = refl
+said_asks (resent message) = refl
 said_asks (acknowledgement response) = refl
 
 pub sent_asks : (sent : List Sent) → requests_in (steps_in sent) ≡ []

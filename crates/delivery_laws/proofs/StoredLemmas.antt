@@ -101,7 +101,7 @@ first_says m source t firsts = inr (record {
 
 repeat_says : (m : Machine) (source : SocketAddrV4) (t : Transaction) (firsts : List Arrival) (copied : Copied) → IsLatestCopy firsts (command_arrival m t) copied
     → (b : Bool) → is_confirmed t.id copied.after ≡ b
-    → Answers t.id m.now source firsts (if b then [] else reply m source t.line (again copied.original.answer) ∷ [])
+    → Answers t.id m.now source firsts (if b then [] else reply m source t.line (again t.id copied.original.answer) ∷ [])
 repeat_says m source t firsts copied l true named =
     inl (record { before = l.before; one = copied.original; later = copied.after; order = l.stands; same = l.copy.0; named = confirmed_is t.id copied.after named })
 repeat_says m source t firsts copied l false unnamed = inr (record {

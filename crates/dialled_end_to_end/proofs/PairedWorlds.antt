@@ -157,8 +157,8 @@ one_begun : (moment : ℕ) (said : Said) → (begun_by moment said ≡ []) ⊎ (
 one_begun moment (command (messages.Command verb id name params body)) = inr (_, refl)
 one_begun moment (command (messages.Response code id params body)) = inl refl
 one_begun moment (answer response) = inl refl
-one_begun moment (again text) = inl refl
-one_begun moment (resent text) = inl refl
+one_begun moment (again id text) = inl refl
+one_begun moment (resent message) = inl refl
 one_begun moment (acknowledgement response) = inl refl
 
 pub record Cut (sent : List Sent) (some more : List Begun) : Type 0 where

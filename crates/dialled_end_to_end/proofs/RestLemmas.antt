@@ -66,7 +66,7 @@ pub answer_begins : (one : Sent) → is_answer one.said ≡ true → begun_in (o
 answer_begins one is = by_said one.said is where
   by_said : (said : Said) → is_answer said ≡ true → begun_in ((record one { said = said }) ∷ []) ≡ []
   by_said (answer response) e = refl
-  by_said (again text) e = refl
+  by_said (again id text) e = refl
   by_said (command said) e = absurd cc
-  by_said (resent text) e = absurd cc
+  by_said (resent message) e = absurd cc
   by_said (acknowledgement response) e = absurd cc

@@ -83,8 +83,8 @@ module _ (setup : Setup) (set_up : IsSetUp setup) (line : ℕ) where
   )
   said_taken owner moment (command (messages.Response code id params body)) well = absurd well
   said_taken owner moment (answer response) well = tt
-  said_taken owner moment (again text) well = tt
-  said_taken owner moment (resent text) well = tt
+  said_taken owner moment (again id text) well = tt
+  said_taken owner moment (resent message) well = tt
   said_taken owner moment (acknowledgement response) well = tt
 
   begun_taken : (sent : List Sent) → Each (IsWell setup) sent → Each TakenAs (begun_in sent)

@@ -86,8 +86,8 @@ said_tells setup owner moment (command (messages.Command verb id name params bod
     ∙ ap (λ (outcome : Outcome). told_as outcome ++ []) (sym (read_again (messages.Command verb id name params body) well.writable))
 said_tells setup owner moment (command (messages.Response code id params body)) well = absurd well
 said_tells setup owner moment (answer response) well = refl
-said_tells setup owner moment (again text) well = refl
-said_tells setup owner moment (resent text) well = refl
+said_tells setup owner moment (again id text) well = refl
+said_tells setup owner moment (resent message) well = refl
 said_tells setup owner moment (acknowledgement response) well = refl
 
 pub begun_tell : (setup : Setup) (line : ℕ) (sent : List Sent) → Each (IsWell setup) sent → notified (of_line line sent) ≡ flat_map told_by (begun_in (of_line line sent))
@@ -117,8 +117,8 @@ said_mine setup line owner moment (command (messages.Command verb id name params
     ap (λ (b : Bool). if b then begun_by moment (command (messages.Command verb id name params body)) else []) (ap (λ (n : ℕ). n == line) well.id_of ∙ sym (ap (is_of line) well.owned))
 said_mine setup line owner moment (command (messages.Response code id params body)) well = absurd well
 said_mine setup line owner moment (answer response) well = none_mine (is_of line owner)
-said_mine setup line owner moment (again text) well = none_mine (is_of line owner)
-said_mine setup line owner moment (resent text) well = none_mine (is_of line owner)
+said_mine setup line owner moment (again id text) well = none_mine (is_of line owner)
+said_mine setup line owner moment (resent message) well = none_mine (is_of line owner)
 said_mine setup line owner moment (acknowledgement response) well = none_mine (is_of line owner)
 
 pub mine_is : (setup : Setup) (line : ℕ) (sent : List Sent) → Each (IsWell setup) sent → filter (is_mine line) (begun_in sent) ≡ begun_in (of_line line sent)

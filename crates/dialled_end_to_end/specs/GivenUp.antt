@@ -26,8 +26,8 @@ abbrev pub announces : Said → Bool
 announces (command (messages.Command verb id name params body)) = is_restart verb
 announces (command (messages.Response code id params body)) = false
 announces (answer response) = false
-announces (again text) = false
-announces (resent text) = false
+announces (again id text) = false
+announces (resent message) = false
 announces (acknowledgement response) = false
 
 -- by what a line sent and by its post: it announced itself, or is to do so

@@ -7,7 +7,7 @@ ghost use Rattle.mgcp_text.specs.declared.message.Verb.TheVariants.{Epcf, Rqnt, 
 ghost use Rattle.plain_machine.specs.Event.{tick};
 ghost use Rattle.plain_machine.specs.Example.{rqnt, response};
 ghost use Rattle.agent_core.specs.World.{gateway_in, world_opening, steps_are_taken};
-ghost use Rattle.plain_machine.specs.Example.{two_lines};
+ghost use Rattle.plain_machine.specs.Example.{two_lines, flown};
 ghost use Rattle.plain_machine.specs.Message.{answer, again, command, resent, acknowledgement};
 ghost use Rattle.plain_machine.specs.Lists.{plain, sent_of};
 ghost use Rattle.plain_machine.specs.Machine.{endpoint_at};
@@ -51,8 +51,8 @@ pub fn announcements_alone_announce()
     ensures first { announces (command (messages.Command Rsip 1 [] [] [])) ≡ true }
     ensures other { announces (command (messages.Response 200 1 [] [])) ≡ false }
     ensures answer { announces (answer (messages.Command Rsip 1 [] [] [])) ≡ false }
-    ensures again { announces (again (codes "RSIP 1 aaln/1@rgw.example.net MGCP 1.0\r\nRM: disconnected\r\n")) ≡ false }
-    ensures resent { announces (resent (codes "RSIP 1 aaln/1@rgw.example.net MGCP 1.0\r\nRM: disconnected\r\n")) ≡ false }
+    ensures again { announces (again 1 (codes "RSIP 1 aaln/1@rgw.example.net MGCP 1.0\r\nRM: disconnected\r\n")) ≡ false }
+    ensures resent { announces (resent (flown 1 (codes "RSIP 1 aaln/1@rgw.example.net MGCP 1.0\r\nRM: disconnected\r\n") 0 1500)) ≡ false }
     ensures acknowledgement { announces (acknowledgement (messages.Command Rsip 1 [] [] [])) ≡ false }
 {}
 

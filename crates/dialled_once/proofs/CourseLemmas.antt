@@ -167,9 +167,9 @@ hear_all setup H all (a ∷ arrivals) = (by_outcome a.outcome, hear_all setup H 
 
 pub answer_notifies : (said : Said) → is_answer said ≡ true → notified_by said ≡ []
 answer_notifies (answer response) is = refl
-answer_notifies (again text) is = refl
+answer_notifies (again id text) is = refl
 answer_notifies (own_command said) is = absurd cc
-answer_notifies (resent text) is = absurd cc
+answer_notifies (resent message) is = absurd cc
 answer_notifies (acknowledgement response) is = absurd cc
 
 module _ (setup : Setup) (H : Response → Type 0) (G : Bool → List CourseStep → List Sent → Endpoint → Type 0) (turns : EndpointTurns setup H G) (line : ℕ) (some : 1 ≤ line) where
@@ -424,7 +424,7 @@ module _ (setup : Setup) (H : Response → Type 0) (G : Bool → List CourseStep
       answered_first m.endpoints course added sent (record { to = source; moment = m.now; owner = answer_of who; said = answer (response_of id done.answer) }) done.told.sent
       done.told.value refl holds after
   transacted_holds (repeat text) m source id who confirms done course added sent holds after =
-      answered_first m.endpoints course [] sent (record { to = source; moment = m.now; owner = answer_of who; said = again text }) [] m.endpoints refl holds
+      answered_first m.endpoints course [] sent (record { to = source; moment = m.now; owner = answer_of who; said = again id text }) [] m.endpoints refl holds
       (λ before h. padded m.endpoints (course ++ []) before (course_padded m.endpoints course before h))
   transacted_holds confirmed m source id who confirms done course added sent holds after = padded m.endpoints course sent holds
   transacted_holds full m source id who confirms done course added sent holds after = padded m.endpoints course sent holds

@@ -59,8 +59,8 @@ abbrev pub notified_by : Said → List CourseStep
 notified_by (command (messages.Command verb id name params body)) = notified_with verb params
 notified_by (command (messages.Response code id params body)) = []
 notified_by (answer response) = []
-notified_by (again text) = []
-notified_by (resent text) = []
+notified_by (again id text) = []
+notified_by (resent message) = []
 notified_by (acknowledgement response) = []
 
 -- the notifications of a line among what is sent

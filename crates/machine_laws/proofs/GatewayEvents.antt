@@ -126,7 +126,7 @@ transacted_goes setup log new m source t stands answered is goes at = record {
   kept : KeptFirst
   kept = record { id = t.id; moment = m.now; answer = answer_text t }
 transacted_goes setup log (repeat text) m source t stands answered is goes at =
-    still_goes setup log m (reply m source t.line (again text) ∷ []) refl stands answered
+    still_goes setup log m (reply m source t.line (again t.id text) ∷ []) refl stands answered
     ((inr (inl (repeat_gives most_firsts m.history t.id m.now text (sym at))), omega arith), tt)
 transacted_goes setup log confirmed m source t stands answered is goes at = still_goes setup log m [] refl stands answered tt
 transacted_goes setup log full m source t stands answered is goes at = still_goes setup log m [] refl stands answered tt

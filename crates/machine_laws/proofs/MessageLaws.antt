@@ -358,7 +358,7 @@ transacted_goes new m source t all goes more is = record {
   sent = All-cons IsOut (reply m source t.line (answers (response_to t))) t.done.told.sent goes more;
 }
 transacted_goes (repeat text) m source t all goes more is =
-    record { kept = all; sent = one_sent (reply m source t.line (again text)) (again_goes text m.history all (repeat_kept most_firsts m.history t.id m.now text (sym is))) }
+    record { kept = all; sent = one_sent (reply m source t.line (again t.id text)) (again_goes text m.history all (repeat_kept most_firsts m.history t.id m.now text (sym is))) }
 transacted_goes confirmed m source t all goes more is = record { kept = all; sent = All-nil IsOut }
 transacted_goes full m source t all goes more is = record { kept = all; sent = All-nil IsOut }
 

@@ -239,7 +239,7 @@ resent_good setup until log line moment post flight pending due past logged s =
                 past = omega (arith, in_log.past, same.same_start);
               };
             });
-            sent_holds = subst (λ (x : List Begun). Own until x (record { to = sent_to (repeated flight moment); moment = moment; owner = own_of line; said = resent flight.text }) × Unit {0}) (sym (append-nil log)) (
+            sent_holds = subst (λ (x : List Begun). Own until x (record { to = sent_to (repeated flight moment); moment = moment; owner = own_of line; said = resent flight }) × Unit {0}) (sym (append-nil log)) (
               record {
                 carries = one_weaker (IsSame flight) (Carries flight.text moment)
                     (λ one e. record { text = sym e.text; since = omega (arith, e.moment, in_log.later, due); within = omega (arith, e.moment, few, in_log.later, due) }) log in_log.known;

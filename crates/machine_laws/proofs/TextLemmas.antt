@@ -57,7 +57,7 @@ module _ (setup : Setup) (keep : ℕ → Bool) (line : ℕ) where
       }
   own_transacted (repeat text) m alone source id who confirms done other agree alike has = record {
     machines = agree;
-    sent = ap (λ (n : ℕ). of_line line ((record { to = source; moment = n; owner = answer_of who; said = again text }) ∷ [])) (sym agree.now);
+    sent = ap (λ (n : ℕ). of_line line ((record { to = source; moment = n; owner = answer_of who; said = again id text }) ∷ [])) (sym agree.now);
   }
   own_transacted confirmed m alone source id who confirms done other agree alike has = record { machines = agree; sent = refl }
   own_transacted full m alone source id who confirms done other agree alike has = absurd (has refl)
@@ -99,7 +99,7 @@ module _ (setup : Setup) (keep : ℕ → Bool) (line : ℕ) where
   }
   other_transacted (repeat text) m alone source id other confirms done agree there apart foreign unnamed = record {
     machines = agree;
-    sent = ap (λ (b : Bool). if b then reply m source (Some other) (again text) ∷ [] else []) apart;
+    sent = ap (λ (b : Bool). if b then reply m source (Some other) (again id text) ∷ [] else []) apart;
   }
   other_transacted confirmed m alone source id other confirms done agree there apart foreign unnamed = record { machines = agree; sent = refl }
   other_transacted full m alone source id other confirms done agree there apart foreign unnamed = record { machines = agree; sent = refl }

@@ -7,14 +7,14 @@ use Rattle.mg_line.specs.Scenario.{requests, with_signals}
 use Rattle.command_forms.specs.declared.forms.Deed.{Deed}
 use Rattle.plain_machine.specs.Arriving.{arrival}
 use Rattle.plain_machine.specs.Event.{phone}
-use Rattle.plain_machine.specs.Example.{agent, machine_then, own_at}
+use Rattle.plain_machine.specs.Example.{agent, machine_then, own_at, flown}
 use Rattle.plain_machine.specs.Machine.{Endpoints}
 use Rattle.plain_machine.specs.Message.{of_none, again, resent, Sent}
 use Rattle.machine_laws.specs.Owning.{acknowledgements_to}
 
 -- a message with this text, to this address at this moment
 abbrev pub saying : SocketAddrV4 → ℕ → List ℕ → Sent
-saying to moment text = record { to = to; moment = moment; owner = of_none; said = again text }
+saying to moment text = record { to = to; moment = moment; owner = of_none; said = again 0 text }
 
 -- a deed that asks for these signals
 abbrev pub signalling : List ℕ → Deed
@@ -35,4 +35,4 @@ acknowledged_at moment text = acknowledgements_to (arrival moment agent text)
 
 -- a command of this line's own
 abbrev pub own : ℕ → Sent
-own line = own_at line 1000 (resent [])
+own line = own_at line 1000 (resent (flown 0 [] 0 1000))

@@ -10,9 +10,9 @@ use Rattle.plain_machine.specs.Responding.{acknowledged}
 
 abbrev pub is_acknowledgement : Said → Bool
 is_acknowledgement (answer response) = false
-is_acknowledgement (again text) = false
+is_acknowledgement (again id text) = false
 is_acknowledgement (command said) = false
-is_acknowledgement (resent text) = false
+is_acknowledgement (resent message) = false
 is_acknowledgement (acknowledgement response) = true
 
 -- the acknowledgement of a response with this id, at this moment to this address: `000` and the id

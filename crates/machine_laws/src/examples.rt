@@ -8,7 +8,7 @@ ghost use Rattle.mgcp_text.specs.Answer.{plain_code};
 ghost use Rattle.mgcp_text.specs.declared.message.Message.TheVariants as messages;
 ghost use Rattle.outbound.specs.Flight.{sent_first};
 ghost use Rattle.plain_machine.specs.Event.{phone};
-ghost use Rattle.plain_machine.specs.Example.{example, agent, agent_route, other_agent, lifted, endpoint_then, to_agent_at, to_other_at};
+ghost use Rattle.plain_machine.specs.Example.{example, agent, agent_route, other_agent, lifted, endpoint_then, to_agent_at, to_other_at, flown};
 ghost use Rattle.plain_machine.specs.Message.{answer, again, command, resent, text_of, datagrams_of};
 ghost use Rattle.plain_machine.specs.Packing.{put_out};
 ghost use Rattle.plain_machine.specs.Requesting.{deed_done};
@@ -96,9 +96,9 @@ pub fn an_acknowledgement_is_000_and_the_id()
     ensures moment { (acknowledging 5 other_agent 1206).moment ≡ 5 }
     ensures itself { is_acknowledgement (acknowledging 5 agent 1206).said ≡ true }
     ensures answered { is_acknowledgement (answer (messages.Response 200 1 [] [])) ≡ false }
-    ensures repeated { is_acknowledgement (again (codes "000 1\r\n")) ≡ false }
+    ensures repeated { is_acknowledgement (again 1 (codes "000 1\r\n")) ≡ false }
     ensures begun { is_acknowledgement (command (messages.Response 0 1 [] [])) ≡ false }
-    ensures resent { is_acknowledgement (resent (codes "000 1\r\n")) ≡ false }
+    ensures resent { is_acknowledgement (resent (flown 1 (codes "000 1\r\n") 0 1500)) ≡ false }
 {}
 
 /// A final response whose first K is there and empty asks for an acknowledgement; no other text does.

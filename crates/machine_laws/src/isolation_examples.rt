@@ -9,7 +9,7 @@ ghost use Rattle.mg_packages.specs.declared.signal.Signal.TheVariants as tones;
 ghost use Rattle.mgcp_text.specs.declared.message.Message.TheVariants as messages;
 ghost use Rattle.mgcp_text.specs.Reading.{read_text};
 ghost use Rattle.plain_machine.specs.Event.{phone, tick, datagram};
-ghost use Rattle.plain_machine.specs.Example.{two_lines, other_agent, from_agent, from_other, until, own_at, answer_at, notification_of, ntfy};
+ghost use Rattle.plain_machine.specs.Example.{two_lines, other_agent, from_agent, from_other, until, own_at, answer_at, notification_of, ntfy, flown};
 ghost use Rattle.mgcp_text.specs.declared.message.Verb.TheVariants.{Rsip};
 ghost use Rattle.plain_machine.specs.Message.{answer_of, own_of, of_none, answer, again, command, resent};
 ghost use Rattle.machine_laws.specs.Apart.{is_for_one, keeps_apart, none_lost, commands_read, LinesKeepApart};
@@ -27,8 +27,8 @@ pub fn messages_belong_to_lines()
     ensures gateway { is_of 1 (own_of 0) ≡ false }
     ensures its_own { is_of 0 (own_of 0) ≡ true }
     ensures none { is_of 1 of_none ≡ false }
-    ensures in_order { let a = own_at 1 5 (resent (codes "a")) in let b = own_at 1 6 (resent (codes "b"))
-        in of_line 1 (a ∷ own_at 2 5 (resent (codes "c")) ∷ b ∷ []) ≡ a ∷ b ∷ [] }
+    ensures in_order { let a = own_at 1 5 (resent (flown 1 (codes "a") 0 5)) in let b = own_at 1 6 (resent (flown 2 (codes "b") 0 6))
+        in of_line 1 (a ∷ own_at 2 5 (resent (flown 3 (codes "c") 0 5)) ∷ b ∷ []) ≡ a ∷ b ∷ [] }
 {}
 
 /// A command reads as the line that its name is of; other texts, and commands with another name, read as no line.
@@ -107,7 +107,7 @@ pub fn dialling_on_another_line_changes_nothing()
     ensures other { sent_at 2 both_dial
         ≡ answer_at (Some 2) 1000 (answer (messages.Response 200 1702 [] []))
         ∷ own_at 2 1000 (notification_of 20000000 (codes "aaln/2@rgw.example.net") (codes "B1") (codes "D/7,D/8"))
-        ∷ own_at 2 1500 (resent (ntfy 20000000 2 (codes "B1") (codes "D/7,D/8"))) ∷ [] }
+        ∷ own_at 2 1500 (resent (flown 20000000 (ntfy 20000000 2 (codes "B1") (codes "D/7,D/8")) 0 1500)) ∷ [] }
 {}
 
 /// What the gateway itself sends is the same too: it announces itself once, whatever lines do.
@@ -143,7 +143,7 @@ pub fn lines_with_one_transaction_do_not_keep_apart()
     ensures apart { ¬ LinesKeepApart two_lines under_one_id }
     ensures sent { sent_at 2 under_one_id
         ≡ own_at 2 1000 (notification_of 20000000 (codes "aaln/2@rgw.example.net") (codes "0") (codes "L/hd"))
-        ∷ answer_at (Some 2) 1000 (again (codes "200 3401 OK\r\nES: L/hu\r\n")) ∷ [] }
+        ∷ answer_at (Some 2) 1000 (again 3401 (codes "200 3401 OK\r\nES: L/hu\r\n")) ∷ [] }
     ensures alone { sent_alone 2 under_one_id
         ≡ own_at 2 1000 (notification_of 20000000 (codes "aaln/2@rgw.example.net") (codes "0") (codes "L/hd"))
         ∷ answer_at (Some 2) 1000
@@ -174,7 +174,7 @@ pub fn lines_that_confirm_each_other_do_not_keep_apart()
     ensures alone { sent_alone 1 confirmed_by_another
         ≡ answer_at (Some 1) 1000
         (answer (messages.Response 200 7 ((record { code = codes "ES"; value = codes "L/hu" }) ∷ []) []))
-        ∷ answer_at (Some 1) 1000 (again (codes "200 7 OK\r\nES: L/hu\r\n")) ∷ [] }
+        ∷ answer_at (Some 1) 1000 (again 7 (codes "200 7 OK\r\nES: L/hu\r\n")) ∷ [] }
 {}
 
 /// A command is lost where as many firsts are remembered as there may be; its repeat isn't.

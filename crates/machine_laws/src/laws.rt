@@ -98,7 +98,7 @@ pub fn commands_are_done_by_what_they_are()
         kind_of most_firsts (firsts_of most_firsts earlier) (command_arrival m t) ≡ a_repeat copied →
         transacted m source t ≡ record {
           value = m;
-          sent = if is_confirmed t.id copied.after then [] else reply m source t.line (again copied.original.answer) ∷ [];
+          sent = if is_confirmed t.id copied.after then [] else reply m source t.line (again t.id copied.original.answer) ∷ [];
         } }
     ensures lost { (m : Machine) (source : SocketAddrV4) (t : Transaction) (earlier : List Arrival) →
         m.history ≡ entries_of (firsts_of most_firsts earlier) →
