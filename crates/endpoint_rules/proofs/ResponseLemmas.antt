@@ -5,7 +5,7 @@ use Rattle.endpoint_names.specs.declared.entity.Entity.{Entity}
 use Rattle.mg_line.specs.Answering.{answered}
 use Rattle.restart.specs.declared.heard.Heard.{Heard}
 use Rattle.restart.specs.declared.heard.Heard.TheVariants.{Answered}
-use Rattle.transmission.specs.declared.output.OutDatagram.{OutDatagram}
+use Rattle.plain_machine.specs.declared.label.OutMessage.{OutMessage}
 use Rattle.plain_machine.specs.declared.post.Post.{Post}
 use Rattle.plain_machine.specs.declared.response.Response.{Response}
 use Rattle.plain_machine.specs.declared.setup.Setup.{Setup}
@@ -15,19 +15,19 @@ use Rattle.plain_machine.specs.Notifying.{noted}
 use Rattle.plain_machine.specs.Responding.{responded_as, responded_on}
 use Rattle.endpoint_rules.specs.Effects.{HasEffect}
 
-heard_so : (setup : Setup) (line moment : ℕ) (response : Response) (endpoint becomes : Endpoint) (heard : Heard) (were are : List OutDatagram) → heard ≡ heard_on endpoint.post response
+heard_so : (setup : Setup) (line moment : ℕ) (response : Response) (endpoint becomes : Endpoint) (heard : Heard) (were are : List OutMessage) → heard ≡ heard_on endpoint.post response
     → HasEffect (responded_as heard setup line moment response endpoint) becomes were are → HasEffect (responded_on setup line moment response endpoint) becomes were are
 unfolding responded_on
 heard_so setup line moment response endpoint becomes heard were are is has =
     subst (λ (h : Heard). HasEffect (responded_as h setup line moment response endpoint) becomes were are) is has
 
 -- the answer sends nothing by itself
-answer_silent : (agent : Option Entity) (setup : Setup) (line moment : ℕ) (response : Response) (endpoint : Endpoint) (post : Post) (were mid : List OutDatagram)
+answer_silent : (agent : Option Entity) (setup : Setup) (line moment : ℕ) (response : Response) (endpoint : Endpoint) (post : Post) (were mid : List OutMessage)
     → HasEffect (replied (Answered agent) setup line moment response endpoint.post) post were mid → mid ≡ were
 unfolding replied
 answer_silent agent setup line moment response endpoint post were mid has = has.sent ∙ append-nil were
 
-pub is_answered : (setup : Setup) (line moment : ℕ) (response : Response) (endpoint becomes : Endpoint) (agent : Option Entity) (post : Post) (were mid are : List OutDatagram)
+pub is_answered : (setup : Setup) (line moment : ℕ) (response : Response) (endpoint becomes : Endpoint) (agent : Option Entity) (post : Post) (were mid are : List OutMessage)
     → Answered agent ≡ heard_on endpoint.post response → HasEffect (replied (Answered agent) setup line moment response endpoint.post) post were mid
     → HasEffect (noted setup line moment (record endpoint { post = post }) (answered endpoint.line moment)) becomes mid are
     → HasEffect (responded_on setup line moment response endpoint) becomes were are
@@ -36,7 +36,7 @@ is_answered setup line moment response endpoint becomes agent post were mid are 
     let same : mid ≡ were = answer_silent agent setup line moment response endpoint post were mid has in
     heard_so setup line moment response endpoint becomes (Answered agent) were are is
     (subst (λ (p : Post). HasEffect (noted setup line moment (record endpoint { post = p }) (answered endpoint.line moment)) becomes were are) has.value
-    (subst (λ (x : List OutDatagram). HasEffect (noted setup line moment (record endpoint { post = post }) (answered endpoint.line moment)) becomes x are) same goes))
+    (subst (λ (x : List OutMessage). HasEffect (noted setup line moment (record endpoint { post = post }) (answered endpoint.line moment)) becomes x are) same goes))
 
 -- where it ends well
 pub on_ok : {A E : Type 0} {P Q : Type 0} (result : Result A E) → (P → Q) → OnOk result P → OnOk result Q
@@ -45,7 +45,7 @@ on_ok (Err fault) then has = has
 
 -- where what comes behind it fails, nothing went out
 pub nothing_sent : {A E : Type 0} (result : Result A E) (agent : Option Entity) (post : Post) (setup : Setup) (line moment : ℕ) (response : Response) (endpoint : Endpoint)
-    (were mid are : List OutDatagram) → HasEffect (replied (Answered agent) setup line moment response endpoint.post) post were mid
+    (were mid are : List OutMessage) → HasEffect (replied (Answered agent) setup line moment response endpoint.post) post were mid
     → OnErr result (are ≡ mid) → OnErr result (are ≡ were)
 nothing_sent (Ok value) agent post setup line moment response endpoint were mid are has same = same
 nothing_sent (Err fault) agent post setup line moment response endpoint were mid are has same =

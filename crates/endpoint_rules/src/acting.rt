@@ -11,7 +11,7 @@ use crate::notifying::tell;
 use crate::posting::Occasion;
 use mg_bytes::OutOfMemory;
 use mg_line::Act;
-use plain_machine::{Endpoint, OutDatagram};
+use plain_machine::{Endpoint, OutMessage};
 
 /// An act at the telephone of an endpoint, which its hook state allows. An error is for want of memory only.
 #[tactic(auto, unfolding(plain_machine::specs::Notifying::noted))]
@@ -20,7 +20,7 @@ pub fn acted_on(
     occasion: Occasion,
     endpoint: &mut Endpoint,
     act: Act,
-    out: &mut Vec<OutDatagram>,
+    out: &mut Vec<OutMessage>,
 ) -> Result<(), OutOfMemory>
     requires possible { IsTrue (is_possible endpoint.old.line.hook act) }
     requires line { IsLine occasion.line }

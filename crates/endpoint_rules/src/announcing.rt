@@ -17,7 +17,7 @@ use crate::posting::{Occasion, begin, redirect};
 use endpoint_names::{Entity, Pattern, write_name};
 use mg_bytes::OutOfMemory;
 use mgcp_text::{Bytes, Message, Param, Params, TransactionId, Verb};
-use plain_machine::{OutDatagram, Post, PostOwner, Response, owner_of};
+use plain_machine::{OutMessage, Post, PostOwner, Response, owner_of};
 use restart::{Heard, Restart};
 
 // Which lines are announced: the gateway itself announces all of its lines.
@@ -86,7 +86,7 @@ fn announced(
     context: Context<'_>,
     occasion: Occasion,
     post: &mut Post,
-    out: &mut Vec<OutDatagram>,
+    out: &mut Vec<OutMessage>,
 ) -> Result<(), OutOfMemory>
     requires id { HasId occasion.line post.old.number }
     requires may { MayTell context.setup.now occasion.moment }
@@ -107,7 +107,7 @@ pub(crate) fn announced_on(
     context: Context<'_>,
     occasion: Occasion,
     post: &mut Post,
-    out: &mut Vec<OutDatagram>,
+    out: &mut Vec<OutMessage>,
 ) -> Result<(), OutOfMemory>
     requires id { HasId occasion.line post.old.number }
     requires may { MayTell context.setup.now occasion.moment }
@@ -164,7 +164,7 @@ pub(crate) fn replied(
     post: &mut Post,
     response: &Response,
     heard: Heard,
-    out: &mut Vec<OutDatagram>,
+    out: &mut Vec<OutMessage>,
 ) -> Result<(), OutOfMemory>
     requires id { HasId occasion.line post.old.number }
     requires may { MayTell context.setup.now occasion.moment }
@@ -193,7 +193,7 @@ pub fn replied_on(
     occasion: Occasion,
     post: &mut Post,
     response: &Response,
-    out: &mut Vec<OutDatagram>,
+    out: &mut Vec<OutMessage>,
 ) -> Result<(), OutOfMemory>
     requires id { HasId occasion.line post.old.number }
     requires may { MayTell context.setup.now occasion.moment }

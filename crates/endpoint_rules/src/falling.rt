@@ -15,7 +15,7 @@ use crate::context::Context;
 use crate::notifying::tell;
 use crate::posting::{Occasion, resent_on};
 use mg_bytes::OutOfMemory;
-use plain_machine::{Endpoint, OutDatagram, Post};
+use plain_machine::{Endpoint, OutMessage, Post};
 use timers::{DueItem, DueKind, earlier};
 
 // What falls due first of a line.
@@ -79,7 +79,7 @@ pub fn happened_on(
     occasion: Occasion,
     endpoint: &mut Endpoint,
     kind: DueKind,
-    out: &mut Vec<OutDatagram>,
+    out: &mut Vec<OutMessage>,
 ) -> Result<(), OutOfMemory>
     requires line { IsLine occasion.line }
     requires may { MayTell context.setup.now occasion.moment }
@@ -105,7 +105,7 @@ pub fn happened_under(
     occasion: Occasion,
     post: &mut Post,
     kind: DueKind,
-    out: &mut Vec<OutDatagram>,
+    out: &mut Vec<OutMessage>,
 ) -> Result<(), OutOfMemory>
     requires id { HasId occasion.line post.old.number }
     requires may { MayTell context.setup.now occasion.moment }

@@ -15,6 +15,7 @@ mod notifying;
 mod posting;
 mod requesting;
 mod responding;
+mod sending;
 
 pub use crate::acting::acted_on;
 pub use crate::announcing::{heard_on, replied_on};
@@ -25,3 +26,4 @@ pub use crate::falling::{due_on, happened_on, happened_under, post_due};
 pub use crate::posting::{Occasion, same_post};
 pub use crate::requesting::{deed_on, has_place, refusal_by};
 pub use crate::responding::{opened_on, redirected_on, responded_on};
+pub use crate::sending::send;

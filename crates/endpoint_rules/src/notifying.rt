@@ -20,7 +20,7 @@ use event_values::write_observed;
 use mg_bytes::OutOfMemory;
 use mg_line::Notice;
 use mgcp_text::{Bytes, Message, Param, Params, TransactionId, Verb};
-use plain_machine::{Endpoint, OutDatagram, Post};
+use plain_machine::{Endpoint, OutMessage, Post};
 
 // A parameter whose value is one word.
 fn word_param<'v>(code: &'static [u8], value: Bytes<'v>) -> Param<'v>
@@ -78,7 +78,7 @@ fn notified(
     occasion: Occasion,
     post: &mut Post,
     notice: &Notice,
-    out: &mut Vec<OutDatagram>,
+    out: &mut Vec<OutMessage>,
 ) -> Result<(), OutOfMemory>
     requires line { IsLine occasion.line }
     requires may { MayTell context.setup.now occasion.moment }
@@ -98,7 +98,7 @@ pub(crate) fn tell(
     occasion: Occasion,
     endpoint: &mut Endpoint,
     notice: Option<Notice>,
-    out: &mut Vec<OutDatagram>,
+    out: &mut Vec<OutMessage>,
 ) -> Result<(), OutOfMemory>
     requires line { IsLine occasion.line }
     requires may { MayTell context.setup.now occasion.moment }

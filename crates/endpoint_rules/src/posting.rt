@@ -9,13 +9,13 @@ ghost use Rattle.endpoint_rules.specs.Effects.{HasEffect};
 ghost use Rattle.endpoint_rules.specs.Undoing.{IsUndoneByItsOwner};
 
 use crate::context::Context;
+use crate::sending::{again_label, begun_label, send};
 use endpoint_names::Entity;
 use mg_bytes::{OutOfMemory, Text};
 use mgcp_text::{Message, write_message};
 use outbound::{Pending, Repeat};
-use plain_machine::{OutDatagram, Post, PostOwner, Setup, owner_of};
+use plain_machine::{OutMessage, Post, PostOwner, Setup, owner_of};
 use restart::Restart;
-use transmission::send;
 
 /// Which line it is, and what time (in ms). The gateway itself is line 0.
 #[derive(Clone, Copy)]
@@ -73,7 +73,7 @@ pub(crate) fn begin(
     occasion: Occasion,
     post: &mut Post,
     said: &Message<'_>,
-    out: &mut Vec<OutDatagram>,
+    out: &mut Vec<OutMessage>,
 ) -> Result<(), OutOfMemory>
     requires id { HasId occasion.line post.old.number }
     requires early { occasion.moment < 2 ^ 62 }
@@ -87,7 +87,8 @@ pub(crate) fn begin(
     let route = post.entity.route;
     let text = write_message(context.alloc, said)?;
     let pending = Pending::begin(context.alloc, id, route, text.as_bytes(), occasion.moment)?;
-    send(out, route.at(0), occasion.moment, text)?;
+    let label = begun_label(occasion.line, said);
+    send(out, route.at(0), occasion.moment, text, label)?;
     post.number = post.number.after_on(occasion.line);
     post.pending = Some(pending);
     Ok(())
@@ -117,7 +118,7 @@ pub(crate) fn resent_on(
     context: Context<'_>,
     occasion: Occasion,
     post: &mut Post,
-    out: &mut Vec<OutDatagram>,
+    out: &mut Vec<OutMessage>,
 ) -> Result<(), OutOfMemory>
     requires { occasion.moment < 2 ^ 62 }
     ensures turn { OnOk result (HasEffect (resent_on context.entry.setup.now occasion.line occasion.moment post.old)
@@ -128,11 +129,12 @@ pub(crate) fn resent_on(
     let Some(message) = &mut post.pending else {
         return Ok(());
     };
+    let label = again_label(occasion.line, message);
     match message.repeat(occasion.moment) {
         Repeat::GivenUp => give_up(context, occasion, post),
         Repeat::Sent => {
             let text = Text::of(Vec::from_slice(context.alloc, message.text())?);
-            send(out, message.to(), occasion.moment, text)?;
+            send(out, message.to(), occasion.moment, text, label)?;
         }
     }
     Ok(())

@@ -15,7 +15,7 @@ use crate::posting::{Occasion, redirect};
 use command_forms::Deed;
 use connections::Connection;
 use mg_bytes::OutOfMemory;
-use plain_machine::{Endpoint, OutDatagram};
+use plain_machine::{Endpoint, OutMessage};
 
 /// The code with which a line refuses a deed, by its connections first.
 pub fn refusal_by(deed: &Deed, endpoint: &Endpoint) -> Option<u16>
@@ -38,7 +38,7 @@ pub fn deed_on(
     occasion: Occasion,
     endpoint: &mut Endpoint,
     deed: &Deed,
-    sent: &mut Vec<OutDatagram>,
+    sent: &mut Vec<OutMessage>,
 ) -> Result<News, OutOfMemory>
     requires line { IsLine occasion.line }
     requires may { MayTell context.setup.now occasion.moment }

@@ -14,7 +14,7 @@ use crate::notifying::tell;
 use crate::posting::{Occasion, redirect};
 use endpoint_names::Entity;
 use mg_bytes::OutOfMemory;
-use plain_machine::{Endpoint, OutDatagram, Response};
+use plain_machine::{Endpoint, OutMessage, Response};
 use restart::Heard;
 
 /// What a response does to an endpoint. An error is for want of memory only.
@@ -24,7 +24,7 @@ pub fn responded_on(
     occasion: Occasion,
     endpoint: &mut Endpoint,
     response: &Response,
-    out: &mut Vec<OutDatagram>,
+    out: &mut Vec<OutMessage>,
 ) -> Result<(), OutOfMemory>
     requires line { IsLine occasion.line }
     requires may { MayTell context.setup.now occasion.moment }
@@ -53,7 +53,7 @@ fn answered_on(
     context: Context<'_>,
     occasion: Occasion,
     endpoint: &mut Endpoint,
-    out: &mut Vec<OutDatagram>,
+    out: &mut Vec<OutMessage>,
 ) -> Result<(), OutOfMemory>
     requires line { IsLine occasion.line }
     requires may { MayTell context.setup.now occasion.moment }
@@ -82,7 +82,7 @@ pub fn opened_on(
     occasion: Occasion,
     endpoint: &mut Endpoint,
     entity: Option<Entity>,
-    out: &mut Vec<OutDatagram>,
+    out: &mut Vec<OutMessage>,
 ) -> Result<(), OutOfMemory>
     requires line { IsLine occasion.line }
     requires may { MayTell context.setup.now occasion.moment }
