@@ -4,7 +4,7 @@ use Rattle.std.proofs.lemmas.List.{length-set}
 use Rattle.std.specs.Prelude.{slice_set}
 use Rattle.std.specs.Option.{unwrap_or}
 use Rattle.std.specs.Global.{Vec}
-use Rattle.transmission.specs.declared.output.OutDatagram.{OutDatagram}
+use Rattle.plain_machine.specs.declared.label.OutMessage.{OutMessage}
 use Rattle.plain_machine.specs.declared.post.Post.{Post}
 use Rattle.plain_machine.specs.declared.endpoint.Endpoint.{Endpoint}
 use Rattle.plain_machine.specs.Effect.{Effect, silently}
@@ -46,7 +46,7 @@ own_changed log saved own endpoints is becomes store view kept set_is =
     ∙ ap (λ (f : StoreState). let g : StoreState = record f { endpoints = with_own f.endpoints becomes } in g) (sym view)
 
 -- a change by a rule of one endpoint
-pub goes_changed : {F T : Type 0} (g : Call F Endpoint (Vec OutDatagram) T) (f : F) (line : ℕ) (was : StoreState) (with : Vec OutDatagram) (r : T) (is : StoreState) (left : Vec OutDatagram) (turn : Endpoint → Effect Endpoint)
+pub goes_changed : {F T : Type 0} (g : Call F Endpoint (Vec OutMessage) T) (f : F) (line : ℕ) (was : StoreState) (with : Vec OutMessage) (r : T) (is : StoreState) (left : Vec OutMessage) (turn : Endpoint → Effect Endpoint)
     → (changes : LineChanges g f line was with r is left)
     → HasEffect (turn changes.leaves.shown.now) changes.leaves.leaves.now changes.leaves.lent.now.items changes.leaves.back.now.items
     → Goes (on_line was.endpoints line turn) was is with.items left.items
@@ -57,7 +57,7 @@ goes_changed g f line was with r is left turn changes has =
     goes_on_line was.endpoints line changes.endpoint changes.becomes turn was is with.items left.items refl (sym changes.here) turned changes.store
 
 -- and of the gateway itself
-pub own_goes_changed : {F T : Type 0} (g : Call F Post (Vec OutDatagram) T) (f : F) (was : StoreState) (with : Vec OutDatagram) (r : T) (is : StoreState) (left : Vec OutDatagram) (turn : Post → Effect Post)
+pub own_goes_changed : {F T : Type 0} (g : Call F Post (Vec OutMessage) T) (f : F) (was : StoreState) (with : Vec OutMessage) (r : T) (is : StoreState) (left : Vec OutMessage) (turn : Post → Effect Post)
     → (changes : GatewayChanges g f was with r is left)
     → HasEffect (turn changes.leaves.shown.now) changes.leaves.leaves.now changes.leaves.lent.now.items changes.leaves.back.now.items
     → Goes (on_own was.endpoints turn) was is with.items left.items

@@ -1,5 +1,5 @@
 -- What is saved of the store is put back, and what comes to one line after the other.
-use Rattle.std.proofs.Common.{◌≡◌, ℕ, zero, suc, ◌+◌, ◌-◌, ◌<◌, ◌≤◌, Bool, true, false, List, [], ◌∷◌, ◌++◌, length, map, filter, drop, Some, None, refl, sym, ◌∙◌, ap, subst, append_assoc, append-nil, get_or, arith}
+use Rattle.std.proofs.Common.{◌≡◌, ℕ, zero, suc, ◌+◌, ◌-◌, ◌<◌, ◌≤◌, Bool, true, false, List, [], ◌∷◌, ◌++◌, length, map, filter, drop, Option, Some, None, refl, sym, ◌∙◌, ap, subst, append_assoc, append-nil, get_or, arith}
 use Rattle.std.specs.Prelude.{slice_set, ◌==◌, if◌then◌else◌}
 use Rattle.std.proofs.lemmas.Option.{slice_get-get_or}
 use Rattle.mg_line.specs.declared.phone.Act.{Act}
@@ -17,8 +17,8 @@ use Rattle.plain_machine.specs.Announcing.{heard_on}
 use Rattle.plain_machine.specs.Responding.{responded_as, responded_on}
 use Rattle.plain_machine.specs.declared.post.Post.{Post}
 use Rattle.plain_machine.specs.declared.endpoint.Endpoint.{Endpoint}
-use Rattle.transmission.specs.declared.output.OutDatagram.{OutDatagram}
-use Rattle.plain_machine.specs.Message.{datagram_of, datagrams_of}
+use Rattle.plain_machine.specs.declared.label.OutMessage.{OutMessage}
+use Rattle.plain_machine.specs.Labelling.{message_of, messages_of}
 use Rattle.plain_machine.specs.declared.setup.Setup.{Setup}
 use Rattle.timers.specs.declared.due_item.DueItem.{DueItem}
 use Rattle.plain_machine.specs.Machine.{Endpoints, endpoint_at, with_endpoint, with_own, with_turn, on_line, on_own, on_lines}
@@ -26,6 +26,10 @@ use Rattle.plain_machine.specs.Falling.{due_by, happened, pass}
 use Rattle.plain_machine.proofs.EffectLaws.{on_this, same_endpoint}
 use Rattle.plain_machine.proofs.FirstLemmas.{by_moment}
 use Rattle.plain_machine.proofs.FallingLaws.{pass_none, pass_some, left, left_falls}
+use Rattle.plain_machine.specs.declared.given_up.GivenUpCommand.{GivenUpCommand}
+use Rattle.plain_machine.specs.GivingUp.{given_up_at, given_up_until}
+use Rattle.plain_machine.proofs.GivingLaws.{given_up_none, given_up_some}
+use Rattle.std.specs.List.{cons_option}
 use Rattle.endpoint_rules.specs.Telling.{MayTell, IsLine}
 use Rattle.endpoints.specs.StoreState.{StoreState}
 use Rattle.endpoints.specs.Saving.{endpoints_of}
@@ -34,36 +38,36 @@ use Rattle.endpoint_rules.specs.Effects.{HasEffect}
 
 -- ---- what comes to the store
 
-pub goes_nowhere : (store : StoreState) (change : Effect Endpoints) (out : List OutDatagram) → change ≡ silently store.endpoints → Goes change store store out out
+pub goes_nowhere : (store : StoreState) (change : Effect Endpoints) (out : List OutMessage) → change ≡ silently store.endpoints → Goes change store store out out
 goes_nowhere store change out none = rw none (record { endpoints = refl; found = refl; sent = sym (append-nil out) })
 
 -- one thing, and then the others
-pub goes_then : (first : Effect Endpoints) (next : Endpoints → Effect Endpoints) (was between is : StoreState) (were mid are : List OutDatagram)
+pub goes_then : (first : Effect Endpoints) (next : Endpoints → Effect Endpoints) (was between is : StoreState) (were mid are : List OutMessage)
     → Goes first was between were mid → Goes (next between.endpoints) between is mid are → Goes (afterwards first next) was is were are
 goes_then first next was between is were mid are one rest = record {
   endpoints = rest.endpoints ∙ ap (λ (e : Endpoints). (next e).value) one.endpoints;
   found = rest.found ∙ one.found;
   sent = rest.sent
-      ∙ ap (λ (e : Endpoints). mid ++ datagrams_of (next e).sent) one.endpoints
-      ∙ ap (λ (x : List OutDatagram). x ++ datagrams_of (next first.value).sent) one.sent
-      ∙ append_assoc were (datagrams_of first.sent) (datagrams_of (next first.value).sent)
-      ∙ ap (λ (x : List OutDatagram). were ++ x) (sym (map-append datagram_of first.sent (next first.value).sent));
+      ∙ ap (λ (e : Endpoints). mid ++ messages_of (next e).sent) one.endpoints
+      ∙ ap (λ (x : List OutMessage). x ++ messages_of (next first.value).sent) one.sent
+      ∙ append_assoc were (messages_of first.sent) (messages_of (next first.value).sent)
+      ∙ ap (λ (x : List OutMessage). were ++ x) (sym (map-append message_of first.sent (next first.value).sent));
 }
 
 -- what goes out by itself goes out behind what there is
-pub goes_behind : (change : Effect Endpoints) (was is : StoreState) (alone were are : List OutDatagram) → Goes change was is [] alone → are ≡ were ++ alone → Goes change was is were are
+pub goes_behind : (change : Effect Endpoints) (was is : StoreState) (alone were are : List OutMessage) → Goes change was is [] alone → are ≡ were ++ alone → Goes change was is were are
 goes_behind change was is alone were are goes more = record {
   endpoints = goes.endpoints;
   found = goes.found;
-  sent = more ∙ ap (λ (x : List OutDatagram). were ++ x) goes.sent;
+  sent = more ∙ ap (λ (x : List OutMessage). were ++ x) goes.sent;
 }
 
 -- the same under another name
-pub goes_so : (change other : Effect Endpoints) (was is : StoreState) (were are : List OutDatagram) → other ≡ change → Goes change was is were are → Goes other was is were are
+pub goes_so : (change other : Effect Endpoints) (was is : StoreState) (were are : List OutMessage) → other ≡ change → Goes change was is were are → Goes other was is were are
 goes_so change other was is were are same goes = rw same goes
 
 -- one line has its turn
-pub goes_on_line : (endpoints : Endpoints) (line : ℕ) (endpoint becomes : Endpoint) (turn : Endpoint → Effect Endpoint) (was is : StoreState) (were are : List OutDatagram)
+pub goes_on_line : (endpoints : Endpoints) (line : ℕ) (endpoint becomes : Endpoint) (turn : Endpoint → Effect Endpoint) (was is : StoreState) (were are : List OutMessage)
     → was.endpoints ≡ endpoints → Some endpoint ≡ endpoint_at endpoints line → HasEffect (turn endpoint) becomes were are
     → is ≡ record was { endpoints = with_endpoint endpoints line becomes } → Goes (on_line endpoints line turn) was is were are
 goes_on_line endpoints line endpoint becomes turn was is were are here at has put = rw (on_this endpoints line endpoint turn (sym at)) (record {
@@ -73,7 +77,7 @@ goes_on_line endpoints line endpoint becomes turn was is were are here at has pu
 })
 
 -- the gateway itself has its turn
-pub goes_on_own : (own becomes : Post) (turn : Post → Effect Post) (was is : StoreState) (were are : List OutDatagram) → own ≡ was.endpoints.own → HasEffect (turn own) becomes were are
+pub goes_on_own : (own becomes : Post) (turn : Post → Effect Post) (was is : StoreState) (were are : List OutMessage) → own ≡ was.endpoints.own → HasEffect (turn own) becomes were are
     → is ≡ record was { endpoints = with_own was.endpoints becomes } → Goes (on_own was.endpoints turn) was is were are
 goes_on_own own becomes turn was is were are here has put =
     let turned : HasEffect (turn was.endpoints.own) becomes were are = subst (λ (o : Post). HasEffect (turn o) becomes were are) here has in
@@ -84,11 +88,11 @@ goes_on_own own becomes turn was is were are here has put =
     }
 
 -- what sends nothing, behind what there is
-pub goes_silently : (change : Effect Endpoints) (was is : StoreState) (out : List OutDatagram) → Goes change was is [] [] → Goes change was is out out
+pub goes_silently : (change : Effect Endpoints) (was is : StoreState) (out : List OutMessage) → Goes change was is [] [] → Goes change was is out out
 goes_silently change was is out goes = record {
   endpoints = goes.endpoints;
   found = goes.found;
-  sent = sym (append-nil out) ∙ ap (λ (x : List OutDatagram). out ++ x) goes.sent;
+  sent = sym (append-nil out) ∙ ap (λ (x : List OutMessage). out ++ x) goes.sent;
 }
 
 -- the lines that a command is for, from a place on
@@ -119,16 +123,39 @@ meant_end lines place list past = ap (λ (rest : List Endpoint). filter (is_for 
 
 -- ---- what falls due
 
-pub pass_next : (setup : Setup) (moment : ℕ) (item : DueItem) (was between is : StoreState) (were mid are : List OutDatagram) → due_by was.endpoints moment ≡ Some item
+one_behind : {A : Type 0} (found : Option A) (told next : List A) → (told ++ cons_option found []) ++ next ≡ told ++ cons_option found next
+one_behind {A = A} None told next = ap (λ (x : List A). x ++ next) (append-nil told)
+one_behind (Some one) told next = append_assoc told (one ∷ []) next
+
+pub pass_next : (setup : Setup) (moment : ℕ) (item : DueItem) (was between is : StoreState) (were mid are : List OutMessage) → due_by was.endpoints moment ≡ Some item
     → Goes (happened setup was.endpoints item) was between were mid → Goes (pass setup between.endpoints moment) between is mid are → Goes (pass setup was.endpoints moment) was is were are
 pass_next setup moment item was between is were mid are due one rest =
     goes_so _ _ was is were are (pass_some setup was.endpoints moment item due)
     (goes_then (happened setup was.endpoints item) (λ next. pass setup next moment) was between is were mid are one rest)
 
-pub pass_end : (setup : Setup) (moment : ℕ) (store : StoreState) (out : List OutDatagram) → due_by store.endpoints moment ≡ None → Goes (pass setup store.endpoints moment) store store out out
+pub pass_end : (setup : Setup) (moment : ℕ) (store : StoreState) (out : List OutMessage) → due_by store.endpoints moment ≡ None → Goes (pass setup store.endpoints moment) store store out out
 pass_end setup moment store out none = goes_nowhere store (pass setup store.endpoints moment) out (pass_none setup store.endpoints moment none)
 
-pub left_less : (setup : Setup) (moment : ℕ) (item : DueItem) (was between : StoreState) (were mid : List OutDatagram) → due_by was.endpoints moment ≡ Some item
+-- what was given up, and then what is until nothing is due
+pub given_up_next : (setup : Setup) (moment : ℕ) (item : DueItem) (was between : StoreState) (were mid : List OutMessage) (found : Option GivenUpCommand) (told more whole : List GivenUpCommand)
+    → due_by was.endpoints moment ≡ Some item → found ≡ given_up_at was.endpoints item → more ≡ told ++ cons_option found []
+    → Goes (happened setup was.endpoints item) was between were mid → told ++ given_up_until setup was.endpoints moment ≡ whole
+    → more ++ given_up_until setup between.endpoints moment ≡ whole
+given_up_next setup moment item was between were mid found told more whole due is noted goes all =
+    let next : List GivenUpCommand = given_up_until setup between.endpoints moment in
+    ap (λ (x : List GivenUpCommand). x ++ next) noted
+    ∙ one_behind found told next
+    ∙ ap (λ (f : Option GivenUpCommand). told ++ cons_option f next) is
+    ∙ ap (λ (e : Endpoints). told ++ cons_option (given_up_at was.endpoints item) (given_up_until setup e moment)) goes.endpoints
+    ∙ ap (λ (x : List GivenUpCommand). told ++ x) (sym (given_up_some setup was.endpoints moment item due))
+    ∙ all
+
+pub given_up_end : (setup : Setup) (moment : ℕ) (endpoints : Endpoints) (told whole : List GivenUpCommand) → due_by endpoints moment ≡ None
+    → told ++ given_up_until setup endpoints moment ≡ whole → told ≡ whole
+given_up_end setup moment endpoints told whole none all =
+    sym (append-nil told) ∙ ap (λ (x : List GivenUpCommand). told ++ x) (sym (given_up_none setup endpoints moment none)) ∙ all
+
+pub left_less : (setup : Setup) (moment : ℕ) (item : DueItem) (was between : StoreState) (were mid : List OutMessage) → due_by was.endpoints moment ≡ Some item
     → Goes (happened setup was.endpoints item) was between were mid → left between.endpoints moment < left was.endpoints moment
 left_less setup moment item was between were mid due one =
     let less = left_falls setup was.endpoints moment item due in
@@ -141,7 +168,7 @@ due_early setup endpoints moment item due may = record { domain = may.domain; ea
 
 -- ---- what comes to several lines
 
-pub several_next : (lines : Target) (place : ℕ) (list : List Endpoint) (turn : ℕ → Endpoint → Effect Endpoint) (was between is : StoreState) (were mid are : List OutDatagram) → place < length list
+pub several_next : (lines : Target) (place : ℕ) (list : List Endpoint) (turn : ℕ → Endpoint → Effect Endpoint) (was between is : StoreState) (were mid are : List OutMessage) → place < length list
     → true ≡ is_for lines (place + 1) → Goes (on_line was.endpoints (place + 1) (turn (place + 1))) was between were mid
     → Goes (on_lines (meant_from lines (place + 1) list) between.endpoints turn) between is mid are
     → Goes (on_lines (meant_from lines place list) was.endpoints turn) was is were are
@@ -152,7 +179,7 @@ several_next lines place list turn was between is were mid are inside meant one 
     ∙ ap (λ (b : Bool). if b then (place + 1) ∷ meant_from lines (place + 1) list else meant_from lines (place + 1) list) (sym meant) in
     rw same (goes_then (on_line was.endpoints (place + 1) (turn (place + 1))) (λ next. on_lines (meant_from lines (place + 1) list) next turn) was between is were mid are one rest)
 
-pub several_skip : (lines : Target) (place : ℕ) (list : List Endpoint) (turn : ℕ → Endpoint → Effect Endpoint) (was is : StoreState) (were are : List OutDatagram) → place < length list
+pub several_skip : (lines : Target) (place : ℕ) (list : List Endpoint) (turn : ℕ → Endpoint → Effect Endpoint) (was is : StoreState) (were are : List OutMessage) → place < length list
     → false ≡ is_for lines (place + 1) → Goes (on_lines (meant_from lines (place + 1) list) was.endpoints turn) was is were are
     → Goes (on_lines (meant_from lines place list) was.endpoints turn) was is were are
 several_skip lines place list turn was is were are inside other rest =
@@ -161,14 +188,14 @@ several_skip lines place list turn was is were are inside other rest =
     ∙ ap (λ (b : Bool). if b then (place + 1) ∷ meant_from lines (place + 1) list else meant_from lines (place + 1) list) (sym other) in
     rw same rest
 
-pub several_end : (lines : Target) (place : ℕ) (list : List Endpoint) (turn : ℕ → Endpoint → Effect Endpoint) (store : StoreState) (out : List OutDatagram) → length list ≤ place
+pub several_end : (lines : Target) (place : ℕ) (list : List Endpoint) (turn : ℕ → Endpoint → Effect Endpoint) (store : StoreState) (out : List OutMessage) → length list ≤ place
     → Goes (on_lines (meant_from lines place list) store.endpoints turn) store store out out
 unfolding on_lines
 several_end lines place list turn store out past = rw (meant_end lines place list past) (goes_nowhere store (silently store.endpoints) out refl)
 
 -- ---- a response that says nothing to a line
 
-pub goes_unheard : (setup : Setup) (line moment : ℕ) (response : Response) (endpoint : Endpoint) (store : StoreState) (out : List OutDatagram) → Some endpoint ≡ endpoint_at store.endpoints line
+pub goes_unheard : (setup : Setup) (line moment : ℕ) (response : Response) (endpoint : Endpoint) (store : StoreState) (out : List OutMessage) → Some endpoint ≡ endpoint_at store.endpoints line
     → Nothing ≡ heard_on endpoint.post response → Goes (on_line store.endpoints line (responded_on setup line moment response)) store store out out
 unfolding responded_on
 goes_unheard setup line moment response endpoint store out at unheard =
@@ -178,7 +205,7 @@ goes_unheard setup line moment response endpoint store out at unheard =
       endpoints = ap (λ (x : List Endpoint). let e : Endpoints = record store.endpoints { list = x } in e) (sym (same_endpoint (line == 0) store.endpoints.list (line - 1) endpoint (sym at)))
           ∙ ap (λ (t : Effect Endpoint). with_endpoint store.endpoints line t.value) (sym quiet);
       found = refl;
-      sent = sym (append-nil out) ∙ ap (λ (t : Effect Endpoint). out ++ datagrams_of t.sent) (sym quiet);
+      sent = sym (append-nil out) ∙ ap (λ (t : Effect Endpoint). out ++ messages_of t.sent) (sym quiet);
     })
 
 -- ---- an act that a line does not heed

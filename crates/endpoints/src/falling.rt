@@ -1,15 +1,17 @@
 //! What falls due happens, the first first, each thing at its own moment (RFC 3435, 2.1.5, 2.1.7, 3.5.3 and 4.4.6).
-ghost use Rattle.std.specs.Prelude.{◌≡◌, OnErr};
+ghost use Rattle.std.specs.Prelude.{◌≡◌, ◌++◌, OnOk, OnErr};
 ghost use Rattle.plain_machine.specs.Machine.{on_line, on_own};
 ghost use Rattle.plain_machine.specs.Falling.{due_by, is_due, happened_on, happened_under, happened, pass};
+ghost use Rattle.plain_machine.specs.GivingUp.{given_up_until};
 ghost use Rattle.endpoint_rules.specs.Telling.{MayTell};
 ghost use Rattle.endpoint_rules.specs.Undoing.{IsUndoneByItsOwner};
 ghost use Rattle.endpoints.specs.Tells.{Tells};
 
+use crate::giving_up::{given_up_at, note};
 use crate::store::Store;
 use endpoint_rules::{Context, Occasion, happened_on, happened_under};
 use mg_bytes::OutOfMemory;
-use plain_machine::{OutDatagram, PostOwner, owner_of};
+use plain_machine::{GivenUpCommand, OutMessage, PostOwner, owner_of};
 use timers::{DueItem, DueKind};
 
 // What falls due first of all, where it is due up to a moment.
@@ -39,7 +41,7 @@ fn happen_on_line(
     store: &mut Store,
     occasion: Occasion,
     kind: DueKind,
-    out: &mut Vec<OutDatagram>,
+    out: &mut Vec<OutMessage>,
 ) -> Result<(), OutOfMemory>
     requires { MayTell context.setup.now occasion.moment }
     ensures { Tells result (on_line store.old.endpoints occasion.line
@@ -61,7 +63,7 @@ fn happen_itself(
     store: &mut Store,
     moment: u64,
     kind: DueKind,
-    out: &mut Vec<OutDatagram>,
+    out: &mut Vec<OutMessage>,
 ) -> Result<(), OutOfMemory>
     requires { MayTell context.setup.now moment }
     ensures { Tells result (on_own store.old.endpoints (happened_under kind context.entry.setup.now 0 moment))
@@ -84,7 +86,7 @@ fn happen(
     context: Context<'_>,
     store: &mut Store,
     item: DueItem,
-    out: &mut Vec<OutDatagram>,
+    out: &mut Vec<OutMessage>,
 ) -> Result<(), OutOfMemory>
     requires { MayTell context.setup.now item.moment }
     ensures { Tells result (happened context.entry.setup.now store.old.endpoints item)
@@ -105,33 +107,42 @@ fn happen_all(
     context: Context<'_>,
     store: &mut Store,
     moment: u64,
-    out: &mut Vec<OutDatagram>,
+    out: &mut Vec<OutMessage>,
+    given_up: &mut Vec<GivenUpCommand>,
 ) -> Result<(), OutOfMemory>
     requires { MayTell context.setup.now moment }
-    ensures { Tells result (pass context.entry.setup.now store.old.endpoints moment)
+    ensures told { Tells result (pass context.entry.setup.now store.old.endpoints moment)
         store.old store.new out.old.items out.new.items }
+    ensures given_up { OnOk result (given_up.new.items
+        ≡ given_up.old.items ++ given_up_until context.entry.setup.now store.old.endpoints moment) }
 {
     while let Some(item) = due_by(store, moment) {
+        let found = given_up_at(store, item);
+        note(given_up, found)?;
         happen(context, store, item, out)?;
     }
     Ok(())
 }
 
-/// What is due up to a moment (in ms) happens, the first first, each thing at its own moment. After an error, which is for
-/// want of memory, nothing goes out, and what the event found can still be had.
+/// What is due up to a moment (in ms) happens, the first first, each thing at its own moment; what is given up is noted behind
+/// what was given up before. After an error, which is for want of memory, nothing goes out, and what the event found can still
+/// be had.
 pub fn pass(
     context: Context<'_>,
     store: &mut Store,
     moment: u64,
-    out: &mut Vec<OutDatagram>,
+    out: &mut Vec<OutMessage>,
+    given_up: &mut Vec<GivenUpCommand>,
 ) -> Result<(), OutOfMemory>
     requires { MayTell context.setup.now moment }
     ensures told { Tells result (pass context.entry.setup.now store.old.endpoints moment)
         store.old store.new out.old.items out.new.items }
+    ensures given_up { OnOk result (given_up.new.items
+        ≡ given_up.old.items ++ given_up_until context.entry.setup.now store.old.endpoints moment) }
     ensures err { OnErr result (IsUndoneByItsOwner out.old.items out.new.items) }
 {
     let mut sent = Vec::new(context.alloc);
-    happen_all(context, store, moment, &mut sent)?;
+    happen_all(context, store, moment, &mut sent, given_up)?;
     out.append(&mut sent)?;
     Ok(())
 }

@@ -6,6 +6,7 @@
 
 mod due_table;
 mod falling;
+mod giving_up;
 mod opening;
 mod requesting;
 mod responding;

@@ -12,7 +12,7 @@ use crate::store::Store;
 use command_forms::{Deed, Target};
 use endpoint_rules::{Context, News, Occasion, deed_on, has_place, refusal_by};
 use mg_bytes::OutOfMemory;
-use plain_machine::{Endpoint, OutDatagram};
+use plain_machine::{Endpoint, OutMessage};
 
 // The code with which a line refuses a deed, if that is for it.
 fn refusal_on(lines: Target, deed: &Deed, number: u16, endpoint: &Endpoint) -> Option<u16>
@@ -58,7 +58,7 @@ fn deed_on_line(
     store: &mut Store,
     occasion: Occasion,
     deed: &Deed,
-    sent: &mut Vec<OutDatagram>,
+    sent: &mut Vec<OutMessage>,
 ) -> Result<News, OutOfMemory>
     requires { MayTell context.setup.now occasion.moment }
     ensures told { Tells result (on_line store.old.endpoints occasion.line (deed_on context.entry.setup.now deed.now
@@ -82,7 +82,7 @@ fn deed_on_each(
     moment: u64,
     lines: Target,
     deed: &Deed,
-    sent: &mut Vec<OutDatagram>,
+    sent: &mut Vec<OutMessage>,
 ) -> Result<(), OutOfMemory>
     requires { MayTell context.setup.now moment }
     ensures { Tells result (deed_on_all context.entry.setup.now store.old.endpoints lines deed.now moment)
@@ -104,7 +104,7 @@ fn deed_on_several(
     moment: u64,
     lines: Target,
     deed: &Deed,
-    sent: &mut Vec<OutDatagram>,
+    sent: &mut Vec<OutMessage>,
 ) -> Result<(), OutOfMemory>
     requires { MayTell context.setup.now moment }
     ensures told { Tells result (deed_on_all context.entry.setup.now store.old.endpoints lines deed.now moment)
@@ -127,7 +127,7 @@ pub fn deed_on_all(
     moment: u64,
     lines: Target,
     deed: &Deed,
-    sent: &mut Vec<OutDatagram>,
+    sent: &mut Vec<OutMessage>,
 ) -> Result<News, OutOfMemory>
     requires { MayTell context.setup.now moment }
     ensures told { Tells result (deed_on_all context.entry.setup.now store.old.endpoints lines deed.now moment)

@@ -15,7 +15,7 @@ use endpoint_rules::{
     Context, Occasion, heard_on, opened_on, redirected_on, replied_on, responded_on,
 };
 use mg_bytes::OutOfMemory;
-use plain_machine::{OutDatagram, PostOwner, Response, line_of_id, owner_of};
+use plain_machine::{OutMessage, PostOwner, Response, line_of_id, owner_of};
 use restart::Heard;
 
 // What a response does to this line.
@@ -25,7 +25,7 @@ fn respond_on_line(
     store: &mut Store,
     occasion: Occasion,
     response: &Response,
-    out: &mut Vec<OutDatagram>,
+    out: &mut Vec<OutMessage>,
 ) -> Result<(), OutOfMemory>
     requires { MayTell context.setup.now occasion.moment }
     ensures told { Tells result (on_line store.old.endpoints occasion.line
@@ -52,7 +52,7 @@ fn respond_to_own(
     store: &mut Store,
     moment: u64,
     response: &Response,
-    out: &mut Vec<OutDatagram>,
+    out: &mut Vec<OutMessage>,
 ) -> Result<(), OutOfMemory>
     requires { MayTell context.setup.now moment }
     ensures { Tells result (on_own store.old.endpoints (replied_on context.entry.setup.now 0 moment response.now))
@@ -99,7 +99,7 @@ fn open_line(
     store: &mut Store,
     occasion: Occasion,
     agent: Option<Entity>,
-    out: &mut Vec<OutDatagram>,
+    out: &mut Vec<OutMessage>,
 ) -> Result<(), OutOfMemory>
     requires { MayTell context.setup.now occasion.moment }
     ensures { Tells result (on_line store.old.endpoints occasion.line
@@ -121,7 +121,7 @@ fn open_all(
     store: &mut Store,
     moment: u64,
     agent: &Option<Entity>,
-    out: &mut Vec<OutDatagram>,
+    out: &mut Vec<OutMessage>,
 ) -> Result<(), OutOfMemory>
     requires { MayTell context.setup.now moment }
     ensures { Tells result (on_all store.old.endpoints (opened_on agent.now context.entry.setup.now moment))
@@ -140,7 +140,7 @@ fn tell_lines(
     store: &mut Store,
     moment: u64,
     heard: Heard,
-    out: &mut Vec<OutDatagram>,
+    out: &mut Vec<OutMessage>,
 ) -> Result<(), OutOfMemory>
     requires { MayTell context.setup.now moment }
     ensures { Tells result (lines_told heard context.entry.setup.now moment store.old.endpoints)
@@ -160,7 +160,7 @@ fn respond_itself(
     store: &mut Store,
     moment: u64,
     response: &Response,
-    out: &mut Vec<OutDatagram>,
+    out: &mut Vec<OutMessage>,
 ) -> Result<(), OutOfMemory>
     requires { MayTell context.setup.now moment }
     ensures { Tells result (own_heard context.entry.setup.now store.old.endpoints moment response.now)
@@ -178,7 +178,7 @@ fn respond_whole(
     store: &mut Store,
     moment: u64,
     response: &Response,
-    out: &mut Vec<OutDatagram>,
+    out: &mut Vec<OutMessage>,
 ) -> Result<(), OutOfMemory>
     requires { MayTell context.setup.now moment }
     ensures told { Tells result (own_heard context.entry.setup.now store.old.endpoints moment response.now)
@@ -198,7 +198,7 @@ pub fn respond_to_its_id(
     store: &mut Store,
     moment: u64,
     response: &Response,
-    out: &mut Vec<OutDatagram>,
+    out: &mut Vec<OutMessage>,
 ) -> Result<(), OutOfMemory>
     requires { MayTell context.setup.now moment }
     ensures told { Tells result (responded context.entry.setup.now store.old.endpoints moment response.now)
