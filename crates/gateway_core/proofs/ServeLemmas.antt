@@ -245,4 +245,4 @@ turn_count g h a b n served next e s lt is = rw is (noted_turns served e ∙ ap 
 -- ---- one turn
 
 pub failed_turn : (g : GatewayState) (a b : WireLog) → Carries a (gives [] 1) b → Went failed g a g b
-failed_turn g a b carried = record { took = took_none g g [] [] refl refl refl (λ m same. same); reason = λ before s. tt; carried = carried }
+failed_turn g a b carried = record { took = took_none g g [] [] refl refl refl refl (λ m same. same); reason = λ before s. tt; carried = carried }

@@ -9,6 +9,7 @@ use Rattle.plain_machine.specs.Lists.{plain, are_taken}
 use Rattle.gateway_core.specs.Alike.{Alike}
 use Rattle.gateway_core.specs.GatewayState.{GatewayState}
 use Rattle.gateway_core.specs.Outcomes.{last_outcomes}
+use Rattle.gateway_core.specs.Accounts.{last_account}
 use Rattle.gateway_core.specs.Stands.{Stands}
 
 pub alike_shared : (k k' m n : Machine) → Alike k m → Alike k' m → Alike k' n → Alike k n
@@ -32,4 +33,6 @@ stands_shared g g' before events same s s' t = record {
       (subst (λ (x : Setup). Alike g'.machine (plain x events)) same t.alike);
   outcomes = s.outcomes ∙ sym (subst (λ (x : Setup). g'.outcomes ≡ last_outcomes x before) same s'.outcomes)
       ∙ subst (λ (x : Setup). g'.outcomes ≡ last_outcomes x events) same t.outcomes;
+  account = s.account ∙ sym (subst (λ (x : Setup). g'.account ≡ last_account x before) same s'.account)
+      ∙ subst (λ (x : Setup). g'.account ≡ last_account x events) same t.account;
 }

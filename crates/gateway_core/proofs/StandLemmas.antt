@@ -24,9 +24,14 @@ use Rattle.gateway_core.specs.declared.state.State.{State}
 use Rattle.gateway_core.specs.Sound.{IsSound}
 use Rattle.history.proofs.RecallLaws.{recalls_itself}
 use Rattle.plain_machine.specs.Message.{Sent}
-use Rattle.gateway_core.proofs.AlikeLemmas.{effect_alike, refusal_alike, takes_alike, alike_purged, refusal_purged, outcomes_alike}
+use Rattle.gateway_core.proofs.AlikeLemmas.{effect_alike, refusal_alike, takes_alike, alike_purged, refusal_purged, outcomes_alike, account_alike}
 use Rattle.gateway_core.specs.declared.outcome.TextOutcome.{TextOutcome}
 use Rattle.gateway_core.specs.Outcomes.{outcomes_of, outcomes_after, last_outcomes}
+use Rattle.plain_machine.specs.declared.label.SentMessage.{SentMessage}
+use Rattle.plain_machine.specs.declared.given_up.GivenUpCommand.{GivenUpCommand}
+use Rattle.plain_machine.specs.Labelling.{labels_of}
+use Rattle.plain_machine.specs.GivingUp.{given_up_with}
+use Rattle.gateway_core.specs.Accounts.{Account, no_account, account_of, account_after, last_account}
 use Rattle.gateway_core.specs.State.{machine_in, purged_in, PutsOut, AllOr}
 use Rattle.gateway_core.specs.Alike.{Alike, GoesOn}
 use Rattle.gateway_core.specs.GatewayState.{GatewayState}
@@ -59,6 +64,16 @@ pub step_told : (setup : Setup) (k m : Machine) (event : GatewayEvent) (told : L
     → OnOk result (told ≡ outcomes_of setup (purged_in k) event) → Alike k m → OnOk result (told ≡ outcomes_of setup m event)
 step_told setup k m event told (Ok x) is a = is ∙ outcomes_alike setup (purged_in k) m event (alike_purged k m a)
 step_told setup k m event told (Err refusal) is a = tt
+
+-- what is told of the event beside
+pub step_account : (setup : Setup) (k m : Machine) (event : GatewayEvent) (sent : List SentMessage) (given_up : List GivenUpCommand) (result : Result (Unit {0}) Refusal) → Ends k event (result_err result)
+    → OnOk result (sent ≡ labels_of (effect setup (purged_in k) event).sent) → OnOk result (given_up ≡ given_up_with setup (purged_in k) event) → Alike k m
+    → OnOk result (◌≡◌ {A = Account} (record { sent = sent; given_up = given_up }) (account_of setup m event))
+step_account setup k m event sent given_up (Ok x) e labels gone a =
+    ap (λ (l : List SentMessage). let y : Account = record { sent = l; given_up = given_up } in y) labels
+    ∙ ap (λ (g : List GivenUpCommand). let y : Account = record { sent = labels_of (effect setup (purged_in k) event).sent; given_up = g } in y) gone
+    ∙ account_alike setup (purged_in k) m event (alike_purged k m a) (refusal_purged k event ∙ ends_fine k event e)
+step_account setup k m event sent given_up (Err refusal) e labels gone a = tt
 
 -- ---- what holds of every gateway
 
@@ -97,32 +112,41 @@ unfolding machine_after outcomes_after
 outcomes_on setup m were [] event = refl
 outcomes_on setup m were (first ∷ before) event = outcomes_on setup (effect setup m first).value (outcomes_of setup m first) before event
 
+pub account_on : (setup : Setup) (m : Machine) (was : Account) (before : List GatewayEvent) (event : GatewayEvent)
+    → account_after setup m was (before ++ event ∷ []) ≡ account_of setup (machine_after setup m before) event
+unfolding machine_after account_after
+account_on setup m was [] event = refl
+account_on setup m was (first ∷ before) event = account_on setup (effect setup m first).value (account_of setup m first) before event
+
 pub took_one : (g g' : GatewayState) (event : GatewayEvent) (were are : List OutDatagram) → g'.setup ≡ g.setup → refusal_of g.machine event ≡ None
     → ((m : Machine) → Alike g.machine m → GoesOn g.setup m event g'.machine were are)
-    → ((m : Machine) → Alike g.machine m → g'.outcomes ≡ outcomes_of g.setup m event) → Took g (event ∷ []) g' were are
+    → ((m : Machine) → Alike g.machine m → g'.outcomes ≡ outcomes_of g.setup m event)
+    → ((m : Machine) → Alike g.machine m → g'.account ≡ account_of g.setup m event) → Took g (event ∷ []) g' were are
 unfolding machine_after outputs_from
-took_one g g' event were are same none goes told = record {
+took_one g g' event were are same none goes told accounts = record {
   setup = same;
   stands = λ before s. rw same (record {
     setup = s.setup;
     taken = taken_on g.setup (opening g.setup) before event s.taken (sym (refusal_alike g.machine (plain g.setup before) event s.alike) ∙ none);
     alike = rw (machine_on g.setup (opening g.setup) before (event ∷ [])) (goes (plain g.setup before) s.alike).alike;
     outcomes = told (plain g.setup before) s.alike ∙ sym (outcomes_on g.setup (opening g.setup) [] before event);
+    account = accounts (plain g.setup before) s.alike ∙ sym (account_on g.setup (opening g.setup) no_account before event);
   });
   sent = λ before s. (goes (plain g.setup before) s.alike).outputs
       ∙ ap (λ (x : List OutDatagram). were ++ x) (sym (append-nil (put_out (effect g.setup (plain g.setup before) event).sent)));
 }
 
-pub took_none : (g g' : GatewayState) (were are : List OutDatagram) → g'.setup ≡ g.setup → are ≡ were → g'.outcomes ≡ g.outcomes
+pub took_none : (g g' : GatewayState) (were are : List OutDatagram) → g'.setup ≡ g.setup → are ≡ were → g'.outcomes ≡ g.outcomes → g'.account ≡ g.account
     → ((m : Machine) → Alike g.machine m → Alike g'.machine m) → Took g [] g' were are
 unfolding outputs_from
-took_none g g' were are same sent told keeps = record {
+took_none g g' were are same sent told accounts keeps = record {
   setup = same;
   stands = λ before s. rw (same, append-nil before) (record {
     setup = s.setup;
     taken = s.taken;
     alike = keeps (plain g.setup before) s.alike;
     outcomes = told ∙ s.outcomes;
+    account = accounts ∙ s.account;
   });
   sent = λ before s. sent ∙ sym (append-nil were);
 }
@@ -159,13 +183,14 @@ pub took_next : (g h k : GatewayState) (events : List Event) (place : ℕ) (d : 
 took_next g h k events place d were are then inside a b =
     rw (events_more events place d inside) (took_on g h k (before_place events place) (event_of (get_or events place d) ∷ []) were are then a b)
 
-pub stands_for_nothing : (g : GatewayState) → IsSetUp g.setup → g.machine ≡ opening g.setup → g.outcomes ≡ [] → Stands g []
-unfolding machine_after are_taken outcomes_after
-stands_for_nothing g set_up is none = record {
+pub stands_for_nothing : (g : GatewayState) → IsSetUp g.setup → g.machine ≡ opening g.setup → g.outcomes ≡ [] → g.account ≡ no_account → Stands g []
+unfolding machine_after are_taken outcomes_after account_after
+stands_for_nothing g set_up is none empty = record {
   setup = set_up;
   taken = refl;
   alike = rw is (record { now = refl; endpoints = refl; history = recalls_itself [] });
   outcomes = none;
+  account = empty;
 }
 
 -- the event at a place

@@ -23,7 +23,10 @@ use Rattle.mgcp_text.specs.Answer.{AnswerContent, response_of}
 use Rattle.mgcp_text.specs.Reading.{Outcome, message, no_header, bad_version, bad_body, read_text}
 use Rattle.plain_machine.specs.declared.setup.Setup.{Setup}
 use Rattle.transmission.specs.declared.output.OutDatagram.{OutDatagram}
-use Rattle.plain_machine.specs.Message.{Sent, datagram_of, datagrams_of}
+use Rattle.plain_machine.specs.Message.{Sent}
+use Rattle.plain_machine.specs.declared.label.Label.{Label}
+use Rattle.plain_machine.specs.declared.label.OutMessage.{OutMessage}
+use Rattle.plain_machine.specs.Labelling.{message_of, messages_of}
 use Rattle.plain_machine.specs.Machine.{Machine, serves}
 use Rattle.plain_machine.specs.Done.{Done}
 use Rattle.transmission.specs.Acknowledging.{asks_for_acknowledgement, acknowledgements, acknowledgement_text}
@@ -36,7 +39,7 @@ use Rattle.plain_machine.specs.Responding.{acknowledged, response_with, responde
 use Rattle.plain_machine.specs.Message.{of_none, acknowledgement}
 use Rattle.plain_machine.proofs.EffectLaws.{handled_now}
 use Rattle.gateway_core.specs.declared.state.State.{State}
-use Rattle.gateway_core.specs.Hearing.{left_done, left_outcome, passed_over}
+use Rattle.gateway_core.specs.Hearing.{left_done, left_outcome, passed_over, again_label, first_label, acknowledged_label, faulty_label, heard_label, labelled}
 use Rattle.gateway_core.specs.declared.outcome.Reply.TheVariants.{First}
 use Rattle.gateway_core.specs.declared.outcome.TextOutcome.{TextOutcome}
 use Rattle.gateway_core.specs.declared.outcome.TextOutcome.TheVariants as outcomes
@@ -47,110 +50,132 @@ use Rattle.transmission.proofs.TextLaws.{few_texts}
 use Rattle.gateway_core.specs.State.{machine_in, found_in, Went, Does}
 
 -- a first is executed: its command changed the store, then it was answered, and then comes what lines send because of it
-pub executed_then : (was is : State) (source : SocketAddrV4) (id : ℕ) (line : Option ℕ) (kept confirms : List IdSpan) (done : Done) (given : AnswerContent) (caused were next are : List OutDatagram)
+pub executed_then : (was is : State) (source : SocketAddrV4) (id : ℕ) (line : Option ℕ) (kept confirms : List IdSpan) (done : Done) (given : AnswerContent) (code : ℕ) (text : List ℕ) (label : Label)
+    (caused were next are : List OutMessage)
     → kept ≡ confirms → given ≡ done.answer → Goes done.told was.store is.store [] caused → is.clock ≡ was.clock
     → is.history ≡ with_first was.history id was.clock kept (written (response_of id given))
-    → next ≡ were ++ message_to source was.clock (written (response_of id given)) ∷ [] → are ≡ next ++ caused
+    → code ≡ given.code → text ≡ written (response_of id given) → label ≡ first_label line id code
+    → next ≡ were ++ (record { datagram = message_to source was.clock text; label = label }) ∷ [] → are ≡ next ++ caused
     → Went (executed (machine_in was) source (transaction id line confirms done)) was is were are
 unfolding executed
-executed_then was is source id line kept confirms done given caused were next are same ok goes clock history sent more = record {
+executed_then was is source id line kept confirms done given code text label caused were next are same ok goes clock history coded written_is labelled_is sent more = record {
   machine = rw (clock, history, same, ok, goes.endpoints) refl;
   found = rw (history, goes.found) refl;
   sent = more
-      ∙ ap (λ (x : List OutDatagram). x ++ caused) sent
+      ∙ ap (λ (x : List OutMessage). x ++ caused) sent
+      ∙ ap (λ (t : List ℕ). (were ++ (record { datagram = message_to source was.clock t; label = label }) ∷ []) ++ caused) written_is
+      ∙ ap (λ (l : Label). (were ++ (record { datagram = message_to source was.clock (written (response_of id given)); label = l }) ∷ []) ++ caused) labelled_is
+      ∙ ap (λ (n : ℕ). (were ++ (record { datagram = message_to source was.clock (written (response_of id given)); label = first_label line id n }) ∷ []) ++ caused) coded
       ∙ append_assoc were (front id source was.clock given ∷ []) caused
       ∙ ap (λ (a : AnswerContent). were ++ front id source was.clock a ∷ caused) ok
-      ∙ ap (λ (x : List OutDatagram). were ++ front id source was.clock done.answer ∷ x) goes.sent;
+      ∙ ap (λ (x : List OutMessage). were ++ front id source was.clock done.answer ∷ x) goes.sent;
 } where
-  front : ℕ → SocketAddrV4 → ℕ → AnswerContent → OutDatagram
-  front id source now a = message_to source now (written (response_of id a))
+  front : ℕ → SocketAddrV4 → ℕ → AnswerContent → OutMessage
+  front id source now a = record { datagram = message_to source now (written (response_of id a)); label = first_label line id a.code }
 
 -- the acknowledgements are those of the plain machine
-pub acknowledged_is : (moment : ℕ) (source : SocketAddrV4) (code id : ℕ) (params : List Param)
-    → acknowledgements moment source code id params ≡ datagrams_of (acknowledged moment source code id params)
+acknowledged_is : (moment : ℕ) (source : SocketAddrV4) (code id : ℕ) (params : List Param)
+    → labelled (λ text. Some (acknowledged_label id)) (acknowledgements moment source code id params) ≡ messages_of (acknowledged moment source code id params)
 acknowledged_is moment source code id params = by_test (asks_for_acknowledgement code params) where
-  by_test : (b : Bool) → (if b then message_to source moment (acknowledgement_text id) ∷ [] else [])
-      ≡ datagrams_of (if b then (record { to = source; moment = moment; owner = of_none; said = acknowledgement (messages.Response 0 id [] []) }) ∷ [] else [])
+  by_test : (b : Bool) → labelled (λ text. Some (acknowledged_label id)) (if b then message_to source moment (acknowledgement_text id) ∷ [] else [])
+      ≡ messages_of (if b then (record { to = source; moment = moment; owner = of_none; said = acknowledgement (messages.Response 0 id [] []) }) ∷ [] else [])
   by_test true = refl
   by_test false = refl
 
--- what is done at a text is what hearing it comes to, and then what is left
-record IsThen (done : Effect Machine) (heard : Hearing) (last : Effect Machine) : Type 0 where
+-- what is done at a text is what hearing it comes to, whose messages have these labels, and then what is left
+record IsThen (done : Effect Machine) (label : List ℕ → Option Label) (heard : Hearing) (last : Effect Machine) : Type 0 where
   value : done.value ≡ last.value
-  sent : datagrams_of done.sent ≡ heard.sent ++ datagrams_of last.sent
+  sent : messages_of done.sent ≡ labelled label heard.sent ++ messages_of last.sent
 
 abbrev machine_then : State → Hearing → Machine
 machine_then was heard = record (machine_in was) { history = heard.history.kept }
 
-abbrev DoesLeft : Setup → State → SocketAddrV4 → Effect Machine → Hearing → Type 0
-DoesLeft setup was source done heard = IsThen done heard (left_done setup heard.left (machine_then was heard) source)
+abbrev DoesLeft : Setup → State → SocketAddrV4 → Effect Machine → (List ℕ → Option Label) → Hearing → Type 0
+DoesLeft setup was source done label heard = IsThen done label heard (left_done setup heard.left (machine_then was heard) source)
 
-looked_left : (looked : Looked) (setup : Setup) (was : State) (source : SocketAddrV4) (t : Transaction) (first : Hearing) → DoesLeft setup was source (executed (machine_in was) source t) first
-    → DoesLeft setup was source (transacted_by looked (machine_in was) source t)
-    (transacted_as looked first (λ text. hearing was.history (message_to source was.clock text ∷ []) None) (hearing was.history [] None))
-looked_left new setup was source t first does = does
-looked_left (repeat text) setup was source t first does = record { value = refl; sent = refl }
-looked_left confirmed setup was source t first does = record { value = refl; sent = refl }
-looked_left full setup was source t first does = record { value = refl; sent = refl }
+-- a command that can be read, which is left where it is new: its stored answer goes out again under its id
+read_left : (looked : Looked) (setup : Setup) (was : State) (source : SocketAddrV4) (verb : Verb) (id : ℕ) (name : List ℕ) (params : List Param) (body : List ℕ)
+    → DoesLeft setup was source (transacted_by looked (machine_in was) source (read_command setup (machine_in was) verb id name params body))
+    (λ text. Some (again_label (line_of_name setup name) id text))
+    (transacted_as looked (hearing was.history [] (Some (messages.Command verb id name params body)))
+    (λ text. hearing was.history (message_to source was.clock text ∷ []) None) (hearing was.history [] None))
+read_left new setup was source verb id name params body = record { value = refl; sent = refl }
+read_left (repeat text) setup was source verb id name params body = record { value = refl; sent = refl }
+read_left confirmed setup was source verb id name params body = record { value = refl; sent = refl }
+read_left full setup was source verb id name params body = record { value = refl; sent = refl }
 
-refused_left : (setup : Setup) (was : State) (source : SocketAddrV4) (id code : ℕ) → DoesLeft setup was source (transacted (machine_in was) source (refusing (machine_in was) id code)) (refused was.history source was.clock id code)
-unfolding executed
-refused_left setup was source id code =
-    looked_left (look_of most_firsts was.history.kept id was.clock) setup was source (refusing (machine_in was) id code)
+-- one that can't: its answer goes out for the first time, or again
+faulty_left : (looked : Looked) (setup : Setup) (was : State) (source : SocketAddrV4) (id code : ℕ)
+    → DoesLeft setup was source (transacted_by looked (machine_in was) source (refusing (machine_in was) id code))
+    (λ text. Some (faulty_label (outcomes.Command None id (reply_by looked code)) id text))
+    (transacted_as looked
     (hearing (with_first was.history id was.clock [] (answer_text (refusing (machine_in was) id code))) (message_to source was.clock (answer_text (refusing (machine_in was) id code)) ∷ []) None)
-    (record { value = refl; sent = refl })
+    (λ text. hearing was.history (message_to source was.clock text ∷ []) None) (hearing was.history [] None))
+unfolding executed
+faulty_left new setup was source id code = record { value = refl; sent = refl }
+faulty_left (repeat text) setup was source id code = record { value = refl; sent = refl }
+faulty_left confirmed setup was source id code = record { value = refl; sent = refl }
+faulty_left full setup was source id code = record { value = refl; sent = refl }
 
-text_left : (setup : Setup) (was : State) (source : SocketAddrV4) (outcome : Outcome) → DoesLeft setup was source (handled setup (machine_in was) source outcome) (heard_at was.history source was.clock outcome)
+text_left : (setup : Setup) (was : State) (source : SocketAddrV4) (outcome : Outcome)
+    → DoesLeft setup was source (handled setup (machine_in was) source outcome) (heard_label setup outcome (passed_over was.history.kept was.clock outcome)) (heard_at was.history source was.clock outcome)
 unfolding handled
 text_left setup was source no_header = record { value = refl; sent = refl }
-text_left setup was source (bad_version id) = refused_left setup was source id 528
-text_left setup was source (bad_body id) = refused_left setup was source id 510
+text_left setup was source (bad_version id) = faulty_left (look_of most_firsts was.history.kept id was.clock) setup was source id 528
+text_left setup was source (bad_body id) = faulty_left (look_of most_firsts was.history.kept id was.clock) setup was source id 510
 text_left setup was source (message (messages.Command verb id name params body)) =
-    looked_left (look_of most_firsts was.history.kept id was.clock) setup was source
-    (command_with setup (machine_in was) id (record { verb = verb; name = name; params = params; body = body }) (k_of params))
-    (hearing was.history [] (Some (messages.Command verb id name params body))) (record { value = refl; sent = refl })
+    read_left (look_of most_firsts was.history.kept id was.clock) setup was source verb id name params body
 text_left setup was source (message (messages.Response code id params body)) =
     let rest : List Sent = (responded setup was.store.endpoints was.clock (response_with setup id code params)).sent in
     record {
       value = refl;
-      sent = map-append datagram_of (acknowledged was.clock source code id params) rest
-          ∙ ap (λ (x : List OutDatagram). x ++ datagrams_of rest) (sym (acknowledged_is was.clock source code id params));
+      sent = map-append message_of (acknowledged was.clock source code id params) rest
+          ∙ ap (λ (x : List OutMessage). x ++ messages_of rest) (sym (acknowledged_is was.clock source code id params));
     }
 
 abbrev with_heard : State → HistoryState → State
 with_heard was history = record was { history = history }
 
-pub went_heard : (setup : Setup) (source : SocketAddrV4) (text : List ℕ) (was is : State) (history : HistoryState) (were out are : List OutDatagram) (outcome : Outcome) (left : Option Message)
+pub went_heard : (setup : Setup) (source : SocketAddrV4) (text : List ℕ) (was is : State) (history : HistoryState) (heard_sent : List OutDatagram) (were out are : List OutMessage) (outcome : Outcome)
+    (passed : TextOutcome) (left : Option Message)
     → outcome ≡ read_text text → (heard_at was.history source was.clock outcome).left ≡ left
     → history ≡ (heard_at was.history source was.clock outcome).history → history.settled ≡ was.history.settled
-    → out ≡ were ++ (heard_at was.history source was.clock outcome).sent
+    → heard_sent ≡ (heard_at was.history source was.clock outcome).sent → passed ≡ passed_over was.history.kept was.clock outcome
+    → out ≡ were ++ labelled (heard_label setup outcome passed) heard_sent
     → Went (left_done setup left (machine_in (with_heard was history)) source) (with_heard was history) is out are → Went (handled setup (machine_in was) source (read_text text)) was is were are
-went_heard setup source text was is history were out are outcome left read left_is kept settled sent went =
+went_heard setup source text was is history heard_sent were out are outcome passed left read left_is kept settled sent passed_is put went =
     let heard : Hearing = heard_at was.history source was.clock outcome in
     let does = text_left setup was source outcome in
     let next : Effect Machine = left_done setup heard.left (machine_then was heard) source in
     let found : found_in (with_heard was history) ≡ found_in was = rw settled refl in
+    let over : TextOutcome = passed_over was.history.kept was.clock outcome in
+    let goes : out ≡ were ++ labelled (heard_label setup outcome over) heard.sent =
+    put
+    ∙ ap (λ (x : List OutDatagram). were ++ labelled (heard_label setup outcome passed) x) sent
+    ∙ ap (λ (x : TextOutcome). were ++ labelled (heard_label setup outcome x) heard.sent) passed_is in
     let last : Went next (with_heard was history) is out are =
     subst (λ (h : HistoryState). Went (left_done setup heard.left (machine_in (with_heard was h)) source) (with_heard was history) is out are) kept
     (subst (λ (some : Option Message). Went (left_done setup some (machine_in (with_heard was history)) source) (with_heard was history) is out are) (sym left_is) went) in
     subst (λ (x : Outcome). Went (handled setup (machine_in was) source x) was is were are) read (record {
       machine = last.machine ∙ sym does.value;
       found = last.found ∙ found;
-      sent = last.sent ∙ ap (λ (x : List OutDatagram). x ++ datagrams_of next.sent) sent ∙ append_assoc were heard.sent (datagrams_of next.sent)
-          ∙ ap (λ (x : List OutDatagram). were ++ x) (sym does.sent);
+      sent = last.sent ∙ ap (λ (x : List OutMessage). x ++ messages_of next.sent) goes
+          ∙ append_assoc were (labelled (heard_label setup outcome over) heard.sent) (messages_of next.sent)
+          ∙ ap (λ (x : List OutMessage). were ++ x) (sym does.sent);
     })
 
 -- a new command is executed
-pub command_done : {A : Type 0} (result : Result A AllocError) (setup : Setup) (was is : State) (were are : List OutDatagram) (source : SocketAddrV4) (left : Option Message) (said : Message) (verb : Verb) (id : ℕ) (name : List ℕ) (params : List Param) (body : List ℕ)
-    → left ≡ Some said → said ≡ messages.Command verb id name params body
-    → ((line : Option ℕ) → Does result (executed (machine_in was) source (transaction id line (spans_of (k_of (params_in said))) (done_by (form_while_in (serves was.store.endpoints) said (k_of (params_in said)) setup.names) setup was.store.endpoints was.clock id))) was is were are)
+pub command_done : {A : Type 0} (result : Result A AllocError) (setup : Setup) (was is : State) (were are : List OutMessage) (source : SocketAddrV4) (left : Option Message) (said : Message) (verb : Verb) (id : ℕ) (name : List ℕ) (params : List Param) (body : List ℕ) (line : Option ℕ)
+    → left ≡ Some said → said ≡ messages.Command verb id name params body → line ≡ line_of_name setup name
+    → Does result (executed (machine_in was) source (transaction id line (spans_of (k_of (params_in said))) (done_by (form_while_in (serves was.store.endpoints) said (k_of (params_in said)) setup.names) setup was.store.endpoints was.clock id))) was is were are
     → Does result (left_done setup left (machine_in was) source) was is were are
-command_done result setup was is were are source left said verb id name params body some same done =
+command_done result setup was is were are source left said verb id name params body line some same named done =
     subst (λ (x : Option Message). Does result (left_done setup x (machine_in was) source) was is were are) (sym (some ∙ ap (λ (m : Message). Some m) same))
-    (subst (λ (m : Message). Does result (executed (machine_in was) source (transaction id (line_of_name setup name) (spans_of (k_of (params_in m))) (done_by (form_while_in (serves was.store.endpoints) m (k_of (params_in m)) setup.names) setup was.store.endpoints was.clock id))) was is were are) same (done (line_of_name setup name)))
+    (subst (λ (m : Message). Does result (executed (machine_in was) source (transaction id (line_of_name setup name) (spans_of (k_of (params_in m))) (done_by (form_while_in (serves was.store.endpoints) m (k_of (params_in m)) setup.names) setup was.store.endpoints was.clock id))) was is were are) same
+    (subst (λ (l : Option ℕ). Does result (executed (machine_in was) source (transaction id l (spans_of (k_of (params_in said))) (done_by (form_while_in (serves was.store.endpoints) said (k_of (params_in said)) setup.names) setup was.store.endpoints was.clock id))) was is were are) named done))
 
 -- the first of these, and then the others
-pub went_next : (setup : Setup) (source : SocketAddrV4) (all texts : List (List ℕ)) (text : List ℕ) (was between is : State) (were mid are : List OutDatagram) → all ≡ text ∷ texts
+pub went_next : (setup : Setup) (source : SocketAddrV4) (all texts : List (List ℕ)) (text : List ℕ) (was between is : State) (were mid are : List OutMessage) → all ≡ text ∷ texts
     → Went (handled setup (machine_in was) source (read_text text)) was between were mid → Went (took_all setup (machine_in between) source texts) between is mid are
     → Went (took_all setup (machine_in was) source all) was is were are
 unfolding took_all
@@ -160,18 +185,18 @@ went_next setup source all texts text was between is were mid are same first res
       machine = rest.machine ∙ ap (λ (m : Machine). (took_all setup m source texts).value) first.machine;
       found = rest.found ∙ first.found;
       sent = rest.sent
-          ∙ ap (λ (m : Machine). mid ++ datagrams_of (took_all setup m source texts).sent) first.machine
-          ∙ ap (λ (x : List OutDatagram). x ++ datagrams_of (took_all setup one.value source texts).sent) first.sent
+          ∙ ap (λ (m : Machine). mid ++ messages_of (took_all setup m source texts).sent) first.machine
+          ∙ ap (λ (x : List OutMessage). x ++ messages_of (took_all setup one.value source texts).sent) first.sent
           ∙ append_assoc were _ _
-          ∙ ap (λ (x : List OutDatagram). were ++ x) (sym (map-append datagram_of one.sent (took_all setup one.value source texts).sent));
+          ∙ ap (λ (x : List OutMessage). were ++ x) (sym (map-append message_of one.sent (took_all setup one.value source texts).sent));
     })
 
-pub went_end : (setup : Setup) (source : SocketAddrV4) (all : List (List ℕ)) (was : State) (out : List OutDatagram) → all ≡ [] → Went (took_all setup (machine_in was) source all) was was out out
+pub went_end : (setup : Setup) (source : SocketAddrV4) (all : List (List ℕ)) (was : State) (out : List OutMessage) → all ≡ [] → Went (took_all setup (machine_in was) source all) was was out out
 unfolding took_all
 went_end setup source all was out none = rw none (record { machine = refl; found = refl; sent = sym (append-nil out) })
 
 -- a text doesn't move the clock
-pub went_on : (setup : Setup) (source : SocketAddrV4) (text : List ℕ) (was is : State) (were are : List OutDatagram)
+pub went_on : (setup : Setup) (source : SocketAddrV4) (text : List ℕ) (was is : State) (were are : List OutMessage)
     → Went (handled setup (machine_in was) source (read_text text)) was is were are → is.clock ≡ was.clock
 went_on setup source text was is were are went = ap (λ (m : Machine). m.now) went.machine ∙ handled_now setup (machine_in was) source (read_text text)
 
@@ -248,7 +273,7 @@ command_told setup m passed asked left said verb id name params body code some s
     (is ∙ ap (λ (x : Message). (done_by (form_while_in (serves m.endpoints) x (k_of (params_in x)) setup.names) setup m.endpoints m.now id).answer.code) same))
 
 -- the first of these texts, and then the others
-pub told_next : (setup : Setup) (source : SocketAddrV4) (all texts : List (List ℕ)) (text : List ℕ) (was between : State) (were mid : List OutDatagram) (told more whole : List TextOutcome)
+pub told_next : (setup : Setup) (source : SocketAddrV4) (all texts : List (List ℕ)) (text : List ℕ) (was between : State) (were mid : List OutMessage) (told more whole : List TextOutcome)
     → all ≡ text ∷ texts → Went (handled setup (machine_in was) source (read_text text)) was between were mid
     → more ≡ told ++ text_outcome setup (machine_in was) (read_text text) ∷ [] → told ++ text_outcomes setup (machine_in was) source all ≡ whole
     → more ++ text_outcomes setup (machine_in between) source texts ≡ whole

@@ -17,7 +17,13 @@ use Rattle.plain_machine.specs.declared.refusal.Refusal.TheVariants.{OutOfMemory
 use Rattle.plain_machine.specs.Effect.{Effect, silently}
 use Rattle.plain_machine.specs.Setup.{IsSetUp, most_lines}
 use Rattle.plain_machine.specs.Event.{GatewayEvent, datagram, phone, tick}
-use Rattle.plain_machine.specs.Message.{datagrams_of}
+use Rattle.plain_machine.specs.Message.{Sent, datagram_of, datagrams_of}
+use Rattle.plain_machine.specs.declared.label.OutMessage.{OutMessage}
+use Rattle.plain_machine.specs.declared.label.SentMessage.{SentMessage}
+use Rattle.plain_machine.specs.declared.given_up.GivenUpCommand.{GivenUpCommand}
+use Rattle.plain_machine.specs.Labelling.{messages_of, told_of, sent_message, labels_of}
+use Rattle.plain_machine.specs.GivingUp.{given_up_until}
+use Rattle.plain_machine.proofs.GivingLaws.{given_up_none}
 use Rattle.plain_machine.specs.Notifying.{noted}
 use Rattle.plain_machine.specs.Machine.{Endpoints, Machine, told_in, endpoint_at, turned_at, on_line, opening_endpoint, opening}
 use Rattle.plain_machine.specs.Acting.{acted_on}
@@ -41,40 +47,40 @@ use Rattle.plain_machine.specs.Reporting.{name_of_line}
 
 -- What happened
 
-back_still : (sent : List OutDatagram) (was is : State) → found_in is ≡ found_in was → CanGoBack sent was is
+back_still : (sent : List OutMessage) (was is : State) → found_in is ≡ found_in was → CanGoBack sent was is
 back_still [] was is same = tt
 back_still (first ∷ more) was is same = same
 
 -- texts were taken
-pub happened_went : (effect : Effect Machine) (was is : State) (none sent : List OutDatagram) → none ≡ [] → Went effect was is none sent → Happened effect was is sent
+pub happened_went : (effect : Effect Machine) (was is : State) (none sent : List OutMessage) → none ≡ [] → Went effect was is none sent → Happened effect was is sent
 happened_went effect was is none sent empty went = record {
   machine = went.machine;
   found = back_still sent was is went.found;
-  sent = went.sent ∙ ap (λ (x : List OutDatagram). x ++ datagrams_of effect.sent) empty;
+  sent = went.sent ∙ ap (λ (x : List OutMessage). x ++ messages_of effect.sent) empty;
 }
 
 -- this came to the store
-store_back : (change : Effect Endpoints) (was is : State) (sent : List OutDatagram) → Goes change was.store is.store [] sent → is.history ≡ was.history → CanGoBack sent was is
+store_back : (change : Effect Endpoints) (was is : State) (sent : List OutMessage) → Goes change was.store is.store [] sent → is.history ≡ was.history → CanGoBack sent was is
 store_back change was is sent goes history = back_still sent was is (rw (history, goes.found) refl)
 
-pub happened_goes : (change : Effect Endpoints) (was is : State) (none sent : List OutDatagram) → none ≡ [] → Goes change was.store is.store none sent → is.clock ≡ was.clock → is.history ≡ was.history
+pub happened_goes : (change : Effect Endpoints) (was is : State) (none sent : List OutMessage) → none ≡ [] → Goes change was.store is.store none sent → is.clock ≡ was.clock → is.history ≡ was.history
     → Happened (told_in (machine_in was) change) was is sent
 happened_goes change was is none sent empty goes clock history = record {
   machine = rw (clock, history, goes.endpoints) refl;
   found = store_back change was is sent (rw empty at goes) history;
-  sent = goes.sent ∙ ap (λ (x : List OutDatagram). x ++ datagrams_of change.sent) empty;
+  sent = goes.sent ∙ ap (λ (x : List OutMessage). x ++ messages_of change.sent) empty;
 }
 
-pub happened_tick : (change : Effect Endpoints) (was is : State) (moment : ℕ) (none sent : List OutDatagram) → none ≡ [] → Goes change was.store is.store none sent → is.clock ≡ moment → is.history ≡ was.history
+pub happened_tick : (change : Effect Endpoints) (was is : State) (moment : ℕ) (none sent : List OutMessage) → none ≡ [] → Goes change was.store is.store none sent → is.clock ≡ moment → is.history ≡ was.history
     → Happened (ticked (machine_in was) moment change) was is sent
 happened_tick change was is moment none sent empty goes clock history = record {
   machine = rw (clock, history, goes.endpoints) refl;
   found = store_back change was is sent (rw empty at goes) history;
-  sent = goes.sent ∙ ap (λ (x : List OutDatagram). x ++ datagrams_of change.sent) empty;
+  sent = goes.sent ∙ ap (λ (x : List OutMessage). x ++ messages_of change.sent) empty;
 }
 
 -- nothing is sent
-pub happened_silently : (effect : Effect Machine) (was is : State) (sent : List OutDatagram) → sent ≡ [] → machine_in is ≡ effect.value → effect.sent ≡ [] → Happened effect was is sent
+pub happened_silently : (effect : Effect Machine) (was is : State) (sent : List OutMessage) → sent ≡ [] → machine_in is ≡ effect.value → effect.sent ≡ [] → Happened effect was is sent
 happened_silently effect was is sent none machine silent = rw none (record {
   machine = machine;
   found = tt;
@@ -89,12 +95,12 @@ pub nothing_passes : (setup : Setup) (endpoints : Endpoints) (moment : ℕ) → 
 nothing_passes setup endpoints moment idle = pass_none setup endpoints moment (none_due (due_by endpoints moment) idle)
 
 -- an act that isn't heeded was passed over
-pub happened_passing : (change : Effect Endpoints) (was is : State) (sent : List OutDatagram) → sent ≡ [] → change ≡ silently is.store.endpoints → is.clock ≡ was.clock → is.history ≡ was.history
+pub happened_passing : (change : Effect Endpoints) (was is : State) (sent : List OutMessage) → sent ≡ [] → change ≡ silently is.store.endpoints → is.clock ≡ was.clock → is.history ≡ was.history
     → Happened (told_in (machine_in was) change) was is sent
 happened_passing change was is sent none goes clock history = happened_silently _ was is sent none (rw (clock, history, goes) refl) (rw goes refl)
 
 -- a tick up to which nothing is due
-pub happened_idly : (setup : Setup) (was is : State) (moment : ℕ) (sent : List OutDatagram) → sent ≡ [] → is_due was.store.endpoints moment ≡ false
+pub happened_idly : (setup : Setup) (was is : State) (moment : ℕ) (sent : List OutMessage) → sent ≡ [] → is_due was.store.endpoints moment ≡ false
     → machine_in is ≡ record (machine_in was) { now = moment } → Happened (ticked (machine_in was) moment (pass setup was.store.endpoints moment)) was is sent
 happened_idly setup was is moment sent none idle machine =
     let nothing = nothing_passes setup was.store.endpoints moment (ap not idle) in
@@ -120,15 +126,43 @@ free_silent setup m (tick moment) free = rw (nothing_passes setup m.endpoints mo
 
 -- What goes out
 
+apart : (sent : List Sent) → map (λ (message : OutMessage). message.datagram) (messages_of sent) ≡ datagrams_of sent
+apart [] = refl
+apart (one ∷ more) = ap (λ (x : List OutDatagram). datagram_of one ∷ x) (apart more)
+
+told_apart : (sent : List Sent) → map told_of (messages_of sent) ≡ labels_of sent
+told_apart [] = refl
+told_apart (one ∷ more) = ap (λ (x : List SentMessage). sent_message one ∷ x) (told_apart more)
+
+nothing_sent : (sent : List Sent) → messages_of sent ≡ [] → sent ≡ []
+nothing_sent [] none = refl
+nothing_sent (one ∷ more) none = absurd cc
+
 -- nothing is to go out
-pub puts_nothing : (effect : Effect Machine) (was is : State) (sent outputs : List OutDatagram) → sent ≡ [] → Happened effect was is sent → PutsOut effect is outputs outputs
+pub puts_nothing : (effect : Effect Machine) (was is : State) (sent : List OutMessage) (outputs : List OutDatagram) → sent ≡ [] → Happened effect was is sent → PutsOut effect is outputs outputs
 puts_nothing effect was is sent outputs none happened =
-    let empty : datagrams_of effect.sent ≡ [] = sym happened.sent ∙ none in
-    record { machine = happened.machine; outputs = sym (append-nil outputs) ∙ ap (λ (x : List OutDatagram). outputs ++ packed x) (sym empty) }
+    let empty : effect.sent ≡ [] = nothing_sent effect.sent (sym happened.sent ∙ none) in
+    record { machine = happened.machine; outputs = sym (append-nil outputs) ∙ ap (λ (x : List Sent). outputs ++ packed (datagrams_of x)) (sym empty) }
+
+pub tells_nothing : (effect : Effect Machine) (was is : State) (sent : List OutMessage) (told : List SentMessage) → sent ≡ [] → told ≡ [] → Happened effect was is sent → told ≡ labels_of effect.sent
+tells_nothing effect was is sent told none silent happened =
+    silent ∙ ap labels_of (sym (nothing_sent effect.sent (sym happened.sent ∙ none)))
+
+-- this goes out
+pub puts_out : (effect : Effect Machine) (was is : State) (sent : List OutMessage) (datagrams were are : List OutDatagram) → Happened effect was is sent
+    → datagrams ≡ map (λ (message : OutMessage). message.datagram) sent → are ≡ were ++ packed datagrams → PutsOut effect is were are
+puts_out effect was is sent datagrams were are happened parted more = record {
+  machine = happened.machine;
+  outputs = more ∙ ap (λ (x : List OutDatagram). were ++ packed x)
+      (parted ∙ ap (map (λ (message : OutMessage). message.datagram)) happened.sent ∙ apart effect.sent);
+}
+
+pub tells_labels : (effect : Effect Machine) (was is : State) (sent : List OutMessage) (told : List SentMessage) → Happened effect was is sent → told ≡ map told_of sent → told ≡ labels_of effect.sent
+tells_labels effect was is sent told happened parted = parted ∙ ap (map told_of) happened.sent ∙ told_apart effect.sent
 
 -- memory is refused to what is to go out
 
-not_empty : (sent : List OutDatagram) → (length sent == 0) ≡ false → sent ≡ [] → ⊥
+not_empty : (sent : List OutMessage) → (length sent == 0) ≡ false → sent ≡ [] → ⊥
 not_empty [] some none = absurd cc
 not_empty (first ∷ more) some none = absurd cc
 
@@ -137,11 +171,17 @@ by_free None false e taken = refl
 by_free None true e taken = absurd (taken refl)
 by_free (Some refusal) free e taken = absurd cc
 
-pub ends_refused : (setup : Setup) (event : GatewayEvent) (was is : State) (sent : List OutDatagram) (given : Option Refusal) → (length sent == 0) ≡ false → given ≡ Some OutOfMemory
+pub ends_refused : (setup : Setup) (event : GatewayEvent) (was is : State) (sent : List OutMessage) (given : Option Refusal) → (length sent == 0) ≡ false → given ≡ Some OutOfMemory
     → Ends (machine_in was) event None → Happened (effect setup (machine_in was) event) was is sent → Ends (machine_in was) event given
 ends_refused setup event was is sent given some is_given e happened =
     rw is_given (by_free (refusal_of (machine_in was) event) (takes_none (machine_in was) event) e
-    (λ free. not_empty sent some (happened.sent ∙ ap datagrams_of (free_silent setup (machine_in was) event free))))
+    (λ free. not_empty sent some (happened.sent ∙ ap messages_of (free_silent setup (machine_in was) event free))))
+
+-- what is given up until nothing is due
+pub gives_up_nothing : (setup : Setup) (endpoints : Endpoints) (moment : ℕ) (were : List GivenUpCommand) → is_due endpoints moment ≡ false
+    → were ≡ were ++ given_up_until setup endpoints moment
+gives_up_nothing setup endpoints moment were idle =
+    sym (append-nil were) ∙ ap (λ (x : List GivenUpCommand). were ++ x) (sym (given_up_none setup endpoints moment (none_due (due_by endpoints moment) (ap not idle))))
 
 -- Openings
 

@@ -1,5 +1,5 @@
 -- What is left to the gateway at a text that is heard, and what the text was.
-use Rattle.std.specs.Prelude.{ℕ, Bool, List, Option, Some, None}
+use Rattle.std.specs.Prelude.{ℕ, Bool, List, [], ◌∷◌, Option, Some, None}
 use Rattle.std.specs.declared.net.socket_addr.SocketAddrV4.{SocketAddrV4}
 use Rattle.mgcp_text.specs.declared.message.Message.{Message}
 use Rattle.mgcp_text.specs.declared.message.Message.TheVariants as messages
@@ -12,8 +12,15 @@ use Rattle.plain_machine.specs.declared.setup.Setup.{Setup}
 use Rattle.plain_machine.specs.Effect.{Effect, silently}
 use Rattle.plain_machine.specs.Machine.{Machine, told_in}
 use Rattle.plain_machine.specs.Responding.{response_with, responded}
-use Rattle.plain_machine.specs.Answering.{executed, command_with}
-use Rattle.gateway_core.specs.declared.outcome.Reply.TheVariants.{First}
+use Rattle.plain_machine.specs.Answering.{executed, command_with, line_of_name}
+use Rattle.transmission.specs.declared.output.OutDatagram.{OutDatagram}
+use Rattle.plain_machine.specs.declared.label.Label.{Label}
+use Rattle.plain_machine.specs.declared.label.OutMessage.{OutMessage}
+use Rattle.plain_machine.specs.declared.label.Whose.TheVariants.{AnswerOf, Nobody}
+use Rattle.plain_machine.specs.declared.label.What.TheVariants as whats
+use Rattle.plain_machine.specs.Labelling.{front_code}
+use Rattle.gateway_core.specs.declared.outcome.Reply.{Reply}
+use Rattle.gateway_core.specs.declared.outcome.Reply.TheVariants.{First, Again, Silence, NoRoom}
 use Rattle.gateway_core.specs.declared.outcome.TextOutcome.{TextOutcome}
 use Rattle.gateway_core.specs.declared.outcome.TextOutcome.TheVariants.{NoMessage, Command, Response}
 use Rattle.gateway_core.specs.Outcomes.{reply_by}
@@ -41,3 +48,46 @@ passed_over kept now (bad_body id) = Command None id (reply_by (look_of most_fir
 passed_over kept now (message (messages.Command verb id name params body)) =
     Command (Some verb) id (reply_by (look_of most_firsts kept id now) 0)
 passed_over kept now (message (messages.Response code id params body)) = NoMessage
+
+-- The label of what is sent as a text is heard
+
+-- a stored answer that goes out once more
+abbrev pub again_label : Option ℕ → ℕ → List ℕ → Label
+again_label line id text = record { whose = AnswerOf line; what = whats.Again (front_code text); id = id }
+
+abbrev pub first_label : Option ℕ → ℕ → ℕ → Label
+first_label line id code = record { whose = AnswerOf line; what = whats.Answer code; id = id }
+
+abbrev pub acknowledged_label : ℕ → Label
+acknowledged_label id = record { whose = Nobody; what = whats.Acknowledgement; id = id }
+
+-- the answer to a command that can't be read past its id, by what that gets
+abbrev pub reply_label : Reply → ℕ → List ℕ → Label
+reply_label (First code) id text = first_label None id code
+reply_label (Again code) id text = again_label None id text
+reply_label Silence id text = again_label None id text
+reply_label NoRoom id text = again_label None id text
+
+abbrev pub faulty_label : TextOutcome → ℕ → List ℕ → Label
+faulty_label NoMessage id text = again_label None id text
+faulty_label (Command verb of reply) id text = reply_label reply id text
+faulty_label (Response is_acknowledged) id text = again_label None id text
+
+-- the label of this text, which is sent where such a text is heard that is passed over as this: at what has no header nothing is
+abbrev pub heard_label : Setup → Outcome → TextOutcome → List ℕ → Option Label
+heard_label setup no_header passed text = None
+heard_label setup (bad_version id) passed text = Some (faulty_label passed id text)
+heard_label setup (bad_body id) passed text = Some (faulty_label passed id text)
+heard_label setup (message (messages.Command verb id name params body)) passed text =
+    Some (again_label (line_of_name setup name) id text)
+heard_label setup (message (messages.Response code id params body)) passed text =
+    Some (acknowledged_label id)
+
+-- no more than one message is sent then
+abbrev pub labelled_as : Option Label → OutDatagram → List OutMessage
+labelled_as None datagram = []
+labelled_as (Some label) datagram = record { datagram = datagram; label = label } ∷ []
+
+abbrev pub labelled : (List ℕ → Option Label) → List OutDatagram → List OutMessage
+labelled label [] = []
+labelled label (datagram ∷ more) = labelled_as (label datagram.bytes) datagram

@@ -1,10 +1,8 @@
 -- What each text of a datagram was to the machine that it came to (RFC 3435, 3.2, 3.3 and 3.5).
-use Rattle.std.specs.Prelude.{ℕ, List, [], ◌∷◌, take, Option, Some, None}
-use Rattle.std.specs.Option.{unwrap_or}
+use Rattle.std.specs.Prelude.{ℕ, List, [], ◌∷◌, Option, Some, None}
 use Rattle.std.specs.declared.net.socket_addr.SocketAddrV4.{SocketAddrV4}
 use Rattle.mgcp_text.specs.declared.message.Verb.{Verb}
 use Rattle.mgcp_text.specs.declared.message.Message.TheVariants as messages
-use Rattle.mgcp_text.specs.Header.{return_code}
 use Rattle.mgcp_text.specs.Reading.{Outcome, message, no_header, bad_version, bad_body, read_text}
 use Rattle.history.specs.Memory.{most_firsts}
 use Rattle.history.specs.Looking.{Looked, new, repeat, confirmed, full, look_of}
@@ -13,6 +11,7 @@ use Rattle.transmission.specs.Hearing.{response_as}
 use Rattle.transmission.specs.Texts.{texts_of}
 use Rattle.plain_machine.specs.declared.setup.Setup.{Setup}
 use Rattle.plain_machine.specs.Event.{GatewayEvent, datagram, phone, tick}
+use Rattle.plain_machine.specs.Labelling.{front_code}
 use Rattle.plain_machine.specs.Machine.{Machine, opening}
 use Rattle.plain_machine.specs.Answering.{Transaction, transaction_of, handled}
 use Rattle.plain_machine.specs.Happening.{effect}
@@ -20,10 +19,6 @@ use Rattle.gateway_core.specs.declared.outcome.Reply.{Reply}
 use Rattle.gateway_core.specs.declared.outcome.Reply.TheVariants.{First, Again, Silence, NoRoom}
 use Rattle.gateway_core.specs.declared.outcome.TextOutcome.{TextOutcome}
 use Rattle.gateway_core.specs.declared.outcome.TextOutcome.TheVariants.{NoMessage, Command, Response}
-
--- the return code at the front of a stored answer (RFC 3435, 3.3)
-abbrev pub front_code : List ℕ → ℕ
-front_code text = unwrap_or (return_code (take 3 text)) 0
 
 -- what a command gets, by what is told of its id: an answer with this code, if it is new (RFC 3435, 3.5.1)
 abbrev pub reply_by : Looked → ℕ → Reply

@@ -5,9 +5,10 @@ use Rattle.std.specs.declared.alloc.AllocError.{AllocError}
 use Rattle.history.specs.declared.entry.Entry.{Entry}
 use Rattle.history.specs.Kept.{from_young}
 use Rattle.transmission.specs.declared.output.OutDatagram.{OutDatagram}
+use Rattle.plain_machine.specs.declared.label.OutMessage.{OutMessage}
 use Rattle.plain_machine.specs.declared.refusal.Refusal.{Refusal}
 use Rattle.plain_machine.specs.Effect.{Effect}
-use Rattle.plain_machine.specs.Message.{datagrams_of}
+use Rattle.plain_machine.specs.Labelling.{messages_of}
 use Rattle.plain_machine.specs.Packing.{put_out}
 use Rattle.plain_machine.specs.Machine.{Endpoints, Machine}
 use Rattle.gateway_core.specs.declared.state.State.{State}
@@ -25,29 +26,29 @@ abbrev pub found_in : State → Found
 found_in state = record { endpoints = state.store.found; history = state.history.settled }
 
 -- the machine goes on as the effect says, the messages grow by what it sends, and what the event found can still be had
-pub record Went (effect : Effect Machine) (was is : State) (were are : List OutDatagram) : Type 0 where
+pub record Went (effect : Effect Machine) (was is : State) (were are : List OutMessage) : Type 0 where
   pub machine : machine_in is ≡ effect.value
   pub found : found_in is ≡ found_in was
-  pub sent : are ≡ were ++ datagrams_of effect.sent
+  pub sent : are ≡ were ++ messages_of effect.sent
 
 -- so it goes; or memory is refused, and what the event found can still be had
-abbrev pub Does : {A : Type 0} → Result A AllocError → Effect Machine → State → State → List OutDatagram → List OutDatagram → Type 0
+abbrev pub Does : {A : Type 0} → Result A AllocError → Effect Machine → State → State → List OutMessage → List OutMessage → Type 0
 Does (Ok x) effect was is were are = Went effect was is were are
 Does (Err fault) effect was is were are = found_in is ≡ found_in was
 
 -- where there is anything to send, what the event found can still be had
-abbrev pub CanGoBack : List OutDatagram → State → State → Type 0
+abbrev pub CanGoBack : List OutMessage → State → State → Type 0
 CanGoBack [] was is = ⊤
 CanGoBack (first ∷ more) was is = found_in is ≡ found_in was
 
 -- the machine went on as the effect says, and this is what is to be sent
-pub record Happened (effect : Effect Machine) (was is : State) (out : List OutDatagram) : Type 0 where
+pub record Happened (effect : Effect Machine) (was is : State) (out : List OutMessage) : Type 0 where
   pub machine : machine_in is ≡ effect.value
   pub found : CanGoBack out was is
-  pub sent : out ≡ datagrams_of effect.sent
+  pub sent : out ≡ messages_of effect.sent
 
 -- an event happened so; or it is refused, and what it found can still be had
-abbrev pub Happens : Result (Vec OutDatagram) Refusal → Effect Machine → State → State → Type 0
+abbrev pub Happens : Result (Vec OutMessage) Refusal → Effect Machine → State → State → Type 0
 Happens (Ok out) effect was is = Happened effect was is out.items
 Happens (Err refusal) effect was is = found_in is ≡ found_in was
 

@@ -9,7 +9,7 @@ ghost use Rattle.gateway_core.specs.State.{machine_in, Happens};
 use crate::state::State;
 use endpoint_rules::{Context, Occasion, acted_on};
 use mg_line::Act;
-use plain_machine::{OutDatagram, Refusal};
+use plain_machine::{OutMessage, Refusal};
 
 /// An act at the telephone of a line: what is sent. One that the line doesn't heed takes no memory.
 #[tactic(auto, unfolding(plain_machine::specs::Machine::on_line))]
@@ -18,7 +18,7 @@ pub(crate) fn act_on(
     state: &mut State,
     line: u16,
     act: Act,
-) -> Result<Vec<OutDatagram>, Refusal>
+) -> Result<Vec<OutMessage>, Refusal>
     requires { MayTell context.setup.now state.old.clock }
     ensures happens { Happens result (told_in (machine_in state.old)
         (acted context.entry.setup.now state.old.store.endpoints line state.old.clock act)) state.old state.new }

@@ -17,31 +17,34 @@ ghost use Rattle.gateway_core.specs.Hearing.{left_done, left_outcome};
 ghost use Rattle.gateway_core.specs.Outcomes.{text_outcome, text_outcomes};
 
 use crate::commanding::commanded;
+use crate::keeping::keep_answer;
+use crate::labelling::{first_label, line_of_name, send_heard};
 use crate::outcome::{Reply, TextOutcome};
 use crate::outcomes::Outcomes;
 use crate::responding::respond;
 use crate::sending::send_all;
 use crate::state::State;
 use crate::telling::passed_over;
-use endpoint_rules::Context;
+use endpoint_rules::{Context, send};
 use mg_bytes::OutOfMemory;
 use mgcp_text::{KValue, Message, TextFault, read_k, read_message};
-use plain_machine::{OutDatagram, Refusal};
+use plain_machine::{OutMessage, Refusal};
 use std::net::SocketAddrV4;
-use transmission::{Origin, answer, hear, spans_of, texts};
+use transmission::{Origin, hear, spans_of, texts};
 
-// A new command whose K was read is executed: its answer, which has this return code, goes out before what lines send because
-// of it.
+// A new command whose K was read, and whose name reads as this line or as none, is executed: its answer, which has this return
+// code, goes out before what lines send because of it.
 fn execute_with_k(
     context: Context<'_>,
     state: &mut State,
     origin: Origin,
+    line: Option<u16>,
     said: &Message<'_>,
     confirms: &KValue,
-    out: &mut Vec<OutDatagram>,
+    out: &mut Vec<OutMessage>,
 ) -> Result<u16, OutOfMemory>
     requires { MayTell context.setup.now state.old.clock }
-    ensures does { (line : _) → Does result (executed (machine_in state.old) origin.source
+    ensures does { Does result (executed (machine_in state.old) origin.source
         (transaction origin.id line (spans_of confirms.now)
         (done_by (form_while_in (serves state.old.store.endpoints) said.now confirms.now
         context.entry.setup.now.names) context.entry.setup.now
@@ -62,29 +65,34 @@ fn execute_with_k(
         confirms,
         &mut sent,
     )?;
-    answer(
+    let code = given.code();
+    let label = first_label(line, origin.id, code);
+    let to = origin.source;
+    let now = state.clock;
+    let text = keep_answer(
         context.alloc,
         &mut state.history,
         origin,
-        state.clock,
+        now,
         spans,
         &given,
-        out,
     )?;
+    send(out, to, now, text, label)?;
     send_all(out, sent)?;
-    Ok(given.code())
+    Ok(code)
 }
 
-// A new command is executed, and its K is read once: its answer has this return code.
+// A new command whose name reads as this line, or as none, is executed, and its K is read once: its answer has this return code.
 fn execute(
     context: Context<'_>,
     state: &mut State,
     origin: Origin,
+    line: Option<u16>,
     said: &Message<'_>,
-    out: &mut Vec<OutDatagram>,
+    out: &mut Vec<OutMessage>,
 ) -> Result<u16, OutOfMemory>
     requires { MayTell context.setup.now state.old.clock }
-    ensures does { (line : _) → Does result (executed (machine_in state.old) origin.source
+    ensures does { Does result (executed (machine_in state.old) origin.source
         (transaction origin.id line (spans_of (k_of (params_in said.now)))
         (done_by (form_while_in (serves state.old.store.endpoints) said.now (k_of (params_in said.now))
         context.entry.setup.now.names) context.entry.setup.now
@@ -95,7 +103,7 @@ fn execute(
         state.old.store.endpoints state.old.clock origin.id).answer.code) }
 {
     let confirms = read_k(context.alloc, said)?;
-    execute_with_k(context, state, origin, said, &confirms, out)
+    execute_with_k(context, state, origin, line, said, &confirms, out)
 }
 
 // What is left to the gateway at a text that it heard, and what the text was: where nothing is left, what it was passed over as.
@@ -106,7 +114,7 @@ fn handle(
     passed: TextOutcome,
     is_acknowledged: bool,
     read: &Result<Message<'_>, TextFault>,
-    out: &mut Vec<OutDatagram>,
+    out: &mut Vec<OutMessage>,
 ) -> Result<TextOutcome, OutOfMemory>
     requires { MayTell context.setup.now state.old.clock }
     ensures does { Does result (left_done context.entry.setup.now (result_ok read.now) (machine_in state.old) source)
@@ -118,8 +126,9 @@ fn handle(
         return Ok(passed);
     };
     match said {
-        Message::Command { verb, id, .. } => {
-            let code = execute(context, state, Origin { source, id: *id }, said, out)?;
+        Message::Command { verb, id, name, .. } => {
+            let line = line_of_name(context.setup, name.as_slice());
+            let code = execute(context, state, Origin { source, id: *id }, line, said, out)?;
             Ok(TextOutcome::Command {
                 verb: Some(*verb),
                 id: *id,
@@ -147,7 +156,7 @@ fn take_read(
     state: &mut State,
     source: SocketAddrV4,
     read: &Result<Message<'_>, TextFault>,
-    out: &mut Vec<OutDatagram>,
+    out: &mut Vec<OutMessage>,
 ) -> Result<TextOutcome, OutOfMemory>
     requires { MayTell context.setup.now state.old.clock }
     ensures does { (text : List ℕ) → IfSome (outcome_of read.now) (λ outcome. outcome ≡ read_text text) →
@@ -157,19 +166,21 @@ fn take_read(
         IfOk result (λ outcome. outcome ≡ text_outcome context.entry.setup.now (machine_in state.old) (read_text text)) }
 {
     let passed = passed_over(&state.history, state.clock, read);
-    let before = out.len();
-    if !hear(
+    let mut heard = Vec::new(context.alloc);
+    let left = hear(
         context.alloc,
         &mut state.history,
         source,
         state.clock,
         read,
-        out,
-    )? {
+        &mut heard,
+    )?;
+    // Of what is left only a response sent anything yet: where it asks for that, its acknowledgement.
+    let is_acknowledged = heard.len() > 0;
+    send_heard(context.setup, read, &passed, heard, out)?;
+    if !left {
         return Ok(passed);
     }
-    // Only a response sent anything yet: where it asks for that, its acknowledgement.
-    let is_acknowledged = out.len() > before;
     let outcome = handle(context, state, source, passed, is_acknowledged, read, out)?;
     Ok(outcome)
 }
@@ -180,7 +191,7 @@ fn take(
     state: &mut State,
     source: SocketAddrV4,
     text: &[u8],
-    out: &mut Vec<OutDatagram>,
+    out: &mut Vec<OutMessage>,
 ) -> Result<TextOutcome, OutOfMemory>
     requires { MayTell context.setup.now state.old.clock }
     ensures does { Does result (handled context.entry.setup.now (machine_in state.old) source (read_text text.now))
@@ -199,7 +210,7 @@ fn take_next(
     source: SocketAddrV4,
     text: &[u8],
     told: &mut Outcomes,
-    out: &mut Vec<OutDatagram>,
+    out: &mut Vec<OutMessage>,
 ) -> Result<(), OutOfMemory>
     requires tells { MayTell context.setup.now state.old.clock }
     requires room { length told.old < most_texts }
@@ -221,7 +232,7 @@ pub(crate) fn take_datagram(
     source: SocketAddrV4,
     bytes: &[u8],
     told: &mut Outcomes,
-) -> Result<Vec<OutDatagram>, Refusal>
+) -> Result<Vec<OutMessage>, Refusal>
     requires tells { MayTell context.setup.now state.old.clock }
     requires untold { told.old ≡ [] }
     ensures happens { Happens result (took_all context.entry.setup.now (machine_in state.old) source (texts_of bytes.now))

@@ -20,7 +20,7 @@ use endpoint_rules::{Context, answer_with};
 use endpoints::{Store, deed_on_all, line_with_place, refused_by};
 use mg_bytes::{CodeFault, OutOfMemory, ReturnCode};
 use mgcp_text::{AnswerContent, Bytes, KValue, Message, Params, TransactionId};
-use plain_machine::OutDatagram;
+use plain_machine::OutMessage;
 use std::alloc::AllocError;
 
 // What is asked for of one line, or of one of its connections.
@@ -109,7 +109,7 @@ fn deed_done(
     lines: Target,
     more: Params<'static>,
     deed: &Deed,
-    sent: &mut Vec<OutDatagram>,
+    sent: &mut Vec<OutMessage>,
 ) -> Result<AnswerContent, OutOfMemory>
     requires may { MayTell context.setup.now moment }
     requires writable { list_all is_writable_param more ≡ true }
@@ -131,7 +131,7 @@ fn done_there(
     store: &mut Store,
     moment: u64,
     deed: &Deed,
-    sent: &mut Vec<OutDatagram>,
+    sent: &mut Vec<OutMessage>,
 ) -> Result<AnswerContent, OutOfMemory>
     requires { MayTell context.setup.now moment }
     ensures answer { IfOk result (λ answer. answer ≡ (done_there (line_with_place store.old.endpoints)
@@ -153,7 +153,7 @@ fn done_for(
     moment: u64,
     target: Target,
     deed: &Deed,
-    sent: &mut Vec<OutDatagram>,
+    sent: &mut Vec<OutMessage>,
 ) -> Result<AnswerContent, OutOfMemory>
     requires { MayTell context.setup.now moment }
     ensures answer { IfOk result (λ answer. answer ≡ (done_for context.entry.setup.now store.old.endpoints target
@@ -177,7 +177,7 @@ pub(crate) fn commanded(
     id: TransactionId,
     said: &Message<'_>,
     confirms: &KValue,
-    sent: &mut Vec<OutDatagram>,
+    sent: &mut Vec<OutMessage>,
 ) -> Result<AnswerContent, OutOfMemory>
     requires { MayTell context.setup.now moment }
     ensures answer { IfOk result (λ answer. answer ≡ (done_by

@@ -2,7 +2,7 @@
 #![tactic(auto, unfolding(crate::proofs::Computing::on_examples))]
 
 ghost use Rattle.std.specs.Prelude.{◌≡◌, ◌++◌, codes, [], ◌∷◌, length, replicate, true, false, None, Some};
-ghost use Rattle.mgcp_text.specs.declared.message.Verb.TheVariants.{Rqnt};
+ghost use Rattle.mgcp_text.specs.declared.message.Verb.TheVariants.{Rqnt, Ntfy};
 ghost use Rattle.mg_line.specs.declared.phone.Act.TheVariants.{OffHook};
 ghost use Rattle.history.specs.Looking.{full};
 ghost use Rattle.transmission.specs.Example.{dot_lines};
@@ -11,8 +11,11 @@ ghost use Rattle.plain_machine.specs.Event.{datagram, phone, tick};
 ghost use Rattle.plain_machine.specs.Example.{example, agent, other_agent, audit, rqnt, response, from_agent};
 ghost use Rattle.gateway_core.specs.declared.outcome.Reply.TheVariants.{First, Again, Silence, NoRoom};
 ghost use Rattle.gateway_core.specs.declared.outcome.TextOutcome.TheVariants.{NoMessage, Command, Response};
-ghost use Rattle.gateway_core.specs.Outcomes.{front_code, reply_by, last_outcomes};
-ghost use Rattle.gateway_core.specs.Example.{told, audited};
+ghost use Rattle.plain_machine.specs.Labelling.{front_code};
+ghost use Rattle.gateway_core.specs.Outcomes.{reply_by, last_outcomes};
+ghost use Rattle.plain_machine.specs.declared.label.Whose.TheVariants.{AnswerOf, OwnOf, Nobody};
+ghost use Rattle.plain_machine.specs.declared.label.What.TheVariants as whats;
+ghost use Rattle.gateway_core.specs.Example.{told, audited, accounted, labels, labelled};
 
 /// A new command is told of with the code that answers it, a repeat with that of the stored answer, wherever it comes from.
 /// 30,000 ms after its first it is new. What a K confirmed gets silence, and what finds no room nothing.
@@ -72,4 +75,42 @@ pub fn an_answer_begins_with_its_code()
     ensures code { front_code (codes "200 1206 OK\r\n") ≡ 200 }
     ensures short { front_code (codes "20") ≡ 0 }
     ensures word { front_code (codes "2OO 1206") ≡ 0 }
+{}
+
+/// A new command's answer is told of with the line that its name reads as, a repeat's with that of the name in it, wherever it
+/// comes from, and with the code of the stored answer; a command for all lines, or that can't be read, is of none.
+pub fn answers_are_told_of()
+    ensures first { labels (from_agent (audit 1206) ∷ []) ≡ labelled (AnswerOf (Some 1)) (whats.Answer 200) 1206 ∷ [] }
+    ensures refused { labels (from_agent (codes "AUEP 1201 aaln/17@rgw.example.net MGCP 1.0\r\n") ∷ [])
+        ≡ labelled (AnswerOf None) (whats.Answer 500) 1201 ∷ [] }
+    ensures all_lines { labels (from_agent (codes "AUEP 1202 *@rgw.example.net MGCP 1.0\r\n") ∷ [])
+        ≡ labelled (AnswerOf None) (whats.Answer 200) 1202 ∷ [] }
+    ensures again { labels (from_agent (audit 1206) ∷ datagram other_agent (audit 1206) ∷ [])
+        ≡ (record { to = other_agent; moment = 1000; label = record { whose = AnswerOf (Some 1); what = whats.Again 200; id = 1206 } }) ∷ [] }
+    ensures again_as_another { labels (from_agent (audit 1206)
+        ∷ from_agent (codes "AUEP 1206 aaln/2@rgw.example.net MGCP 1.0\r\n") ∷ [])
+        ≡ labelled (AnswerOf (Some 2)) (whats.Again 200) 1206 ∷ [] }
+    ensures version { labels (from_agent (codes "AUEP 8 aaln/1@rgw.example.net MGCP 2.0\r\n") ∷ [])
+        ≡ labelled (AnswerOf None) (whats.Answer 528) 8 ∷ [] }
+    ensures version_again { labels (from_agent (codes "AUEP 8 x MGCP 2.0\r\n") ∷ from_agent (codes "AUEP 8 x MGCP 2.0\r\n") ∷ [])
+        ≡ labelled (AnswerOf None) (whats.Again 528) 8 ∷ [] }
+    ensures body { labels (from_agent (codes "AUEP 7\r\n") ∷ []) ≡ labelled (AnswerOf None) (whats.Answer 510) 7 ∷ [] }
+    ensures silence { labels (from_agent (audit 1301) ∷ from_agent (audit 1304 ++ codes "K: 1301\r\n") ∷ from_agent (audit 1301) ∷ []) ≡ [] }
+{}
+
+/// An acknowledgement is of no line, and a command of a line's own is of that; the messages of an event are told of in their
+/// order, and those of the last event alone. What is given up is told of at the tick at which it is.
+pub fn other_messages_are_told_of()
+    ensures acknowledged { labels (from_agent (codes "200 9 OK\r\nK:\r\n") ∷ []) ≡ labelled Nobody whats.Acknowledgement 9 ∷ [] }
+    ensures own { labels (phone 1 OffHook ∷ []) ≡ labelled (OwnOf 1) (whats.Command Ntfy) 10000000 ∷ [] }
+    ensures resent { labels (phone 1 OffHook ∷ tick 1500 ∷ [])
+        ≡ (record { to = agent; moment = 1500; label = record { whose = OwnOf 1; what = whats.Resent Ntfy 2; id = 10000000 } }) ∷ [] }
+    ensures in_order { labels (from_agent (audit 1206 ++ codes ".\r\n" ++ audit 1207) ∷ [])
+        ≡ labelled (AnswerOf (Some 1)) (whats.Answer 200) 1206 ∷ labelled (AnswerOf (Some 1)) (whats.Answer 200) 1207 ∷ [] }
+    ensures last { labels (from_agent (audit 1206) ∷ phone 1 OffHook ∷ [])
+        ≡ labelled (OwnOf 1) (whats.Command Ntfy) 10000000 ∷ [] }
+    ensures nothing { labels (from_agent (audit 1206) ∷ tick 1001 ∷ []) ≡ [] }
+    ensures given_up { (accounted (phone 1 OffHook ∷ tick 24499 ∷ tick 24500 ∷ [])).given_up
+        ≡ (record { line = 1; id = 10000000; verb = Ntfy; moment = 24500 }) ∷ [] }
+    ensures given_up_before { (accounted (phone 1 OffHook ∷ tick 24500 ∷ tick 24501 ∷ [])).given_up ≡ [] }
 {}

@@ -5,6 +5,7 @@ ghost use Rattle.plain_machine.specs.Machine.{opening};
 ghost use Rattle.plain_machine.specs.Event.{GatewayEvent, event_of};
 ghost use Rattle.gateway_core.specs.State.{machine_in};
 
+use crate::account::{Account, give_way};
 use crate::outcome::TextOutcome;
 use crate::outcomes::Outcomes;
 use crate::state::State;
@@ -17,14 +18,16 @@ use endpoints::{Store, judged, opening_list, opening_own};
 use history::History;
 use mg_bytes::OutOfMemory;
 use mg_line::Hook;
-use plain_machine::{Config, ConfigFault, Event, Outputs, Refusal, Setup};
+use plain_machine::{
+    Config, ConfigFault, Event, GivenUpCommand, Outputs, Refusal, SentMessage, Setup,
+};
 use signals::ActiveSignal;
 use std::alloc::{AllocError, Global};
 use std::marker::Model;
 use std::mem::swap;
 
-/// A residential gateway. A contract sees its setup, what it keeps of the plain machine, and what the texts of the last event
-/// were; `Stands` says which lists of events it stands for.
+/// A residential gateway. A contract sees its setup, what it keeps of the plain machine, and what is told of the last event: what
+/// its texts were, what was sent, and what was given up; `Stands` says which lists of events it stands for.
 #[derive(Drop)]
 pub struct Gateway {
     alloc: Global,
@@ -35,9 +38,13 @@ pub struct Gateway {
     outcomes: Outcomes,
     // The same of the event under way. Both have their room from the beginning, so that no event takes memory for them.
     under_way: Outcomes,
+    // What the last event that it took sent, and what was given up at it; and the same of the event under way.
+    account: Account,
+    account_under_way: Account,
 }
 
 impl Model for Gateway {
+    ghost use Rattle.gateway_core.specs.AccountState.{account_in};
     ghost use Rattle.gateway_core.specs.GatewayState.{GatewayState};
     ghost use Rattle.gateway_core.specs.State.{machine_in};
     ghost use Rattle.gateway_core.specs.Sound.{IsSound};
@@ -48,6 +55,7 @@ impl Model for Gateway {
       setup = g.setup;
       machine = machine_in g.state.value;
       outcomes = g.outcomes;
+      account = account_in g.account;
     } };
 
     ghost invariant = { λ g. IsSound g.setup (machine_in g.state.value) };
@@ -77,6 +85,7 @@ impl Gateway {
     ghost use Rattle.plain_machine.specs.Falling.{first_due};
     ghost use Rattle.plain_machine.specs.Lists.{plain, hook_of, signals_of, connections_of, lost_of};
     ghost use Rattle.gateway_core.specs.Outcomes.{last_outcomes};
+    ghost use Rattle.gateway_core.specs.Accounts.{last_account};
     ghost use Rattle.gateway_core.specs.Stands.{Stands, Opens, Took, StoppedAt};
 
     /// A gateway of this configuration, at moment 0, with room to tell what the texts of any datagram were. The ids of each line
@@ -100,12 +109,16 @@ impl Gateway {
         let state = opening_state(alloc, &setup)?;
         let outcomes = Outcomes::new(alloc)?;
         let under_way = Outcomes::new(alloc)?;
+        let account = Account::new(alloc);
+        let account_under_way = Account::new(alloc);
         Ok(Gateway {
             alloc,
             setup,
             state,
             outcomes,
             under_way,
+            account,
+            account_under_way,
         })
     }
 
@@ -199,6 +212,27 @@ impl Gateway {
         self.outcomes.as_slice()
     }
 
+    /// Each message that was sent at the last event that was taken, in their order, with its label: where to and when, whose it is,
+    /// what, its transaction id, its return code or verb, and which send of it this is. A refused event leaves what was told of
+    /// the one before it.
+    pub fn sent(&self) -> &[SentMessage]
+        ensures last { (events : List GatewayEvent) → Stands self.now events →
+            result.now ≡ (last_account self.now.setup events).sent }
+        ensures kept { result.now ≡ self.now.account.sent }
+    {
+        self.account.sent.as_slice()
+    }
+
+    /// The commands of its own that were given up at the last event that was taken, in their order, since nobody answered them
+    /// (RFC 3435, 4.3). A refused event leaves what was told of the one before it.
+    pub fn given_up(&self) -> &[GivenUpCommand]
+        ensures last { (events : List GatewayEvent) → Stands self.now events →
+            result.now ≡ (last_account self.now.setup events).given_up }
+        ensures kept { result.now ≡ self.now.account.given_up }
+    {
+        self.account.given_up.as_slice()
+    }
+
     // One event, whose outputs go after those that there are.
     fn step_onto(&mut self, event: Event<'_>, outputs: &mut Outputs) -> Result<(), Refusal>
         ensures ok { OnOk result (Took self.old (event_of event.entry ∷ []) self.new outputs.old outputs.new) }
@@ -214,10 +248,12 @@ impl Gateway {
             &mut self.state,
             event,
             &mut self.under_way,
+            &mut self.account_under_way,
             outputs,
         ) {
             Ok(()) => {
                 swap(&mut self.outcomes, &mut self.under_way);
+                give_way(&mut self.account, &mut self.account_under_way);
                 Ok(())
             }
             Err(refusal) => Err(refusal),

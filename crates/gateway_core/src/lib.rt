@@ -4,14 +4,18 @@
 //! every list of events is said by the plain machine (`plain_machine`), and proved of `step` and `run`.
 #![tactic(auto)]
 
+mod account;
 mod acting;
 mod answering;
 mod commanding;
 pub mod examples;
 mod gateway;
+mod keeping;
+mod labelling;
 pub mod laws;
 mod outcome;
 mod outcomes;
+mod parting;
 mod reporting;
 mod responding;
 mod sending;
@@ -31,5 +35,6 @@ pub use crate::stopped::Stopped;
 pub use crate::wire::{DATAGRAM_ROOM, Input, Wire, WireFault};
 pub use endpoints::key_at_fault;
 pub use plain_machine::{
-    Config, ConfigFault, ConfigKey, Event, FIRSTS, NamedRoute, OutDatagram, Outputs, Refusal,
+    Config, ConfigFault, ConfigKey, Event, FIRSTS, GivenUpCommand, Label, NamedRoute, OutDatagram,
+    Outputs, Refusal, SentMessage, What, Whose,
 };

@@ -10,7 +10,7 @@ use endpoint_rules::Context;
 use endpoints::{Store, respond_to_its_id};
 use mg_bytes::OutOfMemory;
 use mgcp_text::{Message, TransactionId, param_at};
-use plain_machine::{OutDatagram, Response};
+use plain_machine::{OutMessage, Response};
 
 // Whom the first N of a response names, where that can be read (RFC 3435, 3.2.2: NotifiedEntity).
 fn entity_in(context: Context<'_>, said: &Message<'_>) -> Option<Entity>
@@ -28,7 +28,7 @@ pub(crate) fn respond(
     id: TransactionId,
     code: u16,
     said: &Message<'_>,
-    out: &mut Vec<OutDatagram>,
+    out: &mut Vec<OutMessage>,
 ) -> Result<(), OutOfMemory>
     requires { MayTell context.setup.now moment }
     ensures { Tells result (responded context.entry.setup.now store.old.endpoints moment

@@ -3,26 +3,14 @@ ghost use Rattle.std.specs.Prelude.{◌≡◌};
 ghost use Rattle.history.specs.Memory.{most_firsts};
 ghost use Rattle.history.specs.Looking.{look_of};
 ghost use Rattle.transmission.specs.Hearing.{outcome_in};
-ghost use Rattle.gateway_core.specs.Outcomes.{front_code, reply_by};
+ghost use Rattle.gateway_core.specs.Outcomes.{reply_by};
 ghost use Rattle.gateway_core.specs.Hearing.{passed_over};
 
 use crate::outcome::{Reply, TextOutcome};
 use history::{History, Look};
-use mg_bytes::{ReturnCode, decimal};
+use mg_bytes::ReturnCode;
 use mgcp_text::{Message, TextFault, TransactionId};
-
-// The return code at the front of a stored answer (RFC 3435, 3.3).
-fn front_code(answer: &[u8]) -> u16
-    ensures { result ≡ front_code answer.now }
-{
-    if answer.len() < 3 {
-        return 0;
-    }
-    match decimal(&answer[..3]) {
-        Some(code) => code as u16,
-        None => 0,
-    }
-}
+use plain_machine::front_code;
 
 // What a command with this id gets that comes now: an answer with this code, if it is new.
 fn reply_by(history: &History, now: u64, id: TransactionId, code: u16) -> Reply

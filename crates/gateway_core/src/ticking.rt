@@ -1,6 +1,7 @@
 //! What a tick does.
-ghost use Rattle.std.specs.Prelude.{not};
+ghost use Rattle.std.specs.Prelude.{◌≡◌, ◌++◌, not, OnOk};
 ghost use Rattle.plain_machine.specs.Falling.{is_due, pass};
+ghost use Rattle.plain_machine.specs.GivingUp.{given_up_until};
 ghost use Rattle.plain_machine.specs.Happening.{ticked};
 ghost use Rattle.std.specs.Result.{result_err};
 ghost use Rattle.plain_machine.specs.Refusing.{tick_refusal, ends};
@@ -10,17 +11,21 @@ ghost use Rattle.gateway_core.specs.State.{machine_in, Happens};
 use crate::state::State;
 use endpoint_rules::Context;
 use endpoints::{is_due, pass};
-use plain_machine::{OutDatagram, Refusal, tick_refusal};
+use plain_machine::{GivenUpCommand, OutMessage, Refusal, tick_refusal};
 
-/// A tick to a moment: what is sent. One up to which nothing is due takes no memory.
+/// A tick to a moment: what is sent; and what is given up is noted behind what was given up before. One up to which nothing is
+/// due takes no memory.
 pub(crate) fn tick(
     context: Context<'_>,
     state: &mut State,
     moment: u64,
-) -> Result<Vec<OutDatagram>, Refusal>
+    given_up: &mut Vec<GivenUpCommand>,
+) -> Result<Vec<OutMessage>, Refusal>
     requires { MayTell context.setup.now state.old.clock }
     ensures happens { Happens result (ticked (machine_in state.old) moment
         (pass context.entry.setup.now state.old.store.endpoints moment)) state.old state.new }
+    ensures given_up { OnOk result (given_up.new.items
+        ≡ given_up.old.items ++ given_up_until context.entry.setup.now state.old.store.endpoints moment) }
     ensures ends { ends (tick_refusal state.old.clock moment)
         (not (is_due state.old.store.endpoints moment)) (result_err result) }
 {
@@ -32,6 +37,6 @@ pub(crate) fn tick(
     if !is_due(&state.store, moment) {
         return Ok(out);
     }
-    pass(context, &mut state.store, moment, &mut out)?;
+    pass(context, &mut state.store, moment, &mut out, given_up)?;
     Ok(out)
 }

@@ -1,7 +1,7 @@
 use Rattle.gateway_core.proofs.answering.execute.Goals as goal
 
 pub returns-clause-does : goal.returns-clause-does
-returns-clause-does c = λ line. rw c.in_ok-confirms.ensures at c.execute_with_k.ensures.does line
+returns-clause-does c = rw c.in_ok-confirms.ensures at c.execute_with_k.ensures.does
 
 pub returns-clause-code : goal.returns-clause-code
 returns-clause-code c = rw c.in_ok-confirms.ensures at c.execute_with_k.ensures.code

@@ -4,9 +4,9 @@ use Rattle.gateway_core.proofs.TextLemmas.{executed_then}
 use Rattle.gateway_core.proofs.answering.execute_with_k.Goals as goal
 
 pub returns-clause-does : goal.returns-clause-does
-returns-clause-does c = λ line. executed_then c.args.state.now _ _ _ line _ _ _ _ _ _ _ _
+returns-clause-does c = executed_then c.args.state.now _ _ _ c.args.line _ _ _ _ c.code-code.result c.in_ok-text.text c.first_label-label.result _ _ _ _
     c.in_ok-spans.ensures c.in_ok-given.ensures.answer (rw c.new-sent.ensures.items at c.in_ok-given.ensures.told) refl
-    c.in_ok-answer.ensures.kept c.in_ok-answer.ensures.sent c.in_ok-send_all.ensures
+    c.in_ok-text.ensures.kept c.code-code.ensures.value c.in_ok-text.ensures.text c.first_label-label.ensures c.in_ok-send.ensures.ok c.in_ok-send_all.ensures
 
 pub returns-clause-code : goal.returns-clause-code
-returns-clause-code c = c.code.ensures.value ∙ ap (λ (given : AnswerContent). given.code) c.in_ok-given.ensures.answer
+returns-clause-code c = c.code-code.ensures.value ∙ ap (λ (given : AnswerContent). given.code) c.in_ok-given.ensures.answer

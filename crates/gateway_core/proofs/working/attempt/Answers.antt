@@ -22,3 +22,9 @@ returns-in-Err-clause-ends c = ends_purged (machine_in c.args.state.now) (event_
 
 pub returns-in-Ok-clause-told : goal.returns-in-Ok-clause-told
 returns-in-Ok-clause-told c = rw (c.commit.ensures, c.purge.ensures.kept) at c.in-Ok.ensures.told
+
+pub returns-in-Ok-clause-labels : goal.returns-in-Ok-clause-labels
+returns-in-Ok-clause-labels c = rw (c.commit.ensures, c.purge.ensures.kept) at c.in-Ok.ensures.labels
+
+pub returns-in-Ok-clause-given_up : goal.returns-in-Ok-clause-given_up
+returns-in-Ok-clause-given_up c = rw (c.commit.ensures, c.purge.ensures.kept) at c.in-Ok.ensures.given_up

@@ -1,4 +1,4 @@
-use Rattle.gateway_core.proofs.StandLemmas.{step_sound, step_goes, step_told, step_stays, step_silent}
+use Rattle.gateway_core.proofs.StandLemmas.{step_sound, step_goes, step_told, step_account, step_stays, step_silent}
 use Rattle.gateway_core.proofs.working.step_state.Goals as goal
 
 pub returns-clause-sound : goal.returns-clause-sound
@@ -15,3 +15,6 @@ returns-clause-err c = λ m a. step_stays _ m _ _ _ _ _ c.attempt.ensures.all a
 
 pub returns-clause-no_outputs : goal.returns-clause-no_outputs
 returns-clause-no_outputs c = step_silent _ _ _ _ _ _ c.attempt.ensures.all
+
+pub returns-clause-account : goal.returns-clause-account
+returns-clause-account c = λ m a. step_account _ _ m _ _ _ _ c.attempt.ensures.ends c.attempt.ensures.labels c.attempt.ensures.given_up a

@@ -8,7 +8,7 @@ loop-init g c = record {
   turns = (
     [],
     record {
-      serves = serves_nothing c.args.self.now (g.W.Wire.log c.args.wire.now) _ (took_none _ _ _ _ refl refl refl (λ m same. same)) (carries_nothing _) refl refl refl refl refl;
+      serves = serves_nothing c.args.self.now (g.W.Wire.log c.args.wire.now) _ (took_none _ _ _ _ refl refl refl refl (λ m same. same)) (carries_nothing _) refl refl refl refl refl;
       count = refl;
       running = refl;
     },
