@@ -1,0 +1,33 @@
+//! What is counted of what is sent, as theorems.
+#![tactic(auto, unfolding(crate::proofs::Computing::on_examples))]
+
+ghost use Rattle.std.specs.Prelude.{◌≡◌, ◌-◌, ◌^◌, [], ◌∷◌, slice_index_or};
+ghost use Rattle.mgcp_text.specs.declared.message.Verb.TheVariants as verbs;
+ghost use Rattle.plain_machine.specs.declared.label.Whose.TheVariants.{AnswerOf, OwnOf, Nobody};
+ghost use Rattle.plain_machine.specs.declared.label.What.TheVariants as whats;
+ghost use Rattle.sent_counts.specs.Counting.{no_tally, with_sent, with_given_up};
+ghost use Rattle.sent_counts.specs.Example.{said, lost, counted_once};
+
+/// An answer counts with its return code, and one that is given again in both counts; an acknowledgement counts as 000.
+pub fn answers_are_counted_by_code()
+    ensures first { slice_index_or (counted_once (whats.Answer 401)).answers 401 0 ≡ 1 }
+    ensures not_again { (counted_once (whats.Answer 401)).again ≡ 0 }
+    ensures again_code { slice_index_or (counted_once (whats.Again 200)).answers 200 0 ≡ 1 }
+    ensures again { (counted_once (whats.Again 200)).again ≡ 1 }
+    ensures acknowledged { slice_index_or (counted_once whats.Acknowledgement).answers 0 0 ≡ 1 }
+    ensures both { slice_index_or (with_sent no_tally (said (whats.Answer 200) ∷ said (whats.Again 200) ∷ [])).answers 200 0 ≡ 2 }
+{}
+
+/// A command of its own counts by its verb at each send, and in both counts from the second on.
+pub fn own_commands_are_counted_by_verb()
+    ensures first { (counted_once (whats.Command verbs.Ntfy)).commands ≡ 0 ∷ 0 ∷ 1 ∷ 0 ∷ 0 ∷ 0 ∷ 0 ∷ 0 ∷ 0 ∷ 0 ∷ [] }
+    ensures not_again { (counted_once (whats.Command verbs.Ntfy)).commands_again ≡ no_tally.commands_again }
+    ensures resent { (counted_once (whats.Resent verbs.Rsip 2)).commands ≡ 0 ∷ 0 ∷ 0 ∷ 0 ∷ 0 ∷ 0 ∷ 0 ∷ 0 ∷ 1 ∷ 0 ∷ [] }
+    ensures again { (counted_once (whats.Resent verbs.Rsip 2)).commands_again ≡ 0 ∷ 0 ∷ 0 ∷ 0 ∷ 0 ∷ 0 ∷ 0 ∷ 0 ∷ 1 ∷ 0 ∷ [] }
+{}
+
+/// What is given up is counted, and a count stays at its greatest value.
+pub fn what_is_given_up_is_counted()
+    ensures two { (with_given_up no_tally (lost ∷ lost ∷ [])).given_up ≡ 2 }
+    ensures most { (with_given_up (record no_tally { given_up = 2 ^ 64 - 1 }) (lost ∷ [])).given_up ≡ 2 ^ 64 - 1 }
+{}

@@ -1,0 +1,111 @@
+//! Counts what is sent and given up. A count stays at its greatest value, 18,446,744,073,709,551,615.
+ghost use Rattle.std.specs.Prelude.{◌≡◌, ◌<◌, IfOk};
+ghost use Rattle.gateway_core.specs.Wire.{counted};
+ghost use Rattle.sent_counts.specs.Counting.{tally_in, no_tally, place_of, with_answer, with_what, with_sent, with_given_up};
+
+use gateway_core::{GivenUpCommand, SentMessage, What};
+use mgcp_text::Verb;
+use std::alloc::{AllocError, Global};
+
+// So many return codes there are: each has three digits (RFC 3435, 2.4).
+const RETURN_CODES: usize = 1000;
+
+/// What was counted of what a gateway sent and gave up.
+#[derive(Drop)]
+pub struct SentCounts {
+    /// Sends of commands of its own, by verb.
+    pub commands: [u64; 10],
+    /// Of these, those of commands that were sent before.
+    pub commands_again: [u64; 10],
+    /// Responses that were sent, by return code; an acknowledgement has 000.
+    pub answers: Vec<u64>,
+    /// Of these, the answers that were sent before.
+    pub again: u64,
+    /// Commands of its own that were given up.
+    pub given_up: u64,
+}
+
+// One more.
+fn count(number: &mut u64)
+    ensures { number.new ≡ counted number.old 1 }
+{
+    *number = number.saturating_add(1);
+}
+
+/// The place of a verb's count (RFC 3435, 3.2.1.1).
+pub fn place_of(verb: Verb) -> usize
+    ensures place { result ≡ place_of verb }
+    ensures few { result < 10 }
+{
+    match verb {
+        Verb::Epcf => 0,
+        Verb::Rqnt => 1,
+        Verb::Ntfy => 2,
+        Verb::Crcx => 3,
+        Verb::Mdcx => 4,
+        Verb::Dlcx => 5,
+        Verb::Auep => 6,
+        Verb::Aucx => 7,
+        Verb::Rsip => 8,
+        Verb::Other => 9,
+    }
+}
+
+impl SentCounts {
+    /// Nothing was counted. From now on no memory is asked for.
+    pub fn new(alloc: Global) -> Result<SentCounts, AllocError>
+        ensures { IfOk result (λ counts. tally_in counts ≡ no_tally) }
+    {
+        Ok(SentCounts {
+            commands: [0; 10],
+            commands_again: [0; 10],
+            answers: vec![in alloc; 0; RETURN_CODES]?,
+            again: 0,
+            given_up: 0,
+        })
+    }
+
+    #[tactic(auto, using(std::proofs::lemmas::List::set_past))]
+    fn add_answer(&mut self, code: u16)
+        ensures { tally_in self.new ≡ with_answer (tally_in self.old) code }
+    {
+        let place = usize::from(code);
+        if place < self.answers.len() {
+            count(&mut self.answers[place]);
+        }
+    }
+
+    fn add_message(&mut self, what: What)
+        ensures { tally_in self.new ≡ with_what (tally_in self.old) what }
+    {
+        match what {
+            What::Answer { code } => self.add_answer(code),
+            What::Again { code } => {
+                self.add_answer(code);
+                count(&mut self.again);
+            }
+            What::Command { verb } => count(&mut self.commands[place_of(verb)]),
+            What::Resent { verb, .. } => {
+                count(&mut self.commands[place_of(verb)]);
+                count(&mut self.commands_again[place_of(verb)]);
+            }
+            What::Acknowledgement => self.add_answer(0),
+        }
+    }
+
+    /// These messages were sent.
+    pub fn add(&mut self, sent: &[SentMessage])
+        ensures { tally_in self.new ≡ with_sent (tally_in self.old) sent.now }
+    {
+        for message in sent {
+            self.add_message(message.label.what);
+        }
+    }
+
+    /// These commands were given up.
+    pub fn give_up(&mut self, given_up: &[GivenUpCommand])
+        ensures { tally_in self.new ≡ with_given_up (tally_in self.old) given_up.now }
+    {
+        self.given_up = self.given_up.saturating_add(given_up.len() as u64);
+    }
+}
