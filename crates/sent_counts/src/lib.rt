@@ -5,4 +5,4 @@ pub mod examples;
 pub mod laws;
 mod sent_counts;
 
-pub use crate::sent_counts::SentCounts;
+pub use crate::sent_counts::{SentCounts, place_of};
