@@ -159,7 +159,7 @@ resent_flies setup until log line moment post past commands f = by_pending post.
     of = tt;
     holds = subst (λ (x : List Begun). Flies x (record post { pending = Some (repeated flight moment) })) (sym (append-nil log))
         (record { below = f.below; flight = same_known log flight (repeated flight moment) (repeat_same flight moment) known });
-    sent_holds = subst (λ (x : List Begun). IsOwn until x (record { to = sent_to (repeated flight moment); moment = moment; owner = own_of line; said = resent flight.text }) × Unit {0}) (sym (append-nil log))
+    sent_holds = subst (λ (x : List Begun). IsOwn until x (record { to = sent_to (repeated flight moment); moment = moment; owner = own_of line; said = resent flight }) × Unit {0}) (sym (append-nil log))
         (record { text = one_weaker (IsSame flight) (λ (b : Begun). flight.text ≡ b.text) (λ b e. sym e.text) log known; early = past }, tt);
   }
 

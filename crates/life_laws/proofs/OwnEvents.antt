@@ -167,7 +167,7 @@ transacted_flies setup log new m source t f answered is turn at = record {
   );
 }
 transacted_flies setup log (repeat text) m source t f answered is turn at =
-    still_flies setup log m (reply m source t.line (again text) ∷ []) refl f answered
+    still_flies setup log m (reply m source t.line (again t.id text) ∷ []) refl f answered
     (record { said = inr (λ set_up. told_again text m.now (firsts_in m.history) (answered set_up) (repeat_gives most_firsts m.history t.id m.now text (sym at))); early = omega arith }, tt)
 transacted_flies setup log confirmed m source t f answered is turn at = still_flies setup log m [] refl f answered tt
 transacted_flies setup log full m source t f answered is turn at = still_flies setup log m [] refl f answered tt
@@ -387,6 +387,6 @@ all_began setup events taken =
       begins_then (command (messages.Command verb id name params body)) moment by = (by, tt)
       begins_then (command (messages.Response code id params body)) moment by = tt
       begins_then (answer response) moment by = tt
-      begins_then (again text) moment by = tt
-      begins_then (resent text) moment by = tt
+      begins_then (again id text) moment by = tt
+      begins_then (resent message) moment by = tt
       begins_then (acknowledgement response) moment by = tt
