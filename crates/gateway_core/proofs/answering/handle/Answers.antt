@@ -5,7 +5,7 @@ use Rattle.gateway_core.proofs.TextLemmas.{command_done, command_told}
 use Rattle.gateway_core.proofs.answering.handle.Goals as goal
 
 pub returns-in_ok-code-in-Command-clause-does : goal.returns-in_ok-code-in-Command-clause-does
-returns-in_ok-code-in-Command-clause-does c = command_done {A = ℕ} (Ok 0) _ _ _ _ _ _ _ _ _ _ _ _ _ _ (ap result_ok c.in-Ok.is) c.in-Command.is c.line_of_name-line-in-Command.ensures c.in_ok-code-in-Command.ensures.does
+returns-in_ok-code-in-Command-clause-does c = command_done {A = ℕ} (Ok 0) _ _ _ _ _ _ _ _ _ _ _ _ _ _ (ap result_ok c.in-Ok.is) c.in-Command.is c.line_of_name-line.ensures c.in_ok-code-in-Command.ensures.does
 
 pub returns-in_ok-code-in-Command-clause-outcome : goal.returns-in_ok-code-in-Command-clause-outcome
 returns-in_ok-code-in-Command-clause-outcome c = command_told _ _ _ _ _ _ _ _ _ _ _ _ (ap result_ok c.in-Ok.is) c.in-Command.is c.in_ok-code-in-Command.ensures.code

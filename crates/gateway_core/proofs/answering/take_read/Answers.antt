@@ -1,4 +1,4 @@
-use Rattle.std.proofs.Common.{◌≡◌, length, refl, sym, append-nil, None, rules}
+use Rattle.std.proofs.Common.{◌≡◌, [], length, refl, sym, append-nil, None, rules}
 use Rattle.std.specs.Prelude.{nat_lt}
 use Rattle.gateway_core.proofs.TextLemmas.{went_heard, told_then, told_passed}
 use Rattle.gateway_core.proofs.answering.take_read.Goals as goal
