@@ -33,7 +33,7 @@ begun_by moment (command (messages.Command verb id name params body)) =
 begun_by moment (command (messages.Response code id params body)) = []
 begun_by moment (answer response) = []
 begun_by moment (again id text) = []
-begun_by moment (resent message) = []
+begun_by moment (resent flight) = []
 begun_by moment (acknowledgement response) = []
 
 abbrev pub begun_at : Sent → List Begun
