@@ -169,7 +169,7 @@ pub answer_notifies : (said : Said) → is_answer said ≡ true → notified_by 
 answer_notifies (answer response) is = refl
 answer_notifies (again id text) is = refl
 answer_notifies (own_command said) is = absurd cc
-answer_notifies (resent message) is = absurd cc
+answer_notifies (resent flight) is = absurd cc
 answer_notifies (acknowledgement response) is = absurd cc
 
 module _ (setup : Setup) (H : Response → Type 0) (G : Bool → List CourseStep → List Sent → Endpoint → Type 0) (turns : EndpointTurns setup H G) (line : ℕ) (some : 1 ≤ line) where

@@ -60,7 +60,7 @@ notified_by (command (messages.Command verb id name params body)) = notified_wit
 notified_by (command (messages.Response code id params body)) = []
 notified_by (answer response) = []
 notified_by (again id text) = []
-notified_by (resent message) = []
+notified_by (resent flight) = []
 notified_by (acknowledgement response) = []
 
 -- the notifications of a line among what is sent
