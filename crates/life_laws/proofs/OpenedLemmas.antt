@@ -12,4 +12,4 @@ unfolding on_examples
 set_up_with first few = record { domain = refl; agent = refl; lines = omega arith; address = refl; ports = omega arith; first = few }
 
 pub opened_stands : (first : ℕ) → first < firsts → Stands (opened first) []
-opened_stands first few = stands_for_nothing (opened first) (set_up_with first few) refl refl
+opened_stands first few = stands_for_nothing (opened first) (set_up_with first few) refl refl refl
