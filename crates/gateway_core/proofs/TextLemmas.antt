@@ -1,7 +1,7 @@
 -- The texts of a datagram, one after the other.
 use Rattle.std.proofs.Common.{◌≡◌, ◌<◌, ◌≤◌, ◌+◌, ℕ, suc, Option, Some, None, true, false, List, [], ◌∷◌, ◌++◌, length, length-append, refl, sym, ◌∙◌, ap, subst, append_assoc, append-nil, arith}
 use Rattle.std.proofs.lemmas.Bool.Decides.{nat_tests}
-use Rattle.std.specs.Prelude.{if◌then◌else◌, Bool, Result, Ok, nat_lt}
+use Rattle.std.specs.Prelude.{if◌then◌else◌, Bool, Result, nat_lt}
 use Rattle.std.specs.declared.alloc.AllocError.{AllocError}
 use Rattle.history.specs.Kept.{HistoryState}
 use Rattle.history.specs.Memory.{most_firsts}
@@ -31,9 +31,9 @@ use Rattle.plain_machine.specs.Machine.{Machine, serves}
 use Rattle.plain_machine.specs.Done.{Done}
 use Rattle.transmission.specs.Acknowledging.{asks_for_acknowledgement, acknowledgements, acknowledgement_text}
 use Rattle.transmission.specs.Transacting.{message_to, transacted_as, with_first}
-use Rattle.transmission.specs.Hearing.{Hearing, hearing, refused, heard_at}
+use Rattle.transmission.specs.Hearing.{Hearing, hearing, heard_at}
 use Rattle.transmission.specs.Confirming.{spans_of}
-use Rattle.plain_machine.specs.Answering.{line_of_name, Transaction, transaction, answer_text, executed, transacted_by, transacted, refusing, command_with, read_command, handled, took_all}
+use Rattle.plain_machine.specs.Answering.{line_of_name, transaction, answer_text, executed, transacted_by, refusing, read_command, handled, took_all}
 use Rattle.endpoints.specs.Tells.{Goes}
 use Rattle.plain_machine.specs.Responding.{acknowledged, response_with, responded}
 use Rattle.plain_machine.specs.Message.{of_none, acknowledgement}

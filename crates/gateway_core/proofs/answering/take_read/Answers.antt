@@ -19,6 +19,6 @@ returns-clause-does c text read = went_heard _ _ text c.args.state.now _ _ _ _ _
 
 pub returns-clause-outcome : goal.returns-clause-outcome
 returns-clause-outcome c text read =
-    let asked : nat_lt 0 c.len.result ≡ nat_lt 0 (length c.hear-left.new.heard.items) = search rules in
-    told_then _ _ text c.args.state.now c.hear-left.new.history [] _ _ _ _ _ _ (c.in_ok-left.ensures.text text read)
+    let asked : nat_lt 0 c.len-is_acknowledged.result ≡ nat_lt 0 (length c.hear.new.out.items) = search rules in
+    told_then _ _ text c.args.state.now c.hear.new.history [] _ _ _ _ _ _ (c.in_ok-left.ensures.text text read)
     (rw c.if-not-left.false at c.in_ok-left.ensures.left) (rw c.new-heard.ensures.items at c.in_ok-left.ensures.sent) asked c.passed_over-passed.ensures c.in_ok-outcome.ensures.outcome
