@@ -110,7 +110,7 @@ impl<'a, R: Net + Clock> Wire<'a, R> {
             Ok(socket) => socket,
             Err(e) => return Err(listen_fault(e.kind())),
         };
-        let mut control = match CommandSocket::open(rt, alloc, settings.control) {
+        let mut control = match CommandSocket::open(rt, alloc, settings.control, &socket) {
             Ok(control) => control,
             Err(e) => return Err(control_fault(e.kind())),
         };

@@ -3,11 +3,12 @@ ghost use Rattle.std.specs.Prelude.{◌↔◌, IsSomeAnd, IsTrue};
 ghost use Rattle.std.specs.Net.Addr.{IsLoopbackV4, IsLoopbackV6, MatchIp};
 ghost use Rattle.std.specs.Net.Socket.{socket_ip};
 
+use crate::requests::{is_from_any, next_request};
 use mg_bytes::lines;
 use mio::net::UdpSocket;
 use std::alloc::Global;
 use std::io;
-use std::net::{Net, SocketAddr, SocketAddrV4};
+use std::net::{Ipv4Addr, Net, SocketAddr, SocketAddrV4};
 
 /// What is answered to a line that asks for the program's end, and isn't from the loopback.
 pub const STOP_FROM_AFAR: &[u8] = b"! stop is taken from a loopback address alone, 127.0.0.0/8\n";
@@ -20,10 +21,12 @@ const ROOM: usize = 4096;
 pub struct CommandSocket {
     /// To be watched.
     pub(crate) socket: UdpSocket,
+    // The addresses of the program's own sockets, from which nothing is taken.
+    own: [SocketAddrV4; 2],
     // Who sent the datagram, if one did, and its bytes.
     sender: Option<SocketAddr>,
     text: Vec<u8>,
-    // Where in them the line begins that is answered next, and where what follows it does.
+    // Where in them what is left begins, with the line that is answered next; and where what follows that line does.
     line: Option<usize>,
     rest: usize,
 }
@@ -38,11 +41,35 @@ fn is_loopback(sender: Option<SocketAddr>) -> bool
     }
 }
 
+// The address of a socket; port 0, from which nothing comes, where it has none of the kind that sockets here have.
+fn address_of(socket: &UdpSocket) -> SocketAddrV4 {
+    match socket.local_addr() {
+        Ok(SocketAddr::V4(address)) => address,
+        Ok(SocketAddr::V6(_)) | Err(_) => SocketAddrV4::new(Ipv4Addr::UNSPECIFIED, 0),
+    }
+}
+
+// Whether what has this sender came from one of these sockets.
+fn is_own(own: &[SocketAddrV4], sender: SocketAddr) -> bool {
+    match sender {
+        SocketAddr::V4(sender) => is_from_any(own, sender),
+        SocketAddr::V6(_) => false,
+    }
+}
+
 impl CommandSocket {
-    /// A socket at this address.
-    pub fn open<R: Net>(rt: &R, alloc: Global, address: SocketAddrV4) -> io::Result<CommandSocket> {
+    /// A socket at this address, of a program that has this socket for datagrams beside it.
+    pub fn open<R: Net>(
+        rt: &R,
+        alloc: Global,
+        address: SocketAddrV4,
+        beside: &UdpSocket,
+    ) -> io::Result<CommandSocket> {
+        let socket = UdpSocket::bind(rt, SocketAddr::V4(address))?;
+        let own = [address_of(&socket), address_of(beside)];
         Ok(CommandSocket {
-            socket: UdpSocket::bind(rt, SocketAddr::V4(address))?,
+            socket,
+            own,
             sender: None,
             text: Vec::with_capacity(alloc, ROOM)?,
             line: None,
@@ -55,11 +82,12 @@ impl CommandSocket {
         self.socket.local_addr()
     }
 
-    /// The line that is to be answered next, without its end and the blanks round it; an empty one is passed over.
+    /// The line that is to be answered next, without its end and the blanks round it; an empty one is passed over, and so is one
+    /// that is an answer itself.
     pub fn line(&self) -> Option<&[u8]> {
         let begin = self.line?;
-        let text = self.text.get(begin..)?;
-        lines(text).next()
+        let mut left = lines(self.text.get(begin..)?);
+        next_request(&mut left)
     }
 
     /// What stands behind that line in its datagram.
@@ -79,19 +107,13 @@ impl CommandSocket {
         self.line.is_none()
     }
 
-    // The next line that isn't empty is answered next.
+    // The next line that asks for something is answered next.
     fn advance(&mut self) {
-        self.line = None;
-        let text = self.text.get(self.rest..).unwrap_or(&[]);
-        let mut rest = lines(text);
-        while let Some(line) = rest.next() {
-            let begin = self.rest;
-            self.rest = self.text.len().saturating_sub(rest.rest().len());
-            if !line.is_empty() {
-                self.line = Some(begin);
-                return;
-            }
-        }
+        let begin = self.rest;
+        let mut left = lines(self.text.get(begin..).unwrap_or(&[]));
+        let is_asked = next_request(&mut left).is_some();
+        self.rest = self.text.len().saturating_sub(left.rest().len());
+        self.line = if is_asked { Some(begin) } else { None };
     }
 
     // These lines have come, from somebody who is answered or from nobody.
@@ -104,7 +126,8 @@ impl CommandSocket {
         self.advance();
     }
 
-    /// Takes a datagram, where one has come and nothing is left of the one before: whether there was either.
+    /// Takes a datagram, where one has come and nothing is left of the one before: whether there was either. Nothing is made of one
+    /// that came from the program's own sockets.
     pub fn look(&mut self) -> bool {
         if self.line.is_some() {
             return true;
@@ -113,7 +136,9 @@ impl CommandSocket {
         let Ok((len, sender)) = self.socket.recv_from(&mut room) else {
             return false;
         };
-        self.begin(Some(sender), &room[..len]);
+        if !is_own(&self.own, sender) {
+            self.begin(Some(sender), &room[..len]);
+        }
         true
     }
 

@@ -6,9 +6,11 @@
 
 mod clock;
 mod command_socket;
+pub mod examples;
 mod now;
 mod readiness;
 mod record;
+mod requests;
 mod streams;
 
 pub use crate::clock::{LiveClock, time_of_day};

@@ -119,8 +119,9 @@ fn open_telephones<R: Net>(
     rt: &R,
     alloc: Global,
     address: SocketAddrV4,
+    socket: &UdpSocket,
 ) -> Result<Box<CommandSocket>, Unopened> {
-    match CommandSocket::open(rt, alloc, address) {
+    match CommandSocket::open(rt, alloc, address, socket) {
         Ok(telephones) => Ok(boxed(alloc, telephones)?),
         Err(fault) => Err(refused(Opening::Phones, fault.kind())),
     }
@@ -147,7 +148,7 @@ fn open_ends<'a, R: Net + Clock>(
     gateway: &Gateway,
 ) -> Result<Box<Ends<'a, R>>, Unopened> {
     let mut socket = open_socket(rt, settings.listen)?;
-    let mut telephones = open_telephones(rt, alloc, settings.phones)?;
+    let mut telephones = open_telephones(rt, alloc, settings.phones, &socket)?;
     let Ok(clock) = LiveClock::start(rt) else {
         return Err(Unopened::Clock);
     };

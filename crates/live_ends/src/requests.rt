@@ -1,0 +1,113 @@
+//! What a socket for commands takes for a request: no line of an answer, and nothing from the program's own sockets. So no two
+//! programs answer each other for ever, and none itself, whoever forges a datagram between them.
+ghost use Rattle.std.specs.Prelude.{◌≡◌};
+ghost use Rattle.mg_bytes.specs.Lines.{TakesLine};
+ghost use Rattle.mg_bytes.specs.Words.{words as words_of};
+ghost use Rattle.live_ends.specs.Requests.{is_marked, tells_outcome, tells_messages, tells_losses, is_answer_word, begins_answer, is_answer, is_request, requests_from, is_host, is_from, is_from_any};
+
+use mg_bytes::{Lines, words};
+use std::net::SocketAddrV4;
+
+fn is_marked(line: &[u8]) -> bool
+    ensures { result ≡ is_marked line.now }
+{
+    line.starts_with(b"?") || line.starts_with(b"!")
+}
+
+fn tells_outcome(word: &[u8]) -> bool
+    ensures { result ≡ tells_outcome word.now }
+{
+    word == b"done".as_slice() || word == b"issued".as_slice() || word == b"line".as_slice()
+}
+
+fn tells_messages(word: &[u8]) -> bool
+    ensures { result ≡ tells_messages word.now }
+{
+    word == b"datagrams".as_slice()
+        || word == b"commands".as_slice()
+        || word == b"responses".as_slice()
+        || word == b"answers".as_slice()
+        || word == b"notifications".as_slice()
+        || word == b"announcements".as_slice()
+}
+
+fn tells_losses(word: &[u8]) -> bool
+    ensures { result ≡ tells_losses word.now }
+{
+    word == b"lost".as_slice()
+        || word == b"faults".as_slice()
+        || word == b"network".as_slice()
+        || word == b"calls".as_slice()
+}
+
+// Whether a line of an answer begins with this word.
+fn is_answer_word(word: &[u8]) -> bool
+    ensures { result ≡ is_answer_word word.now }
+{
+    tells_outcome(word) || tells_messages(word) || tells_losses(word)
+}
+
+fn begins_answer(line: &[u8]) -> bool
+    ensures { result ≡ begins_answer (words_of line.now) }
+{
+    let mut left = words(line);
+    match left.next() {
+        Some(word) => is_answer_word(word),
+        None => false,
+    }
+}
+
+// Whether a line is one of an answer that a program here gives: `?`, `!`, or a word with which answers begin.
+fn is_answer(line: &[u8]) -> bool
+    ensures { result ≡ is_answer line.now }
+{
+    is_marked(line) || begins_answer(line)
+}
+
+// Whether a line asks for something.
+fn is_request(line: &[u8]) -> bool
+    ensures { result ≡ is_request line.now }
+{
+    !line.is_empty() && !is_answer(line)
+}
+
+/// The next line that asks for something; those before it are passed over.
+#[tactic(auto, unfolding(crate::specs::Requests::requests_from))]
+pub(crate) fn next_request<'a>(lines: &mut Lines<'a>) -> Option<&'a [u8]>
+    ensures { TakesLine (requests_from lines.old) result lines.new }
+{
+    while let Some(line) = lines.next() {
+        if is_request(line) {
+            return Some(line);
+        }
+    }
+    None
+}
+
+// Whether the host of a socket here may have sent from this one.
+fn is_host(own: &[u8], sender: &[u8]) -> bool
+    ensures { result ≡ is_host own.now sender.now }
+{
+    own == [0u8, 0, 0, 0].as_slice() || own == sender
+}
+
+// Whether what has this sender came from the socket here.
+fn is_from(sender: SocketAddrV4, own: SocketAddrV4) -> bool
+    ensures { result ≡ is_from sender own }
+{
+    let here = own.ip().octets();
+    let there = sender.ip().octets();
+    own.port() == sender.port() && is_host(here.as_slice(), there.as_slice())
+}
+
+/// Whether what has this sender came from one of these sockets.
+pub(crate) fn is_from_any(own: &[SocketAddrV4], sender: SocketAddrV4) -> bool
+    ensures { result ≡ is_from_any own.now sender }
+{
+    for socket in own {
+        if is_from(sender, *socket) {
+            return true;
+        }
+    }
+    false
+}
