@@ -2,7 +2,8 @@
 use Rattle.std.specs.Prelude.{⊤}
 use Rattle.mg_bytes.proofs.Computing.{on_examples as byte_examples}
 use Rattle.live_page.specs.Access.{place_of}
+use Rattle.live_page.specs.Places.{free_from, room_from, idlest_from, place_for}
 
 unfoldable pub on_examples : ⊤
-unfolding byte_examples place_of
+unfolding byte_examples place_of free_from room_from idlest_from place_for
 on_examples = tt

@@ -1,7 +1,10 @@
 -- What is asked for is answered by what a board has, and done to it.
-use Rattle.std.specs.Prelude.{◌≡◌, ◌≢◌, ℕ, List, [], IsTrue}
+use Rattle.std.specs.Prelude.{◌≡◌, ◌≢◌, ℕ, List, [], IsTrue, Option, Some, None}
 use Rattle.http_server.specs.declared.response.Response.{Response}
-use Rattle.http_server.specs.Response.{IsResponse}
+use Rattle.http_server.specs.Response.{IsResponse, fields_of}
+use Rattle.page_files.specs.declared.page.TheConstants.{PAGE}
+use Rattle.page_files.specs.declared.script.TheConstants.{SCRIPT}
+use Rattle.page_files.specs.declared.style.TheConstants.{STYLE}
 use Rattle.page_answers.specs.declared.board.ActOutcome.{ActOutcome}
 use Rattle.page_answers.specs.Outcomes.{Becomes}
 use Rattle.page_answers.specs.Showing.{BoardState}
@@ -9,14 +12,28 @@ use Rattle.page_answers.specs.Metrics.{metrics_of}
 use Rattle.page_answers.specs.Texts.{TellsState}
 use Rattle.page_answers.specs.Telling.{events_text}
 use Rattle.live_page.specs.declared.route.Route.{Route}
-use Rattle.live_page.specs.declared.route.Route.TheVariants.{State, Metrics, Events}
+use Rattle.live_page.specs.declared.route.Route.TheVariants.{Page, Style, Script, State, Metrics, Events, Phone, Nothing}
 use Rattle.live_page.specs.declared.asked.Asked.{Asked}
 use Rattle.live_page.specs.declared.asked.Asked.TheVariants.{Reading, Acting}
+use Rattle.live_page.specs.Fields.{fields_at}
 use Rattle.live_page.specs.Asking.{is_refused, reading_status, refusal_status, refusal_fields, outcome_status}
 
--- what stands at a route is told as the board has it
+-- the file that stands at a route
+abbrev pub file_at : Route → Option (List ℕ)
+file_at Page = Some PAGE.now
+file_at Style = Some STYLE.now
+file_at Script = Some SCRIPT.now
+file_at State = None
+file_at Metrics = None
+file_at (Events after) = None
+file_at Phone = None
+file_at Nothing = None
+
+-- what stands at a route is a file, or is told as the board has it
 pub record Reads (board : BoardState) (route : Route) (response : Response) : Type 0 where
   pub status : response.status ≡ reading_status route
+  pub fields : fields_of response ≡ fields_at route
+  pub file : (text : List ℕ) → file_at route ≡ Some text → response.body.items ≡ text
   pub state : route ≡ State → TellsState board.picture board.version response.body.items
   pub events : (after : ℕ) → route ≡ Events after
       → response.body.items ≡ events_text board.ring after board.version board.picture.clock

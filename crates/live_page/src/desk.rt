@@ -3,6 +3,8 @@ ghost use Rattle.std.specs.Prelude.{◌≡◌, ◌++◌, OnOk, OnErr, string_byt
 ghost use Rattle.http_server.specs.Response.{IsBlank, fields_of};
 ghost use Rattle.page_answers.specs.declared.board.ActOutcome.{ActOutcome as Outcome};
 ghost use Rattle.live_page.specs.Asking.{outcome_status, method_for, refusal_status, refusal_fields};
+ghost use Rattle.live_page.specs.Fields.{kind_fields};
+ghost use Rattle.live_page.specs.declared.fields.Content.TheVariants as contents;
 ghost use Rattle.live_page.specs.Serving.{Reads, Acts};
 
 use crate::asked::Asked;
@@ -30,6 +32,7 @@ fn put_static(
     text: &'static str,
 ) -> Result<(), AllocError>
     ensures status { response.new.status ≡ response.old.status }
+    ensures fields { OnOk result (fields_of response.new ≡ fields_of response.old ++ kind_fields content) }
     ensures body { OnOk result (response.new.body.items ≡ response.old.body.items ++ text.now) }
 {
     put_kind(response, content)?;
@@ -38,6 +41,7 @@ fn put_static(
 
 fn put_json(response: &mut Response, text: String) -> Result<(), AllocError>
     ensures status { response.new.status ≡ response.old.status }
+    ensures fields { OnOk result (fields_of response.new ≡ fields_of response.old ++ kind_fields contents.Json) }
     ensures body { OnOk result (response.new.body.items ≡ response.old.body.items ++ string_bytes text) }
 {
     put_kind(response, Content::Json)?;
@@ -46,6 +50,7 @@ fn put_json(response: &mut Response, text: String) -> Result<(), AllocError>
 
 fn put_metrics(response: &mut Response, text: Vec<u8>) -> Result<(), AllocError>
     ensures status { response.new.status ≡ response.old.status }
+    ensures fields { OnOk result (fields_of response.new ≡ fields_of response.old ++ kind_fields contents.Metrics) }
     ensures body { OnOk result (response.new.body.items ≡ response.old.body.items ++ text.items) }
 {
     put_kind(response, Content::Metrics)?;

@@ -1,11 +1,14 @@
 //! Worked examples of the definitions, as theorems: each sentence of a definition has one that a slip in it breaks.
 #![tactic(auto, unfolding(crate::proofs::Computing::on_examples))]
 
-ghost use Rattle.std.specs.Prelude.{◌≡◌, codes, map, true, false, [], ◌∷◌, Some, None};
+ghost use Rattle.std.specs.Prelude.{◌≡◌, codes, map, true, false, [], ◌∷◌, ◌++◌, Some, None};
 ghost use Rattle.live_page.specs.Access.{only, is_known_host, is_same_origin, is_json};
 ghost use Rattle.page_answers.specs.declared.board.ActOutcome.TheVariants.{Queued, NoRoom, Unreadable};
 ghost use Rattle.live_page.specs.Asking.{route_of, is_refused, reading_status, refusal_status, refusal_fields, outcome_status};
-ghost use Rattle.live_page.specs.Example.{here, at_port, elsewhere, once};
+ghost use Rattle.live_page.specs.Fields.{kind_of, policy, kind_fields, fields_at};
+ghost use Rattle.live_page.specs.declared.fields.Content.TheVariants as contents;
+ghost use Rattle.live_page.specs.Places.{room_from, idlest, place_for};
+ghost use Rattle.live_page.specs.Example.{here, at_port, elsewhere, once, this_host, other_host, third_host, mine, theirs, seven, eight, other_eight};
 ghost use Rattle.live_page.specs.declared.asked.Asked.TheVariants.{Strange, Reading, Acting, Forbidden, Unsuited, Missing};
 ghost use Rattle.live_page.specs.declared.route.Route.TheVariants.{Page, Style, Script, State, Metrics, Events, Phone, Nothing};
 
@@ -94,4 +97,46 @@ pub fn answers_have_their_status()
     ensures gets { refusal_fields (Unsuited false) ≡ (codes "allow", codes "GET") ∷ [] }
     ensures bare { map refusal_fields (Strange ∷ Forbidden ∷ Missing ∷ []) ≡ [] ∷ [] ∷ [] ∷ [] }
     ensures done { map outcome_status (Queued ∷ NoRoom ∷ Unreadable ∷ []) ≡ 202 ∷ 503 ∷ 400 ∷ [] }
+{}
+
+/// Who comes gets the first free place; where none is free whoever was idle longest gives way, and of two alike the first.
+pub fn who_was_idle_longest_gives_way()
+    ensures free { place_for (mine 5 ∷ None ∷ None ∷ []) other_host ≡ Some 1 }
+    ensures longest { place_for (mine 30 ∷ theirs 10 ∷ mine 20 ∷ []) this_host ≡ Some 1 }
+    ensures at_once { place_for (mine 10 ∷ theirs 30 ∷ mine 20 ∷ []) third_host ≡ Some 0 }
+    ensures alike { place_for (mine 30 ∷ theirs 10 ∷ mine 10 ∷ []) third_host ≡ Some 1 }
+    ensures last { place_for (mine 30 ∷ theirs 20 ∷ mine 10 ∷ []) third_host ≡ Some 2 }
+    ensures sixteen { place_for (eight ++ other_eight) third_host ≡ Some 11 }
+    ensures no_place { place_for [] this_host ≡ None }
+{}
+
+/// Eight of one address: one more of them takes the place of its own who was idle longest, though another place is free or
+/// another visitor was idle longer.
+pub fn an_address_has_at_most_eight()
+    ensures seventh { place_for (None ∷ seven) this_host ≡ Some 0 }
+    ensures own { place_for (None ∷ eight) this_host ≡ Some 1 }
+    ensures own_idlest { place_for (eight ++ theirs 1 ∷ None ∷ []) this_host ≡ Some 0 }
+    ensures of_another { place_for (eight ++ None ∷ []) other_host ≡ Some 8 }
+    ensures others { place_for (eight ++ other_eight) other_host ≡ Some 11 }
+    ensures other_byte { place_for (other_eight ++ None ∷ []) third_host ≡ Some 8 }
+    ensures room { room_from 8 this_host (mine 1 ∷ theirs 2 ∷ None ∷ mine 3 ∷ []) ≡ 6 }
+    ensures none_left { room_from 8 this_host (mine 1 ∷ eight) ≡ 0 }
+    ensures nobody { idlest (Some other_host) seven ≡ None }
+{}
+
+/// What is read says of what kind it is, and what a browser may make of it; what isn't there says nothing.
+pub fn what_is_read_says_its_kind()
+    ensures kinds { map kind_of (contents.Page ∷ contents.Style ∷ contents.Script ∷ contents.Json ∷ contents.Metrics ∷ [])
+        ≡ codes "text/html; charset=utf-8" ∷ codes "text/css; charset=utf-8" ∷ codes "text/javascript; charset=utf-8"
+        ∷ codes "application/json" ∷ codes "text/plain; version=0.0.4; charset=utf-8" ∷ [] }
+    ensures fields { kind_fields contents.Json ≡ (codes "content-type", codes "application/json")
+        ∷ (codes "cache-control", codes "no-store") ∷ (codes "x-content-type-options", codes "nosniff")
+        ∷ (codes "x-frame-options", codes "DENY") ∷ (codes "referrer-policy", codes "no-referrer")
+        ∷ (codes "content-security-policy", policy) ∷ [] }
+    ensures state { fields_at State ≡ kind_fields contents.Json }
+    ensures events { fields_at (Events 5) ≡ kind_fields contents.Json }
+    ensures metrics { fields_at Metrics ≡ kind_fields contents.Metrics }
+    ensures files { map fields_at (Page ∷ Style ∷ Script ∷ [])
+        ≡ kind_fields contents.Page ∷ kind_fields contents.Style ∷ kind_fields contents.Script ∷ [] }
+    ensures none { map fields_at (Phone ∷ Nothing ∷ []) ≡ [] ∷ [] ∷ [] }
 {}

@@ -1,5 +1,7 @@
 //! The fields that answers go with.
-ghost use Rattle.std.specs.Prelude.{◌≡◌, ◌++◌, OnOk};
+ghost use Rattle.std.specs.Prelude.{◌≡◌, ◌++◌, ◌∷◌, [], OnOk};
+ghost use Rattle.http_server.specs.Response.{fields_of};
+ghost use Rattle.live_page.specs.Fields.{kind_of, kind_fields};
 
 use bytes::Bytes;
 use http::{HeaderName, HeaderValue, header};
@@ -21,7 +23,9 @@ pub(crate) enum Content {
 }
 
 // The kind of content, as its field says it (RFC 9110, 8.3).
-fn kind_of(content: Content) -> HeaderValue {
+fn kind_of(content: Content) -> HeaderValue
+    ensures { result.bytes ≡ kind_of content }
+{
     match content {
         Content::Page => HeaderValue::from_static("text/html; charset=utf-8"),
         Content::Style => HeaderValue::from_static("text/css; charset=utf-8"),
@@ -38,6 +42,7 @@ fn put_field(
 ) -> Result<(), AllocError>
     ensures status { response.new.status ≡ response.old.status }
     ensures body { response.new.body ≡ response.old.body }
+    ensures fields { OnOk result (fields_of response.new ≡ fields_of response.old ++ (name, value.bytes) ∷ []) }
 {
     response.add_header(name, value)
 }
@@ -46,6 +51,7 @@ fn put_field(
 pub(crate) fn put_kind(response: &mut Response, content: Content) -> Result<(), AllocError>
     ensures status { response.new.status ≡ response.old.status }
     ensures body { response.new.body ≡ response.old.body }
+    ensures fields { OnOk result (fields_of response.new ≡ fields_of response.old ++ kind_fields content) }
 {
     put_field(response, header::CONTENT_TYPE, kind_of(content))?;
     put_field(
@@ -78,6 +84,7 @@ pub(crate) fn put_kind(response: &mut Response, content: Content) -> Result<(), 
 /// Puts a body behind what there is.
 pub(crate) fn put_body(response: &mut Response, body: Bytes) -> Result<(), AllocError>
     ensures status { response.new.status ≡ response.old.status }
+    ensures fields { fields_of response.new ≡ fields_of response.old }
     ensures body { OnOk result (response.new.body.items ≡ response.old.body.items ++ body) }
 {
     response.body.push(body)

@@ -1,5 +1,6 @@
 //! The site: the socket at which browsers ask for the page, and whose turn it is.
 use crate::desk::Desk;
+use crate::places::{Seat, place_for};
 use crate::visitor::Visitor;
 use live_ends::{MOST_VISITORS, Readiness};
 use mio::net::{TcpListener, TcpStream};
@@ -7,7 +8,7 @@ use page_answers::Board;
 use std::alloc::Global;
 use std::hash::RandomState;
 use std::io;
-use std::net::{Net, SocketAddr, SocketAddrV4};
+use std::net::{Ipv4Addr, Net, SocketAddr, SocketAddrV4};
 use std::random::RandomSource;
 
 /// The socket at which visitors come, and those that are there.
@@ -22,6 +23,14 @@ pub struct Site {
     may_accept: bool,
     // The place whose turn was last.
     last: usize,
+}
+
+// The address of a visitor. The site's socket hears none of another kind than its own.
+fn host_of(source: SocketAddr) -> Ipv4Addr {
+    match source {
+        SocketAddr::V4(source) => *source.ip(),
+        SocketAddr::V6(_) => Ipv4Addr::UNSPECIFIED,
+    }
 }
 
 impl Site {
@@ -120,29 +129,32 @@ impl Site {
         ready.forget_visits();
     }
 
-    // A place at which nobody is.
-    fn free_place(&self) -> Option<usize> {
+    // Who has each place.
+    fn seats(&self) -> [Option<Seat>; MOST_VISITORS] {
+        let mut seats = [None; MOST_VISITORS];
         for place in 0..MOST_VISITORS {
-            if let Some(None) = self.places.get(place) {
-                return Some(place);
+            if let Some(Some(visitor)) = self.places.get(place) {
+                seats[place] = Some(visitor.seat());
             }
         }
-        None
+        seats
     }
 
-    // Serves somebody who came, where there is a place; else the connection is closed.
+    // Serves somebody who came from this address; who has the place gives way, and their connection is closed.
     fn welcome<R: RandomSource>(
         &mut self,
         rt: &R,
         ready: &Readiness,
         now: u64,
         mut stream: TcpStream,
+        host: Ipv4Addr,
     ) -> io::Result<()> {
-        let Some(place) = self.free_place() else {
+        let seats = self.seats();
+        let Some(place) = place_for(&seats, host) else {
             return Ok(());
         };
         ready.watch_visitor(&mut stream, place)?;
-        let visitor = Visitor::new(self.alloc, stream, RandomState::new(rt)?, now)?;
+        let visitor = Visitor::new(self.alloc, stream, host, RandomState::new(rt)?, now)?;
         if let Some(held) = self.places.get_mut(place) {
             *held = Some(visitor);
         }
@@ -156,8 +168,8 @@ impl Site {
         }
         match self.listener.accept() {
             // Who can't be served is turned away.
-            Ok((stream, _)) => {
-                let _ = self.welcome(rt, ready, now, stream);
+            Ok((stream, source)) => {
+                let _ = self.welcome(rt, ready, now, stream, host_of(source));
             }
             Err(_) => self.may_accept = false,
         }

@@ -1,5 +1,8 @@
 //! A visitor: a browser's connection, with the moment until which it is waited for.
+ghost use Rattle.std.specs.Prelude.{◌≡◌};
+
 use crate::desk::Desk;
+use crate::places::Seat;
 use http_server::{Config, Connection};
 use http1::Limits;
 use live_ends::Visit;
@@ -8,6 +11,7 @@ use std::alloc::{AllocError, Global};
 use std::hash::RandomState;
 use std::io;
 use std::io::ErrorKind;
+use std::net::Ipv4Addr;
 
 /// How long a visitor may take for a request and its answer, in ms, and be silent between them. One that is slower is dropped.
 pub const PATIENCE: u64 = 15_000;
@@ -32,6 +36,8 @@ pub(crate) struct Visitor {
     // Whether its socket may have something to read, and room to write.
     may_read: bool,
     may_write: bool,
+    // From where it comes, and when something came from there or went there last, in ms.
+    seat: Seat,
     /// The moment until which it is waited for, in ms.
     pub(crate) deadline: u64,
     /// Whether it has more to do at once.
@@ -44,10 +50,11 @@ fn is_waiting(fault: &io::Error) -> bool {
 }
 
 impl Visitor {
-    /// Serves who came over this socket from now on. `keys` are secret (`RandomState::new`).
+    /// Serves who came from this address over this socket from now on. `keys` are secret (`RandomState::new`).
     pub(crate) fn new(
         alloc: Global,
         stream: TcpStream,
+        host: Ipv4Addr,
         keys: RandomState,
         now: u64,
     ) -> Result<Box<Visitor>, AllocError> {
@@ -58,11 +65,19 @@ impl Visitor {
                 connection: Connection::new(alloc, keys, LIMITS),
                 may_read: true,
                 may_write: true,
+                seat: Seat { host, active: now },
                 deadline: now.saturating_add(PATIENCE),
                 has_turn: true,
             },
         )?;
         Ok(visitor)
+    }
+
+    /// From where it comes, and since when it is idle.
+    pub(crate) fn seat(&self) -> Seat
+        ensures { result ≡ self.now.seat }
+    {
+        self.seat
     }
 
     /// Its socket can be read or written, as far as was told.
@@ -75,12 +90,15 @@ impl Visitor {
     }
 
     // Reads once, where there is something. Gives whether the visitor stays.
-    fn read(&mut self) -> bool {
+    fn read(&mut self, now: u64) -> bool {
         if !self.may_read || !self.connection.wants_read() {
             return true;
         }
         match self.connection.read_from(&mut self.stream) {
-            Ok(_) => true,
+            Ok(_) => {
+                self.seat.active = now;
+                true
+            }
             Err(fault) => {
                 self.may_read = false;
                 is_waiting(&fault)
@@ -96,6 +114,7 @@ impl Visitor {
         match self.connection.write_to(&mut self.stream) {
             Ok(0) => false,
             Ok(_) => {
+                self.seat.active = now;
                 if !self.connection.wants_write() {
                     self.deadline = now.saturating_add(PATIENCE);
                 }
@@ -117,7 +136,7 @@ impl Visitor {
 
     /// Reads once, answers what came, and writes once: whether the visitor stays.
     pub(crate) fn turn(&mut self, desk: &mut Desk<'_>, now: u64) -> bool {
-        if !self.read() {
+        if !self.read(now) {
             return false;
         }
         self.connection.advance(desk);

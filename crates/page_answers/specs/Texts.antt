@@ -1,9 +1,20 @@
 -- What is told as JSON of what is shown.
-use Rattle.std.specs.Prelude.{ℕ, codes, List}
-use Rattle.serde_json.specs.Data.{Data, number, unsigned, object, Members, no_members, put}
+use Rattle.std.specs.Prelude.{ℕ, Bool, codes, if◌then◌else◌, List, map, fold, Option, Some, None}
+use Rattle.std.specs.Str.Lossy.{utf8_lossy}
+use Rattle.std.specs.Borrow.{Bor}
+use Rattle.serde_json.specs.Data.{Data, null, number, unsigned, string, array, object, Members, no_members, put}
+use Rattle.serde_json.specs.View.{items_of}
 use Rattle.serde_json.specs.Written.{IsInOrder}
+use Rattle.page_answers.specs.declared.counts.VerbCount.{VerbCount}
+use Rattle.page_answers.specs.declared.counts.CodeCount.{CodeCount}
+use Rattle.page_answers.specs.declared.counts.Counts.{Counts}
+use Rattle.page_answers.specs.declared.picture.SignalView.{SignalView}
+use Rattle.page_answers.specs.declared.picture.ConnectionView.{ConnectionView}
+use Rattle.page_answers.specs.declared.picture.LineView.{LineView}
 use Rattle.page_answers.specs.declared.picture.Picture.{Picture}
+use Rattle.page_answers.specs.Metrics.{code_text}
 use Rattle.page_answers.specs.Totals.{totals_of}
+use Rattle.page_answers.specs.Verbs.{verb_word}
 
 abbrev pub put_number : List ℕ → ℕ → Members → Members
 put_number name n members = put name (number (unsigned n)) members
@@ -18,8 +29,70 @@ state_data version clock first lost lines counts =
     object (put (codes "counts") counts (put (codes "lines") lines
     (put_number (codes "lost") lost (put_number (codes "first") first (put_shown version clock no_members)))))
 
+-- Lines
+
+-- a name as text: those of signals and modes are ASCII
+abbrev pub name_data : List ℕ → Data
+name_data name = string (utf8_lossy name)
+
+-- the moment of an end, where there is one
+abbrev pub end_data : Option ℕ → Data
+end_data None = null
+end_data (Some moment) = number (unsigned moment)
+
+abbrev pub signal_data : SignalView → Data
+signal_data signal =
+    object (put (codes "end") (end_data signal.end) (put (codes "name") (name_data signal.name.now) no_members))
+
+abbrev pub connection_data : ConnectionView → Data
+connection_data connection =
+    object (put_number (codes "number") connection.number (put (codes "mode") (name_data connection.mode.now) no_members))
+
+abbrev pub hook_word : Bool → List ℕ
+hook_word is_off_hook = if is_off_hook then codes "off" else codes "on"
+
+-- a line by its hook, how many of its events were lost, what is heard there, and its connections
+abbrev pub line_data : LineView → Data
+line_data line =
+    object (put (codes "connections") (array (items_of (map connection_data line.connections.items)))
+    (put (codes "signals") (array (items_of (map signal_data line.signals.items)))
+    (put_number (codes "lost") line.lost (put (codes "hook") (string (hook_word line.is_off_hook)) no_members))))
+
+abbrev pub lines_data : List LineView → Data
+lines_data lines = array (items_of (map line_data lines))
+
+-- Counts
+
+-- how many commands of a verb came, under its word
+abbrev pub with_verb : Members → VerbCount → Members
+with_verb members count = put_number (verb_word count.verb) count.number members
+
+-- how many answers with a code went out, under its three digits
+abbrev pub with_code : Members → CodeCount → Members
+with_code members count = put_number (utf8_lossy (code_text count.code)) count.number members
+
+abbrev pub with_number : Members → Bor (List ℕ) × ℕ → Members
+with_number members named = put_number named.0.now named.1 members
+
+-- what was counted as one number each
+abbrev pub put_counted : Counts → Members → Members
+put_counted counts members =
+    put_number (codes "transactions") counts.transactions (put_number (codes "send_faults") counts.send_faults
+    (put_number (codes "receive_faults") counts.receive_faults (put_number (codes "refused") counts.refused
+    (put_number (codes "given_up") counts.given_up (put_number (codes "announcements_again") counts.announcements_again
+    (put_number (codes "announcements") counts.announcements (put_number (codes "notifications_again") counts.notifications_again
+    (put_number (codes "notifications") counts.notifications (put_number (codes "answers_again") counts.answers_again
+    (put_number (codes "unreadable") counts.unreadable (put_number (codes "responses") counts.responses
+    (put_number (codes "datagrams_out") counts.datagrams_out (put_number (codes "datagrams_in") counts.datagrams_in
+    members)))))))))))))
+
+abbrev pub counts_data : Counts → Data
+counts_data counts =
+    object (put (codes "answers") (object (fold with_code no_members counts.answers.items))
+    (put (codes "commands") (object (fold with_verb no_members counts.commands.items)) (put_counted counts no_members)))
+
 -- the text tells this picture under this number
 abbrev pub TellsState : Picture → ℕ → List ℕ → Type 0
 TellsState picture version text =
-    (lines : Data) × (counts : Data)
-    × IsInOrder text (state_data version picture.clock picture.first (totals_of picture.lines.items).lost lines counts)
+    IsInOrder text (state_data version picture.clock picture.first (totals_of picture.lines.items).lost
+    (lines_data picture.lines.items) (counts_data picture.counts))

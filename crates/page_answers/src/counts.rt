@@ -48,19 +48,19 @@ pub struct Counts {
 
 /// The word of the verb at a place (RFC 3435, 3.2.1.1).
 #[tactic(auto, unfolding(crate::specs::Verbs::verb_word))]
-pub(crate) fn verb_word(place: u8) -> &'static [u8]
+pub(crate) fn verb_word(place: u8) -> &'static str
     ensures { result.now ≡ word_of_verb place }
 {
     match place {
-        0 => b"EPCF",
-        1 => b"RQNT",
-        2 => b"NTFY",
-        3 => b"CRCX",
-        4 => b"MDCX",
-        5 => b"DLCX",
-        6 => b"AUEP",
-        7 => b"AUCX",
-        8 => b"RSIP",
-        _ => b"other",
+        0 => "EPCF",
+        1 => "RQNT",
+        2 => "NTFY",
+        3 => "CRCX",
+        4 => "MDCX",
+        5 => "DLCX",
+        6 => "AUEP",
+        7 => "AUCX",
+        8 => "RSIP",
+        _ => "other",
     }
 }

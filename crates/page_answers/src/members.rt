@@ -2,7 +2,9 @@
 ghost use Rattle.std.specs.Prelude.{◌≡◌, OnOk};
 ghost use Rattle.serde_json.specs.Data.{string, put as with_member};
 ghost use Rattle.serde_json.specs.View.{members_view};
-ghost use Rattle.page_answers.specs.Texts.{put_shown as with_shown};
+ghost use Rattle.std.specs.Prelude.{fold, map, [], ◌∷◌, ◌++◌};
+ghost use Rattle.serde_json.specs.View.{view};
+ghost use Rattle.page_answers.specs.Texts.{put_shown as with_shown, with_number, name_data};
 
 use serde_json::{Map, Value, put};
 use std::alloc::{AllocError, Global};
@@ -20,12 +22,35 @@ pub(crate) fn put_text(
     put(map, alloc, name, Value::from(text))
 }
 
+/// Puts a member that is a name, which is text where it is ASCII.
+pub(crate) fn put_name(
+    alloc: Global,
+    map: &mut Map<String, Value>,
+    key: &str,
+    name: &[u8],
+) -> Result<(), AllocError>
+    ensures { OnOk result (members_view map.new.entries ≡ with_member key.now (name_data name.now) (members_view map.old.entries)) }
+{
+    let text = String::from_utf8_lossy(alloc, name)?;
+    put(map, alloc, key, Value::from(text))
+}
+
+/// Puts a value behind the others of a list.
+pub(crate) fn put_item(list: &mut Vec<Value>, value: Value) -> Result<(), AllocError>
+    ensures { OnOk result (map view list.new.items ≡ map view list.old.items ++ view value ∷ []) }
+{
+    list.push(value)?;
+    Ok(())
+}
+
 /// Puts members that are numbers.
 pub(crate) fn put_numbers(
     alloc: Global,
     map: &mut Map<String, Value>,
     numbers: &[(&str, u64)],
-) -> Result<(), AllocError> {
+) -> Result<(), AllocError>
+    ensures { OnOk result (members_view map.new.entries ≡ fold with_number (members_view map.old.entries) numbers.now) }
+{
     for (name, number) in numbers {
         put(map, alloc, *name, Value::from(*number))?;
     }

@@ -126,8 +126,8 @@ fn put_single(
     put_plain(alloc, out, metric.name, number)
 }
 
-// The three digits of a code.
-fn code_digits(alloc: Global, code: u16) -> Result<Vec<u8>, OutOfMemory>
+/// The three digits of a code.
+pub(crate) fn code_digits(alloc: Global, code: u16) -> Result<Vec<u8>, OutOfMemory>
     ensures { IfOk result (λ digits. digits.items ≡ code_text code) }
 {
     let mut digits = Vec::new(alloc);
@@ -143,7 +143,8 @@ fn code_digits(alloc: Global, code: u16) -> Result<Vec<u8>, OutOfMemory>
 fn put_verb(alloc: Global, out: &mut Vec<u8>, count: VerbCount) -> Result<(), OutOfMemory>
     ensures { OnOk result (out.new.items ≡ out.old.items ++ verb_sample count) }
 {
-    put_labelled(alloc, out, COMMANDS, verb_word(count.verb), count.number)
+    let verb = verb_word(count.verb).as_bytes();
+    put_labelled(alloc, out, COMMANDS, verb, count.number)
 }
 
 fn put_verbs(alloc: Global, out: &mut Vec<u8>, counts: &[VerbCount]) -> Result<(), OutOfMemory>

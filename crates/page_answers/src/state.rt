@@ -1,68 +1,74 @@
 //! What the gateway is, as JSON.
-ghost use Rattle.std.specs.Prelude.{◌≡◌, IfOk, string_bytes};
-ghost use Rattle.serde_json.specs.Data.{Data};
-ghost use Rattle.serde_json.specs.View.{view};
-ghost use Rattle.page_answers.specs.Texts.{state_data, TellsState};
+ghost use Rattle.std.specs.Prelude.{◌≡◌, map, fold, IfOk, OnOk, string_bytes};
+ghost use Rattle.serde_json.specs.Data.{array};
+ghost use Rattle.serde_json.specs.View.{view, members_view, items_of};
+ghost use Rattle.page_answers.specs.Texts.{state_data, TellsState, end_data, signal_data, connection_data, hook_word, line_data, lines_data, with_verb, with_code, put_counted, counts_data};
 ghost use Rattle.page_answers.specs.Totals.{totals_of};
 
 use crate::counts::{CodeCount, Counts, VerbCount, verb_word};
-use crate::members::{put_numbers, put_shown, put_text};
+use crate::members::{put_item, put_name, put_numbers, put_shown, put_text};
+use crate::metrics::code_digits;
 use crate::picture::{ConnectionView, LineView, Picture, SignalView};
 use serde_json::{Map, Value, put};
 use std::alloc::{AllocError, Global};
-use std::str;
-
-// A name as text. Those of signals, modes and verbs are ASCII.
-fn name_text(name: &[u8]) -> &str {
-    match str::from_utf8(name) {
-        Ok(text) => text,
-        Err(_) => "?",
-    }
-}
 
 // The end of a signal, where it has one.
-fn end_value(end: Option<u64>) -> Value {
+fn end_value(end: Option<u64>) -> Value
+    ensures { view result ≡ end_data end }
+{
     match end {
         Some(end) => Value::from(end),
         None => Value::Null,
     }
 }
 
-fn signal_value(alloc: Global, signal: SignalView) -> Result<Value, AllocError> {
+fn signal_value(alloc: Global, signal: SignalView) -> Result<Value, AllocError>
+    ensures { IfOk result (λ value. view value ≡ signal_data signal) }
+{
     let mut map = Map::new(alloc);
-    put_text(alloc, &mut map, "name", name_text(signal.name))?;
+    put_name(alloc, &mut map, "name", signal.name)?;
     put(&mut map, alloc, "end", end_value(signal.end))?;
-    Ok(Value::Object(map))
+    Ok(Value::from(map))
 }
 
-fn connection_value(alloc: Global, connection: ConnectionView) -> Result<Value, AllocError> {
+fn connection_value(alloc: Global, connection: ConnectionView) -> Result<Value, AllocError>
+    ensures { IfOk result (λ value. view value ≡ connection_data connection) }
+{
     let mut map = Map::new(alloc);
-    put_text(alloc, &mut map, "mode", name_text(connection.mode))?;
+    put_name(alloc, &mut map, "mode", connection.mode)?;
     put(&mut map, alloc, "number", Value::from(connection.number))?;
-    Ok(Value::Object(map))
+    Ok(Value::from(map))
 }
 
-fn signals_value(alloc: Global, signals: &[SignalView]) -> Result<Value, AllocError> {
+fn signals_value(alloc: Global, signals: &[SignalView]) -> Result<Value, AllocError>
+    ensures { IfOk result (λ value. view value ≡ array (items_of (map signal_data signals.now))) }
+{
     let mut list = Vec::new(alloc);
     for signal in signals {
-        list.push(signal_value(alloc, *signal)?)?;
+        put_item(&mut list, signal_value(alloc, *signal)?)?;
     }
-    Ok(Value::Array(list))
+    Ok(Value::from(list))
 }
 
-fn connections_value(alloc: Global, connections: &[ConnectionView]) -> Result<Value, AllocError> {
+fn connections_value(alloc: Global, connections: &[ConnectionView]) -> Result<Value, AllocError>
+    ensures { IfOk result (λ value. view value ≡ array (items_of (map connection_data connections.now))) }
+{
     let mut list = Vec::new(alloc);
     for connection in connections {
-        list.push(connection_value(alloc, *connection)?)?;
+        put_item(&mut list, connection_value(alloc, *connection)?)?;
     }
-    Ok(Value::Array(list))
+    Ok(Value::from(list))
 }
 
-fn hook_word(is_off_hook: bool) -> &'static str {
+fn hook_word(is_off_hook: bool) -> &'static str
+    ensures { result.now ≡ hook_word is_off_hook }
+{
     if is_off_hook { "off" } else { "on" }
 }
 
-fn line_value(alloc: Global, line: &LineView) -> Result<Value, AllocError> {
+fn line_value(alloc: Global, line: &LineView) -> Result<Value, AllocError>
+    ensures { IfOk result (λ value. view value ≡ line_data line.now) }
+{
     let mut map = Map::new(alloc);
     put_text(alloc, &mut map, "hook", hook_word(line.is_off_hook))?;
     put(&mut map, alloc, "lost", Value::from(line.lost))?;
@@ -70,38 +76,65 @@ fn line_value(alloc: Global, line: &LineView) -> Result<Value, AllocError> {
     put(&mut map, alloc, "signals", signals)?;
     let connections = connections_value(alloc, line.connections.as_slice())?;
     put(&mut map, alloc, "connections", connections)?;
-    Ok(Value::Object(map))
+    Ok(Value::from(map))
 }
 
-fn lines_value(alloc: Global, lines: &[LineView]) -> Result<Value, AllocError> {
+fn lines_value(alloc: Global, lines: &[LineView]) -> Result<Value, AllocError>
+    ensures { IfOk result (λ value. view value ≡ lines_data lines.now) }
+{
     let mut list = Vec::new(alloc);
     for line in lines {
-        list.push(line_value(alloc, line)?)?;
+        put_item(&mut list, line_value(alloc, line)?)?;
     }
-    Ok(Value::Array(list))
+    Ok(Value::from(list))
 }
 
-fn commands_value(alloc: Global, commands: &[VerbCount]) -> Result<Value, AllocError> {
-    let mut map = Map::new(alloc);
+// How many commands of each verb came.
+fn put_commands(
+    alloc: Global,
+    map: &mut Map<String, Value>,
+    commands: &[VerbCount],
+) -> Result<(), AllocError>
+    ensures { OnOk result (members_view map.new.entries ≡ fold with_verb (members_view map.old.entries) commands.now) }
+{
     for count in commands {
-        let verb = name_text(verb_word(count.verb));
-        put(&mut map, alloc, verb, Value::from(count.number))?;
+        put(map, alloc, verb_word(count.verb), Value::from(count.number))?;
     }
-    Ok(Value::Object(map))
+    Ok(())
 }
 
-fn answers_value(alloc: Global, answers: &[CodeCount]) -> Result<Value, AllocError> {
-    let mut map = Map::new(alloc);
+// How many answers with a code went out.
+fn put_code(alloc: Global, map: &mut Map<String, Value>, count: CodeCount) -> Result<(), AllocError>
+    ensures { OnOk result (members_view map.new.entries ≡ with_code (members_view map.old.entries) count) }
+{
+    let digits = code_digits(alloc, count.code)?;
+    let code = String::from_utf8_lossy(alloc, digits.as_slice())?;
+    put(map, alloc, code.as_str(), Value::from(count.number))
+}
+
+// How many answers with each code went out.
+fn put_answers(
+    alloc: Global,
+    map: &mut Map<String, Value>,
+    answers: &[CodeCount],
+) -> Result<(), AllocError>
+    ensures { OnOk result (members_view map.new.entries ≡ fold with_code (members_view map.old.entries) answers.now) }
+{
     for count in answers {
-        let code = format!(in alloc; "{:03}", count.code)?;
-        map.insert(code, Value::from(count.number))?;
+        put_code(alloc, map, *count)?;
     }
-    Ok(Value::Object(map))
+    Ok(())
 }
 
-// What was counted as one number.
-fn numbers_of(counts: &Counts) -> [(&'static str, u64); 14] {
-    [
+// What was counted as one number each.
+fn put_counted(
+    alloc: Global,
+    map: &mut Map<String, Value>,
+    counts: &Counts,
+) -> Result<(), AllocError>
+    ensures { OnOk result (members_view map.new.entries ≡ put_counted counts.now (members_view map.old.entries)) }
+{
+    let numbers = [
         ("datagrams_in", counts.datagrams_in),
         ("datagrams_out", counts.datagrams_out),
         ("responses", counts.responses),
@@ -116,22 +149,27 @@ fn numbers_of(counts: &Counts) -> [(&'static str, u64); 14] {
         ("receive_faults", counts.receive_faults),
         ("send_faults", counts.send_faults),
         ("transactions", counts.transactions),
-    ]
+    ];
+    put_numbers(alloc, map, &numbers)
 }
 
-fn counts_value(alloc: Global, counts: &Counts) -> Result<Value, AllocError> {
+fn counts_value(alloc: Global, counts: &Counts) -> Result<Value, AllocError>
+    ensures { IfOk result (λ value. view value ≡ counts_data counts.now) }
+{
     let mut map = Map::new(alloc);
-    put_numbers(alloc, &mut map, &numbers_of(counts))?;
-    let commands = commands_value(alloc, counts.commands.as_slice())?;
-    put(&mut map, alloc, "commands", commands)?;
-    let answers = answers_value(alloc, counts.answers.as_slice())?;
-    put(&mut map, alloc, "answers", answers)?;
-    Ok(Value::Object(map))
+    put_counted(alloc, &mut map, counts)?;
+    let mut commands = Map::new(alloc);
+    put_commands(alloc, &mut commands, counts.commands.as_slice())?;
+    put(&mut map, alloc, "commands", Value::from(commands))?;
+    let mut answers = Map::new(alloc);
+    put_answers(alloc, &mut answers, counts.answers.as_slice())?;
+    put(&mut map, alloc, "answers", Value::from(answers))?;
+    Ok(Value::from(map))
 }
 
 fn state_value(alloc: Global, picture: &Picture, version: u64) -> Result<Value, AllocError>
-    ensures { IfOk result (λ value. (lines : Data) × (counts : Data)
-        × (view value ≡ state_data version picture.now.clock picture.now.first (totals_of picture.now.lines.items).lost lines counts)) }
+    ensures { IfOk result (λ value. view value ≡ state_data version picture.now.clock picture.now.first
+        (totals_of picture.now.lines.items).lost (lines_data picture.now.lines.items) (counts_data picture.now.counts)) }
 {
     let mut map = Map::new(alloc);
     put_shown(alloc, &mut map, version, picture.clock)?;

@@ -5,6 +5,5 @@ use Rattle.page_answers.proofs.state.state_text.Goals as goal
 
 pub returns : goal.returns
 returns c =
-    let told = c.in_ok-value.ensures in
-    IfOk-weaker c.to_string.result _ _ (λ text h. (told.0, told.1, subst (IsInOrder (string_bytes text)) told.2 h))
+    IfOk-weaker c.to_string.result _ _ (λ text h. subst (IsInOrder (string_bytes text)) c.in_ok-value.ensures h)
     c.to_string.ensures.order

@@ -1,0 +1,37 @@
+-- The fields that what is read goes with: no browser keeps it, guesses another kind, or shows it in another's frame.
+use Rattle.std.specs.Prelude.{ℕ, codes, List, [], ◌∷◌}
+use Rattle.http1.specs.Fields.{Header}
+use Rattle.live_page.specs.declared.fields.Content.{Content}
+use Rattle.live_page.specs.declared.fields.Content.TheVariants as contents
+use Rattle.live_page.specs.declared.route.Route.{Route}
+use Rattle.live_page.specs.declared.route.Route.TheVariants.{Page, Style, Script, State, Metrics, Events, Phone, Nothing}
+
+-- the kind of content (RFC 9110, 8.3; RFC 8259, 11; Prometheus' text format, version 0.0.4)
+abbrev pub kind_of : Content → List ℕ
+kind_of contents.Page = codes "text/html; charset=utf-8"
+kind_of contents.Style = codes "text/css; charset=utf-8"
+kind_of contents.Script = codes "text/javascript; charset=utf-8"
+kind_of contents.Json = codes "application/json"
+kind_of contents.Metrics = codes "text/plain; version=0.0.4; charset=utf-8"
+
+-- the page may use its own style, script and questions, and stands in no other's frame (Content Security Policy, 3)
+abbrev pub policy : List ℕ
+policy =
+    codes "default-src 'none'; style-src 'self'; script-src 'self'; connect-src 'self'; img-src data:; base-uri 'none'; form-action 'none'; frame-ancestors 'none'"
+
+abbrev pub kind_fields : Content → List Header
+kind_fields content =
+    (codes "content-type", kind_of content) ∷ (codes "cache-control", codes "no-store")
+    ∷ (codes "x-content-type-options", codes "nosniff") ∷ (codes "x-frame-options", codes "DENY")
+    ∷ (codes "referrer-policy", codes "no-referrer") ∷ (codes "content-security-policy", policy) ∷ []
+
+-- what is read at a route goes with these
+abbrev pub fields_at : Route → List Header
+fields_at Page = kind_fields contents.Page
+fields_at Style = kind_fields contents.Style
+fields_at Script = kind_fields contents.Script
+fields_at State = kind_fields contents.Json
+fields_at Metrics = kind_fields contents.Metrics
+fields_at (Events after) = kind_fields contents.Json
+fields_at Phone = []
+fields_at Nothing = []
