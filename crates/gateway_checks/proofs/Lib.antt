@@ -1,2 +1,3 @@
 pub mod Computing
 pub mod VerdictLaws
+pub mod BarLemmas

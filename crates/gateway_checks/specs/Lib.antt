@@ -1,1 +1,4 @@
 pub mod Judging
+pub mod Matching
+pub mod Waiting
+pub mod Reporting

@@ -12,8 +12,8 @@ use std::alloc::{AllocError, Global};
 pub(crate) enum Heard {
     /// The response to the command with this id, with this return code.
     Answer { id: u32, code: u16 },
-    /// A response behind which the answer is still to come (RFC 3435, 3.5.6).
-    Provisional,
+    /// A response to the command with this id, behind which the answer is still to come (RFC 3435, 3.5.6).
+    Provisional { id: u32 },
     /// A command of the gateway's, which wants a response.
     Command { id: u32 },
     /// No message.
@@ -29,7 +29,9 @@ pub(crate) fn is_provisional(code: u16) -> bool
 
 fn heard_in(message: &Message<'_>) -> Heard {
     match message {
-        Message::Response { code, .. } if is_provisional(*code) => Heard::Provisional,
+        Message::Response { code, id, .. } if is_provisional(*code) => Heard::Provisional {
+            id: id.number(),
+        },
         Message::Response { code, id, .. } => Heard::Answer {
             id: id.number(),
             code: *code,

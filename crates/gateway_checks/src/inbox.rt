@@ -1,8 +1,10 @@
 //! The answers that came.
+ghost use Rattle.std.specs.Prelude.{◌≡◌, position};
+ghost use Rattle.gateway_checks.specs.Matching.{is_of, answer_at, left_at, first_text};
+
 use crate::socket::Socket;
 use mg_bytes::OutOfMemory;
 use std::alloc::Global;
-use std::mem;
 
 /// An answer.
 #[derive(Drop)]
@@ -16,15 +18,16 @@ pub(crate) struct Arrived {
 /// The answers that no step has asked for yet, and those that one has, in their order.
 #[derive(Drop)]
 pub(crate) struct Inbox {
-    alloc: Global,
     waiting: Vec<Arrived>,
     taken: Vec<Arrived>,
 }
 
 impl Arrived {
     // Whether it came to this socket, and answers the command with this id.
-    fn is_of(&self, at: Socket, id: u32) -> bool {
-        self.id == id && self.at.is_second() == at.is_second()
+    fn is_of(&self, at: Socket, id: u32) -> bool
+        ensures { result ≡ is_of at id self.now }
+    {
+        self.id == id && self.at.is_same(at)
     }
 }
 
@@ -32,7 +35,6 @@ impl Inbox {
     /// Nothing has come.
     pub fn new(alloc: Global) -> Inbox {
         Inbox {
-            alloc,
             waiting: Vec::new(alloc),
             taken: Vec::new(alloc),
         }
@@ -49,18 +51,25 @@ impl Inbox {
         self.waiting.is_empty()
     }
 
+    // The place of the first that came to this socket for this id.
+    fn place_of(&self, at: Socket, id: u32) -> Option<usize>
+        ensures { result ≡ position (is_of at id) self.now.waiting.items }
+    {
+        self.waiting
+            .iter()
+            .position(|arrived| arrived.is_of(at, id))
+    }
+
     /// Takes the first that came to this socket for this id.
-    pub fn take(&mut self, at: Socket, id: u32) -> Result<Option<Arrived>, OutOfMemory> {
-        let waiting = mem::replace(&mut self.waiting, Vec::new(self.alloc));
-        let mut found = None;
-        for arrived in waiting {
-            if found.is_none() && arrived.is_of(at, id) {
-                found = Some(arrived);
-            } else {
-                self.waiting.push(arrived)?;
-            }
+    pub fn take(&mut self, at: Socket, id: u32) -> Option<Arrived>
+        ensures found { result ≡ answer_at (position (is_of at id) self.old.waiting.items) self.old.waiting.items }
+        ensures left { self.new.waiting.items ≡ left_at (position (is_of at id) self.old.waiting.items) self.old.waiting.items }
+    {
+        let place = self.place_of(at, id)?;
+        if place >= self.waiting.len() {
+            return None;
         }
-        Ok(found)
+        Some(self.waiting.remove(place))
     }
 
     /// A step has asked for an answer.
@@ -78,7 +87,10 @@ impl Inbox {
     }
 
     /// The first with this id that a step has asked for; empty where none has.
-    pub fn first_of(&self, id: u32) -> &[u8] {
+    #[tactic(auto, unfolding(crate::specs::Matching::first_text))]
+    pub fn first_of(&self, id: u32) -> &[u8]
+        ensures { result.now ≡ first_text id self.now.taken.items }
+    {
         for arrived in &self.taken {
             if arrived.id == id {
                 return arrived.text.as_slice();

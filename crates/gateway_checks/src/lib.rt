@@ -12,11 +12,13 @@ mod hearing;
 mod inbox;
 mod judging;
 pub mod laws;
+mod matching;
 mod names;
 mod player;
 mod report;
 mod socket;
 mod step;
+mod waiting;
 
 pub use crate::check::{Check, all_checks, check_named, check_of};
 pub use crate::checks::{IN_USE, SERVES, UNKNOWN};

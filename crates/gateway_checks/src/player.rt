@@ -1,21 +1,21 @@
 //! Plays a check: what is to be sent, until when something is waited for, and what comes of it.
-ghost use Rattle.std.specs.Prelude.{◌≡◌, ◌+◌, min, true, false, Some, None, IfSome};
+ghost use Rattle.std.specs.Prelude.{◌≡◌, ◌+◌, min, true, false, Some, None, IfSome, unwrap_or};
 ghost use Rattle.gateway_checks.specs.Judging.{judged, settled, verdict_of};
+ghost use Rattle.gateway_checks.specs.Waiting.{waited_until};
 
 use crate::check::Check;
 use crate::dialogue::put_said;
 use crate::hearing::{Heard, hear_text, value_of};
 use crate::inbox::{Arrived, Inbox};
 use crate::judging::{Fault, Verdict, judged, settled, verdict_of};
+use crate::matching::{code_fault, has_another, has_value};
 use crate::names::Names;
 use crate::socket::Socket;
 use crate::step::{Step, step_of};
-use mg_bytes::{OutOfMemory, same_no_case};
+use crate::waiting::{is_prolonged, waited_until};
+use mg_bytes::OutOfMemory;
 use piggyback::parts;
 use std::alloc::Global;
-
-// So long an answer is waited for, in ms.
-const ANSWER_TIME: u64 = 2000;
 
 // No check has more steps, those that undo it among them.
 const MOST_STEPS: u32 = 1000;
@@ -41,9 +41,10 @@ pub struct Player<'a> {
     lines: &'a str,
     undo: &'a str,
     is_undoing: bool,
-    // The step that isn't done yet, with its line, and until when it waits.
+    // The step that isn't done yet, with its line, since when an answer is waited for, and until when it waits.
     step: Option<Step<'a>>,
     line: &'a str,
+    begun: Option<u64>,
     until: Option<u64>,
     // What was sent last, from where, and the answers.
     sent: Vec<u8>,
@@ -55,16 +56,12 @@ pub struct Player<'a> {
     due: String,
 }
 
-// Whether a code is among these, which have `|` between them.
-fn is_among(codes: &str, code: u16) -> bool {
-    for word in codes.split('|') {
-        if let Ok(number) = word.parse::<u16>()
-            && number == code
-        {
-            return true;
-        }
+// The bytes of a value, if there is one.
+fn bytes_of(value: &Option<String>) -> Option<&[u8]> {
+    match value {
+        Some(value) => Some(value.as_bytes()),
+        None => None,
     }
-    false
 }
 
 impl<'a> Player<'a> {
@@ -79,6 +76,7 @@ impl<'a> Player<'a> {
             is_undoing: false,
             step: None,
             line: "",
+            begun: None,
             until: None,
             sent: Vec::new(alloc),
             from: Socket::First,
@@ -118,7 +116,8 @@ impl<'a> Player<'a> {
 
     // Notes what came or went; what undoes the check isn't told.
     fn note(&mut self, mark: &str, bytes: &[u8]) -> Result<(), OutOfMemory>
-        ensures { self.new.fault ≡ self.old.fault }
+        ensures fault { self.new.fault ≡ self.old.fault }
+        ensures begun { self.new.begun ≡ self.old.begun }
     {
         if self.is_undoing {
             return Ok(());
@@ -170,6 +169,7 @@ impl<'a> Player<'a> {
         let (line, lines) = self.lines.split_once('\n').unwrap_or((self.lines, ""));
         self.lines = lines;
         self.line = line;
+        self.begun = None;
         self.until = None;
         self.step = Some(step_of(line));
         self.step
@@ -241,9 +241,26 @@ impl<'a> Player<'a> {
         }
     }
 
+    // Until when this step waits for an answer, which has begun now if it hasn't before, or begins anew.
+    fn answer_deadline(&mut self, now: u64) -> u64
+        ensures stands { self.new.until ≡ Some result }
+        ensures stays { IfSome self.old.until (λ until. result ≡ until) }
+        ensures begins { self.old.until ≡ None → result ≡ waited_until (unwrap_or self.old.begun now) now }
+        ensures begun { self.old.until ≡ None → self.new.begun ≡ Some (unwrap_or self.old.begun now) }
+    {
+        if let Some(until) = self.until {
+            return until;
+        }
+        let begun = self.begun.unwrap_or(now);
+        let until = waited_until(begun, now);
+        self.begun = Some(begun);
+        self.until = Some(until);
+        until
+    }
+
     // Waits for an answer; where none came in time the step isn't met.
     fn await_answer(&mut self, now: u64) -> Result<Option<Turn>, OutOfMemory> {
-        let until = self.deadline(ANSWER_TIME, now);
+        let until = self.answer_deadline(now);
         if now < until {
             return Ok(Some(Turn::Wait { until }));
         }
@@ -260,11 +277,11 @@ impl<'a> Player<'a> {
     ) -> Result<Option<Turn>, OutOfMemory> {
         let id = self.names.id_in(id)?;
         let from = self.from;
-        match self.inbox.take(from, id)? {
+        match self.inbox.take(from, id) {
             Some(arrived) => {
                 let code = arrived.code;
                 self.inbox.keep(arrived)?;
-                self.finish(judged(is_among(codes, code), is_optional, code))?;
+                self.finish(code_fault(codes, is_optional, code))?;
                 Ok(None)
             }
             None => self.await_answer(now),
@@ -275,7 +292,7 @@ impl<'a> Player<'a> {
     fn answered_again(&mut self, id: &str, now: u64) -> Result<Option<Turn>, OutOfMemory> {
         let id = self.names.id_in(id)?;
         let from = self.from;
-        match self.inbox.take(from, id)? {
+        match self.inbox.take(from, id) {
             Some(arrived) => {
                 let is_same = arrived.text.as_slice() == self.inbox.first_of(id);
                 self.finish_met(is_same)
@@ -306,28 +323,17 @@ impl<'a> Player<'a> {
         self.finish_met(true)
     }
 
-    // Whether a parameter of the last answer is this text, if it is there.
-    fn is_value(&self, code: &str, value: &str) -> Result<Option<bool>, OutOfMemory> {
-        let wanted = self.names.filled(value)?;
-        match value_of(self.alloc, self.inbox.last(), code)? {
-            Some(value) => Ok(Some(same_no_case(value.as_bytes(), wanted.as_bytes()))),
-            None => Ok(None),
-        }
-    }
-
     fn has(&mut self, code: &str, value: &str) -> Result<Option<Turn>, OutOfMemory> {
-        let is_met = match self.is_value(code, value)? {
-            Some(is_value) => is_value || value.is_empty(),
-            None => false,
-        };
+        let wanted = self.names.filled(value)?;
+        let given = value_of(self.alloc, self.inbox.last(), code)?;
+        let is_met = has_value(bytes_of(&given), value.is_empty(), wanted.as_bytes());
         self.finish_met(is_met)
     }
 
     fn unlike(&mut self, code: &str, value: &str) -> Result<Option<Turn>, OutOfMemory> {
-        let is_met = match self.is_value(code, value)? {
-            Some(is_value) => !is_value,
-            None => false,
-        };
+        let wanted = self.names.filled(value)?;
+        let given = value_of(self.alloc, self.inbox.last(), code)?;
+        let is_met = has_another(bytes_of(&given), wanted.as_bytes());
         self.finish_met(is_met)
     }
 
@@ -355,24 +361,42 @@ impl<'a> Player<'a> {
         }
     }
 
-    // A text has come to a socket. What is no message counts as an answer to nothing; behind a provisional response the
-    // answer is waited for anew (RFC 3435, 3.5.6).
-    fn hear(&mut self, at: Socket, text: &[u8]) -> Result<(), OutOfMemory> {
+    // The id of the command whose answer is waited for.
+    fn awaited_id(&self) -> Result<Option<u32>, OutOfMemory> {
+        match self.step {
+            Some(Step::Answer { id, .. } | Step::Same { id }) => Ok(Some(self.names.id_in(id)?)),
+            _ => Ok(None),
+        }
+    }
+
+    // A provisional response has come to a socket: behind one to the same command the answer is waited for anew.
+    fn prolong(&mut self, at: Socket, id: u32) -> Result<(), OutOfMemory>
+        ensures { self.new.begun ≡ self.old.begun }
+    {
+        if is_prolonged(self.awaited_id()?, self.from, id, at) {
+            self.until = None;
+        }
+        Ok(())
+    }
+
+    // A text has come to a socket. What is no message counts as an answer to nothing.
+    fn hear(&mut self, at: Socket, text: &[u8]) -> Result<(), OutOfMemory>
+        ensures { self.new.begun ≡ self.old.begun }
+    {
         let (id, code) = match hear_text(self.alloc, text)? {
             Heard::Answer { id, code } if self.names.is_own(id) => (id, code),
             Heard::Answer { .. } | Heard::Command { .. } => return Ok(()),
-            Heard::Provisional if self.awaits_answer() => {
-                self.until = None;
-                return Ok(());
-            }
-            Heard::Provisional | Heard::Nothing => (0, 0),
+            Heard::Provisional { id } if self.awaits_answer() => return self.prolong(at, id),
+            Heard::Provisional { .. } | Heard::Nothing => (0, 0),
         };
         let text = Vec::from_slice(self.alloc, text)?;
         self.inbox.put(Arrived { at, id, code, text })
     }
 
-    /// A datagram has come to a socket.
-    pub fn take(&mut self, at: Socket, datagram: &[u8]) -> Result<(), OutOfMemory> {
+    /// A datagram has come to a socket. Whatever it is, the step that waits began when it began.
+    pub fn take(&mut self, at: Socket, datagram: &[u8]) -> Result<(), OutOfMemory>
+        ensures { self.new.begun ≡ self.old.begun }
+    {
         let mark = if at.is_second() { "<< " } else { "< " };
         self.note(mark, datagram)?;
         for text in parts(datagram) {

@@ -1,5 +1,6 @@
 //! What is told of checks.
 ghost use Rattle.std.specs.Prelude.{◌≡◌, ◌==◌, if◌then◌else◌};
+ghost use Rattle.gateway_checks.specs.Reporting.{word_of, one_more, with_verdict};
 
 use crate::check::Check;
 use crate::judging::Verdict;
@@ -14,6 +15,13 @@ pub struct Tally {
     pub not_played: u32,
 }
 
+// A count and one more; it stays at its greatest value.
+fn one_more(number: u32) -> u32
+    ensures { result ≡ one_more number }
+{
+    number.saturating_add(1)
+}
+
 impl Tally {
     /// None yet.
     pub const NONE: Tally = Tally {
@@ -24,14 +32,15 @@ impl Tally {
     };
 
     /// Counts a check, which came to this verdict, or wasn't played.
-    pub fn count(&mut self, verdict: Option<Verdict>) {
-        let number = match verdict {
-            Some(Verdict::Passed) => &mut self.passed,
-            Some(Verdict::Failed) => &mut self.failed,
-            Some(Verdict::NotSupported) => &mut self.not_supported,
-            None => &mut self.not_played,
-        };
-        *number = number.saturating_add(1);
+    pub fn count(&mut self, verdict: Option<Verdict>)
+        ensures { self.new ≡ with_verdict self.old verdict }
+    {
+        match verdict {
+            Some(Verdict::Passed) => self.passed = one_more(self.passed),
+            Some(Verdict::Failed) => self.failed = one_more(self.failed),
+            Some(Verdict::NotSupported) => self.not_supported = one_more(self.not_supported),
+            None => self.not_played = one_more(self.not_played),
+        }
     }
 
     /// The exit status: 0 where no check failed, 1 where one did.
@@ -43,7 +52,9 @@ impl Tally {
 }
 
 /// What a verdict is called.
-pub fn word_of(verdict: Option<Verdict>) -> &'static str {
+pub fn word_of(verdict: Option<Verdict>) -> &'static str
+    ensures { result.now ≡ word_of verdict }
+{
     match verdict {
         Some(Verdict::Passed) => "pass",
         Some(Verdict::Failed) => "FAIL",

@@ -1,10 +1,10 @@
 //! Calls about the checks of a gateway: `check NAME`, what comes, and what comes of it.
 //!
 //! A value is the datagrams that come, with `|` between them, one for each time that the check waits: `-` where none comes,
-//! `B 200 1 OK¶` where one comes to the second socket. Transaction ids are 1 to 9, the call is 0, the lines are aaln/1 and
+//! `B 200 1 OK¶` where one comes to the second socket, `W 1500` where so many ms pass. Transaction ids are 1 to 9, the call is 0, the lines are aaln/1 and
 //! aaln/2 at rgw.example.net. The answer is `pass`, or `fail: ` or `not supported: ` with the step that isn't met.
 use gateway_checks::{Names, Player, Socket, Turn, Verdict, check_named};
-use mg_bytes::OutOfMemory;
+use mg_bytes::{OutOfMemory, decimal};
 use scenario_files::Row;
 
 // No check has more turns.
@@ -18,6 +18,21 @@ fn arrival_of(item: &[u8]) -> (Socket, &[u8]) {
     }
 }
 
+// So long passes, in ms, where an item says that.
+fn wait_in(item: &[u8]) -> Option<u64> {
+    decimal(item.strip_prefix(b"W ")?)
+}
+
+// An item comes at this moment: the moment behind it.
+fn come(player: &mut Player<'_>, item: &[u8], now: u64) -> Result<u64, OutOfMemory> {
+    if let Some(ms) = wait_in(item) {
+        return Ok(now.saturating_add(ms));
+    }
+    let (at, datagram) = arrival_of(item);
+    player.take(at, datagram)?;
+    Ok(now)
+}
+
 // Plays a check to its end, where this comes.
 fn play(player: &mut Player<'_>, came: &[u8]) -> Result<(), OutOfMemory> {
     let mut items = came.split(|byte| *byte == b'|');
@@ -27,10 +42,7 @@ fn play(player: &mut Player<'_>, came: &[u8]) -> Result<(), OutOfMemory> {
             Turn::Send { .. } => {}
             Turn::Wait { until } => match items.next() {
                 Some(b"-") | None => now = until,
-                Some(item) => {
-                    let (at, datagram) = arrival_of(item);
-                    player.take(at, datagram)?;
-                }
+                Some(item) => now = come(player, item, now)?,
             },
             Turn::Over => return Ok(()),
         }

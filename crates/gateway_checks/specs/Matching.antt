@@ -1,0 +1,69 @@
+-- How what comes is matched with what a step expects.
+use Rattle.std.specs.Prelude.{ℕ, Bool, true, false, not, ◌&&◌, ◌||◌, ◌==◌, if◌then◌else◌, List, [], ◌∷◌, remove, Option, Some, None, slice_get}
+use Rattle.std.specs.List.{list_any, slice_split}
+use Rattle.mg_bytes.specs.Case.{same_but_case}
+use Rattle.mg_bytes.specs.Numbers.{decimal_of}
+use Rattle.gateway_checks.specs.declared.socket.Socket.{Socket}
+use Rattle.gateway_checks.specs.declared.socket.Socket.TheVariants.{First, Second}
+use Rattle.gateway_checks.specs.declared.inbox.Arrived.{Arrived}
+use Rattle.gateway_checks.specs.declared.judging.Fault.{Fault}
+use Rattle.gateway_checks.specs.Judging.{judged}
+
+-- Answers
+
+abbrev pub is_same_socket : Socket → Socket → Bool
+is_same_socket First First = true
+is_same_socket First Second = false
+is_same_socket Second First = false
+is_same_socket Second Second = true
+
+-- it came to this socket, and answers the command with this id
+abbrev pub is_of : Socket → ℕ → Arrived → Bool
+is_of socket id arrived = arrived.id == id && is_same_socket arrived.at socket
+
+-- the answer at a place, and those that are left without it
+abbrev pub answer_at : Option ℕ → List Arrived → Option Arrived
+answer_at None waiting = None
+answer_at (Some place) waiting = slice_get waiting place
+
+abbrev pub left_at : Option ℕ → List Arrived → List Arrived
+left_at None waiting = waiting
+left_at (Some place) waiting = remove waiting place
+
+-- the text of the first answer to the command with this id; nothing before there is one
+unfoldable pub first_text : ℕ → List Arrived → List ℕ
+first_text id [] = []
+first_text id (arrived ∷ more) = if arrived.id == id then arrived.text.items else first_text id more
+
+-- Return codes
+
+abbrev pub is_bar : ℕ → Bool
+is_bar b = b == 124
+
+abbrev pub is_number : ℕ → Option ℕ → Bool
+is_number code None = false
+is_number code (Some number) = number == code
+
+-- a word spells this code
+abbrev pub is_code : ℕ → List ℕ → Bool
+is_code code word = is_number code (decimal_of word)
+
+-- the code is one of these, which bars part
+unfoldable pub is_among : List ℕ → ℕ → Bool
+is_among codes code = list_any (is_code code) (slice_split is_bar codes)
+
+-- what is at fault with an answer that has this code, where one of these is due
+abbrev pub code_fault : List ℕ → Bool → ℕ → Option Fault
+code_fault codes is_optional code = judged (is_among codes code) is_optional code
+
+-- Parameters
+
+-- the parameter is there, with any value or with this one
+abbrev pub has_value : Option (List ℕ) → Bool → List ℕ → Bool
+has_value None is_any wanted = false
+has_value (Some value) is_any wanted = is_any || same_but_case value wanted
+
+-- it is there, with another one
+abbrev pub has_another : Option (List ℕ) → List ℕ → Bool
+has_another None wanted = false
+has_another (Some value) wanted = not (same_but_case value wanted)
