@@ -6,3 +6,4 @@ pub mod RestLaws
 pub mod DescriptionLaws
 pub mod Computing
 pub mod ExampleLemmas
+pub mod ConcernLaws

@@ -1,7 +1,8 @@
 -- All that happens to an exchange, turn after turn, in whatever order its owner takes it.
-use Rattle.std.specs.Prelude.{◌≡◌, ℕ, ◌+◌, ◌==◌, ◌&&◌, not, is_some, Bool, true, false, List, [], ◌∷◌, ◌++◌, Option, Some, None}
+use Rattle.std.specs.Prelude.{◌≡◌, ◌≢◌, ℕ, ◌+◌, ◌==◌, ◌&&◌, not, is_some, Bool, true, false, List, [], ◌∷◌, ◌++◌, Option, Some, None}
 use Rattle.std.specs.List.{list_all}
-use Rattle.call_routing.specs.declared.phase.Phase.TheVariants.{Resting}
+use Rattle.call_routing.specs.declared.phase.Phase.{Phase}
+use Rattle.call_routing.specs.declared.phase.Phase.TheVariants.{Resting, Dialling, Hearing, InCall}
 use Rattle.call_routing.specs.declared.told.Told.{Told}
 use Rattle.call_routing.specs.declared.told.Told.TheVariants.{OffHook, OnHook, Flash, Dialled, TimedOut, Restarted, Disconnected}
 use Rattle.call_routing.specs.declared.asked.Asked.TheVariants.{Rest}
@@ -114,3 +115,25 @@ pub record IsClear (line : Line) : Type 0 where
 pub record IsAtRest (exchange : ExchangeState) (line : ℕ) : Type 0 where
   pub no_call : phase_of exchange line ≡ Some Resting
   pub clear : (is : Line) → line_of exchange line ≡ Some is → IsClear is
+
+-- Whom a turn concerns
+
+-- the line at the other end of the call of a line in this phase
+abbrev pub named_by : Option Phase → Option ℕ
+named_by None = None
+named_by (Some Resting) = None
+named_by (Some Dialling) = None
+named_by (Some (Hearing tone)) = None
+named_by (Some (InCall part)) = Some part.other
+
+-- another line than this one, and at the other end of its call neither before nor behind what happens to it
+pub record IsApart (old new : ExchangeState) (line other : ℕ) : Type 0 where
+  pub itself : line ≢ other
+  pub was : named_by (phase_of old line) ≢ Some other
+  pub then_is : named_by (phase_of new line) ≢ Some other
+
+-- nothing has changed of a line: its phase, what is known of it, and what it is to be sent
+pub record IsAsBefore (old new : ExchangeState) (line : ℕ) : Type 0 where
+  pub phase : phase_of new line ≡ phase_of old line
+  pub known : line_of new line ≡ line_of old line
+  pub owed : due new line ≡ due old line

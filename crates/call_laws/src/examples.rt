@@ -12,7 +12,7 @@ ghost use Rattle.call_routing.specs.Line.{is_success};
 ghost use Rattle.call_routing.specs.Numbers.{line_called, told_in};
 ghost use Rattle.call_routing.specs.Parameters.{verb_of, request_lines, creation_lines, change_lines, deletion_lines, parameters_of};
 ghost use Rattle.call_routing.specs.Exchange.{phase_of, due};
-ghost use Rattle.call_laws.specs.Turns.{tells, sends, after, is_sent, is_answered, is_coded, count_turns, commands_in, leaves_alone};
+ghost use Rattle.call_laws.specs.Turns.{named_by, tells, sends, after, is_sent, is_answered, is_coded, count_turns, commands_in, leaves_alone};
 ghost use Rattle.call_laws.specs.Example.{opened, all_sent, driven, coded, accepted, given_up, created_first, created_second, ready, dial, ring, pick_up, connect, hang_up, then_is, phase_then, sent_at, key};
 
 use call_routing::{Asked, Command, Leg, Phase, Side, Told, Tone};
@@ -272,4 +272,14 @@ pub fn turns_are_counted()
     ensures restart { leaves_alone 0 (tells 1 Told.Restarted) ≡ true }
     ensures disconnected { leaves_alone 0 (tells 1 Told.Disconnected) ≡ true }
     ensures command { leaves_alone 0 (sends 0) ≡ true }
+{}
+
+/// Whom what happens to a line concerns besides.
+pub fn a_call_has_another_end()
+    ensures caller { named_by (phase_then 0 ring) ≡ Some 1 }
+    ensures called { named_by (phase_then 1 ring) ≡ Some 0 }
+    ensures resting { named_by (phase_then 2 ring) ≡ None }
+    ensures dialling { named_by (phase_then 0 (tells 0 Told.OffHook ∷ [])) ≡ None }
+    ensures hearing { named_by (phase_then 0 (tells 0 Told.OffHook ∷ tells 0 (Told.Dialled None) ∷ [])) ≡ None }
+    ensures no_line { named_by (phase_then 7 ring) ≡ None }
 {}

@@ -5,13 +5,15 @@ ghost use Rattle.call_routing.specs.declared.phase.Part.{Part};
 ghost use Rattle.call_routing.specs.declared.phase.Phase.{Phase};
 ghost use Rattle.call_routing.specs.declared.phase.Phase.TheVariants.{Resting, InCall};
 ghost use Rattle.call_routing.specs.declared.phase.Tone.TheVariants.{Busy, Reorder};
+ghost use Rattle.call_routing.specs.declared.told.Told.{Told};
 ghost use Rattle.call_routing.specs.declared.told.Told.TheVariants.{OnHook, Restarted};
+ghost use Rattle.call_routing.specs.declared.command.Outcome.{Outcome};
 ghost use Rattle.call_routing.specs.declared.command.Command.{Command};
 ghost use Rattle.call_routing.specs.declared.line.Leg.TheVariants.{Standing};
 ghost use Rattle.call_routing.specs.Phases.{other_end, left};
 ghost use Rattle.call_routing.specs.Parameters.{gives, leg_of, description_of_other};
-ghost use Rattle.call_routing.specs.Exchange.{ExchangeState, opening, phase_of, told, due};
-ghost use Rattle.call_laws.specs.Turns.{Turn, after, is_in_flight, count_if, is_sent, is_answered, is_coded, count_turns, AreQuietFor, IsAtRest};
+ghost use Rattle.call_routing.specs.Exchange.{ExchangeState, opening, phase_of, told, answered, due};
+ghost use Rattle.call_laws.specs.Turns.{IsApart, IsAsBefore, Turn, after, is_in_flight, count_if, is_sent, is_answered, is_coded, count_turns, AreQuietFor, IsAtRest};
 
 /// Where a line is in a call, the line that it names is in the same call, from the other side, and names it.
 pub fn both_ends_of_a_call_name_each_other()
@@ -92,4 +94,16 @@ pub fn a_description_is_that_of_the_other_end()
         phase_of exchange line ≡ Some (InCall part) → due exchange line ≡ Some command →
         gives command ≡ Some call → (connection : List ℕ)
         × (leg_of exchange part.other ≡ Some (Standing call connection (description_of_other exchange line))) }
+{}
+
+/// What a line tells, and what became of a command to it, concerns the line and the other end of its call, as that was before or is
+/// then: any other line keeps its phase, what is known of it, and what it is to be sent. So who serves an exchange looks at these
+/// lines alone.
+pub fn what_happens_to_a_line_concerns_its_call_alone()
+    ensures told { (count last line other : ℕ) (turns : List Turn) (event : Told) →
+        IsApart (after (opening count last) turns) (told (after (opening count last) turns) line event) line other →
+        IsAsBefore (after (opening count last) turns) (told (after (opening count last) turns) line event) other }
+    ensures answered { (count last line other : ℕ) (turns : List Turn) (outcome : Outcome) →
+        IsApart (after (opening count last) turns) (answered (after (opening count last) turns) line outcome) line other →
+        IsAsBefore (after (opening count last) turns) (answered (after (opening count last) turns) line outcome) other }
 {}
